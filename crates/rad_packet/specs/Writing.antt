@@ -1,0 +1,9 @@
+-- Why an attribute of this Value is not added to a packet: the Value is longer than 253 octets (RFC 2865
+-- section 5), or else the packet would be longer than 4096 (RFC 2865 section 3).
+use Rattle.std.specs.Prelude.{ℕ, ◌+◌, ◌<◌, ◌≤◌, List, length}
+use Rattle.rad_packet.specs.declared.faults.WriteFault.{WriteFault}
+use Rattle.rad_packet.specs.declared.faults.WriteFault.TheVariants.{ValueTooLong, PacketTooLong}
+
+abbrev pub RefusesValue : List ℕ → List ℕ → WriteFault → Type 0
+RefusesValue text value ValueTooLong = 253 < length value
+RefusesValue text value PacketTooLong = (length value ≤ 253) × (4096 < length text + (length value + 2))

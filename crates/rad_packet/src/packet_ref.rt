@@ -1,0 +1,127 @@
+use crate::attributes::Attributes;
+use std::marker::Model;
+
+/// A packet, borrowed from the datagram that it was read from: its octets, without padding.
+#[derive(Drop)]
+pub struct PacketRef<'a> {
+    octets: &'a [u8],
+}
+
+impl<'a> Model for PacketRef<'a> {
+    ghost use Rattle.std.specs.Prelude.{List, ℕ};
+    ghost use Rattle.rad_packet.specs.Packet.{IsPacketText};
+
+    ghost Value = { List ℕ };
+
+    ghost view = { λ p. p.octets.now };
+
+    ghost invariant = { λ p. IsPacketText p.octets.now };
+}
+
+/// Where an attribute stands in its packet.
+#[derive(Clone, Copy, Debug, PartialEq, Eq)]
+pub struct AttributePlace {
+    /// The offset of its Type from the packet's start.
+    pub place: usize,
+    /// Its Length: the octets of Type, Length and Value, 2 to 255.
+    pub length: usize,
+}
+
+impl<'a> PacketRef<'a> {
+    ghost use Rattle.std.specs.Prelude.{◌≡◌, ◌+◌, ◌≤◌, [], length, MatchOption, count_by, ◌==◌, IfSome};
+    ghost use Rattle.rad_packet.specs.Packet.{IsPacketText, code_of, identifier_of, authenticator_of, attribute_octets, packet_attributes};
+    ghost use Rattle.rad_packet.specs.Attribute.{of_kind};
+    ghost use Rattle.rad_packet.specs.Place.{IsFirstAt, IsLastAt};
+
+    /// The packet with these octets.
+    pub(crate) fn over(octets: &'a [u8]) -> Self
+        requires { IsPacketText octets.now }
+        ensures { result ≡ octets.now }
+    {
+        PacketRef { octets }
+    }
+
+    /// The Code (RFC 2866 section 3).
+    pub fn code(&self) -> u8
+        ensures { result ≡ code_of self.now }
+    {
+        self.octets[0]
+    }
+
+    /// The Identifier.
+    pub fn identifier(&self) -> u8
+        ensures { result ≡ identifier_of self.now }
+    {
+        self.octets[1]
+    }
+
+    /// The Authenticator.
+    pub fn authenticator(&self) -> [u8; 16]
+        ensures { result ≡ authenticator_of self.now }
+    {
+        let mut authenticator = [0; 16];
+        authenticator.copy_from_slice(&self.octets[4..20]);
+        authenticator
+    }
+
+    /// All octets that Length counts, without padding.
+    pub fn octets(&self) -> &'a [u8]
+        ensures value { result.now ≡ self.now }
+        ensures packet { IsPacketText self.now }
+    {
+        self.octets
+    }
+
+    /// The attributes in order. An attribute that is taken costs nothing that grows with the packet.
+    pub fn attributes(&self) -> Attributes<'a>
+        ensures { result ≡ attribute_octets self.now }
+    {
+        Attributes::over(&self.octets[20..])
+    }
+
+    /// The first attribute of a Type. Looks at each attribute up to it once.
+    pub fn first_of(&self, kind: u8) -> Option<AttributePlace>
+        ensures found { MatchOption result (of_kind kind (packet_attributes self.now) ≡ []) (λ at. IsFirstAt self.now kind at.place at.length) }
+        ensures within { IfSome result (λ at. at.place + at.length ≤ length self.now) }
+    {
+        let mut place = 20;
+        for attribute in self.attributes() {
+            let length = 2 + attribute.value.len();
+            if attribute.kind == kind {
+                return Some(AttributePlace { place, length });
+            }
+            place += length;
+        }
+        None
+    }
+
+    /// The last attribute of a Type. Looks at each attribute once.
+    pub fn last_of(&self, kind: u8) -> Option<AttributePlace>
+        ensures found { MatchOption result (of_kind kind (packet_attributes self.now) ≡ []) (λ at. IsLastAt self.now kind at.place at.length) }
+        ensures within { IfSome result (λ at. at.place + at.length ≤ length self.now) }
+    {
+        let mut place = 20;
+        let mut last = None;
+        for attribute in self.attributes() {
+            let length = 2 + attribute.value.len();
+            if attribute.kind == kind {
+                last = Some(AttributePlace { place, length });
+            }
+            place += length;
+        }
+        last
+    }
+
+    /// How many attributes of a Type there are. Looks at each attribute once.
+    pub fn count_of(&self, kind: u8) -> usize
+        ensures { result ≡ length (of_kind kind (packet_attributes self.now)) }
+    {
+        let mut count = 0;
+        for attribute in self.attributes() {
+            if attribute.kind == kind {
+                count += 1;
+            }
+        }
+        count
+    }
+}
