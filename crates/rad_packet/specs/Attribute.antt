@@ -1,6 +1,6 @@
 -- Attributes (RFC 2866 section 5, RFC 2865 section 5). An octet is a number below 256, and a text is a
 -- list of octets: what a datagram holds.
-use Rattle.std.specs.Prelude.{◌≡◌, ℕ, zero, suc, ◌+◌, ◌-◌, ◌<◌, ◌≤◌, List, [], ◌∷◌, ◌++◌, length, take, drop, filter, ◌==◌}
+use Rattle.std.specs.Prelude.{◌≡◌, ℕ, zero, suc, ◌+◌, ◌-◌, ◌<◌, ◌≤◌, List, [], ◌∷◌, length, take, drop, filter, ◌==◌}
 use Rattle.std.specs.List.{flat_map, AllByRecursion}
 
 -- An attribute: its Type, and its Value.

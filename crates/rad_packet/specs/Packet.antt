@@ -1,6 +1,6 @@
 -- Packets (RFC 2866 section 3, RFC 2865 section 3). The greatest Length, 4096, is RFC 2865's; RFC 2866
 -- has 4095.
-use Rattle.std.specs.Prelude.{◌≡◌, ℕ, ◌+◌, ◌*◌, ◌/◌, ◌%◌, ◌≤◌, List, ◌∷◌, ◌++◌, length, take, drop, slice_index}
+use Rattle.std.specs.Prelude.{◌≡◌, ℕ, ◌+◌, ◌*◌, ◌/◌, ◌%◌, ◌<◌, ◌≤◌, List, ◌∷◌, ◌++◌, length, take, drop, slice_index}
 use Rattle.rad_packet.specs.Attribute.{Attribute, AreAttributes, attributes_of}
 
 -- The parts of a packet's text: Code, Identifier, Length (two octets, the most significant first),
@@ -24,9 +24,14 @@ attribute_octets text = drop 20 text
 abbrev pub packet_attributes : List ℕ → List Attribute
 packet_attributes text = attributes_of (drop 20 text)
 
--- A packet's text: its Length counts all of its octets and is 20 to 4096, and what follows its
+-- At each place stands an octet.
+abbrev pub AreOctets : List ℕ → Type 0
+AreOctets text = (place : ℕ) → slice_index text place < 256
+
+-- A packet's text: octets, of which Length counts all and which are 20 to 4096; what follows the
 -- Authenticator is texts of attributes, joined.
 pub record IsPacketText (text : List ℕ) : Type 0 where
+  pub octets : AreOctets text
   pub counted : length_of text ≡ length text
   pub least : 20 ≤ length text
   pub most : length text ≤ 4096

@@ -1,4 +1,5 @@
 ghost use Rattle.std.specs.Prelude.{◌≡◌, ◌+◌, ◌/◌, ◌%◌, ◌<◌, ◌≤◌, ◌++◌, length, take, drop, slice_set};
+ghost use Rattle.rad_packet.specs.Packet.{AreOctets};
 
 use crate::faults::WriteFault;
 use crate::packet_ref::PacketRef;
@@ -146,7 +147,8 @@ const GREATEST_VALUE_LENGTH: usize = 253;
 /// Copies octets into a buffer, from a place on.
 fn put(buffer: &mut [u8], place: usize, octets: &[u8])
     requires { place + length octets.now ≤ length buffer.old }
-    ensures { buffer.new ≡ take place buffer.old ++ octets.now ++ drop (place + length octets.now) buffer.old }
+    ensures after { buffer.new ≡ take place buffer.old ++ octets.now ++ drop (place + length octets.now) buffer.old }
+    ensures octets { AreOctets octets.now }
 {
     let end = place + octets.len();
     buffer[place..end].copy_from_slice(octets);

@@ -74,7 +74,8 @@ impl<'a> PacketRef<'a> {
 
     /// The attributes in order. An attribute that is taken costs nothing that grows with the packet.
     pub fn attributes(&self) -> Attributes<'a>
-        ensures { result ≡ attribute_octets self.now }
+        ensures attributes { result ≡ attribute_octets self.now }
+        ensures packet { IsPacketText self.now }
     {
         Attributes::over(&self.octets[20..])
     }
