@@ -34,10 +34,6 @@ pub take-sets : (n : ℕ) (xs : List ℕ) (high low : ℕ) → take n (set (set 
 take-sets n xs high low = take-set n 3 (set xs 2 high) low ∙ ap (λ ys. set ys 3 low) (take-set n 2 xs high)
 
 -- a header written into a buffer
-pub header-is : (xs authenticator : List ℕ) (a b c d end : ℕ) → 20 ≤ length xs → end ≡ 20 → length authenticator ≡ 16 → take 20 (take 4 (set (set (set (set xs 0 a) 1 b) 2 c) 3 d) ++ authenticator ++ drop end (set (set (set (set xs 0 a) 1 b) 2 c) 3 d)) ≡ a ∷ b ∷ c ∷ d ∷ authenticator
-header-is [] authenticator a b c d end h e n = absurd (omega arith)
-header-is (x0 ∷ []) authenticator a b c d end h e n = absurd (omega arith)
-header-is (x0 ∷ x1 ∷ []) authenticator a b c d end h e n = absurd (omega arith)
-header-is (x0 ∷ x1 ∷ x2 ∷ []) authenticator a b c d end h e n = absurd (omega arith)
-header-is (x0 ∷ x1 ∷ x2 ∷ x3 ∷ rest) authenticator a b c d end h e n =
-    rw e (ap (λ ys. a ∷ b ∷ c ∷ d ∷ ys) (take_at authenticator (drop 16 rest) 16 n))
+pub header-is : (xs authenticator : List ℕ) (a b c d start end : ℕ) → 4 ≤ start → end ≡ 20 → length authenticator ≡ 16 → take 20 (take 4 (take 0 xs ++ (a ∷ b ∷ c ∷ d ∷ []) ++ drop start xs) ++ authenticator ++ drop end (take 0 xs ++ (a ∷ b ∷ c ∷ d ∷ []) ++ drop start xs)) ≡ a ∷ b ∷ c ∷ d ∷ authenticator
+header-is xs authenticator a b c d start end h e n =
+    rw e (ap (λ ys. a ∷ b ∷ c ∷ d ∷ ys) (take_at authenticator (drop 16 (drop start xs)) 16 n))

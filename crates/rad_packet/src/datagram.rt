@@ -46,11 +46,12 @@ impl Datagram {
     pub fn begin(&mut self, code: u8, identifier: u8, authenticator: [u8; 16])
         ensures { self.new ≡ packet_text code identifier authenticator [] }
     {
-        self.octets[0] = code;
-        self.octets[1] = identifier;
-        self.octets[2] = 0;
-        self.octets[3] = 20;
-        put(&mut self.octets, 4, &authenticator);
+        put(
+            &mut self.octets,
+            0,
+            &[code, identifier, 0, HEADER_LENGTH as u8],
+        );
+        put(&mut self.octets, 4, authenticator.as_slice());
         self.length = HEADER_LENGTH;
     }
 
@@ -137,7 +138,7 @@ impl Datagram {
     pub fn len(&self) -> usize
         ensures { result ≡ length self.now }
     {
-        self.length
+        self.bytes().len()
     }
 }
 

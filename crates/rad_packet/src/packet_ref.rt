@@ -69,7 +69,8 @@ impl<'a> PacketRef<'a> {
         ensures value { result.now ≡ self.now }
         ensures packet { IsPacketText self.now }
     {
-        self.octets
+        let PacketRef { octets } = self;
+        octets
     }
 
     /// The attributes in order. An attribute that is taken costs nothing that grows with the packet.

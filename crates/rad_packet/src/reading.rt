@@ -52,8 +52,11 @@ fn first_length(octets: &[u8]) -> Option<usize>
         return None;
     };
     let length = usize::from(*length);
-    if length < 2 || length > octets.len() {
+    if length < LEAST_ATTRIBUTE_LENGTH || length > octets.len() {
         return None;
     }
     Some(length)
 }
+
+/// The least Length of an attribute: it counts Type and Length (RFC 2865 section 5).
+const LEAST_ATTRIBUTE_LENGTH: usize = 2;
