@@ -1,0 +1,9 @@
+pub mod AllotLemmas
+pub mod ChangeLemmas
+pub mod ContentsLemmas
+pub mod DueLemmas
+pub mod IndexLemmas
+pub mod KeptLemmas
+pub mod KeyLemmas
+pub mod MapLemmas
+pub mod SlotLemmas

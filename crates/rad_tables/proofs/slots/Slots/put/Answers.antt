@@ -1,0 +1,41 @@
+use Rattle.std.proofs.Common.{◌≡◌, Some, ap, ◌∙◌, arith, length}
+use Rattle.std.specs.FinMap as map
+use Rattle.rad_tables.specs.Pairs.{IsInRange}
+use Rattle.rad_tables.specs.Kept.{contents_of}
+use Rattle.rad_tables.proofs.ContentsLemmas.{len_at_most}
+use Rattle.rad_tables.proofs.KeptLemmas.{entries_of-set_used, kept_put, place_below, room_for_one, table}
+use Rattle.rad_tables.proofs.slots.Slots.put.Goals as goal
+
+pub overflow_cast-len : goal.overflow_cast-len
+overflow_cast-len g c =
+    let kept = c.self.invariant in
+    omega (arith, len_at_most (contents_of c.self.inside.cells.items), kept.count, kept.pairs, kept.most, c.self.inside.places.ok.0)
+
+pub push_reserved-requires : goal.push_reserved-requires
+push_reserved-requires g c =
+    let slot = c.args.slot in
+    let free = ap (λ t. map.get t.entries slot) c.self.view_is ∙ c.requires.free in
+    let ports = ap (λ t. t.ports) c.self.view_is in
+    let range : IsInRange c.self.inside.ports slot = (omega (arith, c.requires.in_range.0), c.requires.in_range.1) in
+    omega (arith, room_for_one (contents_of c.self.inside.cells.items) _ _ _ _ _ c.self.invariant slot range free, c.self.inside.places.ok.0)
+
+pub invariant_of-self : goal.invariant_of-self
+invariant_of-self g c =
+    let slot = c.args.slot in
+    let free = ap (λ t. map.get t.entries slot) c.self.view_is ∙ c.requires.free in
+    let ports = ap (λ t. t.ports) c.self.view_is in
+    let range : IsInRange c.self.inside.ports slot = (omega (arith, c.requires.in_range.0), c.requires.in_range.1) in
+    let count : c.len.result ≡ length c.self.inside.places.items = omega (arith, c.self.inside.places.ok.0) in
+    kept_put c.self.inside.cells.items _ _ _ _ _ c.self.invariant slot c.place_of-place.result c.len.result c.args.entry _ _
+    c.place_of-place.ensures count c.push_reserved.ensures.items c.push_reserved.ensures.capacity range free
+
+pub returns : goal.returns
+returns g c =
+    let slot = c.args.slot in
+    let cells = c.self.inside.cells.items in
+    let ports = ap (λ t. t.ports) c.self.view_is in
+    let range : IsInRange c.self.inside.ports slot = (omega (arith, c.requires.in_range.0), c.requires.in_range.1) in
+    let inside = place_below (contents_of cells) _ _ _ _ _ c.self.invariant slot range in
+    ap (λ entries. table c.self.inside.ports entries (Some slot))
+    (entries_of-set_used cells slot c.place_of-place.result c.args.entry c.place_of-place.ensures range.1 inside)
+    ∙ ap (λ t. table t.ports (map.insert t.entries slot c.args.entry) (Some slot)) c.self.view_is

@@ -1,0 +1,137 @@
+use Rattle.std.proofs.Common.{◌-◌, ◌<◌, ◌≡◌, ◌≤◌, None, is_some, IsSome, get_or, sym, ap, ◌∙◌, arith, length}
+use Rattle.std.proofs.lemmas.List.{length-map, get_or_past, get_or_read}
+use Rattle.std.specs.FinMap as map
+use Rattle.rad_tables.specs.Kept.{place_of, at, contents_of, entry_of}
+use Rattle.rad_tables.proofs.ContentsLemmas.{get_slot, remove_absent}
+use Rattle.rad_tables.proofs.IndexLemmas.{within}
+use Rattle.rad_tables.proofs.KeptLemmas.{cell_at, entries_of-set_free, kept_take, table}
+use Rattle.rad_tables.proofs.slots.Slots.take.Goals as goal
+
+pub returns-then-place-len-clause-value : goal.returns-then-place-len-clause-value
+returns-then-place-len-clause-value g c =
+    let cells = c.self.inside.cells.items in
+    let slot = c.args.slot in
+    let past : length (contents_of cells) ≤ place_of slot = omega (arith, length-map cells entry_of, c.self.inside.cells.ok.0) in
+    sym (sym (ap (λ t. map.get t.entries slot) c.self.view_is) ∙ get_slot (contents_of cells) slot (omega arith) ∙ get_or_past (contents_of cells) (place_of slot) None past)
+
+pub returns-then-place-len-clause-taken : goal.returns-then-place-len-clause-taken
+returns-then-place-len-clause-taken g c =
+    let cells = c.self.inside.cells.items in
+    let slot = c.args.slot in
+    let now = c.args.self.now in
+    let past : length (contents_of cells) ≤ place_of slot = omega (arith, length-map cells entry_of, c.self.inside.cells.ok.0) in
+    let absent = sym (ap (λ t. map.get t.entries slot) c.self.view_is) ∙ get_slot (contents_of cells) slot (omega arith) ∙ get_or_past (contents_of cells) (place_of slot) None past in
+    sym (ap (λ entries. table now.ports entries now.allotted) (remove_absent now.entries slot absent))
+
+pub overflow_sub-len : goal.overflow_sub-len
+overflow_sub-len g c =
+    let cells = c.self.inside.cells.items in
+    let place = c.place_of-place.result in
+    let fits : place < length cells = omega (arith, c.self.inside.cells.ok.0) in
+    let there = cell_at cells place (place_of c.args.slot) c.index_mut.result.now c.place_of-place.ensures fits c.index_mut.ensures.value ∙ ap entry_of (sym c.in-Used.ensures.value) in
+    omega (arith, c.self.invariant.index.known (place_of c.args.slot) (ap is_some there), c.self.inside.places.ok.0)
+
+pub index-moved-requires : goal.index-moved-requires
+index-moved-requires g c =
+    let cells = c.self.inside.cells.items in
+    let place = c.place_of-place.result in
+    let fits : place < length cells = omega (arith, c.self.inside.cells.ok.0) in
+    let there = cell_at cells place (place_of c.args.slot) c.index_mut.result.now c.place_of-place.ensures fits c.index_mut.ensures.value ∙ ap entry_of (sym c.in-Used.ensures.value) in
+    let used : IsSome (at (contents_of cells) (place_of c.args.slot)) = ap is_some there in
+    let index = c.self.invariant.index in
+    let known = index.known (place_of c.args.slot) used in
+    let places = c.self.inside.places.items in
+    let count : c.len-in-Used.result ≡ length places = omega (arith, c.self.inside.places.ok.0) in
+    omega (arith, c.self.inside.places.ok.0)
+
+pub index_mut-requires-in-Used : goal.index_mut-requires-in-Used
+index_mut-requires-in-Used g c =
+    let cells = c.self.inside.cells.items in
+    let place = c.place_of-place.result in
+    let fits : place < length cells = omega (arith, c.self.inside.cells.ok.0) in
+    let there = cell_at cells place (place_of c.args.slot) c.index_mut.result.now c.place_of-place.ensures fits c.index_mut.ensures.value ∙ ap entry_of (sym c.in-Used.ensures.value) in
+    let used : IsSome (at (contents_of cells) (place_of c.args.slot)) = ap is_some there in
+    let index = c.self.invariant.index in
+    let known = index.known (place_of c.args.slot) used in
+    let places = c.self.inside.places.items in
+    let count : c.len-in-Used.result ≡ length places = omega (arith, c.self.inside.places.ok.0) in
+    let below : length places - 1 < length places = omega arith in
+    let moved : c.index-moved.result.now ≡ get_or places (length places - 1) 0 =
+    get_or_read places (c.len-in-Used.result - 1) c.index-moved.result.now (omega arith) c.index-moved.ensures 0 ∙ ap (λ n. get_or places (n - 1) 0) count in
+    omega (arith, within (contents_of cells) (get_or places (length places - 1) 0) (index.in_use (length places - 1) below), index.back, c.self.inside.positions.ok.0)
+
+pub swap_remove-requires : goal.swap_remove-requires
+swap_remove-requires g c =
+    let cells = c.self.inside.cells.items in
+    let place = c.place_of-place.result in
+    let fits : place < length cells = omega (arith, c.self.inside.cells.ok.0) in
+    let there = cell_at cells place (place_of c.args.slot) c.index_mut.result.now c.place_of-place.ensures fits c.index_mut.ensures.value ∙ ap entry_of (sym c.in-Used.ensures.value) in
+    let used : IsSome (at (contents_of cells) (place_of c.args.slot)) = ap is_some there in
+    let index = c.self.invariant.index in
+    let known = index.known (place_of c.args.slot) used in
+    let places = c.self.inside.places.items in
+    let count : c.len-in-Used.result ≡ length places = omega (arith, c.self.inside.places.ok.0) in
+    let positions = c.self.inside.positions.items in
+    let place_fits : place < length positions = omega (arith, index.back, length-map cells entry_of) in
+    let position = get_or_read positions place c.index-position.result.now place_fits c.index-position.ensures 0 in
+    let stands : get_or positions place 0 ≡ get_or positions (place_of c.args.slot) 0 = ap (λ q. get_or positions q 0) c.place_of-place.ensures in
+    omega (arith, c.self.inside.places.ok.0)
+
+pub invariant_of-self-in-Used : goal.invariant_of-self-in-Used
+invariant_of-self-in-Used g c =
+    let cells = c.self.inside.cells.items in
+    let place = c.place_of-place.result in
+    let fits : place < length cells = omega (arith, c.self.inside.cells.ok.0) in
+    let there = cell_at cells place (place_of c.args.slot) c.index_mut.result.now c.place_of-place.ensures fits c.index_mut.ensures.value ∙ ap entry_of (sym c.in-Used.ensures.value) in
+    let used : IsSome (at (contents_of cells) (place_of c.args.slot)) = ap is_some there in
+    let index = c.self.invariant.index in
+    let known = index.known (place_of c.args.slot) used in
+    let places = c.self.inside.places.items in
+    let count : c.len-in-Used.result ≡ length places = omega (arith, c.self.inside.places.ok.0) in
+    let below : length places - 1 < length places = omega arith in
+    let moved : c.index-moved.result.now ≡ get_or places (length places - 1) 0 =
+    get_or_read places (c.len-in-Used.result - 1) c.index-moved.result.now (omega arith) c.index-moved.ensures 0 ∙ ap (λ n. get_or places (n - 1) 0) count in
+    let positions = c.self.inside.positions.items in
+    let place_fits : place < length positions = omega (arith, index.back, length-map cells entry_of) in
+    let position = get_or_read positions place c.index-position.result.now place_fits c.index-position.ensures 0 in
+    let stands : get_or positions place 0 ≡ get_or positions (place_of c.args.slot) 0 = ap (λ q. get_or positions q 0) c.place_of-place.ensures in
+    kept_take cells _ _ _ _ _ c.self.invariant c.args.slot place c.index-position.result.now c.from-in-Used.result c.from.result c.swap_remove.result c.replace.new.dest _ _
+    c.replace.ensures.after c.place_of-place.ensures position c.from-in-Used.ensures (c.from.ensures ∙ moved) c.swap_remove.ensures.items c.swap_remove.ensures.capacity (omega arith) used
+
+pub returns-in-Free-clause-value : goal.returns-in-Free-clause-value
+returns-in-Free-clause-value g c =
+    let cells = c.self.inside.cells.items in
+    let slot = c.args.slot in
+    let place = c.place_of-place.result in
+    let fits : place < length cells = omega (arith, c.self.inside.cells.ok.0) in
+    sym (ap entry_of (sym c.in-Free.ensures.value))
+    ∙ sym (cell_at cells place (place_of slot) c.index_mut.result.now c.place_of-place.ensures fits c.index_mut.ensures.value)
+    ∙ sym (get_slot (contents_of cells) slot (omega arith)) ∙ ap (λ t. map.get t.entries slot) c.self.view_is
+
+pub returns-in-Free-clause-taken : goal.returns-in-Free-clause-taken
+returns-in-Free-clause-taken g c =
+    let cells = c.self.inside.cells.items in
+    let slot = c.args.slot in
+    let inside : place_of slot < length (contents_of cells) = omega (arith, length-map cells entry_of, c.self.inside.cells.ok.0) in
+    ap (λ entries. table c.self.inside.ports entries c.self.inside.allotted)
+    (entries_of-set_free cells slot c.place_of-place.result c.replace.new.dest c.replace.ensures.after c.place_of-place.ensures (omega arith) inside)
+    ∙ ap (λ t. table t.ports (map.remove t.entries slot) t.allotted) c.self.view_is
+
+pub returns-in-Used-clause-value : goal.returns-in-Used-clause-value
+returns-in-Used-clause-value g c =
+    let cells = c.self.inside.cells.items in
+    let slot = c.args.slot in
+    let place = c.place_of-place.result in
+    let fits : place < length cells = omega (arith, c.self.inside.cells.ok.0) in
+    sym (ap entry_of (sym c.in-Used.ensures.value))
+    ∙ sym (cell_at cells place (place_of slot) c.index_mut.result.now c.place_of-place.ensures fits c.index_mut.ensures.value)
+    ∙ sym (get_slot (contents_of cells) slot (omega arith)) ∙ ap (λ t. map.get t.entries slot) c.self.view_is
+
+pub returns-in-Used-clause-taken : goal.returns-in-Used-clause-taken
+returns-in-Used-clause-taken g c =
+    let cells = c.self.inside.cells.items in
+    let slot = c.args.slot in
+    let inside : place_of slot < length (contents_of cells) = omega (arith, length-map cells entry_of, c.self.inside.cells.ok.0) in
+    ap (λ entries. table c.self.inside.ports entries c.self.inside.allotted)
+    (entries_of-set_free cells slot c.place_of-place.result c.replace.new.dest c.replace.ensures.after c.place_of-place.ensures (omega arith) inside)
+    ∙ ap (λ t. table t.ports (map.remove t.entries slot) t.allotted) c.self.view_is

@@ -1,0 +1,76 @@
+ghost use Rattle.std.specs.Prelude.{◌≡◌, OnOk, OnErr};
+ghost use Rattle.std.specs.FinMap as map;
+
+use std::alloc::{AllocError, Global};
+use std::collections::BTreeMap;
+use std::marker::Model;
+
+/// What makes two requests the same one (RFC 2866 section 3, Identifier, for the first three; the
+/// authenticator is own).
+#[derive(Clone, Copy, Debug, PartialEq, Eq, PartialOrd, Ord)]
+pub struct Key {
+    /// The client's IPv4 address.
+    pub client: [u8; 4],
+    /// The UDP port that it sent from.
+    pub port: u16,
+    /// The packet's Identifier.
+    pub identifier: u8,
+    /// The packet's Request Authenticator.
+    pub authenticator: [u8; 16],
+}
+
+/// The last number of each key.
+///
+/// It is a search tree, so that no choice of keys makes it slow: each call compares a number of
+/// keys that grows with the logarithm of how many there are.
+#[derive(Drop)]
+pub struct Duplicates {
+    numbers: BTreeMap<Key, u64>,
+}
+
+impl Model for Duplicates {
+    ghost use Rattle.std.specs.Prelude.{ℕ};
+    ghost use Rattle.std.specs.FinMap as map;
+    ghost use Rattle.std.specs.Coded.{coded_ℕ};
+    ghost use Rattle.rad_tables.specs.Keys.{key_cmp, coded_key};
+
+    ghost Value = { map.FinMap key_cmp ℕ };
+
+    ghost coded = { map.code coded_key coded_ℕ };
+
+    ghost view = { λ d. map.from_entries d.numbers.entries };
+}
+
+impl Duplicates {
+    /// An empty table. It takes no memory: what it needs later is made with `alloc`.
+    pub fn new(alloc: Global) -> Duplicates
+        ensures { result ≡ map.empty }
+    {
+        Duplicates {
+            numbers: BTreeMap::new(alloc),
+        }
+    }
+
+    /// The last number of a key.
+    pub fn find(&self, key: &Key) -> Option<u64>
+        ensures { result ≡ map.get self.now key.now }
+    {
+        self.numbers.get(key).copied()
+    }
+
+    /// Makes this the last number of the key. An error means that memory was refused.
+    pub fn insert(&mut self, key: Key, number: u64) -> Result<(), AllocError>
+        ensures ok { OnOk result (self.new ≡ map.insert self.old key number) }
+        ensures err { OnErr result (self.new ≡ self.old) }
+    {
+        self.numbers.insert(key, number)?;
+        Ok(())
+    }
+
+    /// Forgets the key.
+    pub fn remove(&mut self, key: &Key)
+        ensures { self.new ≡ map.remove self.old key.now }
+    {
+        self.numbers.remove(key);
+    }
+}

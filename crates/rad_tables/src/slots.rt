@@ -1,0 +1,225 @@
+ghost use Rattle.std.specs.Prelude.{◌≡◌, ◌+◌, ◌*◌, ◌<◌, ◌≤◌, ◌↔◌, Some, None, IsNone, IsSome, IfSome, IfOk, MatchOption};
+ghost use Rattle.std.specs.Option.{option_copied, option_copied_mut, option_map};
+ghost use Rattle.std.specs.Borrow.{sem};
+ghost use Rattle.std.specs.FinMap as map;
+ghost use Rattle.rad_tables.specs.Pairs.{AllInUse, IsFirstFree, IsInRange};
+ghost use Rattle.rad_tables.specs.Dues.{IsLeastDue, NoneIs};
+ghost use Rattle.rad_tables.specs.Kept.{place_of as the_place, slot_at as the_slot, start_of as the_start};
+
+use crate::cells::{Cell, change_each, first_free_behind, free_cells, least_of};
+use crate::{Change, Timed};
+use std::alloc::{AllocError, Global};
+use std::marker::Model;
+use std::mem;
+
+/// A pair of a source port and an identifier, under which something may be outstanding.
+#[derive(Clone, Copy, Debug, PartialEq, Eq, PartialOrd, Ord)]
+pub struct Slot {
+    /// Which of a lane's source ports, counted from 0.
+    pub port: u16,
+    /// The packet's Identifier.
+    pub identifier: u8,
+}
+
+/// The entries outstanding, each at a pair of its own.
+///
+/// The pairs are taken in cyclic order: port 0's identifiers 0 to 255, then port 1's, and so on.
+#[derive(Drop)]
+pub struct Slots<T> {
+    /// What stands at each pair, in the order of the pairs.
+    cells: Vec<Cell<T>>,
+    /// The places in use among the cells, in no order.
+    places: Vec<u16>,
+    /// Where each place in use stands among `places`.
+    positions: Vec<u16>,
+    allotted: Option<Slot>,
+    ports: u16,
+}
+
+impl<T> Model for Slots<T> {
+    ghost use Rattle.std.specs.Prelude.{vec_capacity};
+    ghost use Rattle.rad_tables.specs.Pairs.{Table, coded_table};
+
+    ghost Value = { Table T };
+
+    ghost coded = { coded_table T.code };
+
+    ghost use Rattle.rad_tables.specs.Kept.{contents_of, entries_of, IsKept};
+
+    ghost view = { λ s. record {
+      ports = s.ports;
+      entries = entries_of (contents_of s.cells.items);
+      allotted = s.allotted;
+    } };
+
+    ghost invariant = { λ s.
+        IsKept (contents_of s.cells.items) s.places.items s.positions.items
+        (vec_capacity s.places) s.ports s.allotted };
+}
+
+impl<T: Drop> Slots<T> {
+    ghost use Rattle.rad_tables.specs.Lends.{LendsEntry, LendsEntryIf};
+    ghost use Rattle.rad_tables.specs.declared.slots.Slot.{Slot};
+
+    /// Room for an entry at each pair of 1 to 4 source ports. An error means that memory was refused.
+    ///
+    /// No other call takes memory.
+    pub fn new(alloc: Global, ports: u16) -> Result<Slots<T>, AllocError>
+        requires least { 1 ≤ ports }
+        requires most { ports ≤ 4 }
+        ensures { IfOk result (λ slots.
+            slots ≡ record { ports = ports; entries = map.empty; allotted = None }) }
+    {
+        let pairs = 256 * usize::from(ports);
+        Ok(Slots {
+            cells: free_cells(alloc, pairs)?,
+            places: Vec::with_capacity(alloc, pairs)?,
+            positions: vec![in alloc; 0; pairs]?,
+            allotted: None,
+            ports,
+        })
+    }
+
+    /// The first free pair behind the one last allotted, in cyclic order.
+    ///
+    /// It walks over the pairs in use on the way.
+    pub fn allot(&self) -> Option<Slot>
+        ensures none { IsNone result ↔ AllInUse self.now }
+        ensures first { IfSome result (IsFirstFree self.now) }
+        ensures in_range { IfSome result (IsInRange self.now.ports) }
+
+        // The same by numbers: where fewer than all are in use there is one, and the one last allotted
+        // comes again only where no other is free.
+        ensures room { map.len self.now.entries < 256 * self.now.ports → IsSome result }
+        ensures again { IfSome result (λ slot.
+            self.now.allotted ≡ Some slot → map.len self.now.entries + 1 ≡ 256 * self.now.ports) }
+    {
+        let place = first_free_behind(&self.cells, start_of(self.allotted))?;
+        Some(slot_at(place))
+    }
+
+    /// Puts an entry at a free pair, which is then the one last allotted.
+    pub fn put(&mut self, slot: Slot, entry: T)
+        requires in_range { IsInRange self.old.ports slot }
+        requires free { map.get self.old.entries slot ≡ None }
+        ensures { self.new ≡ record self.old {
+          entries = map.insert self.old.entries slot entry;
+          allotted = Some slot;
+        } }
+    {
+        let place = place_of(slot);
+        self.positions[place] = self.places.len() as u16;
+        self.places.push_reserved(place as u16);
+        self.cells[place] = Cell::Used(entry);
+        self.allotted = Some(slot);
+    }
+
+    /// The entry at a pair.
+    pub fn get(&self, slot: Slot) -> Option<&T>
+        ensures value { option_copied result ≡ map.get self.now.entries slot }
+        ensures in_range { IsSome result → IsInRange self.now.ports slot }
+    {
+        let place = place_of(slot);
+        if place >= self.cells.len() {
+            return None;
+        }
+        self.cells[place].get()
+    }
+
+    /// The entry at a pair, for writing.
+    pub fn get_mut(&mut self, slot: Slot) -> Option<&mut T>
+        ensures* writes_back { sem 𝓛 (LendsEntryIf T.row self.entry slot result) }
+        ensures value { option_copied_mut result ≡ map.get self.old.entries slot }
+    {
+        if self.get(slot).is_some() {
+            Some(self.entry_mut(slot))
+        } else {
+            None
+        }
+    }
+
+    fn entry_mut(&mut self, slot: Slot) -> &mut T
+        requires { IsSome (map.get self.old.entries slot) }
+        ensures* writes_back { sem 𝓛 (LendsEntry T.row self.entry slot result) }
+        ensures value { map.get self.old.entries slot ≡ Some result.now }
+    {
+        self.cells[place_of(slot)].entry_mut()
+    }
+
+    /// Changes each entry. It looks at each pair, also at those that are free.
+    pub fn change_each<C: Change<T>>(&mut self, change: &C)
+        ensures changed { (slot : Slot) → map.get self.new.entries slot
+            ≡ option_map (C.changed change.now) (map.get self.old.entries slot) }
+        ensures kept { self.new ≡ record self.old { entries = self.new.entries } }
+    {
+        change_each(&mut self.cells, change);
+    }
+
+    /// Takes the entry at a pair out, and with it the pair out of use.
+    pub fn take(&mut self, slot: Slot) -> Option<T>
+        ensures value { result ≡ map.get self.old.entries slot }
+        ensures taken { self.new ≡ record self.old { entries = map.remove self.old.entries slot } }
+    {
+        let place = place_of(slot);
+        if place >= self.cells.len() {
+            return None;
+        }
+        match mem::replace(&mut self.cells[place], Cell::Free) {
+            Cell::Free => None,
+            Cell::Used(entry) => {
+                let position = self.positions[place];
+                let moved = self.places[self.places.len() - 1];
+                self.positions[usize::from(moved)] = position;
+                self.places.swap_remove(usize::from(position));
+                Some(entry)
+            }
+        }
+    }
+
+    /// How many pairs are in use.
+    pub fn used(&self) -> usize
+        ensures count { result ≡ map.len self.now.entries }
+        ensures most { result ≤ 256 * self.now.ports }
+    {
+        self.places.as_slice().len()
+    }
+
+    /// Of the entries that are spent, or of those that are not, the slot of the one with the least due
+    /// and, at one due, the least number.
+    ///
+    /// It looks at each entry in use once, and reads no more of it than these three.
+    pub fn least_due(&self, spent: bool) -> Option<Slot>
+    where
+        T: Timed,
+        ensures { MatchOption result
+            (NoneIs T.spent_of self.now.entries spent)
+            (IsLeastDue T.due_of T.number_of T.spent_of self.now.entries spent) }
+    {
+        let waiting = least_of(&self.cells, &self.places, spent)?;
+        Some(slot_at(waiting.place))
+    }
+}
+
+/// The place of a slot among the cells.
+fn place_of(slot: Slot) -> usize
+    ensures { result ≡ the_place slot }
+{
+    256 * usize::from(slot.port) + usize::from(slot.identifier)
+}
+
+/// The place behind the pair last allotted.
+fn start_of(allotted: Option<Slot>) -> usize
+    ensures { result ≡ the_start allotted }
+{
+    allotted.map_or(0, |slot| place_of(slot) + 1)
+}
+
+fn slot_at(place: usize) -> Slot
+    requires { place < 1024 }
+    ensures { result ≡ the_slot place }
+{
+    Slot {
+        port: (place / 256) as u16,
+        identifier: (place % 256) as u8,
+    }
+}
