@@ -1,0 +1,9 @@
+pub mod Cuts
+pub mod Digests
+pub mod Forwards
+pub mod Marks
+pub mod OneKind
+pub mod Packets
+pub mod Returns
+pub mod Signing
+pub mod Statuses

@@ -1,0 +1,12 @@
+pub mod Answers
+pub mod Authenticator
+pub mod Buffer
+pub mod Forwarding
+pub mod Hmac
+pub mod Kept
+pub mod Mark
+pub mod Refusing
+pub mod Replied
+pub mod Returning
+pub mod Secret
+pub mod Status

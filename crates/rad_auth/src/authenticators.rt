@@ -1,0 +1,72 @@
+ghost use Rattle.std.specs.Prelude.{◌≡◌, ◌≤◌, ◌++◌, ◌↔◌, length, take, drop, IsTrue};
+ghost use Rattle.md5.specs.Md5.{md5};
+ghost use Rattle.rad_packet.specs.Packet.{IsPacketText, attribute_octets, code_of};
+ghost use Rattle.rad_auth.specs.Authenticator.{IsRightRequest, IsRightResponse, accounting_request, request_authenticator, response_authenticator};
+
+use crate::secret::Secret;
+use md5::{Digest, Md5};
+use rad_packet::PacketRef;
+
+/// The Request Authenticator of an Accounting-Request (RFC 2866 section 3). Hashes the packet once.
+pub fn request_authenticator(packet: &PacketRef<'_>, secret: &Secret) -> [u8; 16]
+    ensures { result ≡ request_authenticator secret.now packet.now }
+{
+    digest(packet.octets(), &NO_AUTHENTICATOR, secret)
+}
+
+/// The Response Authenticator of an answer to a packet of this Authenticator (RFC 2866 section 3). Hashes
+/// the packet once.
+pub fn response_authenticator(
+    packet: &PacketRef<'_>,
+    authenticator: &[u8; 16],
+    secret: &Secret,
+) -> [u8; 16]
+    ensures { result ≡ response_authenticator secret.now authenticator.now packet.now }
+{
+    digest(packet.octets(), authenticator, secret)
+}
+
+/// Whether a packet is right by its Request Authenticator. Hashes the packet once.
+#[tactic(auto, unfolding(crate::specs::Authenticator::IsRightRequest))]
+pub fn check_request(packet: &PacketRef<'_>, secret: &Secret) -> bool
+    ensures { IsTrue result ↔ IsRightRequest secret.now packet.now }
+{
+    packet.authenticator() == request_authenticator(packet, secret)
+}
+
+/// Whether a packet is right by its Response Authenticator, as an answer to a packet of this Authenticator.
+/// Hashes the packet once.
+#[tactic(auto, unfolding(crate::specs::Authenticator::IsRightResponse))]
+pub fn check_response(packet: &PacketRef<'_>, authenticator: &[u8; 16], secret: &Secret) -> bool
+    ensures { IsTrue result ↔ IsRightResponse secret.now authenticator.now packet.now }
+{
+    packet.authenticator() == response_authenticator(packet, authenticator, secret)
+}
+
+/// Sets the Identifier and the Request Authenticator of an Accounting-Request, given as its octets without
+/// padding. Hashes the packet once.
+pub fn sign(packet: &mut [u8], identifier: u8, secret: &Secret)
+    requires packet { IsPacketText packet.old }
+    requires request { code_of packet.old ≡ 4 }
+    ensures { packet.new ≡ accounting_request identifier (attribute_octets packet.old) secret.now }
+{
+    packet[1] = identifier;
+    let authenticator = digest(packet, &NO_AUTHENTICATOR, secret);
+    packet[4..20].copy_from_slice(&authenticator);
+}
+
+/// What stands in place of the Authenticator where none is known (RFC 2866 section 3).
+pub(crate) const NO_AUTHENTICATOR: [u8; 16] = [0; 16];
+
+/// The digest of a packet with these octets in place of its Authenticator, followed by the secret.
+pub(crate) fn digest(packet: &[u8], authenticator: &[u8; 16], secret: &Secret) -> [u8; 16]
+    requires { 20 ≤ length packet.now }
+    ensures { result ≡ md5 (take 4 packet.now ++ authenticator.now ++ drop 20 packet.now ++ secret.now) }
+{
+    let mut hasher = Md5::new();
+    hasher.update(&packet[..4]);
+    hasher.update(authenticator);
+    hasher.update(&packet[20..]);
+    hasher.update(secret.octets());
+    hasher.finalize()
+}

@@ -1,0 +1,38 @@
+ghost use Rattle.std.specs.Prelude.{◌≡◌, ◌<◌, ◌≤◌, length, OnOk, IfErr};
+ghost use Rattle.rad_auth.specs.Forwarding.{forwarded};
+
+use crate::authenticators::{NO_AUTHENTICATOR, digest};
+use crate::mark::{MARK_LENGTH, Mark};
+use crate::secret::Secret;
+use crate::{ACCOUNTING_REQUEST, PROXY_STATE};
+use rad_packet::{Datagram, GREATEST_LENGTH, HEADER_LENGTH, PacketRef, WriteFault};
+
+/// Writes the forwarded packet (RFC 2866 section 2.1, Proxy): an Accounting-Request of this Identifier with
+/// the request's attributes and the mark after them, signed with this secret. Hashes it once.
+///
+/// # Errors
+///
+/// `PacketTooLong` alone, for a request that leaves no room for the mark: the datagram stays.
+pub fn forward(
+    request: &PacketRef<'_>,
+    mark: Mark,
+    identifier: u8,
+    secret: &Secret,
+    datagram: &mut Datagram,
+) -> Result<(), WriteFault>
+    ensures ok { OnOk result (datagram.new ≡ forwarded request.now mark identifier secret.now) }
+    ensures fits { OnOk result (length request.now ≤ 4084) }
+    ensures too_long { IfErr result (λ fault. (fault ≡ WriteFault.PacketTooLong) × (4084 < length request.now)) }
+    ensures unchanged { IfErr result (λ _. datagram.new ≡ datagram.old) }
+{
+    let octets = request.octets();
+    if octets.len() > GREATEST_LENGTH - MARK_LENGTH {
+        return Err(WriteFault::PacketTooLong);
+    }
+    datagram.begin(ACCOUNTING_REQUEST, identifier, NO_AUTHENTICATOR);
+    datagram.push_all(&octets[HEADER_LENGTH..])?;
+    datagram.push(PROXY_STATE, &mark.value())?;
+    let authenticator = digest(datagram.bytes(), &NO_AUTHENTICATOR, secret);
+    datagram.set_authenticator(authenticator);
+    Ok(())
+}

@@ -1,0 +1,28 @@
+use crate::secret::put;
+
+/// The octets of a mark as an attribute: Type, Length and Value.
+pub const MARK_LENGTH: usize = 12;
+
+/// The Proxy-State (RFC 2865 section 5.33) that this proxy adds to a request, and takes out of the reply.
+#[derive(Clone, Copy, Debug, PartialEq, Eq)]
+pub struct Mark {
+    /// The number of the lane that the request goes through.
+    pub lane: u16,
+    /// The number of the request's record in that lane.
+    pub number: u64,
+}
+
+impl Mark {
+    ghost use Rattle.std.specs.Prelude.{◌≡◌};
+    ghost use Rattle.rad_auth.specs.Mark.{mark_value};
+
+    /// The mark's Value: lane and number, each with its most significant octet first.
+    pub(crate) fn value(self) -> [u8; 10]
+        ensures { result ≡ mark_value self }
+    {
+        let mut value = [0; 10];
+        put(&mut value, &self.lane.to_be_bytes());
+        put(&mut value[2..], &self.number.to_be_bytes());
+        value
+    }
+}

@@ -1,0 +1,129 @@
+ghost use Rattle.std.specs.Prelude.{◌≡◌, ◌+◌, ◌≤◌, ◌++◌, length, IfOk, IfErr, MatchOption};
+ghost use Rattle.rad_packet.specs.Attribute.{AreAttributes};
+ghost use Rattle.rad_packet.specs.Packet.{IsPacketText, code_of, identifier_of};
+ghost use Rattle.rad_auth.specs.Mark.{EndsWithMark};
+ghost use Rattle.rad_auth.specs.Authenticator.{accounting_response};
+ghost use Rattle.rad_auth.specs.Replied.{IsAnswer};
+ghost use Rattle.rad_auth.specs.Returning.{HasAttributeAt, IsReturnedAt, octets_without};
+ghost use Rattle.rad_auth.specs.Refusing.{RefusesReply, ReturnsItsMark};
+ghost use Rattle.rad_auth.specs.declared.mark.Mark.{Mark};
+
+use crate::authenticators::{check_response, digest};
+use crate::mark::MARK_LENGTH;
+use crate::reply::{Reply, RequestHead};
+use crate::secret::Secret;
+use crate::{ACCOUNTING_RESPONSE, MESSAGE_AUTHENTICATOR, PROXY_STATE};
+use rad_packet::{AttributePlace, Datagram, HEADER_LENGTH, PacketRef};
+use std::alloc::{AllocError, Global};
+
+/// Why a home server's reply gives no response. The first fault in this order is told.
+#[derive(Clone, Copy, Debug, PartialEq, Eq)]
+pub enum ReplyFault {
+    /// The reply is not right under the home's secret.
+    BadAuthenticator,
+    /// It has a Message-Authenticator, which would be wrong in the response.
+    MessageAuthenticatorHere,
+    /// It has no Proxy-State, or its last one is not the sending's mark.
+    NoProxyState,
+    /// Memory was refused.
+    OutOfMemory,
+}
+
+impl From<AllocError> for ReplyFault {
+    ghost use Rattle.std.specs.Prelude.{◌≡◌};
+    ghost use Rattle.rad_auth.specs.declared.responding.ReplyFault.TheVariants.{OutOfMemory};
+
+    ghost from_gives = { λ _ fault. fault ≡ OutOfMemory };
+
+    fn from(_refused: AllocError) -> ReplyFault {
+        ReplyFault::OutOfMemory
+    }
+}
+
+/// The response to a request after the home server's reply to its sending (RFC 2866 section 2.1, Proxy): the
+/// reply without its last Proxy-State, under the request's Identifier and the client's secret. Hashes the
+/// reply and the response once each; keeps a copy of the three packets.
+///
+/// # Errors
+///
+/// See `ReplyFault`.
+pub fn respond(
+    alloc: Global,
+    head: RequestHead,
+    sending: &PacketRef<'_>,
+    reply: &PacketRef<'_>,
+    client: &Secret,
+    home: &Secret,
+) -> Result<Reply, ReplyFault>
+    requires code { code_of reply.now ≡ 5 }
+    requires identifier { identifier_of reply.now ≡ identifier_of sending.now }
+    requires mark { (mark : Mark) × EndsWithMark mark sending.now }
+    ensures made { IfOk result (λ made. (made.head ≡ head) × (made.sending ≡ sending.now) × (made.reply ≡ reply.now) × (made.client ≡ client.now) × (made.home ≡ home.now)) }
+    ensures answers { IfOk result IsAnswer }
+    ensures refused { IfErr result (λ fault. RefusesReply sending.now reply.now home.now fault) }
+{
+    if !check_response(reply, &sending.authenticator(), home) {
+        return Err(ReplyFault::BadAuthenticator);
+    }
+    if reply.first_of(MESSAGE_AUTHENTICATOR).is_some() {
+        return Err(ReplyFault::MessageAuthenticatorHere);
+    }
+    let Some(mark) = returned_mark(sending, reply) else {
+        return Err(ReplyFault::NoProxyState);
+    };
+    let mut response = Datagram::new();
+    write_response(head, reply, mark, client, &mut response);
+    let bytes = response.bytes();
+    Ok(Reply::keep(alloc, head, sending, reply, client, home, bytes)?)
+}
+
+/// Where the reply's last Proxy-State stands, if it is the sending's mark.
+fn returned_mark(sending: &PacketRef<'_>, reply: &PacketRef<'_>) -> Option<AttributePlace>
+    requires { (mark : Mark) × EndsWithMark mark sending.now }
+    ensures { MatchOption result (¬ ReturnsItsMark sending.now reply.now) (λ at. IsReturnedAt sending.now reply.now at.place at.length) }
+{
+    let at = reply.last_of(PROXY_STATE)?;
+    let sent = sending.octets();
+    let mark = &sent[sent.len() - MARK_LENGTH..];
+    if &reply.octets()[at.place..at.place + at.length] == mark {
+        Some(at)
+    } else {
+        None
+    }
+}
+
+/// The octets of the attributes before the one at this place, and of those after it.
+fn attributes_around<'a>(packet: &PacketRef<'a>, at: AttributePlace) -> (&'a [u8], &'a [u8])
+    requires { HasAttributeAt packet.now at.place at.length }
+    ensures packet { IsPacketText packet.now }
+    ensures before { AreAttributes result.0.now }
+    ensures after { AreAttributes result.1.now }
+    ensures others { result.0.now ++ result.1.now ≡ octets_without packet.now at.place at.length }
+    ensures fits { 20 + length result.0.now + length result.1.now ≤ 4096 }
+{
+    let octets = packet.octets();
+    (
+        &octets[HEADER_LENGTH..at.place],
+        &octets[at.place + at.length..],
+    )
+}
+
+/// Writes the response: the reply's attributes but the one at this place, under the request's Identifier.
+fn write_response(
+    head: RequestHead,
+    reply: &PacketRef<'_>,
+    mark: AttributePlace,
+    client: &Secret,
+    response: &mut Datagram,
+)
+    requires { HasAttributeAt reply.now mark.place mark.length }
+    ensures reply { IsPacketText reply.now }
+    ensures made { response.new ≡ accounting_response head.identifier head.authenticator (octets_without reply.now mark.place mark.length) client.now }
+{
+    let (before, after) = attributes_around(reply, mark);
+    response.begin(ACCOUNTING_RESPONSE, head.identifier, head.authenticator);
+    response.push_all(before).unwrap();
+    response.push_all(after).unwrap();
+    let authenticator = digest(response.bytes(), &head.authenticator, client);
+    response.set_authenticator(authenticator);
+}

@@ -1,0 +1,84 @@
+ghost use Rattle.std.specs.Prelude.{◌≡◌, ◌+◌, ◌≤◌, ◌↔◌, [], length, slice_range, IsTrue};
+ghost use Rattle.rad_packet.specs.Attribute.{attribute_text};
+ghost use Rattle.rad_packet.specs.Packet.{authenticator_of, code_of, identifier_of, packet_text};
+ghost use Rattle.rad_auth.specs.Authenticator.{IsRightResponse, accounting_response};
+ghost use Rattle.rad_auth.specs.Hmac.{hmac_md5};
+ghost use Rattle.rad_auth.specs.Status.{IsRightStatus, status_server, zeroed_at};
+
+use crate::authenticators::digest;
+use crate::hmac::{hmac_md5, hmac_md5_of_parts};
+use crate::secret::Secret;
+use crate::{ACCOUNTING_RESPONSE, MESSAGE_AUTHENTICATOR, STATUS_SERVER};
+use rad_packet::{Datagram, PacketRef};
+
+/// The Length of a Message-Authenticator (RFC 3579 section 3.2).
+const MESSAGE_AUTHENTICATOR_LENGTH: usize = 18;
+
+/// What stands in place of a Message-Authenticator's Value while that is computed (RFC 3579 section 3.2).
+const NO_VALUE: [u8; 16] = [0; 16];
+
+/// Whether a packet is right as a Status-Server (RFC 5997 section 3): it has one Message-Authenticator, and
+/// that is right. Hashes the packet once at most.
+pub fn check_status(packet: &PacketRef<'_>, secret: &Secret) -> bool
+    ensures { IsTrue result ↔ IsRightStatus secret.now packet.now }
+{
+    if packet.count_of(MESSAGE_AUTHENTICATOR) != 1 {
+        return false;
+    }
+    match packet.first_of(MESSAGE_AUTHENTICATOR) {
+        Some(at) if at.length == MESSAGE_AUTHENTICATOR_LENGTH => {
+            is_right_value(packet.octets(), at.place + 2, secret)
+        }
+        _ => false,
+    }
+}
+
+/// Whether the sixteen octets at this place are the HMAC of the packet with zeros in their place.
+fn is_right_value(packet: &[u8], place: usize, secret: &Secret) -> bool
+    requires { place + 16 ≤ length packet.now }
+    ensures { IsTrue result ↔ (slice_range packet.now place (place + 16) ≡ hmac_md5 secret.now (zeroed_at place packet.now)) }
+{
+    let before = &packet[..place];
+    let value = &packet[place..place + 16];
+    let after = &packet[place + 16..];
+    value == hmac_md5_of_parts(secret.octets(), before, &NO_VALUE, after).as_slice()
+}
+
+/// Writes a Status-Server (RFC 5997 section 3) of this Identifier and Authenticator, which has one
+/// Message-Authenticator and no other attribute. Hashes it once.
+pub fn make_status(
+    identifier: u8,
+    authenticator: [u8; 16],
+    secret: &Secret,
+    datagram: &mut Datagram,
+)
+    ensures made { datagram.new ≡ status_server identifier authenticator secret.now }
+    ensures counted { length datagram.new ≡ 38 }
+    ensures right { IsRightStatus secret.now datagram.new }
+{
+    write_status(identifier, authenticator, &NO_VALUE, datagram);
+    let value = hmac_md5(secret.octets(), datagram.bytes());
+    write_status(identifier, authenticator, &value, datagram);
+}
+
+/// Writes a Status-Server with this Value of its Message-Authenticator.
+fn write_status(identifier: u8, authenticator: [u8; 16], value: &[u8; 16], datagram: &mut Datagram)
+    ensures { datagram.new ≡ packet_text 12 identifier authenticator (attribute_text (record { kind = 80; value = value.now })) }
+{
+    datagram.begin(STATUS_SERVER, identifier, authenticator);
+    datagram.push(MESSAGE_AUTHENTICATOR, value).unwrap();
+}
+
+/// Writes the answer to a Status-Server that is right (RFC 5997 section 4.2): an Accounting-Response with no
+/// attributes. Hashes it once.
+pub fn answer_status(packet: &PacketRef<'_>, secret: &Secret, datagram: &mut Datagram)
+    requires status { code_of packet.now ≡ 12 }
+    requires right { IsRightStatus secret.now packet.now }
+    ensures answer { datagram.new ≡ accounting_response (identifier_of packet.now) (authenticator_of packet.now) [] secret.now }
+    ensures signed { IsRightResponse secret.now (authenticator_of packet.now) datagram.new }
+{
+    let authenticator = packet.authenticator();
+    datagram.begin(ACCOUNTING_RESPONSE, packet.identifier(), authenticator);
+    let response = digest(datagram.bytes(), &authenticator, secret);
+    datagram.set_authenticator(response);
+}

@@ -1,0 +1,23 @@
+-- A packet as it is printed: Code, Identifier, Length and attributes, one space between each two.
+use Rattle.std.specs.Prelude.{ℕ, ◌/◌, ◌%◌, List, [], ◌∷◌, ◌++◌, length, drop, slice_index, codes, false}
+use Rattle.std.specs.List.{flat_map}
+use Rattle.std.specs.Fmt.{decimal, digits}
+
+-- An octet in hexadecimal: two digits, in lower case.
+abbrev pub octet_text : ℕ → List ℕ
+octet_text octet = digits 16 false (octet / 16) ++ digits 16 false (octet % 16)
+
+-- Attributes in hexadecimal, `-` for none.
+abbrev pub attributes_text : List ℕ → List ℕ
+attributes_text [] = codes "-"
+attributes_text (octet ∷ octets) = flat_map octet_text (octet ∷ octets)
+
+abbrev pub parts_text : ℕ → ℕ → ℕ → List ℕ → List ℕ
+parts_text code identifier len attributes =
+    (decimal code ++ codes " " ++ decimal identifier ++ codes " ")
+    ++ (decimal len ++ codes " " ++ attributes_text attributes)
+
+-- The same of a packet's octets.
+abbrev pub packet_text : List ℕ → List ℕ
+packet_text octets =
+    parts_text (slice_index octets 0) (slice_index octets 1) (length octets) (drop 20 octets)

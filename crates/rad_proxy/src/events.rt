@@ -1,0 +1,192 @@
+//! The events of a script, one on each line.
+
+ghost use Rattle.std.specs.Prelude.{◌≤◌, IfSome};
+ghost use Rattle.rad_proxy.specs.Hex.{octet_count};
+
+use crate::hex::Hex;
+use crate::pieces::Pieces;
+
+/// What happens to the proxy.
+#[derive(Clone, Copy)]
+pub enum Event<'a> {
+    /// A datagram comes from a NAS.
+    Nas {
+        address: [u8; 4],
+        port: u16,
+        packet: Packet<'a>,
+    },
+    /// A lane is to do its next step.
+    Step {
+        lane: u16,
+    },
+}
+
+/// How a datagram is made.
+#[derive(Clone, Copy)]
+pub enum Packet<'a> {
+    /// Of these octets.
+    Raw(Hex<'a>),
+    /// A packet, and then these changes.
+    Made(Template<'a>, Changes<'a>),
+}
+
+/// A packet that is written for the script.
+#[derive(Clone, Copy)]
+pub enum Template<'a> {
+    /// With the Authenticator that is right for its sender.
+    Make(Make<'a>),
+    /// A Status-Server (RFC 5997 section 3).
+    Status { identifier: u8 },
+}
+
+/// A packet with these parts.
+#[derive(Clone, Copy)]
+pub struct Make<'a> {
+    pub code: u8,
+    pub identifier: u8,
+    /// Written as they are, whether they are attributes or not.
+    pub attributes: Hex<'a>,
+    ghost short: { octet_count attributes ≤ 4076 },
+}
+
+/// What is changed in a packet that was made, in this order.
+#[derive(Clone, Copy)]
+pub struct Changes<'a> {
+    /// The last octet of its Authenticator is changed, or of a Status-Server's Message-Authenticator.
+    pub spoil: bool,
+    /// These octets are added after it.
+    pub pad: Hex<'a>,
+    /// So many of the last octets are taken away.
+    pub cut: usize,
+}
+
+/// The most octets of a datagram (UDP over IPv4).
+const MOST_OCTETS: usize = 65_507;
+
+/// The most octets of attributes in a packet: its Length is at most 4096.
+const MOST_ATTRIBUTES: usize = 4076;
+
+impl<'a> Event<'a> {
+    /// The event that a line writes, where it writes one.
+    pub fn parse(line: &'a [u8]) -> Option<Self> {
+        let mut words = Pieces::new(line, b' ');
+        let event = match words.next()? {
+            b"nas" => parse_nas(&mut words)?,
+            b"step" => Event::Step {
+                lane: parse_u16(words.next()?)?,
+            },
+            _ => return None,
+        };
+        match words.next() {
+            Some(_) => None,
+            None => Some(event),
+        }
+    }
+}
+
+fn parse_nas<'a>(words: &mut Pieces<'a>) -> Option<Event<'a>> {
+    let address = parse_address(words.next()?)?;
+    let port = parse_u16(words.next()?)?;
+    let packet = parse_packet(words)?;
+    Some(Event::Nas {
+        address,
+        port,
+        packet,
+    })
+}
+
+fn parse_packet<'a>(words: &mut Pieces<'a>) -> Option<Packet<'a>> {
+    let mut word = words.next()?;
+    if word == b"raw".as_slice() {
+        let octets = parse_hex(words, MOST_OCTETS)?;
+        return Some(Packet::Raw(octets));
+    }
+    let mut changes = Changes {
+        spoil: false,
+        pad: Hex::none(),
+        cut: 0,
+    };
+    if word == b"spoil".as_slice() {
+        changes.spoil = true;
+        word = words.next()?;
+    }
+    if word == b"pad".as_slice() {
+        changes.pad = Hex::parse(words.next()?)?;
+        word = words.next()?;
+    }
+    if word == b"cut".as_slice() {
+        changes.cut = parse_usize(words.next()?)?;
+        word = words.next()?;
+    }
+    let template = parse_template(word, words)?;
+    Some(Packet::Made(template, changes))
+}
+
+fn parse_template<'a>(word: &[u8], words: &mut Pieces<'a>) -> Option<Template<'a>> {
+    match word {
+        b"make" => {
+            let code = parse_u8(words.next()?)?;
+            let identifier = parse_u8(words.next()?)?;
+            let attributes = parse_hex(words, MOST_ATTRIBUTES)?;
+            Some(Template::Make(Make {
+                code,
+                identifier,
+                attributes,
+            }))
+        }
+        b"status" => {
+            let identifier = parse_u8(words.next()?)?;
+            Some(Template::Status { identifier })
+        }
+        _ => None,
+    }
+}
+
+/// The next word's octets, where they are no more than `most`.
+fn parse_hex<'a>(words: &mut Pieces<'a>, most: usize) -> Option<Hex<'a>>
+    ensures { IfSome result (λ octets. octet_count octets ≤ most) }
+{
+    let octets = Hex::parse(words.next()?)?;
+    if octets.count() > most {
+        return None;
+    }
+    Some(octets)
+}
+
+/// Four numbers of an octet each, joined by dots.
+fn parse_address(word: &[u8]) -> Option<[u8; 4]> {
+    let mut numbers = Pieces::new(word, b'.');
+    let mut address = [0; 4];
+    for octet in address.iter_mut() {
+        *octet = parse_u8(numbers.next()?)?;
+    }
+    match numbers.next() {
+        Some(_) => None,
+        None => Some(address),
+    }
+}
+
+fn parse_u8(word: &[u8]) -> Option<u8> {
+    u8::try_from(parse_usize(word)?).ok()
+}
+
+fn parse_u16(word: &[u8]) -> Option<u16> {
+    u16::try_from(parse_usize(word)?).ok()
+}
+
+/// A decimal number without a leading zero, where it is below 2^64.
+fn parse_usize(word: &[u8]) -> Option<usize> {
+    if word.is_empty() || (word.len() > 1 && word[0] == b'0') {
+        return None;
+    }
+    let mut number: usize = 0;
+    for digit in word {
+        if !digit.is_ascii_digit() {
+            return None;
+        }
+        number = number
+            .checked_mul(10)?
+            .checked_add(usize::from(digit - b'0'))?;
+    }
+    Some(number)
+}

@@ -1,0 +1,64 @@
+use rad_realms::ConfigFault;
+use std::alloc::AllocError;
+use thiserror::Error;
+
+/// Why the program ends early. Its `Display` is the line for standard error.
+#[derive(Debug, Drop, Error)]
+pub enum Fault {
+    #[error("usage: rad_proxy [replay | check FILE | run FILE]")]
+    Usage,
+    #[error("input: failed")]
+    Input,
+    /// The file can't be read, or is too long.
+    #[error("file: {0}")]
+    File(String),
+    #[error("configuration: {0}")]
+    Configuration(ConfigFault),
+    #[error("memory: refused")]
+    Memory,
+    /// The line of this number after the separator is malformed, or names a lane that there is not.
+    #[error("events: line {0}")]
+    Events(usize),
+    /// Standard output takes nothing more. Nobody is told.
+    #[error("output: failed")]
+    Output,
+}
+
+impl Fault {
+    /// The status that the program ends with.
+    pub fn status(&self) -> u8 {
+        match self {
+            Fault::Usage => 1,
+            Fault::Configuration(_) => 2,
+            Fault::Input | Fault::File(_) | Fault::Memory | Fault::Events(_) | Fault::Output => 4,
+        }
+    }
+}
+
+/// Why an event ends the run.
+#[derive(Clone, Copy, Debug)]
+pub enum Halt {
+    /// Its line writes no event, names a lane that there is not, or cuts more octets than there are.
+    Malformed,
+    /// A growth was refused.
+    Memory,
+    /// Standard output takes nothing more.
+    Output,
+}
+
+impl Halt {
+    /// The fault that this is at a line.
+    pub fn at_line(self, number: usize) -> Fault {
+        match self {
+            Halt::Malformed => Fault::Events(number),
+            Halt::Memory => Fault::Memory,
+            Halt::Output => Fault::Output,
+        }
+    }
+}
+
+impl From<AllocError> for Halt {
+    fn from(_error: AllocError) -> Self {
+        Halt::Memory
+    }
+}

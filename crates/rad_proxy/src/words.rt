@@ -1,0 +1,63 @@
+//! The words that the program is called with.
+
+use crate::faults::Fault;
+use clap::error::ErrorKind;
+use clap::{Arg, ArgAction, Command};
+use std::alloc::{AllocError, Global};
+
+/// What the program is to do.
+#[derive(Drop)]
+pub enum Task {
+    /// Runs a script from standard input.
+    Replay,
+    /// Checks the configuration in this file.
+    Check(String),
+    /// Serves.
+    Run,
+}
+
+/// What the words ask for. The first word is the program's name; no others mean `replay`.
+///
+/// # Errors
+///
+/// `Usage` for words of another form, `Memory` where a growth was refused.
+pub fn read_words(alloc: Global, words: &[String]) -> Result<Task, Fault> {
+    let Ok(command) = command(alloc) else {
+        return Err(Fault::Memory);
+    };
+    let matches = match command.try_get_matches_from(words) {
+        Ok(matches) => matches,
+        Err(error) => {
+            return match error.kind() {
+                ErrorKind::OutOfMemory => Err(Fault::Memory),
+                _ => Err(Fault::Usage),
+            };
+        }
+    };
+    match matches.subcommand() {
+        Some(("check", check)) => {
+            let Some(file) = check.get_str("FILE") else {
+                return Err(Fault::Usage);
+            };
+            match String::from_str(alloc, file) {
+                Ok(file) => Ok(Task::Check(file)),
+                Err(_) => Err(Fault::Memory),
+            }
+        }
+        Some(("run", _)) => Ok(Task::Run),
+        _ => Ok(Task::Replay),
+    }
+}
+
+fn command<'a>(alloc: Global) -> Result<Command<'a>, AllocError> {
+    Command::new(alloc, "rad_proxy")
+        .subcommand(Command::new(alloc, "replay"))?
+        .subcommand(Command::new(alloc, "check").arg(file(alloc))?)?
+        .subcommand(Command::new(alloc, "run").arg(file(alloc))?)
+}
+
+fn file<'a>(alloc: Global) -> Arg<'a> {
+    Arg::new(alloc, "FILE")
+        .required(true)
+        .action(ArgAction::Set)
+}

@@ -1,0 +1,74 @@
+-- What is checked of a datagram that comes from a client, and what is then known of it: its sender is a
+-- client, it is an Accounting-Request (RFC 2866 section 4.1) that is right under that client's secret, has no
+-- Message-Authenticator (own) and leads to a lane, or a Status-Server (RFC 5997 section 3) that is right.
+use Rattle.std.specs.Prelude.{◌≡◌, ◌≢◌, ℕ, List, [], Some, None}
+use Rattle.rad_packet.specs.Attribute.{of_kind}
+use Rattle.rad_packet.specs.Packet.{IsPacketText, code_of, packet_attributes}
+use Rattle.rad_packet.specs.Reading.{ReadsAs, Refuses}
+use Rattle.rad_auth.specs.Authenticator.{IsRightRequest}
+use Rattle.rad_auth.specs.Status.{IsRightStatus}
+use Rattle.rad_realms.specs.declared.faults.Dropped.{Dropped}
+use Rattle.rad_realms.specs.declared.faults.Dropped.TheVariants.{UnknownClient, Unread, WrongCode, BadAuthenticator, BadMessageAuthenticator, MessageAuthenticatorHere, NoRealm}
+use Rattle.rad_realms.specs.Configuration.{ClientEntry, Configuration}
+use Rattle.rad_realms.specs.Realm.{client_of, lane_of_packet}
+
+-- An Accounting-Request that was checked: by which configuration, its text without padding, where it came
+-- from, the client's secret, and its lane.
+pub record Request : Type 0 where
+  pub config : Configuration
+  pub text : List ℕ
+  pub client : List ℕ
+  pub port : ℕ
+  pub secret : List ℕ
+  pub lane : ℕ
+
+-- A packet that is right as an Accounting-Request under a secret, with no Message-Authenticator.
+pub record IsRequest (secret text : List ℕ) : Type 0 where
+  pub packet : IsPacketText text
+  pub code : code_of text ≡ 4
+  pub right : IsRightRequest secret text
+  pub unsigned : of_kind 80 (packet_attributes text) ≡ []
+
+-- What was checked of a request.
+pub record IsChecked (r : Request) : Type 0 where
+  pub request : IsRequest r.secret r.text
+  pub client : client_of r.config r.client ≡ Some (record { address = r.client; secret = r.secret })
+  pub lane : lane_of_packet r.config.realms r.config.default_lane r.text ≡ Some r.lane
+
+-- A Status-Server that was checked: its text, and the client's secret.
+pub record Status : Type 0 where
+  pub text : List ℕ
+  pub secret : List ℕ
+
+pub record IsCheckedStatus (s : Status) : Type 0 where
+  pub packet : IsPacketText s.text
+  pub code : code_of s.text ≡ 12
+  pub right : IsRightStatus s.secret s.text
+
+-- A datagram from this address is this packet, and the address is this client's.
+pub record Arrives (config : Configuration) (address datagram text : List ℕ) (client : ClientEntry) : Type 0 where
+  pub sender : client_of config address ≡ Some client
+  pub reads : ReadsAs datagram text
+
+-- A packet of a client with this secret is dropped for this reason.
+abbrev pub DropsPacket : Configuration → List ℕ → List ℕ → Dropped → Type 0
+DropsPacket config secret text UnknownClient = ⊥
+DropsPacket config secret text (Unread fault) = ⊥
+DropsPacket config secret text WrongCode = (code_of text ≢ 4) × (code_of text ≢ 12)
+DropsPacket config secret text BadAuthenticator = (code_of text ≡ 4) × ¬ IsRightRequest secret text
+DropsPacket config secret text BadMessageAuthenticator = (code_of text ≡ 12) × ¬ IsRightStatus secret text
+DropsPacket config secret text MessageAuthenticatorHere =
+    (code_of text ≡ 4) × IsRightRequest secret text × (of_kind 80 (packet_attributes text) ≢ [])
+DropsPacket config secret text NoRealm =
+    IsRequest secret text × (lane_of_packet config.realms config.default_lane text ≡ None)
+
+-- What arrives is dropped for this reason.
+abbrev pub DropsArrived : Configuration → List ℕ → List ℕ → Dropped → Type 0
+DropsArrived config address datagram reason =
+    (text : List ℕ) × (client : ClientEntry) × Arrives config address datagram text client × DropsPacket config client.secret text reason
+
+-- A datagram from this address is dropped for this reason.
+abbrev pub Drops : Configuration → List ℕ → List ℕ → Dropped → Type 0
+Drops config address datagram UnknownClient = client_of config address ≡ None
+Drops config address datagram (Unread fault) = (client : ClientEntry) × (client_of config address ≡ Some client) × Refuses datagram fault
+Drops config address datagram reason = DropsArrived config address datagram reason

@@ -1,0 +1,11 @@
+pub mod Limits
+pub mod Spot
+pub mod Address
+pub mod Configuration
+pub mod Realm
+pub mod Walk
+pub mod Gives
+pub mod Values
+pub mod Index
+pub mod Checking
+pub mod Incoming

@@ -1,0 +1,268 @@
+ghost use Rattle.std.specs.Prelude.{◌≡◌, ◌≢◌, ◌↔◌, [], Some, IsTrue, option_copied, MatchBool, MatchResult};
+ghost use Rattle.rad_auth.specs.Authenticator.{IsRightRequest};
+ghost use Rattle.rad_packet.specs.Attribute.{of_kind};
+ghost use Rattle.rad_packet.specs.Packet.{IsPacketText, code_of, packet_attributes};
+ghost use Rattle.rad_realms.specs.Realm.{client_of, user_name, realm_of_packet};
+ghost use Rattle.rad_realms.specs.Checking.{DropsPacket, Drops};
+ghost use Rattle.rad_realms.specs.Incoming.{TakesPacket, Takes};
+
+use crate::clients::Client;
+use crate::config::Config;
+use crate::faults::Dropped;
+use crate::realms::realm_of;
+use rad_auth::{
+    ACCOUNTING_REQUEST, MESSAGE_AUTHENTICATOR, STATUS_SERVER, Secret, check_request, check_status,
+};
+use rad_packet::{PacketRef, read};
+use std::marker::Model;
+
+/// The Type of a User-Name (RFC 2865 section 5.1).
+const USER_NAME: u8 = 1;
+
+/// An Accounting-Request that was checked: it comes from a client, is right under that client's secret, has
+/// no Message-Authenticator, and leads to a lane. It borrows the datagram and the configuration.
+#[derive(Drop)]
+pub struct Checked<'a> {
+    packet: PacketRef<'a>,
+    config: &'a Config,
+    client: &'a Client,
+    port: u16,
+    realm: Option<&'a [u8]>,
+    lane: u16,
+}
+
+impl<'a> Model for Checked<'a> {
+    ghost use Rattle.std.specs.Prelude.{◌≡◌, option_copied};
+    ghost use Rattle.rad_realms.specs.Realm.{realm_of_packet};
+    ghost use Rattle.rad_realms.specs.Checking.{Request, IsChecked};
+
+    ghost Value = { Request };
+
+    ghost view = { λ c. record { config = c.config.now; text = c.packet; client = c.client.now.address; port = c.port; secret = c.client.now.secret; lane = c.lane } };
+
+    ghost invariant = { λ c. IsChecked (record { config = c.config.now; text = c.packet; client = c.client.now.address; port = c.port; secret = c.client.now.secret; lane = c.lane }) × (option_copied c.realm ≡ realm_of_packet c.packet) };
+}
+
+impl<'a> Checked<'a> {
+    ghost use Rattle.std.specs.Prelude.{◌≡◌, option_copied};
+    ghost use Rattle.rad_realms.specs.Realm.{realm_of_packet};
+    ghost use Rattle.rad_realms.specs.Checking.{IsChecked};
+
+    /// The packet, without padding.
+    pub fn packet(&self) -> &PacketRef<'a>
+        ensures text { result.now ≡ self.now.text }
+        ensures checked { IsChecked self.now }
+    {
+        &self.packet
+    }
+
+    /// The IPv4 address of the client.
+    pub fn client(&self) -> [u8; 4]
+        ensures { result ≡ self.now.client }
+    {
+        self.client.address()
+    }
+
+    /// The UDP port that the datagram came from.
+    pub fn port(&self) -> u16
+        ensures { result ≡ self.now.port }
+    {
+        self.port
+    }
+
+    /// The client's secret.
+    pub fn secret(&self) -> &Secret
+        ensures { result.now ≡ self.now.secret }
+    {
+        self.client.secret()
+    }
+
+    /// The realm of its User-Name, where it has one.
+    pub fn realm(&self) -> Option<&[u8]>
+        ensures { option_copied result ≡ realm_of_packet self.now.text }
+    {
+        self.realm
+    }
+
+    /// The lane that it leads to.
+    pub fn lane(&self) -> u16
+        ensures { result ≡ self.now.lane }
+    {
+        self.lane
+    }
+}
+
+/// A Status-Server that was checked: it comes from a client and is right under that client's secret. It
+/// borrows the datagram and the configuration.
+#[derive(Drop)]
+pub struct CheckedStatus<'a> {
+    packet: PacketRef<'a>,
+    client: &'a Client,
+}
+
+impl<'a> Model for CheckedStatus<'a> {
+    ghost use Rattle.rad_realms.specs.Checking.{Status, IsCheckedStatus};
+
+    ghost Value = { Status };
+
+    ghost view = { λ c. record { text = c.packet; secret = c.client.now.secret } };
+
+    ghost invariant = { λ c. IsCheckedStatus (record { text = c.packet; secret = c.client.now.secret }) };
+}
+
+impl<'a> CheckedStatus<'a> {
+    ghost use Rattle.std.specs.Prelude.{◌≡◌};
+    ghost use Rattle.rad_realms.specs.Checking.{IsCheckedStatus};
+
+    /// The packet, without padding.
+    pub fn packet(&self) -> &PacketRef<'a>
+        ensures text { result.now ≡ self.now.text }
+        ensures checked { IsCheckedStatus self.now }
+    {
+        &self.packet
+    }
+
+    /// The client's secret.
+    pub fn secret(&self) -> &Secret
+        ensures { result.now ≡ self.now.secret }
+    {
+        self.client.secret()
+    }
+}
+
+/// A datagram that is not dropped.
+#[derive(Drop)]
+pub enum Incoming<'a> {
+    /// An Accounting-Request (RFC 2866 section 4.1).
+    Request(Checked<'a>),
+    /// A Status-Server (RFC 5997 section 3).
+    Status(CheckedStatus<'a>),
+}
+
+/// The User-Name of a packet, where it has one. Looks at each attribute up to it once.
+fn user_name_of<'a>(packet: &PacketRef<'a>) -> Option<&'a [u8]>
+    ensures name { option_copied result ≡ user_name packet.now }
+    ensures packet { IsPacketText packet.now }
+{
+    for attribute in packet.attributes() {
+        if attribute.kind == USER_NAME {
+            return Some(attribute.value);
+        }
+    }
+    None
+}
+
+/// The realm of a packet, where it has one.
+#[tactic(auto, unfolding(crate::specs::Realm::realm_of_packet))]
+fn realm_of_its_name<'a>(packet: &PacketRef<'a>) -> Option<&'a [u8]>
+    ensures realm { option_copied result ≡ realm_of_packet packet.now }
+    ensures packet { IsPacketText packet.now }
+{
+    let name = user_name_of(packet)?;
+    realm_of(name)
+}
+
+/// Whether a packet is right by its Request Authenticator under a client's secret.
+fn is_right(client: &Client, packet: &PacketRef<'_>) -> bool
+    ensures { IsTrue result ↔ IsRightRequest client.now.secret packet.now }
+{
+    check_request(packet, client.secret())
+}
+
+/// Whether a packet has a Message-Authenticator.
+#[tactic(auto, using(crate::proofs::UserNames::none_counted))]
+fn has_message_authenticator(packet: &PacketRef<'_>) -> bool
+    ensures { MatchBool result (of_kind 80 (packet_attributes packet.now) ≢ []) (of_kind 80 (packet_attributes packet.now) ≡ []) }
+{
+    packet.count_of(MESSAGE_AUTHENTICATOR) != 0
+}
+
+/// Checks an Accounting-Request of a client.
+#[tactic(auto, unfolding(crate::specs::Realm::lane_of_packet))]
+fn check_accounting<'a>(
+    config: &'a Config,
+    client: &'a Client,
+    port: u16,
+    packet: PacketRef<'a>,
+) -> Result<Incoming<'a>, Dropped>
+    requires client { client_of config.now client.now.address ≡ Some client.now }
+    requires code { code_of packet ≡ 4 }
+    ensures { MatchResult result (λ incoming. TakesPacket config.now client.now port packet.entry incoming) (λ reason. DropsPacket config.now client.now.secret packet.entry reason) }
+{
+    if !is_right(client, &packet) {
+        return Err(Dropped::BadAuthenticator);
+    }
+    if has_message_authenticator(&packet) {
+        return Err(Dropped::MessageAuthenticatorHere);
+    }
+    let realm = realm_of_its_name(&packet);
+    match config.lane_of_realm(realm) {
+        Some(lane) => Ok(Incoming::Request(Checked {
+            packet,
+            config,
+            client,
+            port,
+            realm,
+            lane,
+        })),
+        None => Err(Dropped::NoRealm),
+    }
+}
+
+/// Checks a Status-Server of a client.
+fn check_watch<'a>(
+    config: &'a Config,
+    client: &'a Client,
+    port: u16,
+    packet: PacketRef<'a>,
+) -> Result<Incoming<'a>, Dropped>
+    requires { code_of packet ≡ 12 }
+    ensures { MatchResult result (λ incoming. TakesPacket config.now client.now port packet.entry incoming) (λ reason. DropsPacket config.now client.now.secret packet.entry reason) }
+{
+    if check_status(&packet, client.secret()) {
+        Ok(Incoming::Status(CheckedStatus { packet, client }))
+    } else {
+        Err(Dropped::BadMessageAuthenticator)
+    }
+}
+
+/// Checks a packet of a client.
+fn check_packet<'a>(
+    config: &'a Config,
+    client: &'a Client,
+    port: u16,
+    packet: PacketRef<'a>,
+) -> Result<Incoming<'a>, Dropped>
+    requires { client_of config.now client.now.address ≡ Some client.now }
+    ensures { MatchResult result (λ incoming. TakesPacket config.now client.now port packet.entry incoming) (λ reason. DropsPacket config.now client.now.secret packet.entry reason) }
+{
+    match packet.code() {
+        ACCOUNTING_REQUEST => check_accounting(config, client, port, packet),
+        STATUS_SERVER => check_watch(config, client, port, packet),
+        _ => Err(Dropped::WrongCode),
+    }
+}
+
+/// Checks a datagram from the side of the clients: from which IPv4 address and UDP port it came, and its
+/// octets. Takes no memory, and hashes the packet once at most. Beside that it takes time that is logarithmic
+/// in the numbers of clients and realms, and looks at each attribute three times at most.
+///
+/// # Errors
+///
+/// The first reason to drop it.
+pub fn check_in<'a>(
+    config: &'a Config,
+    address: [u8; 4],
+    port: u16,
+    datagram: &'a [u8],
+) -> Result<Incoming<'a>, Dropped>
+    ensures { MatchResult result (λ incoming. Takes config.now address port datagram.now incoming) (λ reason. Drops config.now address datagram.now reason) }
+{
+    let Some(client) = config.client_of(address) else {
+        return Err(Dropped::UnknownClient);
+    };
+    match read(datagram) {
+        Ok(packet) => check_packet(config, client, port, packet),
+        Err(fault) => Err(Dropped::Unread(fault)),
+    }
+}

@@ -1,0 +1,126 @@
+use crate::address::Endpoint;
+use crate::clients::{Client, Clients};
+use crate::homes::{Home, Homes};
+use crate::realms::{Realm, Realms, realm_of};
+use std::marker::Model;
+
+/// A configuration: where to listen, the clients, the home servers, one lane each, and the realms that lead
+/// to them.
+#[derive(Drop)]
+pub struct Config {
+    listen: Endpoint,
+    linger: u32,
+    clients: Clients,
+    homes: Homes,
+    realms: Realms,
+    default_lane: Option<u16>,
+}
+
+impl Model for Config {
+    ghost use Rattle.rad_realms.specs.Configuration.{Configuration};
+
+    ghost Value = { Configuration };
+
+    ghost view = { λ c. record { listen = c.listen; linger = c.linger; clients = c.clients; homes = c.homes; realms = c.realms; default_lane = c.default_lane } };
+}
+
+impl Config {
+    ghost use Rattle.std.specs.Prelude.{◌≡◌, IfSome, option_copied};
+    ghost use Rattle.rad_realms.specs.Realm.{client_of, lane_in, lane_by, lane_of};
+
+    pub(crate) fn new(
+        listen: Endpoint,
+        linger: u32,
+        clients: Clients,
+        homes: Homes,
+        realms: Realms,
+        default_lane: Option<u16>,
+    ) -> Config
+        ensures { result ≡ record { listen = listen; linger = linger; clients = clients; homes = homes; realms = realms; default_lane = default_lane } }
+    {
+        Config {
+            listen,
+            linger,
+            clients,
+            homes,
+            realms,
+            default_lane,
+        }
+    }
+
+    /// The client of an IPv4 address. Takes logarithmic time in the number of clients, and no memory.
+    pub fn client_of(&self, address: [u8; 4]) -> Option<&Client>
+        ensures found { option_copied result ≡ client_of self.now address }
+        ensures address { IfSome result (λ client. client.now.address ≡ address) }
+    {
+        self.clients.find(address)
+    }
+
+    /// The lane of a realm of this name.
+    #[tactic(auto, unfolding(crate::specs::Realm::lane_in))]
+    fn lane_of_name(&self, name: &[u8]) -> Option<u16>
+        ensures { result ≡ lane_in self.now.realms name.now }
+    {
+        if name.is_empty() {
+            return None;
+        }
+        self.realms.find(name)
+    }
+
+    /// The lane of a realm, or of none.
+    pub(crate) fn lane_of_realm(&self, realm: Option<&[u8]>) -> Option<u16>
+        ensures { result ≡ lane_by self.now.realms self.now.default_lane (option_copied realm.entry) }
+    {
+        match realm {
+            None => self.default_lane,
+            Some(name) => self.lane_of_name(name),
+        }
+    }
+
+    /// The lane that a User-Name's value leads to; without a User-Name, or without a realm in it, the
+    /// default lane, where there is one. Takes logarithmic time in the number of realms, and no memory.
+    pub fn lane_of(&self, user_name: Option<&[u8]>) -> Option<u16>
+        ensures { result ≡ lane_of self.now (option_copied user_name.entry) }
+    {
+        let realm = match user_name {
+            Some(name) => realm_of(name),
+            None => None,
+        };
+        self.lane_of_realm(realm)
+    }
+
+    /// The clients, in the order of the text.
+    pub fn clients(&self) -> &[Client]
+        ensures { result.now ≡ self.now.clients }
+    {
+        self.clients.as_slice()
+    }
+
+    /// The home servers, in the order of the text: the place of one is its lane.
+    pub fn homes(&self) -> &[Home]
+        ensures { result.now ≡ self.now.homes }
+    {
+        self.homes.as_slice()
+    }
+
+    /// The realms, in the order of the text.
+    pub fn realms(&self) -> &[Realm]
+        ensures { result.now ≡ self.now.realms }
+    {
+        self.realms.as_slice()
+    }
+
+    /// The address and port on which the clients' datagrams are received.
+    pub fn listen(&self) -> Endpoint
+        ensures { result ≡ self.now.listen }
+    {
+        self.listen
+    }
+
+    /// How long to wait for open requests at the end, in milliseconds.
+    pub fn linger(&self) -> u32
+        ensures { result ≡ self.now.linger }
+    {
+        self.linger
+    }
+}

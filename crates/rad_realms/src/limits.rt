@@ -1,0 +1,128 @@
+ghost use Rattle.std.specs.Prelude.{◌≡◌, ◌&&◌, nat_le, if◌then◌else◌, Ok, Err};
+
+use std::marker::Model;
+
+/// The numbers of a lane, as a home server's table in the configuration has them. Times are in
+/// milliseconds.
+#[derive(Clone, Copy, Debug, PartialEq, Eq)]
+pub struct LimitNumbers {
+    /// The most requests that are sent and not answered, 1 to 254.
+    pub window: u32,
+    /// The most requests that wait to be sent, 1 to 65,536.
+    pub queue: u32,
+    /// The most requests that are kept, 1 to 1,000,000.
+    pub book: u32,
+    /// The sendings of one request before its home server counts as down, 1 to 10.
+    pub tries: u32,
+    /// The wait after the first sending, 100 to 60,000 ms.
+    pub first_wait: u32,
+    /// The time between two probes of a home server that is down, 1000 to 600,000 ms.
+    pub probe_every: u32,
+    /// The longest time that a home server counts as down, 1000 to 3,600,000 ms.
+    pub down_wait: u32,
+    /// The time after an answer in which a repeat is answered again, 0 to 600,000 ms.
+    pub span: u32,
+    /// The most responses that wait to be taken, 1 to 4096.
+    pub ring: u32,
+}
+
+/// The numbers where the configuration has none.
+pub const DEFAULT_LIMITS: LimitNumbers = LimitNumbers {
+    window: 64,
+    queue: 4096,
+    book: 100_000,
+    tries: 3,
+    first_wait: 2000,
+    probe_every: 10_000,
+    down_wait: 60_000,
+    span: 30_000,
+    ring: 256,
+};
+
+/// Which number is out of its range. The first one in this order is told.
+#[derive(Clone, Copy, Debug, PartialEq, Eq)]
+pub enum LimitFault {
+    /// `window`.
+    Window,
+    /// `queue`.
+    Queue,
+    /// `book`.
+    Book,
+    /// `tries`.
+    Tries,
+    /// `first_wait`.
+    FirstWait,
+    /// `probe_every`.
+    ProbeEvery,
+    /// `down_wait`.
+    DownWait,
+    /// `span`.
+    Span,
+    /// `ring`.
+    Ring,
+}
+
+/// Numbers of a lane, each of them in its range.
+#[derive(Clone, Copy, Debug, PartialEq, Eq)]
+pub struct Limits {
+    numbers: LimitNumbers,
+}
+
+impl Model for Limits {
+    ghost use Rattle.rad_realms.specs.declared.limits.LimitNumbers.{LimitNumbers};
+    ghost use Rattle.rad_realms.specs.Limits.{AreInRange};
+
+    ghost Value = { LimitNumbers };
+
+    ghost view = { λ l. l.numbers };
+
+    ghost invariant = { λ l. AreInRange l.numbers };
+
+    ghost inverse = { λ n. record { numbers = n } };
+}
+
+impl Limits {
+    ghost use Rattle.std.specs.Prelude.{◌≡◌, IfOk};
+    ghost use Rattle.std.specs.Result.{result_err};
+    ghost use Rattle.rad_realms.specs.Limits.{AreInRange, limits_of, first_fault};
+
+    /// Takes numbers that are in their ranges.
+    ///
+    /// # Errors
+    ///
+    /// The first number that is out of its range.
+    pub fn new(numbers: LimitNumbers) -> Result<Limits, LimitFault>
+        ensures kept { IfOk result (λ limits. limits ≡ numbers) }
+        ensures fault { result_err result ≡ first_fault (limits_of numbers) }
+    {
+        within(numbers.window, 1, 254, LimitFault::Window)?;
+        within(numbers.queue, 1, 65_536, LimitFault::Queue)?;
+        within(numbers.book, 1, 1_000_000, LimitFault::Book)?;
+        within(numbers.tries, 1, 10, LimitFault::Tries)?;
+        within(numbers.first_wait, 100, 60_000, LimitFault::FirstWait)?;
+        within(numbers.probe_every, 1000, 600_000, LimitFault::ProbeEvery)?;
+        within(numbers.down_wait, 1000, 3_600_000, LimitFault::DownWait)?;
+        within(numbers.span, 0, 600_000, LimitFault::Span)?;
+        within(numbers.ring, 1, 4096, LimitFault::Ring)?;
+        Ok(Limits { numbers })
+    }
+
+    /// The numbers.
+    pub fn numbers(&self) -> LimitNumbers
+        ensures value { result ≡ self.now }
+        ensures in_range { AreInRange self.now }
+    {
+        self.numbers
+    }
+}
+
+/// Refuses a number that is out of a range.
+fn within(number: u32, least: u32, most: u32, fault: LimitFault) -> Result<(), LimitFault>
+    ensures { result ≡ (if nat_le least number && nat_le number most then Ok tt else Err fault) }
+{
+    if least <= number && number <= most {
+        Ok(())
+    } else {
+        Err(fault)
+    }
+}

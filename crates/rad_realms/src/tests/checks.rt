@@ -1,0 +1,265 @@
+use crate::*;
+use std::test::Fail;
+
+/// A client, two home servers, three realms and no default.
+const TEXT: &str = r#"
+listen = "127.0.0.1:1813"
+linger = 0
+[[client]]
+address = "10.0.0.1"
+secret = "nas-secret"
+[[client]]
+address = "9.255.0.1"
+secret = "other-secret"
+[[home]]
+name = "h1"
+address = "127.0.0.1:2813"
+secret = "home-secret"
+[[home]]
+name = "h2"
+address = "127.0.0.2:65535"
+secret = "second-secret"
+window = 254
+span = 0
+ring = 1
+ports = "what no one reads"
+[[realm]]
+name = "other.org"
+home = "h1"
+[[realm]]
+name = "Example.org"
+home = "h2"
+[[realm]]
+name = "third"
+home = "h1"
+"#;
+
+/// An Accounting-Request of `bob@example.org`, right under `nas-secret`.
+const REQUEST: [u8; 47] = [
+    0x04, 0x07, 0x00, 0x2f, 0xab, 0xd4, 0x74, 0xea, 0xa4, 0xdc, 0x7f, 0xf1, 0x39, 0xb7, 0x61, 0x85,
+    0x02, 0xf5, 0xbc, 0xc4, 0x01, 0x11, 0x62, 0x6f, 0x62, 0x40, 0x65, 0x78, 0x61, 0x6d, 0x70, 0x6c,
+    0x65, 0x2e, 0x6f, 0x72, 0x67, 0x28, 0x06, 0x00, 0x00, 0x00, 0x01, 0x2c, 0x04, 0x53, 0x31,
+];
+
+/// The same with the last bit of its Authenticator turned.
+const SPOILED: [u8; 47] = [
+    0x04, 0x07, 0x00, 0x2f, 0xab, 0xd4, 0x74, 0xea, 0xa4, 0xdc, 0x7f, 0xf1, 0x39, 0xb7, 0x61, 0x85,
+    0x02, 0xf5, 0xbc, 0xc5, 0x01, 0x11, 0x62, 0x6f, 0x62, 0x40, 0x65, 0x78, 0x61, 0x6d, 0x70, 0x6c,
+    0x65, 0x2e, 0x6f, 0x72, 0x67, 0x28, 0x06, 0x00, 0x00, 0x00, 0x01, 0x2c, 0x04, 0x53, 0x31,
+];
+
+/// User-Name `a@b@EXAMPLE.ORG`.
+const LOUD: [u8; 37] = [
+    0x04, 0x02, 0x00, 0x25, 0x36, 0x29, 0xf5, 0x63, 0x39, 0x26, 0x59, 0x13, 0x36, 0x22, 0x57, 0x94,
+    0x6a, 0x4b, 0xd2, 0x50, 0x01, 0x11, 0x61, 0x40, 0x62, 0x40, 0x45, 0x58, 0x41, 0x4d, 0x50, 0x4c,
+    0x45, 0x2e, 0x4f, 0x52, 0x47,
+];
+
+/// User-Name `bob@`.
+const EMPTY_REALM: [u8; 26] = [
+    0x04, 0x03, 0x00, 0x1a, 0x97, 0x3a, 0x53, 0xd3, 0x09, 0xc4, 0xda, 0x76, 0x11, 0xb0, 0x17, 0x5a,
+    0x77, 0x7e, 0x42, 0x64, 0x01, 0x06, 0x62, 0x6f, 0x62, 0x40,
+];
+
+/// User-Name `bob`.
+const BARE: [u8; 25] = [
+    0x04, 0x01, 0x00, 0x19, 0xef, 0x6c, 0xa3, 0x22, 0x0b, 0x2c, 0x5f, 0x98, 0x4c, 0x8a, 0x21, 0xb4,
+    0x7c, 0xf3, 0x89, 0xf6, 0x01, 0x05, 0x62, 0x6f, 0x62,
+];
+
+/// No attributes.
+const NAMELESS: [u8; 20] = [
+    0x04, 0x04, 0x00, 0x14, 0x36, 0xaa, 0x09, 0xd4, 0xea, 0x59, 0x50, 0xa3, 0xa2, 0x56, 0xda, 0xb7,
+    0xa8, 0x0b, 0x42, 0xa2,
+];
+
+/// User-Name `a@b.`.
+const UNLISTED: [u8; 26] = [
+    0x04, 0x05, 0x00, 0x1a, 0x1f, 0x1c, 0xba, 0xac, 0xf1, 0xe2, 0xda, 0x87, 0x41, 0x08, 0x77, 0x46,
+    0x3e, 0xe7, 0x12, 0x48, 0x01, 0x06, 0x61, 0x40, 0x62, 0x2e,
+];
+
+/// An Accounting-Request with a Message-Authenticator.
+const SIGNED: [u8; 65] = [
+    0x04, 0x08, 0x00, 0x41, 0xcd, 0xfd, 0x6d, 0x46, 0xb7, 0xfc, 0xff, 0xcd, 0x7c, 0x82, 0x6d, 0xe4,
+    0x77, 0x50, 0x68, 0x78, 0x01, 0x11, 0x62, 0x6f, 0x62, 0x40, 0x65, 0x78, 0x61, 0x6d, 0x70, 0x6c,
+    0x65, 0x2e, 0x6f, 0x72, 0x67, 0x28, 0x06, 0x00, 0x00, 0x00, 0x01, 0x2c, 0x04, 0x53, 0x31, 0x50,
+    0x12, 0x00, 0x00, 0x00, 0x00, 0x00, 0x00, 0x00, 0x00, 0x00, 0x00, 0x00, 0x00, 0x00, 0x00, 0x00,
+    0x00,
+];
+
+/// A Status-Server, right under `nas-secret`.
+const STATUS: [u8; 38] = [
+    0x0c, 0x09, 0x00, 0x26, 0xa5, 0xa5, 0xa5, 0xa5, 0xa5, 0xa5, 0xa5, 0xa5, 0xa5, 0xa5, 0xa5, 0xa5,
+    0xa5, 0xa5, 0xa5, 0xa5, 0x50, 0x12, 0x64, 0x6b, 0x47, 0x94, 0x33, 0x92, 0x25, 0xaa, 0xcd, 0xe3,
+    0x57, 0xad, 0xb1, 0x8a, 0xda, 0x07,
+];
+
+/// A Status-Server with two Message-Authenticators, the first one right over the packet with its own octets zero.
+const TWICE: [u8; 56] = [
+    0x0c, 0x09, 0x00, 0x38, 0xa5, 0xa5, 0xa5, 0xa5, 0xa5, 0xa5, 0xa5, 0xa5, 0xa5, 0xa5, 0xa5, 0xa5,
+    0xa5, 0xa5, 0xa5, 0xa5, 0x50, 0x12, 0xea, 0x99, 0x8a, 0x09, 0x04, 0x7f, 0x44, 0xf1, 0x5b, 0x0d,
+    0x13, 0x9d, 0xf3, 0x93, 0x5f, 0x5e, 0x50, 0x12, 0x00, 0x00, 0x00, 0x00, 0x00, 0x00, 0x00, 0x00,
+    0x00, 0x00, 0x00, 0x00, 0x00, 0x00, 0x00, 0x00,
+];
+
+/// An Accounting-Response.
+const RESPONSE: [u8; 20] = [
+    0x05, 0x01, 0x00, 0x14, 0x97, 0x8f, 0x2a, 0xd9, 0xaa, 0x91, 0x85, 0x67, 0x76, 0xb8, 0xb6, 0xda,
+    0xb1, 0x69, 0x6c, 0x9f,
+];
+
+/// What became of a datagram: the lane of a request, or a word.
+#[derive(Clone, Copy, Debug, PartialEq, Eq)]
+enum Told {
+    Lane(u16),
+    Status,
+    Dropped(Dropped),
+}
+
+fn answer_of(config: &Config, address: [u8; 4], datagram: &[u8]) -> Told {
+    match check_in(config, address, 40_000, datagram) {
+        Ok(Incoming::Request(request)) => Told::Lane(request.lane()),
+        Ok(Incoming::Status(_)) => Told::Status,
+        Err(reason) => Told::Dropped(reason),
+    }
+}
+
+const CLIENT: [u8; 4] = [10, 0, 0, 1];
+
+#[test]
+fn each_datagram_has_its_answer(rt: HostRuntime) -> Result<(), Fail> {
+    let config = read_config(rt.alloc(), TEXT)?;
+    assert_eq!(rt; answer_of(&config, CLIENT, &REQUEST), Told::Lane(1));
+    assert_eq!(rt; answer_of(&config, CLIENT, &LOUD), Told::Lane(1));
+    assert_eq!(rt; answer_of(&config, CLIENT, &STATUS), Told::Status);
+    assert_eq!(rt;
+        answer_of(&config, [10, 0, 0, 9], &REQUEST),
+        Told::Dropped(Dropped::UnknownClient)
+    );
+    assert_eq!(rt;
+        answer_of(&config, CLIENT, &REQUEST[..46]),
+        Told::Dropped(Dropped::Unread(rad_packet::ReadFault::Truncated))
+    );
+    assert_eq!(rt;
+        answer_of(&config, CLIENT, &RESPONSE),
+        Told::Dropped(Dropped::WrongCode)
+    );
+    assert_eq!(rt;
+        answer_of(&config, CLIENT, &SPOILED),
+        Told::Dropped(Dropped::BadAuthenticator)
+    );
+    assert_eq!(rt;
+        answer_of(&config, [9, 255, 0, 1], &REQUEST),
+        Told::Dropped(Dropped::BadAuthenticator)
+    );
+    assert_eq!(rt;
+        answer_of(&config, CLIENT, &TWICE),
+        Told::Dropped(Dropped::BadMessageAuthenticator)
+    );
+    assert_eq!(rt;
+        answer_of(&config, CLIENT, &SIGNED),
+        Told::Dropped(Dropped::MessageAuthenticatorHere)
+    );
+    assert_eq!(rt;
+        answer_of(&config, CLIENT, &BARE),
+        Told::Dropped(Dropped::NoRealm)
+    );
+    assert_eq!(rt;
+        answer_of(&config, CLIENT, &NAMELESS),
+        Told::Dropped(Dropped::NoRealm)
+    );
+    assert_eq!(rt;
+        answer_of(&config, CLIENT, &EMPTY_REALM),
+        Told::Dropped(Dropped::NoRealm)
+    );
+    assert_eq!(rt;
+        answer_of(&config, CLIENT, &UNLISTED),
+        Told::Dropped(Dropped::NoRealm)
+    );
+    Ok(())
+}
+
+#[test]
+fn a_default_home_takes_what_has_no_realm(rt: HostRuntime) -> Result<(), Fail> {
+    let text = format!(in rt.alloc(); "default_home = \"h2\"\n{TEXT}")?;
+    let config = read_config(rt.alloc(), text.as_str())?;
+    assert_eq!(rt; answer_of(&config, CLIENT, &BARE), Told::Lane(1));
+    assert_eq!(rt; answer_of(&config, CLIENT, &NAMELESS), Told::Lane(1));
+    assert_eq!(rt;
+        answer_of(&config, CLIENT, &EMPTY_REALM),
+        Told::Dropped(Dropped::NoRealm)
+    );
+    assert_eq!(rt;
+        answer_of(&config, CLIENT, &UNLISTED),
+        Told::Dropped(Dropped::NoRealm)
+    );
+    assert_eq!(rt; config.lane_of(None), Some(1));
+    assert_eq!(rt; config.lane_of(Some(b"a@THIRD")), Some(0));
+    Ok(())
+}
+
+#[test]
+fn checked_packets_tell_their_parts(rt: HostRuntime) -> Result<(), Fail> {
+    let config = read_config(rt.alloc(), TEXT)?;
+    let Ok(Incoming::Request(request)) = check_in(&config, CLIENT, 40_001, &REQUEST) else {
+        return Err(Fail::from("a request"));
+    };
+    assert_eq!(rt; request.packet().octets(), REQUEST.as_slice());
+    assert_eq!(rt; request.client(), CLIENT);
+    assert_eq!(rt; request.port(), 40_001);
+    assert_eq!(rt; request.secret().octets(), b"nas-secret".as_slice());
+    assert!(rt;
+        request
+            .realm()
+            .is_some_and(|realm| realm == b"example.org".as_slice())
+    );
+    let Ok(Incoming::Status(status)) = check_in(&config, CLIENT, 40_001, &STATUS) else {
+        return Err(Fail::from("a Status-Server"));
+    };
+    assert_eq!(rt; status.packet().octets(), STATUS.as_slice());
+    assert_eq!(rt; status.secret().octets(), b"nas-secret".as_slice());
+    Ok(())
+}
+
+#[test]
+fn a_configuration_tells_its_parts(rt: HostRuntime) -> Result<(), Fail> {
+    let config = read_config(rt.alloc(), TEXT)?;
+    assert_eq!(rt;
+        config.listen(),
+        Endpoint {
+            address: [127, 0, 0, 1],
+            port: 1813
+        }
+    );
+    assert_eq!(rt; config.linger(), 0);
+    assert_eq!(rt; config.clients().len(), 2);
+    assert_eq!(rt; config.homes().len(), 2);
+    assert_eq!(rt; config.realms().len(), 3);
+    let Some(client) = config.client_of([9, 255, 0, 1]) else {
+        return Err(Fail::from("a client"));
+    };
+    assert_eq!(rt; client.address(), [9, 255, 0, 1]);
+    assert_eq!(rt; client.secret().octets(), b"other-secret".as_slice());
+    let home = &config.homes()[1];
+    assert_eq!(rt; home.name(), "h2");
+    assert_eq!(rt; home.address(), [127, 0, 0, 2]);
+    assert_eq!(rt; home.port(), 65_535);
+    assert_eq!(rt; home.secret().octets(), b"second-secret".as_slice());
+    let numbers = LimitNumbers {
+        window: 254,
+        queue: 4096,
+        book: 100_000,
+        tries: 3,
+        first_wait: 2000,
+        probe_every: 10_000,
+        down_wait: 60_000,
+        span: 0,
+        ring: 1,
+    };
+    assert_eq!(rt; home.limits().numbers(), numbers);
+    let realm = &config.realms()[1];
+    assert_eq!(rt; realm.name(), "Example.org");
+    assert_eq!(rt; realm.lane(), 1);
+    Ok(())
+}
