@@ -1,0 +1,48 @@
+-- The book of a lane (own): all that happened to it, as a biller would keep it.
+use Rattle.std.specs.Prelude.{◌≡◌, ℕ, ◌+◌, ◌-◌, max, List, length, Option, Some, None, Bool}
+use Rattle.std.specs.FinMap as map
+use Rattle.rad_tables.specs.declared.slots.Slot.{Slot}
+use Rattle.rad_tables.specs.Pairs.{slot_cmp}
+use Rattle.rad_lane.specs.declared.stamp.Stamp.{Stamp}
+use Rattle.rad_lane.specs.Stamp.{Recorded}
+use Rattle.rad_lane.specs.Outstanding.{Outstanding, AnswerKept}
+use Rattle.rad_lane.specs.Setup.{LaneSetup}
+use Rattle.rad_lane.specs.declared.entry.Entry.{Entry}
+use Rattle.rad_lane.specs.declared.entry.Entry.TheVariants.{Sending as sending}
+use Rattle.rad_lane.specs.declared.watch.Watch.{Watch}
+
+pub record Book : Type 0 where
+  -- what the lane was set up with
+  pub setup : LaneSetup
+  -- the number of the first request that the book still holds
+  pub opening : ℕ
+  -- the requests accepted, in order; of these, those that were sent, in order
+  pub accepted : List Stamp
+  pub sent : List Stamp
+  -- the requests that wait to be sent, in order
+  pub queued : List Recorded
+  -- the answers, in order, and how many there were since the first
+  pub answered : List AnswerKept
+  pub served : ℕ
+  -- what stands under each pair that is in use, a sending or the probe, and the pair last allotted
+  pub held : map.FinMap slot_cmp Entry
+  pub allotted : Option Slot
+  -- how many requests had been accepted when the lane was drained
+  pub drain : Option ℕ
+  -- whether the home server is taken to be up, or down until a moment, with the moment of the next probe and the
+  -- pair of the probe that is out
+  pub watch : Watch
+  -- the last moment
+  pub last : ℕ
+
+-- The moment of a call: moments never go back.
+abbrev pub moment_in : Book → ℕ → ℕ
+moment_in book moment = max book.last moment
+
+-- The number of the next request.
+abbrev pub next_number : Book → ℕ
+next_number book = book.opening + length book.accepted
+
+-- The request that is outstanding under a pair.
+abbrev pub outstanding_at : Book → Slot → Outstanding → Type 0
+outstanding_at book slot entry = map.get book.held slot ≡ Some (sending entry)

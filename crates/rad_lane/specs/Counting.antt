@@ -1,0 +1,30 @@
+-- What a lane's counts are, and when it is done (own).
+use Rattle.std.specs.Prelude.{◌≡◌, ℕ, List, [], length, Option, IsSome, is_some, Bool, true, false}
+use Rattle.rad_lane.specs.declared.counts.Counts.{Counts}
+use Rattle.rad_lane.specs.declared.watch.Watch.{Watch}
+use Rattle.rad_lane.specs.declared.watch.Watch.TheVariants.{Up as up, Down as down}
+use Rattle.rad_lane.specs.Book.{Book, next_number}
+use Rattle.rad_lane.specs.Dues.{outstanding_count}
+
+-- Whether the home server is taken to be up.
+abbrev pub is_up : Watch → Bool
+is_up up = true
+is_up (down until next out) = false
+
+-- How much of each there is; those accepted and answered count from the first of all.
+abbrev pub counts_of : Book → Counts
+counts_of book = record {
+  opening = book.opening;
+  accepted = next_number book;
+  answered = book.served;
+  queued = length book.queued;
+  outstanding = outstanding_count book;
+  up = is_up book.watch;
+  draining = is_some book.drain;
+}
+
+-- A lane is done when it is drained and nothing waits to be sent or for its answer.
+pub record IsDone (book : Book) : Type 0 where
+  pub drained : IsSome book.drain
+  pub sent : book.queued ≡ []
+  pub answered : outstanding_count book ≡ 0

@@ -1,0 +1,84 @@
+-- The lawful book (own): what a biller may rely on, whatever came in and in whatever order.
+use Rattle.std.specs.Prelude.{◌≡◌, ℕ, ◌+◌, ◌<◌, ◌≤◌, List, ◌++◌, length, map as each, All, AllPairs, Option, Some, None, IfSome}
+use Rattle.std.specs.List.{range_with_len}
+use Rattle.std.specs.List.Sorted.{IsPermutation, IsNonDecreasing, IsStrictlyIncreasing}
+use Rattle.std.specs.FinMap as map
+use Rattle.rad_auth.specs.declared.mark.Mark.{Mark}
+use Rattle.rad_auth.specs.Forwarding.{forwarded}
+use Rattle.rad_auth.specs.Answers.{Answers}
+use Rattle.rad_tables.specs.declared.slots.Slot.{Slot}
+use Rattle.rad_lane.specs.declared.stamp.Stamp.{Stamp}
+use Rattle.rad_lane.specs.Stamp.{Recorded, IsRecord, key_of}
+use Rattle.rad_lane.specs.Setup.{LaneSetup, IsOfItsRealms}
+use Rattle.rad_lane.specs.Outstanding.{Outstanding, AnswerKept, answered_record}
+use Rattle.rad_lane.specs.declared.entry.Entry.{Entry}
+use Rattle.rad_lane.specs.declared.entry.Entry.TheVariants.{Sending as sending, Probe as probe}
+use Rattle.rad_lane.specs.declared.watch.Watch.{Watch}
+use Rattle.rad_lane.specs.declared.watch.Watch.TheVariants.{Up as up, Down as down}
+use Rattle.rad_lane.specs.Book.{Book, next_number, outstanding_at}
+use Rattle.rad_lane.specs.Repeat.{answer_to}
+use Rattle.rad_lane.specs.Dues.{outstanding_of, outstanding_count}
+use Rattle.rad_lane.specs.Steps.{octets_of}
+
+-- The earlier of two requests of one key was answered, and a span later the later one came, or still later.
+abbrev pub NoRepeatWithinSpan : Book → Stamp → Stamp → Type 0
+NoRepeatWithinSpan book earlier later =
+    key_of earlier ≡ key_of later
+    → (answer : AnswerKept) × (answer_to earlier.number book.answered ≡ Some answer) × (answer.moment + book.setup.limits.span ≤ later.moment)
+
+-- What is sent under a pair is the forwarded packet of its record.
+pub record ForwardsItsRecord (setup : LaneSetup) (slot : Slot) (entry : Outstanding) : Type 0 where
+  pub is_record : IsRecord entry.request
+  pub octets : entry.octets ≡ octets_of setup entry.request slot.identifier
+
+-- An answer that is kept answers its own request, after a verified reply. It was given before now, and there
+-- were more answers than came before it.
+pub record IsVerified (setup : LaneSetup) (now served : ℕ) (answer : AnswerKept) : Type 0 where
+  pub head_identifier : answer.reply.head.identifier ≡ answer.stamp.identifier
+  pub head_authenticator : answer.reply.head.authenticator ≡ answer.stamp.authenticator
+  pub home : answer.reply.home ≡ setup.home_secret
+  pub answers : Answers answer.reply.head answer.reply.sending answer.reply.reply answer.reply.client answer.reply.home answer.reply.response
+  pub text : List ℕ
+  pub is_record : IsRecord (answered_record answer text)
+  pub identifier : ℕ
+  pub sending : answer.reply.sending ≡ octets_of setup (answered_record answer text) identifier
+  pub since : answer.stamp.moment ≤ answer.moment
+  pub until : answer.moment ≤ now
+  pub before : answer.serial < served
+
+-- The probe that is out stands under its pair, and no other does.
+abbrev pub ProbeStands : Book → Watch → Type 0
+ProbeStands book up = (slot : Slot) (octets : List ℕ) → map.get book.held slot ≡ Some (probe octets) → ⊥
+ProbeStands book (down until next None) = (slot : Slot) (octets : List ℕ) → map.get book.held slot ≡ Some (probe octets) → ⊥
+ProbeStands book (down until next (Some out)) =
+    ((octets : List ℕ) × (map.get book.held out ≡ Some (probe octets)))
+    × ((slot : Slot) (octets : List ℕ) → map.get book.held slot ≡ Some (probe octets) → slot ≡ out)
+
+pub record IsLawful (book : Book) : Type 0 where
+  -- The requests accepted are those sent, followed by those queued, in order.
+  pub in_order : book.accepted ≡ book.sent ++ each (λ r. r.stamp) book.queued
+  -- They are numbered from the opening on, and their moments do not go back and have passed.
+  pub numbered : each (λ s. s.number) book.accepted ≡ range_with_len book.opening (length book.accepted)
+  pub timed : AllPairs (λ s t. s.moment ≤ t.moment) book.accepted
+  pub passed : All (λ s. s.moment ≤ book.last) book.accepted
+  -- None comes again within its span.
+  pub no_repeat : AllPairs (NoRepeatWithinSpan book) book.accepted
+  -- Each one that was sent is outstanding once, or answered once, and nothing else is.
+  pub placed_once : IsPermutation book.sent (each (λ e. e.request.stamp) (outstanding_of book) ++ each (λ a. a.stamp) book.answered)
+  -- Each is of the lane's realms.
+  pub of_its_realms : All (λ r. IsRecord r × IsOfItsRealms book.setup r.text) book.queued
+  pub outstanding_realms : (slot : Slot) (entry : Outstanding) → outstanding_at book slot entry → IsOfItsRealms book.setup entry.octets
+  pub answered_realms : All (λ a. IsOfItsRealms book.setup a.reply.sending) book.answered
+  -- What is sent is the forwarded packet of a record that does not change.
+  pub forwards_its_record : (slot : Slot) (entry : Outstanding) → outstanding_at book slot entry → ForwardsItsRecord book.setup slot entry
+  -- The probe stands apart, and nothing is longer than it may be.
+  pub probe_apart : ProbeStands book book.watch
+  pub queued_bounded : length book.queued ≤ book.setup.limits.queue
+  pub outstanding_bounded : outstanding_count book ≤ book.setup.limits.window
+  pub accepted_bounded : length book.accepted ≤ book.setup.limits.book
+  -- Each response answers its own request, after a verified reply.
+  pub answers_verified : All (IsVerified book.setup book.last book.served) book.answered
+  pub serials_rise : IsStrictlyIncreasing (each (λ a. a.serial) book.answered)
+  pub served_count : book.served ≡ book.opening + length book.answered
+  -- Nothing is accepted after a drain.
+  pub drained_count : IfSome book.drain (λ count. next_number book ≡ count)

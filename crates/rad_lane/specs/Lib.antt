@@ -1,0 +1,16 @@
+pub mod Stamp
+pub mod Outstanding
+pub mod Setup
+pub mod Rows
+pub mod Book
+pub mod Empty
+pub mod Repeat
+pub mod Accepts
+pub mod Drains
+pub mod Dues
+pub mod Steps
+pub mod Hears
+pub mod Lawful
+pub mod Counting
+pub mod Finding
+pub mod Standing

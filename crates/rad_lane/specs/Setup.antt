@@ -1,0 +1,48 @@
+-- What a lane is set up with (own), and which requests are its own.
+use Rattle.std.specs.Prelude.{◌≡◌, ℕ, ◌<◌, List, length, map as each, filter, slice_get, Option, Some, None, Bool, false, ◌==◌, IsTrue}
+use Rattle.std.specs.List.{list_any}
+use Rattle.rad_realms.specs.declared.limits.LimitNumbers.{LimitNumbers}
+use Rattle.rad_realms.specs.Configuration.{HomeEntry, RealmEntry, Configuration}
+use Rattle.rad_realms.specs.Realm.{realm_of_packet, same_name}
+
+-- The lane's number and how many source ports it has, its home server's secret and limits, the realms that lead to it, and whether requests
+-- of no realm do.
+pub record LaneSetup : Type 0 where
+  pub lane : ℕ
+  pub ports : ℕ
+  pub home_secret : List ℕ
+  pub limits : LimitNumbers
+  pub realms : List (List ℕ)
+  pub is_default : Bool
+
+-- The names of the realms that lead to a lane, in the order of the table.
+abbrev pub realms_of : List RealmEntry → ℕ → List (List ℕ)
+realms_of table lane = each (λ r. r.name) (filter (λ r. r.lane == lane) table)
+
+-- Whether this is the lane, where there is one.
+abbrev pub is_lane : ℕ → Option ℕ → Bool
+is_lane lane None = false
+is_lane lane (Some other) = other == lane
+
+-- What a configuration sets a lane up with: its own home's secret and limits, the realms that lead to it, and
+-- whether it is the default. Today a lane has one source port.
+pub record IsSetUp (config : Configuration) (lane : ℕ) (setup : LaneSetup) : Type 0 where
+  pub home : HomeEntry
+  pub there : slice_get config.homes lane ≡ Some home
+  pub parts : setup ≡ record {
+    lane = lane;
+    ports = 1;
+    home_secret = home.secret;
+    limits = home.limits;
+    realms = realms_of config.realms lane;
+    is_default = is_lane lane config.default_lane;
+  }
+
+-- Requests of this realm, or of none, are the lane's. An empty realm leads nowhere.
+abbrev pub LeadsHere : LaneSetup → Option (List ℕ) → Type 0
+LeadsHere setup None = IsTrue setup.is_default
+LeadsHere setup (Some realm) = (0 < length realm) × IsTrue (list_any (λ name. same_name name realm) setup.realms)
+
+-- The packet is of the lane's realms.
+abbrev pub IsOfItsRealms : LaneSetup → List ℕ → Type 0
+IsOfItsRealms setup text = LeadsHere setup (realm_of_packet text)
