@@ -6,3 +6,4 @@ pub mod Turns
 pub mod LastSigns
 pub mod UserNames
 pub mod Ranges
+pub mod Exclusive

@@ -7,23 +7,31 @@ ghost use Rattle.rad_realms.specs.declared.limits.LimitNumbers.{LimitNumbers};
 ghost use Rattle.rad_realms.specs.Limits.{AreInRange, limits_of, first_fault};
 ghost use Rattle.rad_realms.specs.Address.{number_in};
 ghost use Rattle.rad_realms.specs.Realm.{realm_in};
+ghost use Rattle.rad_realms.specs.declared.faults.Dropped.{Dropped};
+ghost use Rattle.rad_realms.specs.declared.checking.Incoming.{Incoming};
+ghost use Rattle.rad_realms.specs.Configuration.{Configuration};
+ghost use Rattle.rad_realms.specs.Checking.{Drops};
+ghost use Rattle.rad_realms.specs.Incoming.{Takes};
 
 /// Numbers have no fault just where each of them is in its range.
 pub fn no_fault_in_range()
     ensures { (n : LimitNumbers) → (first_fault (limits_of n) ≡ None) ↔ AreInRange n }
-{
-}
+{}
 
 /// The realm is what follows the last `@`, whatever stands before it, and a name with no `@` has none.
 pub fn realm_follows_the_last_sign()
     ensures follows { (front realm : List ℕ) → list_all (λ o. not (o == 64)) realm ≡ true → realm_in (front ++ 64 ∷ realm) ≡ Some realm }
     ensures none { (name : List ℕ) → list_all (λ o. not (o == 64)) name ≡ true → realm_in name ≡ None }
-{
-}
+{}
 
 /// A number is read from its own text, and from no other.
 pub fn numbers_have_one_text()
     ensures read { (least most n : ℕ) → n < 2 ^ 64 → least ≤ n → n ≤ most → number_in least most (decimal n) ≡ Some n }
     ensures only { (least most n : ℕ) (text : List ℕ) → number_in least most text ≡ Some n → n < 2 ^ 64 → text ≡ decimal n }
-{
-}
+{}
+
+/// No datagram is dropped for two reasons, and none that is taken is dropped.
+pub fn taken_or_dropped_once()
+    ensures reason { (config : Configuration) (address datagram : List ℕ) (e f : Dropped) → Drops config address datagram e → Drops config address datagram f → e ≡ f }
+    ensures taken { (config : Configuration) (address : List ℕ) (port : ℕ) (datagram : List ℕ) (taken : Incoming) (e : Dropped) → Takes config address port datagram taken → Drops config address datagram e → ⊥ }
+{}

@@ -1,0 +1,30 @@
+-- What has passed by a moment has passed by a later one.
+use Rattle.std.proofs.Common.{◌≡◌, ℕ, ◌≤◌, ◌<◌, List, length, Option, refl, arith}
+use Rattle.std.specs.Prelude.{All}
+use Rattle.std.proofs.lemmas.List.Elements.{All-weaker}
+use Rattle.rad_lane.specs.declared.stamp.Stamp.{Stamp}
+use Rattle.rad_lane.specs.Outstanding.{AnswerKept}
+use Rattle.rad_lane.specs.Setup.{LaneSetup}
+use Rattle.rad_lane.specs.Lawful.{IsVerified}
+
+pub passed_later : (stamps : List Stamp) (last now : ℕ) → last ≤ now → All (λ s. s.moment ≤ last) stamps → All (λ s. s.moment ≤ now) stamps
+passed_later stamps last now later h = All-weaker (λ s. s.moment ≤ last) (λ s. s.moment ≤ now) (λ s earlier. omega arith) stamps h
+
+verified_by : (setup : LaneSetup) (last now served : ℕ) (answer : AnswerKept) → last ≤ now → IsVerified setup last served answer → IsVerified setup now served answer
+verified_by setup last now served answer later v = record {
+  head_identifier = v.head_identifier;
+  head_authenticator = v.head_authenticator;
+  home = v.home;
+  answers = v.answers;
+  text = v.text;
+  is_record = v.is_record;
+  identifier = v.identifier;
+  sending = v.sending;
+  since = v.since;
+  until = omega (arith, v.until);
+  before = v.before;
+}
+
+pub verified_later : (setup : LaneSetup) (last now served : ℕ) (answers : List AnswerKept) → last ≤ now → All (IsVerified setup last served) answers → All (IsVerified setup now served) answers
+verified_later setup last now served answers later h =
+    All-weaker (IsVerified setup last served) (IsVerified setup now served) (λ answer v. verified_by setup last now served answer later v) answers h

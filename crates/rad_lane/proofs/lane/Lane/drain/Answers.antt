@@ -1,0 +1,6 @@
+use Rattle.rad_lane.proofs.Drained.{stands_drained_by}
+use Rattle.rad_lane.proofs.lane.Lane.drain.Goals as goal
+
+pub invariant_of-self : goal.invariant_of-self
+invariant_of-self g c =
+    stands_drained_by _ _ _ _ _ _ _ _ c.self.view_is c.drained_at-count.ensures c.self.invariant

@@ -1,0 +1,6 @@
+use Rattle.std.proofs.Common.{◌≡◌, take}
+use Rattle.rad_lane.specs.Setup.{realms_of}
+use Rattle.rad_lane.proofs.setup.realms_of.Given as goal
+
+abbrev pub invariant-loop-realm : goal.invariant-loop-realm
+invariant-loop-realm l = l.names.items ≡ realms_of (take l.realm-index l.realms) l.lane

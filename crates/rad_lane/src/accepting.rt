@@ -1,0 +1,228 @@
+//! Taking a request in.
+
+ghost use Rattle.std.specs.Prelude.{◌≡◌, ◌+◌, ◌≤◌, length, IfOk, OnErr, MatchResult, IsTrue, ◌↔◌};
+ghost use Rattle.rad_lane.specs.Book.{moment_in, next_number};
+ghost use Rattle.rad_lane.specs.Repeat.{repeats, fresh};
+ghost use Rattle.rad_lane.specs.Standing.{HasRoom};
+ghost use Rattle.rad_lane.specs.Accepts.{Accepts, Datagrams, IsTaken, IsRefused, request_key, stamp_of as the_stamp, record_of as the_record, with_request};
+
+use crate::repeats::Repeat;
+use crate::rows::Rows;
+use crate::{Answered, Lane, Record, Stamp};
+use block_queue::Fifo;
+use rad_auth::{Buffer, MARK_LENGTH, Octets};
+use rad_packet::{Datagram, GREATEST_LENGTH, PacketRef, read};
+use rad_realms::Checked;
+use rad_tables::{Key, Moment};
+use std::alloc::{AllocError, Global};
+
+/// How a request was taken.
+#[derive(Clone, Copy, Debug, PartialEq, Eq)]
+pub enum Taken {
+    /// It is new and has this number.
+    New(u64),
+    /// It repeats the request of this number, which waits for its answer.
+    Waiting(u64),
+    /// It repeats the request of this number, which was answered less than a span ago; the response is in the
+    /// datagram.
+    Again(u64),
+}
+
+/// Why a new request is not taken. The first reason in this order is told.
+#[derive(Clone, Copy, Debug, PartialEq, Eq)]
+pub enum Refusal {
+    /// The lane is drained.
+    Draining,
+    /// The book holds as many requests as it may.
+    BookFull,
+    /// The queue holds as many requests as it may.
+    QueueFull,
+    /// The request is longer than 4084 octets, so that the mark does not fit behind it.
+    TooLong,
+    /// Memory was refused.
+    OutOfMemory,
+    /// The request is of another lane. A lane itself never answers it.
+    WrongLane,
+}
+
+/// One more than the greatest number of a request.
+const NUMBERS: u64 = 1 << 62;
+
+impl<Q: Fifo<Record>> Lane<Q> {
+    /// Whether a request leads to this lane, by the lane's own realms. It looks at each of these.
+    pub fn takes(&self, request: &Checked<'_>) -> bool
+        ensures { IsTrue result ↔ IsTaken self.now request.now }
+    {
+        request.lane() == self.setup.lane() && self.setup.leads_here(request.realm())
+    }
+
+    /// Takes a request that is this lane's: a new one is accepted and waits to be sent; a repeat of one that
+    /// waits for its answer is only told; and for a repeat of one that was answered less than a span ago the
+    /// response is put into the datagram. It costs the logarithm of how much is kept.
+    ///
+    /// # Errors
+    ///
+    /// Why a new request is not taken. The lane and the datagram stay.
+    pub fn accept(
+        &mut self,
+        alloc: Global,
+        request: &Checked<'_>,
+        moment: Moment,
+        datagram: &mut Datagram,
+    ) -> Result<Taken, Refusal>
+        requires { IsTaken self.old request.now }
+        ensures { Accepts self.old request.now moment result (record { before = datagram.old; after = datagram.new }) self.new }
+    {
+        let now = self.moment_of(moment);
+        match self.find_repeat(&key_of(request), now) {
+            Repeat::Fresh => {
+                self.refuse(request)?;
+                match self.keep(alloc, request, now) {
+                    Ok(number) => Ok(Taken::New(number)),
+                    Err(AllocError) => Err(Refusal::OutOfMemory),
+                }
+            }
+            Repeat::Waits(number) => {
+                self.pass(now);
+                Ok(Taken::Waiting(number))
+            }
+            Repeat::Answered(number, answer) => {
+                datagram.load(&response_of(answer));
+                self.pass(now);
+                Ok(Taken::Again(number))
+            }
+        }
+    }
+
+    /// Why a new request is not taken, unless memory is refused.
+    fn refuse(&self, request: &Checked<'_>) -> Result<(), Refusal>
+        ensures { MatchResult result (λ _. IsRefused self.now request.now Refusal.OutOfMemory) (λ refusal. IsRefused self.now request.now refusal) }
+    {
+        let limits = self.setup.limits().numbers();
+        if self.drain.is_some() {
+            return Err(Refusal::Draining);
+        }
+        if self.accepted.as_slice().len() >= limits.book as usize || self.next_number() >= NUMBERS {
+            return Err(Refusal::BookFull);
+        }
+        if self.queued.len() >= limits.queue as usize {
+            return Err(Refusal::QueueFull);
+        }
+        if request.packet().octets().len() > GREATEST_LENGTH - MARK_LENGTH {
+            return Err(Refusal::TooLong);
+        }
+        Ok(())
+    }
+
+    /// Accepts a request, and tells its number. All room is made before anything changes.
+    fn keep(&mut self, alloc: Global, request: &Checked<'_>, now: Moment) -> Result<u64, AllocError>
+        requires taken { IsTaken self.old request.now }
+        requires new { repeats self.old (request_key request.now) now ≡ fresh }
+        requires free { IsRefused self.old request.now Refusal.OutOfMemory }
+        requires later { self.old.last ≤ now }
+        ensures ok { IfOk result (λ number. (number ≡ next_number self.old) × (self.new ≡ with_request self.old request.now now)) }
+        ensures err { OnErr result (self.new ≡ self.old) }
+    {
+        let number = self.next_number();
+        let record = record_of(alloc, request, number, now)?;
+        make_room(&mut self.accepted, &mut self.places, &mut self.queued)?;
+        self.duplicates.insert(key_of(request), number)?;
+        self.accepted.push(record.stamp());
+        self.places.push(None);
+        self.queued.push_back(record);
+        self.last = now;
+        Ok(number)
+    }
+
+    /// The moment of a call: moments never go back.
+    fn moment_of(&self, moment: Moment) -> Moment
+        ensures value { result ≡ moment_in self.now moment }
+        ensures later { self.now.last ≤ result }
+    {
+        if moment.get() < self.last.get() {
+            self.last
+        } else {
+            moment
+        }
+    }
+
+    /// Makes this the last moment.
+    fn pass(&mut self, now: Moment)
+        requires { self.old.last ≤ now }
+        ensures { self.new ≡ record self.old { last = now } }
+    {
+        self.last = now;
+    }
+}
+
+fn key_of(request: &Checked<'_>) -> Key
+    ensures { result ≡ request_key request.now }
+{
+    let packet = request.packet();
+    Key {
+        client: request.client(),
+        port: request.port(),
+        identifier: packet.identifier(),
+        authenticator: packet.authenticator(),
+    }
+}
+
+fn stamp_of(request: &Checked<'_>, number: u64, moment: Moment) -> Stamp
+    ensures { result ≡ the_stamp number request.now moment }
+{
+    let packet = request.packet();
+    Stamp {
+        number,
+        client: request.client(),
+        port: request.port(),
+        identifier: packet.identifier(),
+        authenticator: packet.authenticator(),
+        moment,
+    }
+}
+
+/// Copies the packet, and makes the buffer for the octets that go out.
+fn record_of(
+    alloc: Global,
+    request: &Checked<'_>,
+    number: u64,
+    moment: Moment,
+) -> Result<Record, AllocError>
+    requires { length request.now.text ≤ 4084 }
+    ensures record { IfOk result (λ kept. kept.recorded ≡ the_record number request.now moment) }
+    ensures room { IfOk result HasRoom }
+{
+    let octets = request.packet().octets();
+    let text = Octets::copy_of(alloc, octets)?;
+    let spare = Buffer::with_room(alloc, octets.len() + MARK_LENGTH)?;
+    let stamp = stamp_of(request, number, moment);
+    Ok(Record::new(stamp, text, *request.secret(), spare))
+}
+
+/// Makes a place in each.
+fn make_room<Q: Fifo<Record>>(
+    accepted: &mut Rows<Stamp>,
+    places: &mut Rows<Option<usize>>,
+    queued: &mut Q,
+) -> Result<(), AllocError>
+    ensures accepted { accepted.new.items ≡ accepted.old.items }
+    ensures places { places.new.items ≡ places.old.items }
+    ensures queued { Q.items queued.new ≡ Q.items queued.old }
+    ensures accepted_room { IfOk result (λ _. 1 ≤ accepted.new.room) }
+    ensures places_room { IfOk result (λ _. 1 ≤ places.new.room) }
+    ensures queued_room { IfOk result (λ _. 1 ≤ Q.room queued.new) }
+{
+    accepted.reserve_one()?;
+    places.reserve_one()?;
+    queued.reserve_one()
+}
+
+/// The response to a request that was answered.
+fn response_of(answer: &Answered) -> PacketRef<'_>
+    ensures { result ≡ answer.now.reply.response }
+{
+    match read(answer.reply().response()) {
+        Ok(response) => response,
+        Err(_) => unreachable!(),
+    }
+}

@@ -1,0 +1,61 @@
+use crate::Stamp;
+use rad_auth::Reply;
+use rad_tables::Moment;
+use std::marker::Model;
+
+/// An answer to a request: the request's stamp, when it was answered, the how manyth answer it was, and the
+/// reply with the response.
+///
+/// Its type keeps that the response answers that request, after a verified reply to its forwarded packet.
+#[derive(Drop)]
+pub struct Answered {
+    stamp: Stamp,
+    moment: Moment,
+    serial: u64,
+    reply: Reply,
+}
+
+impl Model for Answered {
+    ghost use Rattle.rad_lane.specs.Outstanding.{AnswerKept, IsAnswered};
+
+    ghost Value = { AnswerKept };
+
+    ghost view = { λ a. record { stamp = a.stamp; moment = a.moment; serial = a.serial; reply = a.reply } };
+
+    ghost invariant = { λ a. IsAnswered (record { stamp = a.stamp; moment = a.moment; serial = a.serial; reply = a.reply }) };
+}
+
+impl Answered {
+    ghost use Rattle.std.specs.Prelude.{◌≡◌};
+    ghost use Rattle.rad_lane.specs.Outstanding.{IsAnswered};
+
+    /// The stamp of the request.
+    pub fn stamp(&self) -> Stamp
+        ensures value { result ≡ self.now.stamp }
+        ensures answered { IsAnswered self.now }
+    {
+        self.stamp
+    }
+
+    /// When it was answered.
+    pub fn moment(&self) -> Moment
+        ensures { result ≡ self.now.moment }
+    {
+        self.moment
+    }
+
+    /// How many answers there were before it.
+    pub fn serial(&self) -> u64
+        ensures { result ≡ self.now.serial }
+    {
+        self.serial
+    }
+
+    /// The home server's reply and the response to the client.
+    pub fn reply(&self) -> &Reply
+        ensures value { result.now ≡ self.now.reply }
+        ensures answered { IsAnswered self.now }
+    {
+        &self.reply
+    }
+}

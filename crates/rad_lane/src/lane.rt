@@ -1,0 +1,111 @@
+ghost use Rattle.std.specs.Prelude.{◌≡◌, ◌≤◌, ◌^◌, IfOk};
+ghost use Rattle.rad_lane.specs.Book.{next_number};
+ghost use Rattle.rad_lane.specs.Drains.{drained_at};
+ghost use Rattle.rad_lane.specs.Empty.{empty_book};
+
+use crate::rows::Rows;
+use crate::{Answered, Entry, Record, Setup, Stamp, Watch};
+use block_queue::Fifo;
+use rad_tables::{Duplicates, Moment, Slots};
+use std::alloc::{AllocError, Global};
+use std::marker::Model;
+
+/// The lane of one home server: the requests that it took, in order, until each is answered.
+///
+/// It has no socket and no clock. Its calls are handed the moment, and answer what is to be done:
+/// [`Lane::accept`] takes a request in.
+#[derive(Drop)]
+pub struct Lane<Q: Fifo<Record>> {
+    pub(crate) setup: Setup,
+    /// The number of the first request that is kept.
+    pub(crate) opening: u64,
+    /// The stamps of the requests, in order: first those that were sent, then those that are queued.
+    pub(crate) accepted: Rows<Stamp>,
+    pub(crate) queued: Q,
+    pub(crate) answered: Rows<Answered>,
+    /// For each of the requests accepted the place of its answer among `answered`.
+    pub(crate) places: Rows<Option<usize>>,
+    /// How many answers there were.
+    pub(crate) served: u64,
+    pub(crate) slots: Slots<Entry>,
+    /// How many of the entries are sendings.
+    pub(crate) outstanding: usize,
+    pub(crate) duplicates: Duplicates,
+    /// How many requests had been accepted when it was drained.
+    pub(crate) drain: Option<u64>,
+    pub(crate) watch: Watch,
+    pub(crate) last: Moment,
+}
+
+impl<Q: Fifo<Record>> Model for Lane<Q> {
+    ghost use Rattle.rad_lane.specs.Book.{Book};
+    ghost use Rattle.std.specs.Coded.{codes};
+    ghost use Rattle.std.specs.FinMap as map;
+    ghost use Rattle.rad_tables.specs.Pairs.{slot_cmp, coded_slot};
+    ghost use Rattle.rad_lane.specs.contracts.entry.Entry as entry;
+
+    ghost Value = { Book };
+
+    ghost coded = { Prim.hlevel (codes, map.code {R = slot_cmp} coded_slot entry.the_row.coded) };
+
+    ghost use Rattle.rad_lane.specs.Standing.{book_of, Stands};
+
+    ghost view = { λ l. book_of l.setup l.opening l.accepted.items (Q.items l.queued) l.answered.items l.served l.slots l.drain l.watch l.last };
+
+    ghost invariant = { λ l. Stands (book_of l.setup l.opening l.accepted.items (Q.items l.queued) l.answered.items l.served l.slots l.drain l.watch l.last) (Q.items l.queued) l.slots.ports l.duplicates l.places.items l.outstanding };
+}
+
+/// Why there is no lane.
+#[derive(Clone, Copy, Debug, PartialEq, Eq)]
+pub enum SetupFault {
+    /// Memory was refused.
+    OutOfMemory,
+}
+
+impl<Q: Fifo<Record>> Lane<Q> {
+    /// An empty book over this setup. A refusal drops the setup.
+    ///
+    /// # Errors
+    ///
+    /// Where memory is refused.
+    pub fn new(alloc: Global, setup: Setup) -> Result<Lane<Q>, SetupFault>
+        ensures { IfOk result (λ lane. lane ≡ empty_book setup) }
+    {
+        match Slots::new(alloc, setup.ports()) {
+            Err(AllocError) => Err(SetupFault::OutOfMemory),
+            Ok(slots) => Ok(Lane {
+                setup,
+                opening: 0,
+                accepted: Rows::new(alloc),
+                queued: Q::new(alloc),
+                answered: Rows::new(alloc),
+                places: Rows::new(alloc),
+                served: 0,
+                slots,
+                outstanding: 0,
+                duplicates: Duplicates::new(alloc),
+                drain: None,
+                watch: Watch::Up,
+                last: Moment::new(0).unwrap(),
+            }),
+        }
+    }
+
+    /// The number of the next request.
+    pub(crate) fn next_number(&self) -> u64
+        ensures value { result ≡ next_number self.now }
+        ensures fits { next_number self.now ≤ 2 ^ 62 }
+    {
+        self.opening + self.accepted.as_slice().len() as u64
+    }
+
+    /// How many requests had been accepted when it was drained, or have been where it is not.
+    pub(crate) fn drained_at(&self) -> u64
+        ensures { result ≡ drained_at self.now self.now.drain }
+    {
+        match self.drain {
+            Some(count) => count,
+            None => self.next_number(),
+        }
+    }
+}

@@ -1,0 +1,32 @@
+//! The lane of one home server (own): the book of what it accepted, sent and was answered, in order.
+#![tactic(auto)]
+
+mod accepting;
+mod answered;
+mod counts;
+mod draining;
+mod entry;
+mod hearing;
+mod lane;
+mod reading;
+mod record;
+mod repeats;
+mod rows;
+mod sending;
+mod setup;
+mod stamp;
+mod stepping;
+mod watch;
+
+pub use accepting::{Refusal, Taken};
+pub use answered::Answered;
+pub use counts::Counts;
+pub use entry::{Entry, Probe};
+pub use hearing::HearFault;
+pub use lane::{Lane, SetupFault};
+pub use record::Record;
+pub use sending::Sending;
+pub use setup::Setup;
+pub use stamp::Stamp;
+pub use stepping::Action;
+pub use watch::Watch;

@@ -1,0 +1,60 @@
+use std::alloc::{AllocError, Global};
+use std::marker::Model;
+
+/// Items in order, whose places are made before they are needed.
+#[derive(Drop)]
+pub(crate) struct Rows<T> {
+    items: Vec<T>,
+}
+
+impl<T> Model for Rows<T> {
+    ghost use Rattle.std.specs.Prelude.{◌-◌, vec_capacity, vec_len};
+    ghost use Rattle.rad_lane.specs.Rows.{Rowed};
+
+    ghost Value = { Rowed T };
+
+    ghost view = { λ r. record { items = r.items.items; room = vec_capacity r.items - vec_len r.items } };
+}
+
+impl<T> Rows<T> {
+    ghost use Rattle.std.specs.Prelude.{◌≡◌, ◌≤◌, [], ◌∷◌, ◌++◌, slice_get, option_copied, OnOk};
+
+    /// No items. It takes no memory: what it needs later is made with `alloc`.
+    pub(crate) fn new(alloc: Global) -> Rows<T>
+        ensures { result.items ≡ [] }
+    {
+        Rows {
+            items: Vec::new(alloc),
+        }
+    }
+
+    /// Makes room for one item more, where there is none. An error means that memory was refused.
+    pub(crate) fn reserve_one(&mut self) -> Result<(), AllocError>
+        ensures items { self.new.items ≡ self.old.items }
+        ensures ok { OnOk result (1 ≤ self.new.room) }
+    {
+        self.items.reserve(1)
+    }
+
+    /// Puts an item at the end. It takes no memory.
+    pub(crate) fn push(&mut self, item: T)
+        requires { 1 ≤ self.old.room }
+        ensures { self.new.items ≡ self.old.items ++ item ∷ [] }
+    {
+        self.items.push_reserved(item);
+    }
+
+    /// The item at a place.
+    pub(crate) fn get(&self, place: usize) -> Option<&T>
+        ensures { option_copied result ≡ slice_get self.now.items place }
+    {
+        self.items.as_slice().get(place)
+    }
+
+    /// The items.
+    pub(crate) fn as_slice(&self) -> &[T]
+        ensures { result.now ≡ self.now.items }
+    {
+        self.items.as_slice()
+    }
+}

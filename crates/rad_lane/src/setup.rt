@@ -1,0 +1,136 @@
+ghost use Rattle.std.specs.Prelude.{◌≡◌, IfOk};
+ghost use Rattle.std.specs.List.{list_any};
+ghost use Rattle.rad_realms.specs.Realm.{same_name};
+ghost use Rattle.rad_lane.specs.Setup.{realms_of as the_realms, is_lane};
+
+use crate::rows::Rows;
+use rad_auth::{Octets, Secret};
+use rad_realms::{Config, Limits, Realm};
+use std::alloc::{AllocError, Global};
+use std::marker::Model;
+
+/// What a lane is set up with: the number of its home server, that server's secret and limits, the realms
+/// that lead to it, and whether requests of no realm do.
+#[derive(Drop)]
+pub struct Setup {
+    lane: u16,
+    /// How many source ports it sends from.
+    ports: u16,
+    home: Secret,
+    limits: Limits,
+    realms: Rows<Octets>,
+    is_default: bool,
+}
+
+impl Model for Setup {
+    ghost use Rattle.std.specs.Prelude.{◌≤◌};
+    ghost use Rattle.rad_lane.specs.Setup.{LaneSetup};
+
+    ghost Value = { LaneSetup };
+
+    ghost view = { λ s. record { lane = s.lane; ports = s.ports; home_secret = s.home; limits = s.limits; realms = s.realms.items; is_default = s.is_default } };
+
+    ghost invariant = { λ s. (1 ≤ s.ports) × (s.ports ≤ 4) };
+}
+
+impl Setup {
+    ghost use Rattle.std.specs.Prelude.{◌≡◌, ◌≤◌, ◌<◌, ◌↔◌, length, IfOk, IsTrue};
+    ghost use Rattle.std.specs.Option.{option_copied};
+    ghost use Rattle.rad_lane.specs.Setup.{IsSetUp, LeadsHere};
+
+    /// What a configuration says of the lane of one of its home servers. It looks at each realm once.
+    ///
+    /// # Errors
+    ///
+    /// Where memory is refused.
+    pub fn of(alloc: Global, config: &Config, lane: u16) -> Result<Setup, AllocError>
+        requires { lane < length config.now.homes }
+        ensures { IfOk result (λ setup. IsSetUp config.now lane setup) }
+    {
+        let home = &config.homes()[usize::from(lane)];
+        Ok(Setup {
+            lane,
+            ports: 1,
+            home: *home.secret(),
+            limits: home.limits(),
+            realms: realms_of(alloc, config.realms(), lane)?,
+            is_default: is_same_lane(lane, config.lane_of(None)),
+        })
+    }
+
+    /// Whether requests of this realm, or of none, are the lane's. It looks at each of the lane's realms.
+    pub(crate) fn leads_here(&self, realm: Option<&[u8]>) -> bool
+        ensures { IsTrue result ↔ LeadsHere self.now (option_copied realm.entry) }
+    {
+        match realm {
+            None => self.is_default,
+            Some(name) => !name.is_empty() && has_name(self.realms.as_slice(), name),
+        }
+    }
+
+    pub(crate) fn lane(&self) -> u16
+        ensures { result ≡ self.now.lane }
+    {
+        self.lane
+    }
+
+    /// How many source ports there are.
+    pub(crate) fn ports(&self) -> u16
+        ensures value { result ≡ self.now.ports }
+        ensures least { 1 ≤ self.now.ports }
+        ensures most { self.now.ports ≤ 4 }
+    {
+        self.ports
+    }
+
+    pub(crate) fn home(&self) -> &Secret
+        ensures { result.now ≡ self.now.home_secret }
+    {
+        &self.home
+    }
+
+    pub(crate) fn limits(&self) -> &Limits
+        ensures value { result.now ≡ self.now.limits }
+    {
+        &self.limits
+    }
+}
+
+/// The names of the realms that lead to a lane.
+fn realms_of(alloc: Global, realms: &[Realm], lane: u16) -> Result<Rows<Octets>, AllocError>
+    ensures { IfOk result (λ names. names.items ≡ the_realms realms.now lane) }
+{
+    let mut names = Rows::new(alloc);
+    for realm in realms {
+        if realm.lane() == lane {
+            let name = Octets::copy_of(alloc, realm.name().as_bytes())?;
+            names.reserve_one()?;
+            names.push(name);
+        }
+    }
+    Ok(names)
+}
+
+fn is_same_lane(lane: u16, other: Option<u16>) -> bool
+    ensures { result ≡ is_lane lane other }
+{
+    match other {
+        Some(other) => other == lane,
+        None => false,
+    }
+}
+
+/// Whether a name is among these, but for the case of ASCII letters.
+fn has_name(names: &[Octets], name: &[u8]) -> bool
+    ensures { result ≡ list_any (λ other. same_name other name.now) names.now }
+{
+    names
+        .iter()
+        .any(|other| is_same_name(other.as_slice(), name))
+}
+
+fn is_same_name(one: &[u8], other: &[u8]) -> bool
+    ensures { result ≡ same_name one.now other.now }
+{
+    one.eq_ignore_ascii_case(other)
+}
