@@ -1,8 +1,14 @@
 pub mod Accepted
 pub mod Beginning
 pub mod Drained
+pub mod Held
 pub mod Numbered
 pub mod Passed
+pub mod Realms
 pub mod Repeating
+pub mod Resting
+pub mod Sent
+pub mod Turning
 pub mod Unrepeated
+pub mod Watched
 pub mod Texts

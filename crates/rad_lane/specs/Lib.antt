@@ -9,6 +9,7 @@ pub mod Accepts
 pub mod Drains
 pub mod Dues
 pub mod Steps
+pub mod Timing
 pub mod Hears
 pub mod Lawful
 pub mod Counting

@@ -1,5 +1,5 @@
 -- What was sent and is not answered, and what was answered (own).
-use Rattle.std.specs.Prelude.{◌≡◌, ℕ, ◌≤◌, List}
+use Rattle.std.specs.Prelude.{◌≡◌, ℕ, ◌<◌, ◌≤◌, List}
 use Rattle.rad_auth.specs.declared.mark.Mark.{Mark}
 use Rattle.rad_auth.specs.Forwarding.{forwarded}
 use Rattle.rad_auth.specs.Answers.{Answers}
@@ -23,6 +23,7 @@ pub record IsForwarded (entry : Outstanding) : Type 0 where
   pub is_record : IsRecord entry.request
   pub lane : ℕ
   pub identifier : ℕ
+  pub octet : identifier < 256
   pub octets : entry.octets ≡ forwarded entry.request.text (record { lane = lane; number = entry.request.stamp.number }) identifier entry.home
 
 -- An answer: to which stamp, when, the how manyth, and the sending, the reply and the response with both

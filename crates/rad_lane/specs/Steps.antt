@@ -25,6 +25,17 @@ abbrev pub octets_of : LaneSetup → Recorded → ℕ → List ℕ
 octets_of setup r identifier =
     forwarded r.text (record { lane = setup.lane; number = r.stamp.number }) identifier setup.home_secret
 
+-- The first sending of a record under an identifier.
+abbrev pub first_sending : LaneSetup → ℕ → Recorded → ℕ → Outstanding
+first_sending setup now r identifier = record {
+  request = r;
+  octets = octets_of setup r identifier;
+  sendings = 1;
+  due = now + wait_of setup.limits.first_wait 1;
+  home = setup.home_secret;
+  tries = setup.limits.tries;
+}
+
 -- A sending again, later by twice as much: the entry after it.
 abbrev pub sent_again : Book → ℕ → Outstanding → Outstanding
 sent_again book now entry = record entry {
@@ -37,14 +48,7 @@ abbrev pub with_sending : Book → ℕ → Recorded → List Recorded → Slot �
 with_sending book now r rest slot = record book {
   queued = rest;
   sent = book.sent ++ r.stamp ∷ [];
-  held = map.insert book.held slot (sending (record {
-    request = r;
-    octets = octets_of book.setup r slot.identifier;
-    sendings = 1;
-    due = now + wait_of book.setup.limits.first_wait 1;
-    home = book.setup.home_secret;
-    tries = book.setup.limits.tries;
-  }));
+  held = map.insert book.held slot (sending (first_sending book.setup now r slot.identifier));
   allotted = Some slot;
   last = now;
 }
@@ -53,10 +57,25 @@ with_sending book now r rest slot = record book {
 abbrev pub NothingToSend : Book → Type 0
 NothingToSend book = (book.queued ≡ []) ⊎ (book.setup.limits.window ≤ outstanding_count book)
 
--- The book with the old probe's pair freed.
+-- What is held with the old probe's pair freed, and the book with that.
+abbrev pub freed : map.FinMap slot_cmp Entry → Option Slot → map.FinMap slot_cmp Entry
+freed held None = held
+freed held (Some slot) = map.remove held slot
+
 abbrev pub without_probe : Book → Option Slot → Book
-without_probe book None = book
-without_probe book (Some slot) = record book { held = map.remove book.held slot }
+without_probe book out = record book { held = freed book.held out }
+
+-- A probe goes out under the first free pair, and the next is due a while later.
+abbrev pub Probes : Book → ℕ → List ℕ → ℕ → Option Slot → Slot → Datagrams → Book → Type 0
+Probes old now random until out slot d new =
+    IsFirstFree (table_of (without_probe old out)) slot
+    × (d.after ≡ status_server slot.identifier random old.setup.home_secret)
+    × (new ≡ record old {
+      held = map.insert (without_probe old out).held slot (probe d.after);
+      allotted = Some slot;
+      watch = down until (now + old.setup.limits.probe_every) (Some slot);
+      last = now;
+    })
 
 -- What a lane that is up does.
 abbrev pub StepsUp : Book → ℕ → Action → Datagrams → Book → Type 0
@@ -86,15 +105,7 @@ abbrev pub StepsDown : Book → ℕ → List ℕ → ℕ → ℕ → Option Slot
 StepsDown old now random until next out WentUp d new =
     (until ≤ now) × (d.after ≡ d.before) × GoesUp now (record old { last = now }) new
 StepsDown old now random until next out (Probed slot) d new =
-    (now < until) × (next ≤ now)
-    × IsFirstFree (table_of (without_probe old out)) slot
-    × (d.after ≡ status_server slot.identifier random old.setup.home_secret)
-    × (new ≡ record old {
-      held = map.insert (without_probe old out).held slot (probe d.after);
-      allotted = Some slot;
-      watch = down until (now + old.setup.limits.probe_every) (Some slot);
-      last = now;
-    })
+    (now < until) × (next ≤ now) × Probes old now random until out slot d new
 StepsDown old now random until next out (Idle (Some moment)) d new =
     (now < until) × (now < next) × (moment ≡ as_moment (min until next))
     × (d.after ≡ d.before) × (new ≡ record old { last = now })

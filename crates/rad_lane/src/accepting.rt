@@ -1,17 +1,18 @@
 //! Taking a request in.
 
 ghost use Rattle.std.specs.Prelude.{◌≡◌, ◌+◌, ◌≤◌, length, IfOk, OnErr, MatchResult, IsTrue, ◌↔◌};
-ghost use Rattle.rad_lane.specs.Book.{moment_in, next_number};
+ghost use Rattle.rad_lane.specs.Book.{next_number};
 ghost use Rattle.rad_lane.specs.Repeat.{repeats, fresh};
 ghost use Rattle.rad_lane.specs.Standing.{HasRoom};
 ghost use Rattle.rad_lane.specs.Accepts.{Accepts, Datagrams, IsTaken, IsRefused, request_key, stamp_of as the_stamp, record_of as the_record, with_request};
 
+use crate::packets::packet_of;
 use crate::repeats::Repeat;
 use crate::rows::Rows;
 use crate::{Answered, Lane, Record, Stamp};
 use block_queue::Fifo;
 use rad_auth::{Buffer, MARK_LENGTH, Octets};
-use rad_packet::{Datagram, GREATEST_LENGTH, PacketRef, read};
+use rad_packet::{Datagram, GREATEST_LENGTH, PacketRef};
 use rad_realms::Checked;
 use rad_tables::{Key, Moment};
 use std::alloc::{AllocError, Global};
@@ -133,26 +134,6 @@ impl<Q: Fifo<Record>> Lane<Q> {
         self.last = now;
         Ok(number)
     }
-
-    /// The moment of a call: moments never go back.
-    fn moment_of(&self, moment: Moment) -> Moment
-        ensures value { result ≡ moment_in self.now moment }
-        ensures later { self.now.last ≤ result }
-    {
-        if moment.get() < self.last.get() {
-            self.last
-        } else {
-            moment
-        }
-    }
-
-    /// Makes this the last moment.
-    fn pass(&mut self, now: Moment)
-        requires { self.old.last ≤ now }
-        ensures { self.new ≡ record self.old { last = now } }
-    {
-        self.last = now;
-    }
 }
 
 fn key_of(request: &Checked<'_>) -> Key
@@ -221,8 +202,5 @@ fn make_room<Q: Fifo<Record>>(
 fn response_of(answer: &Answered) -> PacketRef<'_>
     ensures { result ≡ answer.now.reply.response }
 {
-    match read(answer.reply().response()) {
-        Ok(response) => response,
-        Err(_) => unreachable!(),
-    }
+    packet_of(answer.reply().response())
 }

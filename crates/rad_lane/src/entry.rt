@@ -1,4 +1,6 @@
 use crate::Sending;
+use rad_packet::Datagram;
+use rad_tables::{Moment, Timed};
 use std::marker::Model;
 
 /// The octets of a Status-Server with its Message-Authenticator alone (RFC 5997 section 3).
@@ -18,6 +20,27 @@ impl Model for Probe {
     ghost view = { λ p. p.octets };
 }
 
+impl Probe {
+    ghost use Rattle.std.specs.Prelude.{◌≡◌, length};
+
+    /// Keeps the Status-Server that the datagram has.
+    pub(crate) fn of(datagram: &Datagram) -> Probe
+        requires { length datagram.now ≡ 38 }
+        ensures { result ≡ datagram.now }
+    {
+        let mut octets = [0; PROBE_LENGTH];
+        octets.copy_from_slice(datagram.bytes());
+        Probe { octets }
+    }
+
+    /// The octets that were sent.
+    pub(crate) fn octets(&self) -> &[u8]
+        ensures { result.now ≡ self.now }
+    {
+        &self.octets
+    }
+}
+
 /// What stands under a pair of a source port and an identifier.
 #[derive(Drop)]
 pub enum Entry {
@@ -25,4 +48,67 @@ pub enum Entry {
     Sending(Sending),
     /// The probe that is out.
     Probe(Probe),
+}
+
+impl Entry {
+    ghost use Rattle.std.specs.Prelude.{◌≡◌, ◌<◌, ◌≤◌};
+    ghost use Rattle.rad_lane.specs.declared.entry.Entry.TheVariants.{Sending as sending};
+    ghost use Rattle.rad_lane.specs.Timing.{IfSending, once_more};
+
+    /// Sends again what was sent, which is not spent: its octets are put into the datagram. It tells the
+    /// request's number.
+    pub(crate) fn send_again(
+        &mut self,
+        now: Moment,
+        first_wait: u32,
+        datagram: &mut Datagram,
+    ) -> u64
+        requires first_least { 100 ≤ first_wait }
+        requires first_most { first_wait ≤ 60000 }
+        requires few { IfSending self.old (λ e. e.sendings < 10) }
+        ensures again { IfSending self.old (λ e. self.new ≡ sending (once_more now first_wait e)) }
+        ensures octets { IfSending self.old (λ e. datagram.new ≡ e.octets) }
+        ensures number { IfSending self.old (λ e. result ≡ e.request.stamp.number) }
+    {
+        match self {
+            Entry::Sending(sending) => {
+                datagram.load(&sending.packet());
+                sending.send_again(now, first_wait);
+                sending.number()
+            }
+            Entry::Probe(_) => unreachable!(),
+        }
+    }
+}
+
+/// A probe is never due: a lane that is up has none, and one that is down sends nothing again.
+impl Timed for Entry {
+    ghost use Rattle.rad_lane.specs.Timing.{due_in, number_in, is_spent_in};
+
+    ghost due_of = { due_in };
+
+    ghost number_of = { number_in };
+
+    ghost spent_of = { is_spent_in };
+
+    fn due(&self) -> u64 {
+        match self {
+            Entry::Sending(sending) => sending.due(),
+            Entry::Probe(_) => u64::MAX,
+        }
+    }
+
+    fn number(&self) -> u64 {
+        match self {
+            Entry::Sending(sending) => sending.number(),
+            Entry::Probe(_) => 0,
+        }
+    }
+
+    fn spent(&self) -> bool {
+        match self {
+            Entry::Sending(sending) => sending.is_spent(),
+            Entry::Probe(_) => false,
+        }
+    }
 }

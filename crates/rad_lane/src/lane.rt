@@ -1,5 +1,5 @@
 ghost use Rattle.std.specs.Prelude.{◌≡◌, ◌≤◌, ◌^◌, IfOk};
-ghost use Rattle.rad_lane.specs.Book.{next_number};
+ghost use Rattle.rad_lane.specs.Book.{moment_in, next_number};
 ghost use Rattle.rad_lane.specs.Drains.{drained_at};
 ghost use Rattle.rad_lane.specs.Empty.{empty_book};
 
@@ -107,5 +107,25 @@ impl<Q: Fifo<Record>> Lane<Q> {
             Some(count) => count,
             None => self.next_number(),
         }
+    }
+
+    /// The moment of a call: moments never go back.
+    pub(crate) fn moment_of(&self, moment: Moment) -> Moment
+        ensures value { result ≡ moment_in self.now moment }
+        ensures later { self.now.last ≤ result }
+    {
+        if moment.get() < self.last.get() {
+            self.last
+        } else {
+            moment
+        }
+    }
+
+    /// Makes this the last moment.
+    pub(crate) fn pass(&mut self, now: Moment)
+        requires { self.old.last ≤ now }
+        ensures { self.new ≡ record self.old { last = now } }
+    {
+        self.last = now;
     }
 }

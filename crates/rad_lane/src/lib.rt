@@ -8,6 +8,7 @@ mod draining;
 mod entry;
 mod hearing;
 mod lane;
+mod packets;
 mod reading;
 mod record;
 mod repeats;

@@ -1,5 +1,7 @@
 use crate::Stamp;
+use crate::packets::packet_of;
 use rad_auth::{Buffer, Octets, Secret};
+use rad_packet::PacketRef;
 use std::marker::Model;
 
 /// A request that a lane accepted: its stamp, its packet, and the secret of the client that sent it.
@@ -26,7 +28,7 @@ impl Model for Record {
 }
 
 impl Record {
-    ghost use Rattle.std.specs.Prelude.{◌≡◌};
+    ghost use Rattle.std.specs.Prelude.{◌≡◌, ◌≤◌, length};
     ghost use Rattle.rad_lane.specs.Stamp.{IsRecord};
 
     /// Keeps a request, with a buffer for the octets that go out.
@@ -62,5 +64,26 @@ impl Record {
         ensures { result.now ≡ self.now.recorded.client_secret }
     {
         &self.client_secret
+    }
+
+    /// The request as a packet.
+    pub(crate) fn packet(&self) -> PacketRef<'_>
+        ensures value { result ≡ self.now.recorded.text }
+        ensures is_record { IsRecord self.now.recorded }
+    {
+        let _ = &self.text;
+        packet_of(self.text())
+    }
+
+    /// Fills the buffer that it has for the octets that go out, and gives it away.
+    pub(crate) fn fill_spare(&mut self, octets: &[u8]) -> Octets
+        requires some { 1 ≤ length octets.now }
+        requires room { length octets.now ≤ self.old.room }
+        ensures octets { result ≡ octets.now }
+        ensures record { self.new.recorded ≡ self.old.recorded }
+    {
+        let mut spare = self.spare.take().unwrap();
+        spare.fill(octets);
+        spare.into_octets()
     }
 }

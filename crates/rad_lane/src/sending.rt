@@ -1,5 +1,11 @@
-use crate::Record;
-use rad_auth::{Octets, Secret};
+ghost use Rattle.std.specs.Prelude.{◌≡◌, ◌+◌, ◌≤◌};
+ghost use Rattle.rad_tables.specs.Waiting.{wait_of};
+
+use crate::packets::packet_of;
+use crate::{Record, Setup};
+use rad_auth::{Mark, Octets, Secret, forward};
+use rad_packet::{Datagram, PacketRef};
+use rad_tables::{Moment, wait_after};
 use std::marker::Model;
 
 /// A request that was sent to the home server and is not answered.
@@ -26,8 +32,11 @@ impl Model for Sending {
 }
 
 impl Sending {
-    ghost use Rattle.std.specs.Prelude.{◌≡◌};
+    ghost use Rattle.std.specs.Prelude.{◌≡◌, ◌+◌, ◌<◌, ◌≤◌, nat_le};
+    ghost use Rattle.rad_tables.specs.Waiting.{wait_of};
     ghost use Rattle.rad_lane.specs.Outstanding.{IsForwarded};
+    ghost use Rattle.rad_lane.specs.Standing.{HasRoom};
+    ghost use Rattle.rad_lane.specs.Steps.{octets_of, first_sending};
 
     /// The record whose forwarded packet was sent.
     pub fn request(&self) -> &Record
@@ -57,4 +66,90 @@ impl Sending {
     {
         self.due
     }
+
+    /// Sends a record for the first time: its forwarded packet is written into the datagram, and kept in the
+    /// buffer that the record has for it. It signs once, and copies the packet twice.
+    pub(crate) fn first(
+        request: Record,
+        setup: &Setup,
+        identifier: u8,
+        now: Moment,
+        datagram: &mut Datagram,
+    ) -> Sending
+        requires { HasRoom request }
+        ensures octets { datagram.new ≡ octets_of setup.now request.recorded identifier }
+        ensures sending { result ≡ first_sending setup.now now request.recorded identifier }
+    {
+        let limits = setup.limits().numbers();
+        let mark = Mark {
+            lane: setup.lane(),
+            number: request.stamp().number,
+        };
+        forward(&request.packet(), mark, identifier, setup.home(), datagram).unwrap();
+        let mut request = request;
+        let octets = request.fill_spare(datagram.bytes());
+        Sending {
+            request,
+            octets,
+            sendings: 1,
+            due: due_after(now, limits.first_wait, 1),
+            home: *setup.home(),
+            tries: limits.tries,
+        }
+    }
+
+    /// The packet that was sent, and will be again.
+    pub(crate) fn packet(&self) -> PacketRef<'_>
+        ensures { result ≡ self.now.octets }
+    {
+        let _ = &self.octets;
+        packet_of(self.octets())
+    }
+
+    /// The number of the request.
+    pub(crate) fn number(&self) -> u64
+        ensures { result ≡ self.now.request.stamp.number }
+    {
+        self.request.stamp().number
+    }
+
+    /// Whether its round has used all its sendings.
+    pub(crate) fn is_spent(&self) -> bool
+        ensures { result ≡ nat_le self.now.tries self.now.sendings }
+    {
+        self.tries <= self.sendings
+    }
+
+    /// Counts one sending more at this moment. It is due twice as late as after the one before.
+    pub(crate) fn send_again(&mut self, now: Moment, first_wait: u32)
+        requires first_least { 100 ≤ first_wait }
+        requires first_most { first_wait ≤ 60000 }
+        requires few { self.old.sendings < 10 }
+        ensures { self.new ≡ record self.old {
+          sendings = self.old.sendings + 1;
+          due = now + wait_of first_wait (self.old.sendings + 1);
+        } }
+    {
+        self.sendings += 1;
+        self.due = due_after(now, first_wait, self.sendings);
+    }
+
+    /// Begins its round anew at this moment.
+    pub(crate) fn renew(&mut self, now: Moment)
+        ensures { self.new ≡ record self.old { sendings = 0; due = now } }
+    {
+        self.sendings = 0;
+        self.due = now.get();
+    }
+}
+
+/// When a sending is due again, after the `k`th of its round at this moment.
+fn due_after(now: Moment, first_wait: u32, k: u32) -> u64
+    requires first_least { 100 ≤ first_wait }
+    requires first_most { first_wait ≤ 60000 }
+    requires k_least { 1 ≤ k }
+    requires k_most { k ≤ 10 }
+    ensures { result ≡ now + wait_of first_wait k }
+{
+    now.get() + u64::from(wait_after(first_wait, k))
 }

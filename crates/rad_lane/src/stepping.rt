@@ -1,4 +1,19 @@
-use rad_tables::{Moment, Slot};
+//! What a lane does by itself, one thing at a time.
+
+ghost use Rattle.std.specs.Prelude.{◌≡◌, ◌≤◌, Some, None, IsSome, option_map, false, true};
+ghost use Rattle.std.specs.Bool.{OnTrue, OnFalse};
+ghost use Rattle.std.specs.FinMap as map;
+ghost use Rattle.rad_tables.specs.Pairs.{IsFirstFree, IsInRange};
+ghost use Rattle.rad_lane.specs.declared.watch.Watch.TheVariants.{Up as up, Down as down};
+ghost use Rattle.rad_lane.specs.Accepts.{Datagrams};
+ghost use Rattle.rad_lane.specs.Dues.{NoneDue, as_moment};
+ghost use Rattle.rad_lane.specs.Steps.{Steps, StepsUp, NothingToSend};
+ghost use Rattle.rad_lane.specs.Timing.{Turns, IsTheNext, MaySend, due_in, earlier as the_earlier};
+
+use crate::{Entry, Lane, Record, Sending, Setup, Watch};
+use block_queue::Fifo;
+use rad_packet::Datagram;
+use rad_tables::{Moment, Slot, Slots, Timed};
 
 /// What a step did. Of what was sent, the octets are in the datagram.
 #[derive(Clone, Copy, Debug, PartialEq, Eq)]
@@ -15,4 +30,169 @@ pub enum Action {
     WentUp,
     /// Nothing is to be done until this moment, or until something comes.
     Idle(Option<Moment>),
+}
+
+/// Whether one of the sendings of a kind is due: the next of them, or else the least due of them.
+pub(crate) enum Turn {
+    Now(Slot),
+    Later(Option<u64>),
+}
+
+impl<Q: Fifo<Record>> Lane<Q> {
+    /// Does what is next. A lane that is up sends again what is due, or goes down where that was sent often
+    /// enough, or sends the next request for the first time; one that is down goes up when its time is over,
+    /// or probes the home server with these random octets as Authenticator. Otherwise it is idle.
+    ///
+    /// It takes no memory. It looks at each outstanding sending twice at most; going up changes each of them.
+    pub fn step(&mut self, moment: Moment, random: [u8; 16], datagram: &mut Datagram) -> Action
+        ensures { Steps self.old moment random result (record { before = datagram.old; after = datagram.new }) self.new }
+    {
+        let now = self.moment_of(moment);
+        match self.watch {
+            Watch::Up => self.step_up(now, datagram),
+            Watch::Down {
+                until,
+                next_probe,
+                probe,
+            } => {
+                if until <= now.get() {
+                    self.go_up(now);
+                    Action::WentUp
+                } else if next_probe <= now.get() {
+                    Action::Probed(self.probe(now, until, probe, random, datagram))
+                } else {
+                    self.pass(now);
+                    Action::Idle(Some(moment_at(until.min(next_probe))))
+                }
+            }
+        }
+    }
+
+    /// What a lane does that is up.
+    fn step_up(&mut self, now: Moment, datagram: &mut Datagram) -> Action
+        requires is_up { self.old.watch ≡ up }
+        requires later { self.old.last ≤ now }
+        ensures { StepsUp self.old now result (record { before = datagram.old; after = datagram.new }) self.new }
+    {
+        let fresh = match self.turn(false, now) {
+            Turn::Now(slot) => return self.resend(slot, now, datagram),
+            Turn::Later(next) => next,
+        };
+        let spent = match self.turn(true, now) {
+            Turn::Now(_) => {
+                self.go_down(now);
+                return Action::WentDown;
+            }
+            Turn::Later(next) => next,
+        };
+        if self.may_send() {
+            return self.send_first(now, datagram);
+        }
+        self.pass(now);
+        Action::Idle(earlier(fresh, spent))
+    }
+
+    /// Whether one of the sendings that are spent, or of those that are not, is due. It looks at each
+    /// outstanding sending once.
+    fn turn(&self, spent: bool, now: Moment) -> Turn
+        requires { self.now.watch ≡ up }
+        ensures { Turns self.now now spent result }
+    {
+        match self.slots.least_due(spent) {
+            None => Turn::Later(None),
+            Some(slot) => {
+                let due = self.due_at(slot);
+                if due <= now.get() {
+                    Turn::Now(slot)
+                } else {
+                    Turn::Later(Some(due))
+                }
+            }
+        }
+    }
+
+    /// Sends again what is next.
+    fn resend(&mut self, slot: Slot, now: Moment, datagram: &mut Datagram) -> Action
+        requires is_up { self.old.watch ≡ up }
+        requires later { self.old.last ≤ now }
+        requires next { IsTheNext self.old now false slot }
+        ensures { StepsUp self.old now result (record { before = datagram.old; after = datagram.new }) self.new }
+    {
+        let first_wait = self.setup.limits().numbers().first_wait;
+        let number = match self.slots.get_mut(slot) {
+            Some(entry) => entry.send_again(now, first_wait, datagram),
+            None => unreachable!(),
+        };
+        self.last = now;
+        Action::Resent(number, slot)
+    }
+
+    /// Sends the queue's first for the first time.
+    fn send_first(&mut self, now: Moment, datagram: &mut Datagram) -> Action
+        requires is_up { self.old.watch ≡ up }
+        requires later { self.old.last ≤ now }
+        requires fresh { NoneDue self.old now false }
+        requires spent { NoneDue self.old now true }
+        requires may { MaySend self.old }
+        ensures { StepsUp self.old now result (record { before = datagram.old; after = datagram.new }) self.new }
+    {
+        let slot = free_slot(&self.slots, &self.setup);
+        let record = self.queued.pop_front().unwrap();
+        let number = record.stamp().number;
+        let sending = Sending::first(record, &self.setup, slot.identifier, now, datagram);
+        self.slots.put(slot, Entry::Sending(sending));
+        self.outstanding += 1;
+        self.last = now;
+        Action::Sent(number, slot)
+    }
+
+    /// When the sending under a pair is due.
+    fn due_at(&self, slot: Slot) -> u64
+        requires { IsSome (map.get self.now.held slot) }
+        ensures { option_map due_in (map.get self.now.held slot) ≡ Some result }
+    {
+        self.slots.get(slot).unwrap().due()
+    }
+
+    /// Whether a request waits to be sent for the first time, and the window has room for it.
+    fn may_send(&self) -> bool
+        ensures may { OnTrue result (MaySend self.now) }
+        ensures not { OnFalse result (NothingToSend self.now) }
+    {
+        !self.queued.is_empty() && self.outstanding < self.setup.limits().numbers().window as usize
+    }
+}
+
+/// The pair for what goes out next: the first free one. There always is one, as the window is smaller than the
+/// pairs are many.
+pub(crate) fn free_slot(slots: &Slots<Entry>, setup: &Setup) -> Slot
+    requires fits { map.len slots.now.entries ≤ setup.now.limits.window }
+    requires pairs { slots.now.ports ≡ setup.now.ports }
+    ensures free { IsFirstFree slots.now result }
+    ensures in_range { IsInRange slots.now.ports result }
+    ensures few { setup.now.limits.window ≤ 254 }
+{
+    let pairs = 256 * usize::from(setup.ports());
+    let window = setup.limits().numbers().window as usize;
+    prove!(window < pairs);
+    slots.allot().unwrap()
+}
+
+/// A moment as it is told: the last there is, where there is no such moment.
+fn moment_at(milliseconds: u64) -> Moment
+    ensures { result ≡ as_moment milliseconds }
+{
+    Moment::new(milliseconds.min((1 << 62) - 1)).unwrap()
+}
+
+/// The earlier of two dues as a moment, where there is one.
+fn earlier(one: Option<u64>, other: Option<u64>) -> Option<Moment>
+    ensures { result ≡ option_map as_moment (the_earlier one other) }
+{
+    match (one, other) {
+        (None, None) => None,
+        (Some(due), None) => Some(moment_at(due)),
+        (None, Some(due)) => Some(moment_at(due)),
+        (Some(due), Some(later)) => Some(moment_at(due.min(later))),
+    }
 }

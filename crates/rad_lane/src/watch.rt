@@ -1,4 +1,16 @@
-use rad_tables::Slot;
+//! Whether the home server answers, and the probes that find it out (RFC 5997).
+
+ghost use Rattle.std.specs.Prelude.{◌≡◌, ◌+◌, ◌≤◌, ℕ, None};
+ghost use Rattle.rad_lane.specs.declared.watch.Watch.TheVariants.{Up as up, Down as down};
+ghost use Rattle.rad_lane.specs.Dues.{GoesUp};
+ghost use Rattle.rad_lane.specs.Steps.{Probes, freed};
+
+use crate::stepping::free_slot;
+use crate::{Entry, Lane, Probe, Record};
+use block_queue::Fifo;
+use rad_auth::make_status;
+use rad_packet::Datagram;
+use rad_tables::{Change, Moment, Slot, Slots};
 
 /// Whether the home server is taken to be up.
 #[derive(Clone, Copy, Debug, PartialEq, Eq)]
@@ -14,4 +26,103 @@ pub enum Watch {
         /// The pair of the probe that is out.
         probe: Option<Slot>,
     },
+}
+
+impl Watch {
+    ghost use Rattle.std.specs.Prelude.{◌≡◌};
+    ghost use Rattle.rad_lane.specs.Timing.{probe_of};
+
+    /// The pair of the probe that is out.
+    pub(crate) fn probe(&self) -> Option<Slot>
+        ensures { result ≡ probe_of self.now }
+    {
+        match self {
+            Watch::Up => None,
+            Watch::Down { probe, .. } => *probe,
+        }
+    }
+}
+
+/// The change that each sending gets when a lane goes up.
+#[derive(Drop)]
+struct Renewal {
+    now: Moment,
+}
+
+impl Change<Entry> for Renewal {
+    ghost use Rattle.rad_lane.specs.Timing.{begun_anew};
+
+    ghost changed = { λ r. begun_anew r.now };
+
+    fn change(&self, entry: &mut Entry) {
+        if let Entry::Sending(sending) = entry {
+            sending.renew(self.now);
+        }
+    }
+}
+
+impl<Q: Fifo<Record>> Lane<Q> {
+    /// Takes the home server to be down from now on.
+    pub(crate) fn go_down(&mut self, now: Moment)
+        requires later { self.old.last ≤ now }
+        requires is_up { self.old.watch ≡ up }
+        ensures { self.new ≡ record self.old { watch = down (now + self.old.setup.limits.down_wait) now None; last = now } }
+    {
+        let wait = self.setup.limits().numbers().down_wait;
+        self.watch = Watch::Down {
+            until: now.get() + u64::from(wait),
+            next_probe: now.get(),
+            probe: None,
+        };
+        self.last = now;
+    }
+
+    /// Takes the home server to be up from now on: the probe's pair is free, and each sending is due at once
+    /// and begins its round anew.
+    pub(crate) fn go_up(&mut self, now: Moment)
+        requires later { self.old.last ≤ now }
+        ensures { GoesUp now (record self.old { last = now }) self.new }
+    {
+        free(&mut self.slots, self.watch.probe());
+        self.slots.change_each(&Renewal { now });
+        self.watch = Watch::Up;
+        self.last = now;
+    }
+
+    /// Probes the home server, with these random octets as Authenticator, in the place of the probe that is
+    /// out. It hashes the probe once.
+    pub(crate) fn probe(
+        &mut self,
+        now: Moment,
+        until: u64,
+        out: Option<Slot>,
+        random: [u8; 16],
+        datagram: &mut Datagram,
+    ) -> Slot
+        requires later { self.old.last ≤ now }
+        requires is_down { (next : ℕ) × (self.old.watch ≡ down until next out) }
+        ensures { Probes self.old now random until out result (record { before = datagram.old; after = datagram.new }) self.new }
+    {
+        free(&mut self.slots, out);
+        let slot = free_slot(&self.slots, &self.setup);
+        make_status(slot.identifier, random, self.setup.home(), datagram);
+        self.slots.put(slot, Entry::Probe(Probe::of(datagram)));
+        let every = self.setup.limits().numbers().probe_every;
+        self.watch = Watch::Down {
+            until,
+            next_probe: now.get() + u64::from(every),
+            probe: Some(slot),
+        };
+        self.last = now;
+        slot
+    }
+}
+
+/// Takes a probe out.
+fn free(slots: &mut Slots<Entry>, probe: Option<Slot>)
+    ensures { slots.new ≡ record slots.old { entries = freed slots.old.entries probe } }
+{
+    if let Some(slot) = probe {
+        slots.take(slot);
+    }
 }

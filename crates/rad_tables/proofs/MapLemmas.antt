@@ -5,8 +5,9 @@ use Rattle.std.specs.declared.cmp.Ordering.TheVariants.{Less, Equal, Greater}
 use Rattle.std.specs.Option.{option_map}
 use Rattle.std.specs.Ordering.{eq_by_cmp, is_eq, is_lt}
 use Rattle.std.specs.Cmp.{IsTotalOrder, eq_by_cmp_equiv}
-use Rattle.std.specs.FinMap.{FinMap, IsAntisymmetric, entries, entries_sorted, from_sorted, get, insert, remove, find, put, is_sorted, get-entries, entries-insert, entries-from_sorted, get-from_sorted, get-insert, get-remove, same_map}
+use Rattle.std.specs.FinMap.{FinMap, IsAntisymmetric, entries, values, entries_sorted, from_sorted, get, insert, remove, find, put, is_sorted, get-entries, entries-insert, entries-from_sorted, get-from_sorted, get-insert, get-remove, same_map}
 use Rattle.std.specs.FinMap.Entries.{by_order, below_all}
+use Rattle.std.specs.List.{filter_map, cons_option}
 use Rattle.std.specs.List.Sorted.{IsPermutation}
 use Rattle.std.proofs.lemmas.List.Sorted.{IsPermutation-refl, IsPermutation-cons, IsPermutation-trans, IsPermutation-swap}
 use Rattle.std.proofs.lemmas.Bool.{false≢true}
@@ -45,22 +46,81 @@ module _ {K X : Type 0} {R : K → K → Ordering} (o : IsTotalOrder R) where
   back true v x h = h refl
   back false v x h = refl
 
-  -- an entry leaves the entries
-  pub entries-remove_present : IsAntisymmetric R → (m : FinMap R X) (k : K) (v : X) → get m k ≡ Some v → IsPermutation (entries m) ((k, v) ∷ entries (remove m k))
-  entries-remove_present same m k v there =
-      let absent : get (remove m k) k ≡ None = get-remove o m k k ∙ ap (λ b. cond b None (get m k)) ((eq_by_cmp_equiv o).refl k) in
+  -- a map is the one without an entry, with that entry put back
+  pub put_back : IsAntisymmetric R → (m : FinMap R X) (k : K) (v : X) → get m k ≡ Some v → m ≡ insert (remove m k) k v
+  put_back same m k v there =
       let one : (q : K) → eq_by_cmp R q k ≡ true → q ≡ k = λ q e. same q k (is_equal _ e) in
-      let is : m ≡ insert (remove m k) k v = same_map o same _ _ (λ q.
+      same_map o same _ _ (λ q.
       back (eq_by_cmp R q k) v (get m q) (λ e. ap (get m) (one q e) ∙ there)
       ∙ ap (cond (eq_by_cmp R q k) (Some v)) (sym (get-remove o m k q))
-      ∙ sym (get-insert o (remove m k) k v q)) in
-      subst (λ (n : FinMap R X). IsPermutation (entries n) ((k, v) ∷ entries (remove m k))) (sym is)
-      (entries-insert_absent (remove m k) k v absent)
+      ∙ sym (get-insert o (remove m k) k v q))
     where
       is_equal : (r : Ordering) → is_eq r ≡ true → r ≡ Equal
       is_equal Less e = absurd (false≢true e)
       is_equal Equal e = refl
       is_equal Greater e = absurd (false≢true e)
+
+  twice : (b : Bool) (v x : Option X) → cond b v x ≡ cond b v (cond b None x)
+  twice true v x = refl
+  twice false v x = refl
+
+  -- an entry at a key that is put anew
+  pub insert_anew : IsAntisymmetric R → (m : FinMap R X) (k : K) (v : X) → insert m k v ≡ insert (remove m k) k v
+  insert_anew same m k v =
+      same_map o same _ _ (λ q.
+      get-insert o m k v q
+      ∙ twice (eq_by_cmp R q k) (Some v) (get m q)
+      ∙ ap (cond (eq_by_cmp R q k) (Some v)) (sym (get-remove o m k q))
+      ∙ sym (get-insert o (remove m k) k v q))
+
+  pub removed_absent : (m : FinMap R X) (k : K) → get (remove m k) k ≡ None
+  removed_absent m k = get-remove o m k k ∙ ap (λ b. cond b None (get m k)) ((eq_by_cmp_equiv o).refl k)
+
+  -- an entry leaves the entries
+  pub entries-remove_present : IsAntisymmetric R → (m : FinMap R X) (k : K) (v : X) → get m k ≡ Some v → IsPermutation (entries m) ((k, v) ∷ entries (remove m k))
+  entries-remove_present same m k v there =
+      subst (λ (n : FinMap R X). IsPermutation (entries n) ((k, v) ∷ entries (remove m k))) (sym (put_back same m k v there))
+      (entries-insert_absent (remove m k) k v (removed_absent m k))
+
+-- what a choice gives of the values of a map
+module _ {K X Y : Type 0} (R : K → K → Ordering) (h : X → Option Y) where
+  abbrev given_by : List (K × X) → List Y
+  given_by es = filter_map h (map (λ e. e.1) es)
+
+  -- one item more in front of both, or none
+  both_more : (x : Option Y) (xs ys : List Y) → IsPermutation xs ys → IsPermutation (cons_option x xs) (cons_option x ys)
+  both_more None xs ys p = p
+  both_more (Some x) xs ys p = IsPermutation-cons x xs ys p
+
+  either_first : (x y : Option Y) (xs : List Y) → IsPermutation (cons_option x (cons_option y xs)) (cons_option y (cons_option x xs))
+  either_first None y xs = IsPermutation-refl _
+  either_first (Some x) None xs = IsPermutation-refl _
+  either_first (Some x) (Some y) xs = swapped x y xs
+
+  put_given : (k : K) (v : X) (es : List (K × X)) → find R k es ≡ None → IsPermutation (given_by (put R k v es)) (cons_option (h v) (given_by es))
+  put_given k v [] e = IsPermutation-refl _
+  put_given k v (e ∷ es) none =
+      let apart = is_none_of (eq_by_cmp R k e.0) e.1 (find R k es) none in
+      let rest = put_given k v es apart.1 in
+      elim (R k e.0) as (λ o. is_eq o ≡ false → IsPermutation (given_by (by_order o ((k, v) ∷ e ∷ es) ((e.0, v) ∷ es) (e ∷ put R k v es))) (cons_option (h v) (given_by (e ∷ es)))) [
+        | Less ↦ λ _. IsPermutation-refl _
+        | Equal ↦ λ e. absurd (false≢true (sym e))
+        | Greater ↦ λ _. IsPermutation-trans _ _ _ (both_more (h e.1) _ _ rest) (either_first (h e.1) (h v) (given_by es))
+      ] apart.0
+
+  module _ (o : IsTotalOrder R) (same : IsAntisymmetric R) (m : FinMap R X) (k : K) where
+    -- a new key brings what the choice gives of its value
+    pub given-insert_absent : (v : X) → get m k ≡ None → IsPermutation (filter_map h (values (insert m k v))) (cons_option (h v) (filter_map h (values m)))
+    given-insert_absent v absent =
+        subst (λ (es : List (K × X)). IsPermutation (given_by es) (cons_option (h v) (given_by (entries m)))) (sym (entries-insert o m k v))
+        (put_given k v (entries m) (sym (get-entries m k) ∙ absent))
+
+    -- a key that leaves takes it away
+    pub given-remove_present : (v : X) → get m k ≡ Some v → IsPermutation (filter_map h (values m)) (cons_option (h v) (filter_map h (values (remove m k))))
+    given-remove_present v there =
+        subst (λ (n : FinMap R X). IsPermutation (filter_map h (values n)) (cons_option (h v) (filter_map h (values (remove m k))))) (sym (put_back o same m k v there))
+        (subst (λ (es : List (K × X)). IsPermutation (given_by es) (cons_option (h v) (given_by (entries (remove m k))))) (sym (entries-insert o (remove m k) k v))
+        (put_given k v (entries (remove m k)) (sym (get-entries (remove m k) k) ∙ removed_absent o m k)))
 
 module _ {K X Y : Type 0} (R : K → K → Ordering) (f : X → Y) where
   -- each entry with another value at its key

@@ -1,0 +1,184 @@
+-- A lane that goes up or down, or probes, is lawful still.
+use Rattle.std.proofs.Common.{◌≡◌, ℕ, ◌+◌, ◌<◌, ◌≤◌, Bool, true, false, cond, List, length, Option, Some, None, refl, sym, ap, ◌∙◌, subst, arith}
+use Rattle.std.specs.Prelude.{option_map}
+use Rattle.std.specs.Ordering.{eq_by_cmp}
+use Rattle.std.specs.FinMap as map
+use Rattle.rad_tables.specs.declared.slots.Slot.{Slot}
+use Rattle.rad_tables.specs.Keys.{key_cmp}
+use Rattle.rad_tables.specs.Pairs.{slot_cmp, Table}
+use Rattle.rad_tables.proofs.SlotLemmas.{slots_total, tied, itself}
+use Rattle.rad_lane.specs.declared.entry.Entry.{Entry}
+use Rattle.rad_lane.specs.declared.entry.Entry.TheVariants.{Sending as sending, Probe as probe}
+use Rattle.rad_lane.specs.declared.watch.Watch.{Watch}
+use Rattle.rad_lane.specs.declared.watch.Watch.TheVariants.{Up as up, Down as down}
+use Rattle.rad_lane.specs.declared.stamp.Stamp.{Stamp}
+use Rattle.rad_lane.specs.Stamp.{Kept}
+use Rattle.rad_lane.specs.Setup.{LaneSetup}
+use Rattle.rad_lane.specs.Outstanding.{Outstanding, AnswerKept}
+use Rattle.rad_lane.specs.Book.{Book}
+use Rattle.rad_lane.specs.Dues.{renewed, outstanding_count, GoesUp}
+use Rattle.rad_lane.specs.Lawful.{ProbeStands}
+use Rattle.rad_lane.specs.Standing.{Stands, book_of}
+use Rattle.rad_lane.specs.Steps.{freed}
+use Rattle.rad_lane.specs.Timing.{begun_anew, probe_of, once_more, IfSending}
+use Rattle.rad_lane.proofs.Held.{as_many, all_sendings}
+use Rattle.rad_lane.proofs.Resting.{AreTheSame, unchanged, the_same_after, resent_same, freed_same, probed_same, anew_same, put_there, rested, stands_as}
+
+abbrev HasNone : map.FinMap slot_cmp Entry → Type 0
+HasNone held = (slot : Slot) (octets : List ℕ) → map.get held slot ≡ Some (probe octets) → ⊥
+
+module _ (book : Book) where
+  free_same : (watch : Watch) → ProbeStands book watch → AreTheSame book.held (freed book.held (probe_of watch))
+  free_same up apart = unchanged book.held
+  free_same (down until next None) apart = unchanged book.held
+  free_same (down until next (Some out)) apart = freed_same book.held out apart.0.0 apart.0.1
+
+  none_by : (b : Bool) (old : Option Entry) (octets : List ℕ) → (old ≡ Some (probe octets) → b ≡ true) → cond b None old ≡ Some (probe octets) → ⊥
+  none_by true old octets h is = cc
+  none_by false old octets h is = let other = h is in cc
+
+  -- with the probe's pair free there is no probe
+  none_left : (watch : Watch) → ProbeStands book watch → HasNone (freed book.held (probe_of watch))
+  none_left up apart = apart
+  none_left (down until next None) apart = apart
+  none_left (down until next (Some out)) apart = λ slot octets is.
+      none_by (eq_by_cmp slot_cmp slot out) (map.get book.held slot) octets (λ there. itself slot out (apart.1 slot octets there)) (sym (map.get-remove slots_total book.held out slot) ∙ is)
+
+  -- how many pairs are in use then
+  few_left : (watch : Watch) → ProbeStands book watch → map.len (freed book.held (probe_of watch)) ≡ outstanding_count book
+  few_left watch apart =
+      sym (all_sendings (freed book.held (probe_of watch)) (none_left watch apart)) ∙ as_many book.held (freed book.held (probe_of watch)) (free_same watch apart).stamps
+
+  module _ (now : ℕ) where
+    anew_none : (o : Option Entry) → ((octets : List ℕ) → o ≡ Some (probe octets) → ⊥) → option_map (begun_anew now) o ≡ renewed now o
+    anew_none None h = refl
+    anew_none (Some (sending entry)) h = refl
+    anew_none (Some (probe octets)) h = absurd (h octets refl)
+
+    renewed_by : (b : Bool) (old : Option Entry) (octets : List ℕ) → (b ≡ true → old ≡ Some (probe octets)) → ((other : List ℕ) → old ≡ Some (probe other) → b ≡ true) → option_map (begun_anew now) (cond b None old) ≡ renewed now old
+    renewed_by true old octets here h = ap (renewed now) (sym (here refl))
+    renewed_by false old octets here h = anew_none old (λ other is. let at = h other is in cc)
+
+    -- what stands under each pair, once the probe's is free and each round begins anew
+    renewed_freed : (watch : Watch) → ProbeStands book watch → (slot : Slot) → option_map (begun_anew now) (map.get (freed book.held (probe_of watch)) slot) ≡ renewed now (map.get book.held slot)
+    renewed_freed up apart slot = anew_none (map.get book.held slot) (apart slot)
+    renewed_freed (down until next None) apart slot = anew_none (map.get book.held slot) (apart slot)
+    renewed_freed (down until next (Some out)) apart slot =
+        ap (option_map (begun_anew now)) (map.get-remove slots_total book.held out slot)
+        ∙ renewed_by (eq_by_cmp slot_cmp slot out) (map.get book.held slot) apart.0.0
+        (λ h. ap (map.get book.held) (tied slot out h) ∙ apart.0.1)
+        (λ other there. itself slot out (apart.1 slot other there))
+
+    module _ (watch : Watch) (apart : ProbeStands book watch) (held : map.FinMap slot_cmp Entry) (changed : (slot : Slot) → map.get held slot ≡ option_map (begun_anew now) (map.get (freed book.held (probe_of watch)) slot)) where
+      pub up_same : AreTheSame book.held held
+      up_same = the_same_after _ _ _ (free_same watch apart) (anew_same now (freed book.held (probe_of watch)) held changed)
+
+      pub up_renews : (slot : Slot) → map.get held slot ≡ renewed now (map.get book.held slot)
+      up_renews slot = changed slot ∙ renewed_freed watch apart slot
+
+      no_probe_anew : (o : Option Entry) (octets : List ℕ) → ((other : List ℕ) → o ≡ Some (probe other) → ⊥) → option_map (begun_anew now) o ≡ Some (probe octets) → ⊥
+      no_probe_anew None octets h is = cc
+      no_probe_anew (Some (sending entry)) octets h is = cc
+      no_probe_anew (Some (probe other)) octets h is = h other refl
+
+      pub up_apart : HasNone held
+      up_apart slot octets is = no_probe_anew (map.get (freed book.held (probe_of watch)) slot) octets (none_left watch apart slot) (sym (changed slot) ∙ is)
+
+  module _ (watch : Watch) (apart : ProbeStands book watch) (slot : Slot) (octets : List ℕ) (free : map.get (freed book.held (probe_of watch)) slot ≡ None) where
+    abbrev probed : map.FinMap slot_cmp Entry
+    probed = map.insert (freed book.held (probe_of watch)) slot (probe octets)
+
+    pub probe_same : AreTheSame book.held probed
+    probe_same = the_same_after _ _ _ (free_same watch apart) (probed_same (freed book.held (probe_of watch)) slot octets free)
+
+    at_its_pair : (b : Bool) (at : Slot) (old : Option Entry) (other : List ℕ) → (b ≡ true → at ≡ slot) → (old ≡ Some (probe other) → ⊥) → cond b (Some (probe octets)) old ≡ Some (probe other) → at ≡ slot
+    at_its_pair true at old other same none is = same refl
+    at_its_pair false at old other same none is = absurd (none is)
+
+    pub probe_stands : ((found : List ℕ) × (map.get probed slot ≡ Some (probe found))) × ((at : Slot) (other : List ℕ) → map.get probed at ≡ Some (probe other) → at ≡ slot)
+    probe_stands = (
+      (octets, put_there (freed book.held (probe_of watch)) slot (probe octets)),
+      λ at other is. at_its_pair (eq_by_cmp slot_cmp at slot) at (map.get (freed book.held (probe_of watch)) at) other (λ h. tied at slot h) (none_left watch apart at other) (sym (map.get-insert slots_total (freed book.held (probe_of watch)) slot (probe octets) at) ∙ is),
+    )
+
+-- a sending in the place of another leaves a lane without a probe
+pub no_probe_beside : (held : map.FinMap slot_cmp Entry) (slot : Slot) (entry : _) → HasNone held → HasNone (map.insert held slot (sending entry))
+no_probe_beside held slot entry none at octets is =
+    by_place (eq_by_cmp slot_cmp at slot) (map.get held at) (none at octets) (sym (map.get-insert slots_total held slot (sending entry) at) ∙ is)
+  where
+    by_place : (b : Bool) (old : Option Entry) → (old ≡ Some (probe octets) → ⊥) → cond b (Some (sending entry)) old ≡ Some (probe octets) → ⊥
+    by_place true old h is = cc
+    by_place false old h is = h is
+
+-- the fields of a lane that goes up or down, probes or sends again
+module _ (setup : LaneSetup) (opening : ℕ) (accepted : List Stamp) (kept : List Kept) (answered : List AnswerKept) (served : ℕ) (slots : Table Entry) (drain : Option ℕ) (watch : Watch) (last : ℕ) where
+  abbrev before : Book
+  before = book_of setup opening accepted kept answered served slots drain watch last
+
+  module _ (value : Book) (is : before ≡ value) (now : ℕ) (later : value.last ≤ now) (numbers : map.FinMap key_cmp ℕ) (cells : List (Option ℕ)) (count : ℕ) (s : Stands before kept slots.ports numbers cells count) where
+    -- the slots once the probe's pair is free and each round begins anew
+    module _ (out : Option Slot) (its : out ≡ probe_of watch) (free new : Table Entry) (free_is : free ≡ record slots { entries = freed slots.entries out }) (changed : (slot : Slot) → map.get new.entries slot ≡ option_map (begun_anew now) (map.get free.entries slot)) (new_is : new ≡ record free { entries = new.entries }) where
+      changed_here : (slot : Slot) → map.get new.entries slot ≡ option_map (begun_anew now) (map.get (freed slots.entries (probe_of watch)) slot)
+      changed_here slot =
+          changed slot ∙ ap (λ (t : Table Entry). option_map (begun_anew now) (map.get t.entries slot)) free_is
+          ∙ ap (λ o. option_map (begun_anew now) (map.get (freed slots.entries o) slot)) its
+
+      same_table : new ≡ record slots { entries = new.entries }
+      same_table = new_is ∙ ap (λ (t : Table Entry). let u : Table Entry = record t { entries = new.entries } in u) free_is
+
+      pub stands_up : Stands (book_of setup opening accepted kept answered served new drain up now) kept new.ports numbers cells count
+      stands_up =
+          let ports : slots.ports ≡ new.ports = ap (λ (t : Table Entry). t.ports) (sym same_table) in
+          subst (λ p. Stands (book_of setup opening accepted kept answered served new drain up now) kept p numbers cells count) ports
+          (stands_as setup opening accepted kept answered served slots drain watch last value is now later slots.ports numbers cells count s new up
+          (up_same before now watch s.lawful.probe_apart new.entries changed_here)
+          (up_apart before now watch s.lawful.probe_apart new.entries changed_here))
+
+      pub goes_up : GoesUp now (record value { last = now }) (book_of setup opening accepted kept answered served new drain up now)
+      goes_up =
+          let here : GoesUp now (record before { last = now }) (book_of setup opening accepted kept answered served new drain up now) = record {
+            held = new.entries;
+            renews = up_renews before now watch s.lawful.probe_apart new.entries changed_here;
+            others = ap (λ (t : Table Entry). book_of setup opening accepted kept answered served t drain up now) same_table;
+          } in
+          subst (λ (b : Book). GoesUp now (record b { last = now }) (book_of setup opening accepted kept answered served new drain up now)) is here
+
+    -- the slots once the probe's pair is free, and with a probe under another
+    module _ (until next : ℕ) (out : Option Slot) (is_down : value.watch ≡ down until next out) where
+      down_here : watch ≡ down until next out
+      down_here = ap (λ (b : Book). b.watch) is ∙ is_down
+
+      apart_here : ProbeStands before (down until next out)
+      apart_here = subst (λ w. ProbeStands before w) down_here s.lawful.probe_apart
+
+      pub few_free : map.len (freed slots.entries out) ≤ setup.limits.window
+      few_free = subst (λ n. n ≤ setup.limits.window) (sym (few_left before (down until next out) apart_here)) s.lawful.outstanding_bounded
+
+      pub stands_probed : (slot : Slot) (octets : List ℕ) (later_until later_next : ℕ) → map.get (freed slots.entries out) slot ≡ None → Stands (book_of setup opening accepted kept answered served (record { ports = slots.ports; entries = map.insert (freed slots.entries out) slot (probe octets); allotted = Some slot }) drain (down later_until later_next (Some slot)) now) kept slots.ports numbers cells count
+      stands_probed slot octets later_until later_next free =
+          stands_as setup opening accepted kept answered served slots drain watch last value is now later slots.ports numbers cells count s
+          (record { ports = slots.ports; entries = map.insert (freed slots.entries out) slot (probe octets); allotted = Some slot }) (down later_until later_next (Some slot))
+          (probe_same before (down until next out) apart_here slot octets free)
+          (probe_stands before (down until next out) apart_here slot octets free)
+
+    pub few_up : value.watch ≡ up → map.len slots.entries ≤ setup.limits.window
+    few_up is_up =
+        let up_here : watch ≡ up = ap (λ (b : Book). b.watch) is ∙ is_up in
+        subst (λ n. n ≤ setup.limits.window) (sym (few_left before up (subst (λ w. ProbeStands before w) up_here s.lawful.probe_apart))) s.lawful.outstanding_bounded
+
+    -- the slots with a sending once more in its place
+    module _ (is_up : value.watch ≡ up) (slot : Slot) (entry : Outstanding) (there : map.get slots.entries slot ≡ Some (sending entry)) where
+      pub stands_resent : (x : Entry) (first : ℕ) → x ≡ sending (once_more now first entry) → Stands (book_of setup opening accepted kept answered served (record slots { entries = map.insert slots.entries slot x }) drain watch now) kept slots.ports numbers cells count
+      stands_resent x first same =
+          let up_here : watch ≡ up = ap (λ (b : Book). b.watch) is ∙ is_up in
+          let none : HasNone slots.entries = subst (λ w. ProbeStands before w) up_here s.lawful.probe_apart in
+          rw same (
+          stands_as setup opening accepted kept answered served slots drain watch last value is now later slots.ports numbers cells count s
+          (record slots { entries = map.insert slots.entries slot (sending (once_more now first entry)) }) watch
+          (resent_same slots.entries slot entry (once_more now first entry) there refl refl refl refl)
+          (subst (λ w. ProbeStands (rested before (map.insert slots.entries slot (sending (once_more now first entry))) slots.allotted watch now) w) (sym up_here) (no_probe_beside slots.entries slot (once_more now first entry) none))
+          )
+
+pub again_is : (x new : Entry) (entry : Outstanding) (now first : ℕ) → Some x ≡ Some (sending entry) → IfSending x (λ e. new ≡ sending (once_more now first e)) → new ≡ sending (once_more now first entry)
+again_is (sending e) new entry now first same h = let one : e ≡ entry = cc in h ∙ ap (λ (o : Outstanding). sending (once_more now first o)) one
+again_is (probe octets) new entry now first same h = absurd h

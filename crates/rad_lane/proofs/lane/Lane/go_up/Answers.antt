@@ -1,0 +1,10 @@
+use Rattle.rad_lane.proofs.Watched.{stands_up, goes_up}
+use Rattle.rad_lane.proofs.lane.Lane.go_up.Goals as goal
+
+pub invariant_of-self : goal.invariant_of-self
+invariant_of-self g c =
+    stands_up _ _ _ _ _ _ c.self.inside.slots _ _ _ _ c.self.view_is _ c.requires.later _ _ _ c.self.invariant _ c.probe.ensures _ _ c.free.ensures c.change_each.ensures.changed c.change_each.ensures.kept
+
+pub returns : goal.returns
+returns g c =
+    goes_up _ _ _ _ _ _ c.self.inside.slots _ _ _ _ c.self.view_is _ c.requires.later _ _ _ c.self.invariant _ c.probe.ensures _ _ c.free.ensures c.change_each.ensures.changed c.change_each.ensures.kept
