@@ -109,6 +109,7 @@ module _ (book : Book) (request : Request) (now : ℕ) (later : book.last ≤ no
     since_opening = since_more numbers book.opening (request_key request) (next_number book) (omega arith) s.since_opening;
     cells_are = length-append places (None ∷ []) ∙ ap (λ n. n + 1) s.cells_are ∙ sym (length-append book.accepted (stamp_of (next_number book) request now ∷ []));
     places = λ number h. ap (λ p. at_place book.answered p) (none_more places (number - book.opening)) ∙ s.places number h;
+    placed_within = λ k. subst (λ p. IfSome p (λ place. place < length book.answered)) (sym (none_more places k)) (s.placed_within k);
     numbers_fit = rw (length-append book.accepted (stamp_of (next_number book) request now ∷ [])) (numbers_below book.opening (length book.accepted) (λ full. free.1 (inr full)));
   }
 

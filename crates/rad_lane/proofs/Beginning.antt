@@ -59,5 +59,6 @@ stands_empty setup = record {
   since_opening = λ key number h. zero-le;
   cells_are = refl;
   places = λ number h. refl;
+  placed_within = λ k. tt;
   numbers_fit = zero-le;
 }

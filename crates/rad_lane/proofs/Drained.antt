@@ -46,6 +46,7 @@ stands_drained book kept ports numbers places count s = record {
   since_opening = s.since_opening;
   cells_are = s.cells_are;
   places = s.places;
+  placed_within = s.placed_within;
   numbers_fit = s.numbers_fit;
 }
 

@@ -1,10 +1,12 @@
 pub mod Accepted
 pub mod Beginning
 pub mod Drained
+pub mod Answering
 pub mod Held
 pub mod Numbered
 pub mod Passed
 pub mod Realms
+pub mod Refusing
 pub mod Repeating
 pub mod Resting
 pub mod Sent

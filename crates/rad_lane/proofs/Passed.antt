@@ -10,8 +10,8 @@ use Rattle.rad_lane.specs.Lawful.{IsVerified}
 pub passed_later : (stamps : List Stamp) (last now : ℕ) → last ≤ now → All (λ s. s.moment ≤ last) stamps → All (λ s. s.moment ≤ now) stamps
 passed_later stamps last now later h = All-weaker (λ s. s.moment ≤ last) (λ s. s.moment ≤ now) (λ s earlier. omega arith) stamps h
 
-verified_by : (setup : LaneSetup) (last now served : ℕ) (answer : AnswerKept) → last ≤ now → IsVerified setup last served answer → IsVerified setup now served answer
-verified_by setup last now served answer later v = record {
+verified_by : (setup : LaneSetup) (last now served more : ℕ) (answer : AnswerKept) → last ≤ now → served ≤ more → IsVerified setup last served answer → IsVerified setup now more answer
+verified_by setup last now served more answer later above v = record {
   head_identifier = v.head_identifier;
   head_authenticator = v.head_authenticator;
   home = v.home;
@@ -22,9 +22,12 @@ verified_by setup last now served answer later v = record {
   sending = v.sending;
   since = v.since;
   until = omega (arith, v.until);
-  before = v.before;
+  before = omega (arith, v.before);
 }
 
+pub verified_more : (setup : LaneSetup) (last now served more : ℕ) (answers : List AnswerKept) → last ≤ now → served ≤ more → All (IsVerified setup last served) answers → All (IsVerified setup now more) answers
+verified_more setup last now served more answers later above h =
+    All-weaker (IsVerified setup last served) (IsVerified setup now more) (λ answer v. verified_by setup last now served more answer later above v) answers h
+
 pub verified_later : (setup : LaneSetup) (last now served : ℕ) (answers : List AnswerKept) → last ≤ now → All (IsVerified setup last served) answers → All (IsVerified setup now served) answers
-verified_later setup last now served answers later h =
-    All-weaker (IsVerified setup last served) (IsVerified setup now served) (λ answer v. verified_by setup last now served answer later v) answers h
+verified_later setup last now served answers later h = verified_more setup last now served served answers later (omega arith) h

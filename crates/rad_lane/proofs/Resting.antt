@@ -173,6 +173,7 @@ module _ (book : Book) (held : map.FinMap slot_cmp Entry) (allotted : Option Slo
     since_opening = s.since_opening;
     cells_are = s.cells_are;
     places = s.places;
+    placed_within = s.placed_within;
     numbers_fit = s.numbers_fit;
   }
 

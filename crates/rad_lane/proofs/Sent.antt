@@ -104,6 +104,7 @@ module _ (book : Book) (now : ℕ) (r : Recorded) (rest : List Recorded) (slot :
     since_opening = s.since_opening;
     cells_are = s.cells_are;
     places = s.places;
+    placed_within = s.placed_within;
     numbers_fit = s.numbers_fit;
   }
 

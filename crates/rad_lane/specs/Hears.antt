@@ -10,6 +10,9 @@ use Rattle.rad_auth.specs.Refusing.{RefusesReply}
 use Rattle.rad_auth.specs.Replied.{Replied}
 use Rattle.rad_auth.specs.declared.responding.ReplyFault.TheVariants as reply
 use Rattle.rad_tables.specs.declared.slots.Slot.{Slot}
+use Rattle.rad_lane.specs.declared.hearing.Heard.{Heard}
+use Rattle.rad_lane.specs.declared.hearing.Heard.TheVariants.{Answer, ProbeAnswered}
+use Rattle.rad_lane.specs.declared.outgoing.Outgoing.{Outgoing}
 use Rattle.rad_lane.specs.declared.hearing.HearFault.{HearFault}
 use Rattle.rad_lane.specs.declared.hearing.HearFault.TheVariants.{Unread, WrongCode, Unknown, BadAuthenticator, MessageAuthenticatorHere, NoProxyState, OutOfMemory}
 use Rattle.rad_lane.specs.Outstanding.{Outstanding, AnswerKept}
@@ -51,18 +54,19 @@ abbrev pub RefusesToHear : Book → ℕ → List ℕ → HearFault → Type 0
 RefusesToHear book port datagram (Unread fault) = Refuses datagram fault
 RefusesToHear book port datagram fault = (packet : List ℕ) × ReadsAs datagram packet × IsUnheard book port packet fault
 
--- The answer that is kept: this reply to this sending, and a response that answers the request.
-pub record KeepsAnswer (book : Book) (now : ℕ) (entry : Outstanding) (packet : List ℕ) (answer : AnswerKept) : Type 0 where
+-- The answer that is kept: this reply to this sending, by this secret of the home server, and a response that
+-- answers the request; so many were kept before.
+pub record KeepsAnswer (secret : List ℕ) (now count : ℕ) (entry : Outstanding) (packet : List ℕ) (answer : AnswerKept) : Type 0 where
   pub stamp : answer.stamp ≡ entry.request.stamp
   pub moment : answer.moment ≡ now
-  pub serial : answer.serial ≡ book.served
+  pub serial : answer.serial ≡ count
   pub head_identifier : answer.reply.head.identifier ≡ entry.request.stamp.identifier
   pub head_authenticator : answer.reply.head.authenticator ≡ entry.request.stamp.authenticator
   pub sending : answer.reply.sending ≡ entry.octets
   pub reply : answer.reply.reply ≡ packet
   pub client : answer.reply.client ≡ entry.request.client_secret
-  pub home : answer.reply.home ≡ book.setup.home_secret
-  pub answers : Answers answer.reply.head entry.octets packet entry.request.client_secret book.setup.home_secret answer.reply.response
+  pub home : answer.reply.home ≡ secret
+  pub answers : Answers answer.reply.head entry.octets packet entry.request.client_secret secret answer.reply.response
 
 -- The book with an answer more, and its pair free.
 abbrev pub with_answer : Book → ℕ → Slot → AnswerKept → Book
@@ -80,7 +84,7 @@ pub record HearsReply (old : Book) (now port : ℕ) (datagram : List ℕ) (answe
   pub code : code_of packet ≡ 5
   pub entry : Outstanding
   pub there : outstanding_at old (pair port packet) entry
-  pub keeps : KeepsAnswer old now entry packet answer
+  pub keeps : KeepsAnswer old.setup.home_secret now old.served entry packet answer
   pub book : ComesUp now (with_answer old now (pair port packet) answer) new old.watch
 
 -- The right answer to a probe takes the lane up.
@@ -92,3 +96,16 @@ pub record HearsProbe (old : Book) (now port : ℕ) (datagram : List ℕ) (new :
   pub there : map.get old.held (pair port packet) ≡ Some (probe octets)
   pub right : IsRightAnswer old (probe octets) packet
   pub book : ComesUp now (record old { last = now }) new old.watch
+
+-- What goes out to the client is that answer: its serial, whom it goes to, and the reply.
+pub record GoesOut (answer : AnswerKept) (outgoing : Outgoing) : Type 0 where
+  pub serial : outgoing.serial ≡ answer.serial
+  pub client : outgoing.client ≡ answer.stamp.client
+  pub port : outgoing.port ≡ answer.stamp.port
+  pub reply : outgoing.reply ≡ answer.reply
+
+abbrev pub Hears : Book → ℕ → ℕ → List ℕ → Result Heard HearFault → Book → Type 0
+Hears old moment port datagram (Ok (Answer outgoing)) new =
+    (answer : AnswerKept) × HearsReply old (moment_in old moment) port datagram answer new × GoesOut answer outgoing
+Hears old moment port datagram (Ok ProbeAnswered) new = HearsProbe old (moment_in old moment) port datagram new
+Hears old moment port datagram (Err fault) new = RefusesToHear old port datagram fault × (new ≡ old)

@@ -10,6 +10,7 @@ pub mod Drains
 pub mod Dues
 pub mod Steps
 pub mod Timing
+pub mod Hearing
 pub mod Hears
 pub mod Lawful
 pub mod Counting

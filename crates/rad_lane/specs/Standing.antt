@@ -1,5 +1,5 @@
 -- What a lane keeps, and how it is the book. No public clause cites this module.
-use Rattle.std.specs.Prelude.{◌≡◌, ℕ, ◌+◌, ◌-◌, ◌^◌, ◌<◌, ◌≤◌, List, length, take, slice_get, map as each, All, Option, Some, None, option_map, option_and_then}
+use Rattle.std.specs.Prelude.{◌≡◌, ℕ, ◌+◌, ◌-◌, ◌^◌, ◌<◌, ◌≤◌, List, length, take, slice_get, map as each, All, Option, Some, None, IfSome, option_map, option_and_then}
 use Rattle.std.specs.Option.{option_flatten}
 use Rattle.std.specs.FinMap as map
 use Rattle.rad_tables.specs.declared.duplicates.Key.{Key}
@@ -66,4 +66,5 @@ pub record Stands (book : Book) (kept : List Kept) (ports : ℕ) (numbers : map.
   pub since_opening : (key : Key) (number : ℕ) → map.get numbers key ≡ Some number → book.opening ≤ number
   pub cells_are : length cells ≡ length book.accepted
   pub places : (number : ℕ) → book.opening ≤ number → at_place book.answered (place_in cells book.opening number) ≡ answer_to number book.answered
+  pub placed_within : (k : ℕ) → IfSome (option_flatten (slice_get cells k)) (λ place. place < length book.answered)
   pub numbers_fit : next_number book ≤ 2 ^ 62

@@ -1,6 +1,7 @@
-use crate::Stamp;
+use crate::{Outgoing, Stamp};
 use rad_auth::Reply;
 use rad_tables::Moment;
+use std::alloc::{AllocError, Global};
 use std::marker::Model;
 
 /// An answer to a request: the request's stamp, when it was answered, the how manyth answer it was, and the
@@ -26,7 +27,8 @@ impl Model for Answered {
 }
 
 impl Answered {
-    ghost use Rattle.std.specs.Prelude.{◌≡◌};
+    ghost use Rattle.std.specs.Prelude.{◌≡◌, IfOk};
+    ghost use Rattle.rad_lane.specs.Hears.{GoesOut};
     ghost use Rattle.rad_lane.specs.Outstanding.{IsAnswered};
 
     /// The stamp of the request.
@@ -57,5 +59,31 @@ impl Answered {
         ensures answered { IsAnswered self.now }
     {
         &self.reply
+    }
+
+    /// An answer that was just made.
+    pub(crate) fn new(stamp: Stamp, moment: Moment, serial: u64, reply: Reply) -> Answered
+        requires { IsAnswered (record { stamp = stamp; moment = moment; serial = serial; reply = reply }) }
+        ensures { result ≡ record { stamp = stamp; moment = moment; serial = serial; reply = reply } }
+    {
+        Answered {
+            stamp,
+            moment,
+            serial,
+            reply,
+        }
+    }
+
+    /// The response on its way to the client, with a copy of what it rests on.
+    pub(crate) fn outgoing(&self, alloc: Global) -> Result<Outgoing, AllocError>
+        ensures { IfOk result (GoesOut self.now) }
+    {
+        let client = self.stamp.client;
+        Ok(Outgoing {
+            serial: self.serial,
+            client,
+            port: self.stamp.port,
+            reply: self.reply.copy(alloc)?,
+        })
     }
 }

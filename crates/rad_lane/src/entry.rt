@@ -22,6 +22,7 @@ impl Model for Probe {
 
 impl Probe {
     ghost use Rattle.std.specs.Prelude.{◌≡◌, length};
+    ghost use Rattle.rad_packet.specs.Packet.{authenticator_of};
 
     /// Keeps the Status-Server that the datagram has.
     pub(crate) fn of(datagram: &Datagram) -> Probe
@@ -34,10 +35,19 @@ impl Probe {
     }
 
     /// The octets that were sent.
-    pub(crate) fn octets(&self) -> &[u8]
+    pub fn octets(&self) -> &[u8]
         ensures { result.now ≡ self.now }
     {
         &self.octets
+    }
+
+    /// The Authenticator that was sent.
+    pub(crate) fn authenticator(&self) -> [u8; 16]
+        ensures { result ≡ authenticator_of self.now }
+    {
+        let mut authenticator = [0; 16];
+        authenticator.copy_from_slice(&self.octets[4..20]);
+        authenticator
     }
 }
 

@@ -17,7 +17,7 @@ impl<T> Model for Rows<T> {
 }
 
 impl<T> Rows<T> {
-    ghost use Rattle.std.specs.Prelude.{◌≡◌, ◌≤◌, [], ◌∷◌, ◌++◌, slice_get, option_copied, OnOk};
+    ghost use Rattle.std.specs.Prelude.{◌≡◌, ◌<◌, ◌≤◌, [], ◌∷◌, ◌++◌, length, slice_get, slice_set, option_copied, OnOk};
 
     /// No items. It takes no memory: what it needs later is made with `alloc`.
     pub(crate) fn new(alloc: Global) -> Rows<T>
@@ -42,6 +42,16 @@ impl<T> Rows<T> {
         ensures { self.new.items ≡ self.old.items ++ item ∷ [] }
     {
         self.items.push_reserved(item);
+    }
+
+    /// Puts an item in the place of another.
+    pub(crate) fn set(&mut self, place: usize, item: T)
+    where
+        T: Drop,
+        requires { place < length self.old.items }
+        ensures { self.new.items ≡ slice_set self.old.items place item }
+    {
+        self.items[place] = item;
     }
 
     /// The item at a place.

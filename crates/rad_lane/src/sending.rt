@@ -2,10 +2,11 @@ ghost use Rattle.std.specs.Prelude.{◌≡◌, ◌+◌, ◌≤◌};
 ghost use Rattle.rad_tables.specs.Waiting.{wait_of};
 
 use crate::packets::packet_of;
-use crate::{Record, Setup};
-use rad_auth::{Mark, Octets, Secret, forward};
+use crate::{Answered, Outgoing, Record, Setup};
+use rad_auth::{Mark, Octets, ReplyFault, RequestHead, Secret, forward, respond};
 use rad_packet::{Datagram, PacketRef};
 use rad_tables::{Moment, wait_after};
+use std::alloc::Global;
 use std::marker::Model;
 
 /// A request that was sent to the home server and is not answered.
@@ -32,7 +33,10 @@ impl Model for Sending {
 }
 
 impl Sending {
-    ghost use Rattle.std.specs.Prelude.{◌≡◌, ◌+◌, ◌<◌, ◌≤◌, nat_le};
+    ghost use Rattle.std.specs.Prelude.{◌≡◌, ◌+◌, ◌<◌, ◌≤◌, nat_le, IfOk, IfErr};
+    ghost use Rattle.rad_packet.specs.Packet.{code_of, identifier_of};
+    ghost use Rattle.rad_auth.specs.Refusing.{RefusesReply};
+    ghost use Rattle.rad_lane.specs.Hears.{KeepsAnswer, GoesOut};
     ghost use Rattle.rad_tables.specs.Waiting.{wait_of};
     ghost use Rattle.rad_lane.specs.Outstanding.{IsForwarded};
     ghost use Rattle.rad_lane.specs.Standing.{HasRoom};
@@ -104,6 +108,35 @@ impl Sending {
     {
         let _ = &self.octets;
         packet_of(self.octets())
+    }
+
+    /// The answer to its request, where the packet is a right reply to it, and the response on its way to the
+    /// client. It hashes the reply once and the response once.
+    pub(crate) fn answer(
+        &self,
+        alloc: Global,
+        packet: &PacketRef<'_>,
+        now: Moment,
+        serial: u64,
+    ) -> Result<(Answered, Outgoing), ReplyFault>
+        requires since { self.now.request.stamp.moment ≤ now }
+        requires code { code_of packet.now ≡ 5 }
+        requires identifier { identifier_of packet.now ≡ identifier_of self.now.octets }
+        ensures kept { IfOk result (λ made. KeepsAnswer self.now.home now serial self.now packet.now made.0) }
+        ensures out { IfOk result (λ made. GoesOut made.0 made.1) }
+        ensures err { IfErr result (λ fault. RefusesReply self.now.octets packet.now self.now.home fault) }
+    {
+        let stamp = self.request.stamp();
+        let authenticator = stamp.authenticator;
+        let head = RequestHead {
+            identifier: stamp.identifier,
+            authenticator,
+        };
+        let client = self.request.client_secret();
+        let reply = respond(alloc, head, &self.packet(), packet, client, &self.home)?;
+        let answer = Answered::new(stamp, now, serial, reply);
+        let outgoing = answer.outgoing(alloc)?;
+        Ok((answer, outgoing))
     }
 
     /// The number of the request.

@@ -2,7 +2,7 @@
 
 ghost use Rattle.std.specs.Prelude.{◌≡◌, ◌+◌, ◌≤◌, ℕ, None};
 ghost use Rattle.rad_lane.specs.declared.watch.Watch.TheVariants.{Up as up, Down as down};
-ghost use Rattle.rad_lane.specs.Dues.{GoesUp};
+ghost use Rattle.rad_lane.specs.Dues.{ComesUp, GoesUp};
 ghost use Rattle.rad_lane.specs.Steps.{Probes, freed};
 
 use crate::stepping::free_slot;
@@ -87,6 +87,17 @@ impl<Q: Fifo<Record>> Lane<Q> {
         self.slots.change_each(&Renewal { now });
         self.watch = Watch::Up;
         self.last = now;
+    }
+
+    /// What comes of a right answer from the home server: a lane that is down goes up.
+    pub(crate) fn come_up(&mut self, now: Moment)
+        requires later { self.old.last ≤ now }
+        ensures { ComesUp now (record self.old { last = now }) self.new self.old.watch }
+    {
+        match self.watch {
+            Watch::Up => self.pass(now),
+            Watch::Down { .. } => self.go_up(now),
+        }
     }
 
     /// Probes the home server, with these random octets as Authenticator, in the place of the probe that is
