@@ -1,3 +1,4 @@
 mod checks;
 mod faults;
+mod reading;
 mod sizes;

@@ -1,4 +1,6 @@
+use super::reading::{configuration, counts_of, lane_of};
 use crate::*;
+use std::process::Abort;
 use std::test::Fail;
 
 /// A client, two home servers, three realms and no default.
@@ -117,6 +119,8 @@ enum Told {
     Dropped(Dropped),
 }
 
+const CLIENT: [u8; 4] = [10, 0, 0, 1];
+
 fn answer_of(config: &Config, address: [u8; 4], datagram: &[u8]) -> Told {
     match check_in(config, address, 40_000, datagram) {
         Ok(Incoming::Request(request)) => Told::Lane(request.lane()),
@@ -125,141 +129,254 @@ fn answer_of(config: &Config, address: [u8; 4], datagram: &[u8]) -> Told {
     }
 }
 
-const CLIENT: [u8; 4] = [10, 0, 0, 1];
+/// Checks that each of these datagrams has the answer beside it.
+fn each_is_told(rt: &impl Abort, config: &Config, rows: &[(&str, [u8; 4], &[u8], Told)]) {
+    for (what, address, datagram, wanted) in rows {
+        assert_eq!(rt; answer_of(config, *address, datagram), *wanted, "{what}");
+    }
+}
+
+const ANSWERS: [(&str, [u8; 4], &[u8], Told); 13] = [
+    ("right", CLIENT, &REQUEST, Told::Lane(1)),
+    ("a realm in capitals", CLIENT, &LOUD, Told::Lane(1)),
+    ("a Status-Server", CLIENT, &STATUS, Told::Status),
+    (
+        "a stranger",
+        [10, 0, 0, 9],
+        &REQUEST,
+        Told::Dropped(Dropped::UnknownClient),
+    ),
+    (
+        "a response",
+        CLIENT,
+        &RESPONSE,
+        Told::Dropped(Dropped::WrongCode),
+    ),
+    (
+        "spoiled",
+        CLIENT,
+        &SPOILED,
+        Told::Dropped(Dropped::BadAuthenticator),
+    ),
+    (
+        "of another client",
+        [9, 255, 0, 1],
+        &REQUEST,
+        Told::Dropped(Dropped::BadAuthenticator),
+    ),
+    (
+        "signed twice",
+        CLIENT,
+        &TWICE,
+        Told::Dropped(Dropped::BadMessageAuthenticator),
+    ),
+    (
+        "signed",
+        CLIENT,
+        &SIGNED,
+        Told::Dropped(Dropped::MessageAuthenticatorHere),
+    ),
+    ("no realm", CLIENT, &BARE, Told::Dropped(Dropped::NoRealm)),
+    (
+        "no name",
+        CLIENT,
+        &NAMELESS,
+        Told::Dropped(Dropped::NoRealm),
+    ),
+    (
+        "an empty realm",
+        CLIENT,
+        &EMPTY_REALM,
+        Told::Dropped(Dropped::NoRealm),
+    ),
+    (
+        "an unlisted realm",
+        CLIENT,
+        &UNLISTED,
+        Told::Dropped(Dropped::NoRealm),
+    ),
+];
 
 #[test]
 fn each_datagram_has_its_answer(rt: HostRuntime) -> Result<(), Fail> {
-    let config = read_config(rt.alloc(), TEXT)?;
-    assert_eq!(rt; answer_of(&config, CLIENT, &REQUEST), Told::Lane(1));
-    assert_eq!(rt; answer_of(&config, CLIENT, &LOUD), Told::Lane(1));
-    assert_eq!(rt; answer_of(&config, CLIENT, &STATUS), Told::Status);
-    assert_eq!(rt;
-        answer_of(&config, [10, 0, 0, 9], &REQUEST),
-        Told::Dropped(Dropped::UnknownClient)
-    );
+    let config = configuration(rt.alloc(), TEXT)?;
+    each_is_told(&rt, &config, ANSWERS.as_slice());
     assert_eq!(rt;
         answer_of(&config, CLIENT, &REQUEST[..46]),
         Told::Dropped(Dropped::Unread(rad_packet::ReadFault::Truncated))
     );
-    assert_eq!(rt;
-        answer_of(&config, CLIENT, &RESPONSE),
-        Told::Dropped(Dropped::WrongCode)
-    );
-    assert_eq!(rt;
-        answer_of(&config, CLIENT, &SPOILED),
-        Told::Dropped(Dropped::BadAuthenticator)
-    );
-    assert_eq!(rt;
-        answer_of(&config, [9, 255, 0, 1], &REQUEST),
-        Told::Dropped(Dropped::BadAuthenticator)
-    );
-    assert_eq!(rt;
-        answer_of(&config, CLIENT, &TWICE),
-        Told::Dropped(Dropped::BadMessageAuthenticator)
-    );
-    assert_eq!(rt;
-        answer_of(&config, CLIENT, &SIGNED),
-        Told::Dropped(Dropped::MessageAuthenticatorHere)
-    );
-    assert_eq!(rt;
-        answer_of(&config, CLIENT, &BARE),
-        Told::Dropped(Dropped::NoRealm)
-    );
-    assert_eq!(rt;
-        answer_of(&config, CLIENT, &NAMELESS),
-        Told::Dropped(Dropped::NoRealm)
-    );
-    assert_eq!(rt;
-        answer_of(&config, CLIENT, &EMPTY_REALM),
-        Told::Dropped(Dropped::NoRealm)
-    );
-    assert_eq!(rt;
-        answer_of(&config, CLIENT, &UNLISTED),
-        Told::Dropped(Dropped::NoRealm)
-    );
     Ok(())
 }
+
+const DEFAULT_ANSWERS: [(&str, [u8; 4], &[u8], Told); 4] = [
+    ("no realm", CLIENT, &BARE, Told::Lane(1)),
+    ("no name", CLIENT, &NAMELESS, Told::Lane(1)),
+    (
+        "an empty realm",
+        CLIENT,
+        &EMPTY_REALM,
+        Told::Dropped(Dropped::NoRealm),
+    ),
+    (
+        "an unlisted realm",
+        CLIENT,
+        &UNLISTED,
+        Told::Dropped(Dropped::NoRealm),
+    ),
+];
 
 #[test]
 fn a_default_home_takes_what_has_no_realm(rt: HostRuntime) -> Result<(), Fail> {
     let text = format!(in rt.alloc(); "default_home = \"h2\"\n{TEXT}")?;
-    let config = read_config(rt.alloc(), text.as_str())?;
-    assert_eq!(rt; answer_of(&config, CLIENT, &BARE), Told::Lane(1));
-    assert_eq!(rt; answer_of(&config, CLIENT, &NAMELESS), Told::Lane(1));
+    let config = configuration(rt.alloc(), text.as_str())?;
+    each_is_told(&rt, &config, DEFAULT_ANSWERS.as_slice());
     assert_eq!(rt;
-        answer_of(&config, CLIENT, &EMPTY_REALM),
-        Told::Dropped(Dropped::NoRealm)
+        (lane_of(&config, None), lane_of(&config, Some(b"a@THIRD"))),
+        (Some(1), Some(0))
     );
-    assert_eq!(rt;
-        answer_of(&config, CLIENT, &UNLISTED),
-        Told::Dropped(Dropped::NoRealm)
-    );
-    assert_eq!(rt; config.lane_of(None), Some(1));
-    assert_eq!(rt; config.lane_of(Some(b"a@THIRD")), Some(0));
     Ok(())
 }
 
+/// A request that was checked.
+fn request_of<'a>(config: &'a Config, datagram: &'a [u8]) -> Option<Checked<'a>> {
+    match check_in(config, CLIENT, 40_001, datagram) {
+        Ok(Incoming::Request(request)) => Some(request),
+        _ => None,
+    }
+}
+
+/// Its packet's octets, its client, port and secret, and its realm.
+fn parts_of_request<'a>(
+    request: &'a Checked<'_>,
+) -> (&'a [u8], [u8; 4], u16, &'a [u8], Option<&'a [u8]>) {
+    (
+        request.packet().octets(),
+        request.client(),
+        request.port(),
+        request.secret().octets(),
+        request.realm(),
+    )
+}
+
+/// Checks that a request tells these parts.
+fn request_tells(
+    rt: &impl Abort,
+    request: &Checked<'_>,
+    octets: &[u8],
+    secret: &[u8],
+    realm: &[u8],
+) {
+    assert_eq!(rt;
+        parts_of_request(request),
+        (octets, CLIENT, 40_001, secret, Some(realm))
+    );
+}
+
 #[test]
-fn checked_packets_tell_their_parts(rt: HostRuntime) -> Result<(), Fail> {
-    let config = read_config(rt.alloc(), TEXT)?;
-    let Ok(Incoming::Request(request)) = check_in(&config, CLIENT, 40_001, &REQUEST) else {
+fn checked_requests_tell_their_parts(rt: HostRuntime) -> Result<(), Fail> {
+    let config = configuration(rt.alloc(), TEXT)?;
+    let Some(request) = request_of(&config, &REQUEST) else {
         return Err(Fail::from("a request"));
     };
-    assert_eq!(rt; request.packet().octets(), REQUEST.as_slice());
-    assert_eq!(rt; request.client(), CLIENT);
-    assert_eq!(rt; request.port(), 40_001);
-    assert_eq!(rt; request.secret().octets(), b"nas-secret".as_slice());
-    assert!(rt;
-        request
-            .realm()
-            .is_some_and(|realm| realm == b"example.org".as_slice())
-    );
-    let Ok(Incoming::Status(status)) = check_in(&config, CLIENT, 40_001, &STATUS) else {
-        return Err(Fail::from("a Status-Server"));
-    };
-    assert_eq!(rt; status.packet().octets(), STATUS.as_slice());
-    assert_eq!(rt; status.secret().octets(), b"nas-secret".as_slice());
+    request_tells(&rt, &request, &REQUEST, b"nas-secret", b"example.org");
     Ok(())
 }
+
+/// A Status-Server that was checked.
+fn status_of<'a>(config: &'a Config, datagram: &'a [u8]) -> Option<CheckedStatus<'a>> {
+    match check_in(config, CLIENT, 40_001, datagram) {
+        Ok(Incoming::Status(status)) => Some(status),
+        _ => None,
+    }
+}
+
+/// Its packet's octets and its secret.
+fn parts_of_status<'a>(status: &'a CheckedStatus<'_>) -> (&'a [u8], &'a [u8]) {
+    (status.packet().octets(), status.secret().octets())
+}
+
+/// Checks that a Status-Server tells these parts.
+fn status_tells(rt: &impl Abort, status: &CheckedStatus<'_>, octets: &[u8], secret: &[u8]) {
+    assert_eq!(rt; parts_of_status(status), (octets, secret));
+}
+
+#[test]
+fn checked_statuses_tell_their_parts(rt: HostRuntime) -> Result<(), Fail> {
+    let config = configuration(rt.alloc(), TEXT)?;
+    let Some(status) = status_of(&config, &STATUS) else {
+        return Err(Fail::from("a Status-Server"));
+    };
+    status_tells(&rt, &status, &STATUS, b"nas-secret");
+    Ok(())
+}
+
+/// Where it listens, and how long it lingers.
+fn top_of(config: &Config) -> (Endpoint, u32) {
+    (config.listen(), config.linger())
+}
+
+/// The address and secret of the client of an address.
+fn client_of(config: &Config, address: [u8; 4]) -> Option<([u8; 4], &[u8])> {
+    let client = config.client_of(address)?;
+    Some((client.address(), client.secret().octets()))
+}
+
+/// The name, address, port and secret of a lane's home server, and its numbers.
+fn home_of(config: &Config, lane: usize) -> Option<(&str, [u8; 4], u16, &[u8], LimitNumbers)> {
+    let home = config.homes().get(lane)?;
+    Some((
+        home.name(),
+        home.address(),
+        home.port(),
+        home.secret().octets(),
+        home.limits().numbers(),
+    ))
+}
+
+/// The name and lane of a realm.
+fn realm_at(config: &Config, place: usize) -> Option<(&str, u16)> {
+    let realm = config.realms().get(place)?;
+    Some((realm.name(), realm.lane()))
+}
+
+const LISTEN: Endpoint = Endpoint {
+    address: [127, 0, 0, 1],
+    port: 1813,
+};
+
+const SECOND_NUMBERS: LimitNumbers = LimitNumbers {
+    window: 254,
+    queue: 4096,
+    book: 100_000,
+    tries: 3,
+    first_wait: 2000,
+    probe_every: 10_000,
+    down_wait: 60_000,
+    span: 0,
+    ring: 1,
+};
 
 #[test]
 fn a_configuration_tells_its_parts(rt: HostRuntime) -> Result<(), Fail> {
-    let config = read_config(rt.alloc(), TEXT)?;
+    let config = configuration(rt.alloc(), TEXT)?;
     assert_eq!(rt;
-        config.listen(),
-        Endpoint {
-            address: [127, 0, 0, 1],
-            port: 1813
-        }
+        (top_of(&config), counts_of(&config)),
+        ((LISTEN, 0), (2, 2, 3))
     );
-    assert_eq!(rt; config.linger(), 0);
-    assert_eq!(rt; config.clients().len(), 2);
-    assert_eq!(rt; config.homes().len(), 2);
-    assert_eq!(rt; config.realms().len(), 3);
-    let Some(client) = config.client_of([9, 255, 0, 1]) else {
-        return Err(Fail::from("a client"));
-    };
-    assert_eq!(rt; client.address(), [9, 255, 0, 1]);
-    assert_eq!(rt; client.secret().octets(), b"other-secret".as_slice());
-    let home = &config.homes()[1];
-    assert_eq!(rt; home.name(), "h2");
-    assert_eq!(rt; home.address(), [127, 0, 0, 2]);
-    assert_eq!(rt; home.port(), 65_535);
-    assert_eq!(rt; home.secret().octets(), b"second-secret".as_slice());
-    let numbers = LimitNumbers {
-        window: 254,
-        queue: 4096,
-        book: 100_000,
-        tries: 3,
-        first_wait: 2000,
-        probe_every: 10_000,
-        down_wait: 60_000,
-        span: 0,
-        ring: 1,
-    };
-    assert_eq!(rt; home.limits().numbers(), numbers);
-    let realm = &config.realms()[1];
-    assert_eq!(rt; realm.name(), "Example.org");
-    assert_eq!(rt; realm.lane(), 1);
+    assert_eq!(rt;
+        client_of(&config, [9, 255, 0, 1]),
+        Some(([9, 255, 0, 1], b"other-secret".as_slice()))
+    );
+    assert_eq!(rt;
+        home_of(&config, 1),
+        Some((
+            "h2",
+            [127, 0, 0, 2],
+            65_535,
+            b"second-secret".as_slice(),
+            SECOND_NUMBERS
+        ))
+    );
+    assert_eq!(rt; realm_at(&config, 1), Some(("Example.org", 1)));
     Ok(())
 }

@@ -1,11 +1,12 @@
+use super::reading::{configuration, counts_of, lane_of, printed};
 use crate::*;
 use std::alloc::{AllocError, Global};
+use std::process::Abort;
 use std::test::Fail;
 
-/// A configuration of so many clients, home servers and realms.
-fn text_of(alloc: Global, clients: u32, homes: u32, realms: u32) -> Result<String, AllocError> {
-    let mut text = String::from_str(alloc, "listen = \"127.0.0.1:1813\"\n")?;
-    for i in 0..clients {
+/// Adds so many clients to a text.
+fn add_clients(alloc: Global, text: &mut String, count: u32) -> Result<(), AllocError> {
+    for i in 0..count {
         let client = format!(in alloc;
             "[[client]]\naddress = \"10.0.{}.{}\"\nsecret = \"s{i}\"\n",
             i / 256,
@@ -13,38 +14,81 @@ fn text_of(alloc: Global, clients: u32, homes: u32, realms: u32) -> Result<Strin
         )?;
         text.push_str(client.as_str())?;
     }
-    for i in 0..homes {
+    Ok(())
+}
+
+/// Adds so many home servers to a text.
+fn add_homes(alloc: Global, text: &mut String, count: u32) -> Result<(), AllocError> {
+    for i in 0..count {
         let home = format!(in alloc;
             "[[home]]\nname = \"h{i}\"\naddress = \"127.0.0.1:2813\"\nsecret = \"s\"\n"
         )?;
         text.push_str(home.as_str())?;
     }
-    for i in 0..realms {
+    Ok(())
+}
+
+/// Adds so many realms to a text.
+fn add_realms(alloc: Global, text: &mut String, count: u32) -> Result<(), AllocError> {
+    for i in 0..count {
         let realm = format!(in alloc; "[[realm]]\nname = \"R{i}\"\nhome = \"h{}\"\n", i % 64)?;
         text.push_str(realm.as_str())?;
     }
+    Ok(())
+}
+
+/// A configuration of so many clients, home servers and realms.
+fn text_of(alloc: Global, clients: u32, homes: u32, realms: u32) -> Result<String, AllocError> {
+    let mut text = String::from_str(alloc, "listen = \"127.0.0.1:1813\"\n")?;
+    add_clients(alloc, &mut text, clients)?;
+    add_homes(alloc, &mut text, homes)?;
+    add_realms(alloc, &mut text, realms)?;
     Ok(text)
+}
+
+/// The address of the client of an address.
+fn found_at(config: &Config, address: [u8; 4]) -> Option<[u8; 4]> {
+    let client = config.client_of(address)?;
+    Some(client.address())
+}
+
+/// Checks that each of 256 clients is found, and not one more.
+fn each_client_is_found(rt: &impl Abort, config: &Config) {
+    for i in 0..=255u8 {
+        let address = [10, 0, 0, i];
+        assert!(rt; found_at(config, address) == Some(address));
+    }
+    assert!(rt; found_at(config, [10, 0, 1, 0]).is_none());
+}
+
+/// Checks that each of 256 realms leads to its lane.
+fn each_realm_leads_to_its_lane(
+    rt: &impl Abort,
+    alloc: Global,
+    config: &Config,
+) -> Result<(), AllocError> {
+    for i in 0..256u32 {
+        let name = format!(in alloc; "someone@r{i}")?;
+        let lane = (i % 64) as u16;
+        assert_eq!(rt; lane_of(config, Some(name.as_bytes())), Some(lane));
+    }
+    Ok(())
 }
 
 #[test]
 fn the_largest_configuration_is_read(rt: HostRuntime) -> Result<(), Fail> {
     let text = text_of(rt.alloc(), 256, 64, 256)?;
-    let config = read_config(rt.alloc(), text.as_str())?;
-    assert_eq!(rt; config.clients().len(), 256);
-    assert_eq!(rt; config.homes().len(), 64);
-    assert_eq!(rt; config.realms().len(), 256);
-    for i in 0..=255u8 {
-        let found = config.client_of([10, 0, 0, i]);
-        assert!(rt; found.is_some_and(|client| client.address() == [10, 0, 0, i]));
-    }
-    assert!(rt; config.client_of([10, 0, 1, 0]).is_none());
-    for i in 0..256u32 {
-        let name = format!(in rt.alloc(); "someone@r{i}")?;
-        let lane = (i % 64) as u16;
-        assert_eq!(rt; config.lane_of(Some(name.as_bytes())), Some(lane));
-    }
-    assert_eq!(rt; config.lane_of(Some(b"someone@r256")), None);
-    assert_eq!(rt; config.lane_of(Some(&[b'@'; 255])), None);
+    let config = configuration(rt.alloc(), text.as_str())?;
+    assert_eq!(rt; counts_of(&config), (256, 64, 256));
+    each_client_is_found(&rt, &config);
+    each_realm_leads_to_its_lane(&rt, rt.alloc(), &config)?;
+    assert_eq!(rt;
+        (
+            lane_of(&config, Some(b"someone@r256")),
+            lane_of(&config, Some(&[b'@'; 255]))
+        ),
+        (None, None)
+    );
     Ok(())
 }
 
@@ -56,12 +100,7 @@ fn one_more_of_each_is_too_many(rt: HostRuntime) -> Result<(), Fail> {
         (256, 64, 257, "TooMany at top realm"),
     ] {
         let text = text_of(rt.alloc(), clients, homes, realms)?;
-        match read_config(rt.alloc(), text.as_str()) {
-            Ok(_) => assert_eq!(rt; "read", wanted),
-            Err(fault) => {
-                assert_eq!(rt; format!(in rt.alloc(); "{fault}")?.as_str(), wanted);
-            }
-        }
+        assert_eq!(rt; printed(rt.alloc(), text.as_str())?.as_str(), wanted);
     }
     Ok(())
 }
