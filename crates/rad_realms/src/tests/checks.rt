@@ -356,6 +356,24 @@ const SECOND_NUMBERS: LimitNumbers = LimitNumbers {
     ring: 1,
 };
 
+/// Checks what the configuration tells of its second client.
+fn client_tells(rt: &impl Abort, config: &Config, address: [u8; 4], secret: &[u8]) {
+    assert_eq!(rt; client_of(config, address), Some((address, secret)));
+}
+
+/// Checks what the configuration tells of its second home server.
+fn home_tells(rt: &impl Abort, config: &Config, name: &str, secret: &[u8]) {
+    assert_eq!(rt;
+        home_of(config, 1),
+        Some((name, [127, 0, 0, 2], 65_535, secret, SECOND_NUMBERS))
+    );
+}
+
+/// Checks what the configuration tells of its second realm.
+fn realm_tells(rt: &impl Abort, config: &Config, name: &str) {
+    assert_eq!(rt; realm_at(config, 1), Some((name, 1)));
+}
+
 #[test]
 fn a_configuration_tells_its_parts(rt: HostRuntime) -> Result<(), Fail> {
     let config = configuration(rt.alloc(), TEXT)?;
@@ -363,20 +381,8 @@ fn a_configuration_tells_its_parts(rt: HostRuntime) -> Result<(), Fail> {
         (top_of(&config), counts_of(&config)),
         ((LISTEN, 0), (2, 2, 3))
     );
-    assert_eq!(rt;
-        client_of(&config, [9, 255, 0, 1]),
-        Some(([9, 255, 0, 1], b"other-secret".as_slice()))
-    );
-    assert_eq!(rt;
-        home_of(&config, 1),
-        Some((
-            "h2",
-            [127, 0, 0, 2],
-            65_535,
-            b"second-secret".as_slice(),
-            SECOND_NUMBERS
-        ))
-    );
-    assert_eq!(rt; realm_at(&config, 1), Some(("Example.org", 1)));
+    client_tells(&rt, &config, [9, 255, 0, 1], b"other-secret");
+    home_tells(&rt, &config, "h2", b"second-secret");
+    realm_tells(&rt, &config, "Example.org");
     Ok(())
 }

@@ -38,7 +38,7 @@ fn each_prints(
     before: &[&str],
     rows: &[(&str, &str)],
     after: &[&str],
-) -> Result<(), AllocError> {
+) -> Result<(), Fail> {
     for (part, wanted) in rows {
         let text = text_of(alloc, before, part, after)?;
         let found = printed(alloc, text.as_str())?;
@@ -73,8 +73,7 @@ const TEXTS: [(&str, &str); 9] = [
 
 #[test]
 fn faults_of_whole_texts(rt: HostRuntime) -> Result<(), Fail> {
-    each_prints(&rt, rt.alloc(), &[], &TEXTS, &[])?;
-    Ok(())
+    each_prints(&rt, rt.alloc(), &[], &TEXTS, &[])
 }
 
 const TOPS: [(&str, &str); 10] = [
@@ -92,8 +91,7 @@ const TOPS: [(&str, &str); 10] = [
 
 #[test]
 fn faults_at_the_top(rt: HostRuntime) -> Result<(), Fail> {
-    each_prints(&rt, rt.alloc(), &[TOP], &TOPS, &["\n", CLIENT, HOME, REALM])?;
-    Ok(())
+    each_prints(&rt, rt.alloc(), &[TOP], &TOPS, &["\n", CLIENT, HOME, REALM])
 }
 
 const HOME_ARRAYS: [(&str, &str); 5] = [
@@ -121,8 +119,7 @@ fn faults_of_arrays(rt: HostRuntime) -> Result<(), Fail> {
         &[TOP],
         &REALM_ARRAYS,
         &["\n", CLIENT, HOME],
-    )?;
-    Ok(())
+    )
 }
 
 const CLIENTS: [(&str, &str); 12] = [
@@ -160,8 +157,7 @@ fn faults_of_a_client(rt: HostRuntime) -> Result<(), Fail> {
         &[TOP, "[[client]]\n"],
         &CLIENTS,
         &["\n", HOME, REALM],
-    )?;
-    Ok(())
+    )
 }
 
 const HOMES: [(&str, &str); 12] = [
@@ -230,8 +226,7 @@ fn faults_of_a_home(rt: HostRuntime) -> Result<(), Fail> {
         &[TOP, CLIENT, HOME],
         &NUMBERS,
         &["\n", REALM],
-    )?;
-    Ok(())
+    )
 }
 
 const REALMS: [(&str, &str); 9] = [
@@ -257,8 +252,7 @@ fn faults_of_a_realm(rt: HostRuntime) -> Result<(), Fail> {
         &[TOP, CLIENT, HOME, "[[realm]]\n"],
         &REALMS,
         &["\n"],
-    )?;
-    Ok(())
+    )
 }
 
 /// Checks that a home server's number is read, or is out of range.
@@ -268,7 +262,7 @@ fn number_prints(
     key: &str,
     number: i32,
     wanted: &str,
-) -> Result<(), AllocError> {
+) -> Result<(), Fail> {
     let part = format!(in alloc; "{key} = {number}")?;
     each_prints(
         rt,

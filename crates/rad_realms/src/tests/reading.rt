@@ -1,9 +1,11 @@
 use crate::*;
 use std::alloc::{AllocError, Global};
+use std::test::Fail;
 
 /// The configuration of a text.
-pub(super) fn configuration(alloc: Global, text: &str) -> Result<Config, ConfigFault> {
-    read_config(alloc, text)
+pub(super) fn configuration(alloc: Global, text: &str) -> Result<Config, Fail> {
+    let config = read_config(alloc, text)?;
+    Ok(config)
 }
 
 /// What is printed of a text: its first fault, or `read`.
