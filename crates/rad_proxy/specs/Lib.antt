@@ -1,4 +1,6 @@
+pub mod Answers
 pub mod Hex
+pub mod Lanes
 pub mod Lines
 pub mod Names
 pub mod PacketText

@@ -1,28 +1,61 @@
 -- The lines that are printed, without their line feeds.
-use Rattle.std.specs.Prelude.{ℕ, List, ◌++◌, codes}
+use Rattle.std.specs.Prelude.{ℕ, List, ◌++◌, codes, Some, None}
 use Rattle.std.specs.Fmt.{decimal}
-use Rattle.rad_proxy.specs.Names.{dropped_name, refusal_name}
-use Rattle.rad_proxy.specs.PacketText.{parts_text}
+use Rattle.rad_lane.specs.declared.counts.Counts.{Counts}
+use Rattle.rad_proxy.specs.Names.{dropped_name, refusal_name, watch_name, mode_name}
+use Rattle.rad_proxy.specs.PacketText.{parts_text, attributes_text}
+use Rattle.rad_proxy.specs.declared.lines.HeadLine.{HeadLine}
 use Rattle.rad_proxy.specs.declared.lines.PacketLine.{PacketLine}
 use Rattle.rad_proxy.specs.declared.lines.NasLine.{NasLine}
-use Rattle.rad_proxy.specs.declared.lines.NasLine.TheVariants.{New, Status, Dropped, Refused}
+use Rattle.rad_proxy.specs.declared.lines.NasLine.TheVariants.{New, Waiting, Again, Status, Dropped, Refused}
 use Rattle.rad_proxy.specs.declared.lines.StepLine.{StepLine}
-use Rattle.rad_proxy.specs.declared.lines.StepLine.TheVariants.{Sent, Idle}
+use Rattle.rad_proxy.specs.declared.lines.StepLine.TheVariants.{Sent, Resent, Probed, Down, Up, Idle}
+use Rattle.rad_proxy.specs.declared.lines.DrainLine.{DrainLine}
+use Rattle.rad_proxy.specs.declared.lines.StateLine.{StateLine}
 use Rattle.rad_proxy.specs.declared.lines.EndLine.{EndLine}
 use Rattle.rad_proxy.specs.declared.lines.CountLine.{CountLine}
 
+abbrev pub head_line : HeadLine → List ℕ
+head_line line = parts_text line.code line.identifier line.length
+
 abbrev pub packet_line : PacketLine → List ℕ
-packet_line line = parts_text line.code line.identifier line.length line.attributes.0.now
+packet_line line = head_line line.head ++ codes " " ++ attributes_text line.attributes.0.now
+
+-- A request by its lane and its number.
+abbrev pub request_text : ℕ → ℕ → List ℕ
+request_text lane number = decimal lane ++ codes " " ++ decimal number
 
 abbrev pub nas_line : NasLine → List ℕ
-nas_line (New lane number) = codes "nas: new " ++ decimal lane ++ codes " " ++ decimal number
+nas_line (New lane number) = codes "nas: new " ++ request_text lane number
+nas_line (Waiting lane number) = codes "nas: waiting " ++ request_text lane number
+nas_line (Again lane number answer) = codes "nas: again " ++ request_text lane number ++ codes " " ++ packet_line answer
 nas_line (Status answer) = codes "nas: status " ++ packet_line answer
 nas_line (Dropped dropped) = codes "nas: dropped " ++ dropped_name dropped
 nas_line (Refused refusal) = codes "nas: refused " ++ refusal_name refusal
 
 abbrev pub step_line : StepLine → List ℕ
 step_line (Sent packet) = codes "step: sent " ++ packet_line packet
-step_line Idle = codes "step: idle"
+step_line (Resent packet) = codes "step: resent " ++ packet_line packet
+step_line (Probed head) = codes "step: probed " ++ head_line head
+step_line Down = codes "step: down"
+step_line Up = codes "step: up"
+step_line (Idle None) = codes "step: idle"
+step_line (Idle (Some next)) = codes "step: idle " ++ decimal next
+
+abbrev pub drain_line : DrainLine → List ℕ
+drain_line line = codes "drain: " ++ decimal line.lane ++ codes " " ++ decimal line.count
+
+abbrev pub counts_text : Counts → List ℕ
+counts_text counts =
+    (codes "accepted " ++ decimal counts.accepted ++ codes " queued " ++ decimal counts.queued ++ codes " ")
+    ++ (codes "outstanding " ++ decimal counts.outstanding ++ codes " answered " ++ decimal counts.answered
+    ++ codes " opening " ++ decimal counts.opening)
+
+abbrev pub state_line : StateLine → List ℕ
+state_line line =
+    (codes "lane " ++ decimal line.lane ++ codes " " ++ line.name.now ++ codes " ")
+    ++ (watch_name line.counts.up ++ codes " " ++ mode_name line.counts.draining line.counts.queued line.counts.outstanding
+    ++ codes " " ++ counts_text line.counts)
 
 abbrev pub end_line : EndLine → List ℕ
 end_line line =

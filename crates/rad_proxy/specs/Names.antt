@@ -1,12 +1,12 @@
 -- The names of the faults, as they are printed.
-use Rattle.std.specs.Prelude.{ℕ, List, ◌++◌, codes}
+use Rattle.std.specs.Prelude.{ℕ, List, ◌++◌, codes, suc, zero, Bool, true, false}
 use Rattle.std.specs.Fmt.{decimal}
 use Rattle.rad_packet.specs.declared.faults.ReadFault.{ReadFault}
 use Rattle.rad_packet.specs.declared.faults.ReadFault.TheVariants.{Short, BadLength, Truncated, BadAttribute}
 use Rattle.rad_realms.specs.declared.faults.Dropped.{Dropped}
 use Rattle.rad_realms.specs.declared.faults.Dropped.TheVariants.{UnknownClient, Unread, WrongCode, BadAuthenticator, BadMessageAuthenticator, MessageAuthenticatorHere, NoRealm}
-use Rattle.rad_proxy.specs.declared.lines.Refusal.{Refusal}
-use Rattle.rad_proxy.specs.declared.lines.Refusal.TheVariants.{BookFull, TooLong, WrongLane}
+use Rattle.rad_lane.specs.declared.accepting.Refusal.{Refusal}
+use Rattle.rad_lane.specs.declared.accepting.Refusal.TheVariants.{Draining, BookFull, QueueFull, TooLong, OutOfMemory, WrongLane}
 
 abbrev pub read_fault_name : ReadFault → List ℕ
 read_fault_name Short = codes "Short"
@@ -24,6 +24,21 @@ dropped_name MessageAuthenticatorHere = codes "MessageAuthenticatorHere"
 dropped_name NoRealm = codes "NoRealm"
 
 abbrev pub refusal_name : Refusal → List ℕ
+refusal_name Draining = codes "Draining"
 refusal_name BookFull = codes "BookFull"
+refusal_name QueueFull = codes "QueueFull"
 refusal_name TooLong = codes "TooLong"
+refusal_name OutOfMemory = codes "OutOfMemory"
 refusal_name WrongLane = codes "WrongLane"
+
+-- Whether a home server is up.
+abbrev pub watch_name : Bool → List ℕ
+watch_name true = codes "up"
+watch_name false = codes "down"
+
+-- Whether a lane is drained, with how many requests are queued and how many outstanding.
+abbrev pub mode_name : Bool → ℕ → ℕ → List ℕ
+mode_name false queued outstanding = codes "open"
+mode_name true zero zero = codes "done"
+mode_name true zero (suc outstanding) = codes "draining"
+mode_name true (suc queued) outstanding = codes "draining"

@@ -1,62 +1,70 @@
--- The path of a request (RFC 2866 section 2.1, Proxy): from a NAS's datagram to the packet that goes to the
--- home server of its realm. A Status-Server (RFC 5997 section 3) is answered in place.
-use Rattle.std.specs.Prelude.{◌≡◌, ℕ, ◌<◌, ◌≤◌, List, [], length, slice_get, Some, None, IsSome}
+-- The way of a NAS's datagram (RFC 2866 section 2.1, Proxy): a request goes to the lane of its realm. A
+-- Status-Server (RFC 5997 section 3) is answered in place, and changes no lane.
+use Rattle.std.specs.Prelude.{◌≡◌, ℕ, ◌≤◌, List, [], length, slice_get, slice_set, Some, Result, Ok, Err}
 use Rattle.rad_packet.specs.Packet.{identifier_of, authenticator_of}
 use Rattle.rad_auth.specs.Authenticator.{accounting_response}
-use Rattle.rad_auth.specs.Forwarding.{forwarded}
-use Rattle.rad_auth.specs.declared.mark.Mark.{Mark}
-use Rattle.rad_realms.specs.Configuration.{Configuration, HomeEntry}
+use Rattle.rad_realms.specs.Configuration.{Configuration}
 use Rattle.rad_realms.specs.Checking.{Request, Status, Drops}
 use Rattle.rad_realms.specs.Incoming.{Takes}
 use Rattle.rad_realms.specs.declared.checking.Incoming.TheVariants as incoming
+use Rattle.rad_lane.specs.declared.accepting.Taken.{Taken as Acceptance}
+use Rattle.rad_lane.specs.declared.accepting.Refusal.{Refusal}
+use Rattle.rad_lane.specs.Accepts.{Accepts, Datagrams, IsTaken}
+use Rattle.rad_lane.specs.Book.{Book}
+use Rattle.rad_proxy.specs.declared.path.Arrival.{Arrival}
 use Rattle.rad_proxy.specs.declared.path.Given.{Given}
-use Rattle.rad_proxy.specs.declared.path.Given.TheVariants.{Forwarded, Answered}
+use Rattle.rad_proxy.specs.declared.path.Given.TheVariants.{Taken, Answered}
 use Rattle.rad_proxy.specs.declared.path.PathFault.{PathFault}
-use Rattle.rad_proxy.specs.declared.path.PathFault.TheVariants.{Dropped as IsDropped, WrongLane, TooLong}
+use Rattle.rad_proxy.specs.declared.path.PathFault.TheVariants.{Dropped, WrongLane, Refused}
 
--- The mark of the first record of a lane.
-abbrev pub first_mark : ℕ → Mark
-first_mark lane = record { lane = lane; number = 0 }
+-- The request's own lane takes or refuses it, and the others stay.
+pub record AcceptsAmong (old : List Book) (request : Request) (moment : ℕ) (outcome : Result Acceptance Refusal) (d : Datagrams) (new : List Book) : Type 0 where
+  pub book : Book
+  pub after : Book
+  pub there : slice_get old request.lane ≡ Some book
+  pub ours : IsTaken book request
+  pub accepts : Accepts book request moment outcome d after
+  pub others : new ≡ slice_set old request.lane after
 
--- This packet forwards the request to the home server of its lane.
-pub record IsForwarded (config : Configuration) (request : Request) (sending : List ℕ) : Type 0 where
-  pub home : HomeEntry
-  pub there : slice_get config.homes request.lane ≡ Some home
-  pub fits : length request.text ≤ 4084
-  pub sent : sending ≡ forwarded request.text (first_mark request.lane) 0 home.secret
+-- Neither a lane nor the datagram changes.
+pub record Stays (old : List Book) (d : Datagrams) (new : List Book) : Type 0 where
+  pub books : new ≡ old
+  pub datagram : d.after ≡ d.before
+
+-- No lane has this request's number and its realm.
+abbrev pub IsOfNoLane : List Book → Request → Type 0
+IsOfNoLane books request = (book : Book) → slice_get books request.lane ≡ Some book → ¬ IsTaken book request
 
 -- What becomes of a request that was checked.
-abbrev pub GivesRequest : Configuration → Request → Given → List ℕ → Type 0
-GivesRequest config request (Forwarded lane) written = (lane ≡ request.lane) × IsForwarded config request written
-GivesRequest config request Answered written = ⊥
+abbrev pub AcceptsRequest : List Book → Request → ℕ → Result Given PathFault → Datagrams → List Book → Type 0
+AcceptsRequest old request moment (Ok (Taken lane taken)) d new =
+    (lane ≡ request.lane) × AcceptsAmong old request moment (Ok taken) d new
+AcceptsRequest old request moment (Ok Answered) d new = ⊥
+AcceptsRequest old request moment (Err (Dropped reason)) d new = ⊥
+AcceptsRequest old request moment (Err WrongLane) d new = IsOfNoLane old request × Stays old d new
+AcceptsRequest old request moment (Err (Refused refusal)) d new = AcceptsAmong old request moment (Err refusal) d new
 
--- Why a request that was checked is not forwarded.
-abbrev pub StopsRequest : Configuration → Request → PathFault → Type 0
-StopsRequest config request (IsDropped dropped) = ⊥
-StopsRequest config request WrongLane = slice_get config.homes request.lane ≡ None
-StopsRequest config request (TooLong lane) =
-    (lane ≡ request.lane) × IsSome (slice_get config.homes request.lane) × (4084 < length request.text)
+-- The datagram is this request.
+abbrev pub IsRequest : Configuration → Arrival → Request → Type 0
+IsRequest config arrival request =
+    Takes config arrival.address arrival.port arrival.octets.now (incoming.Request request)
 
--- The datagram is taken as this request.
-abbrev pub IsRequest : Configuration → List ℕ → ℕ → List ℕ → Request → Type 0
-IsRequest config address port datagram request = Takes config address port datagram (incoming.Request request)
+-- The datagram is a request, of which this becomes.
+abbrev pub TakesRequest : Configuration → Arrival → List Book → Result Given PathFault → Datagrams → List Book → Type 0
+TakesRequest config arrival old result d new =
+    (request : Request) × IsRequest config arrival request × AcceptsRequest old request arrival.moment result d new
 
 -- This packet answers the Status-Server that the datagram is: an Accounting-Response with no attributes.
-pub record IsAnswered (config : Configuration) (address : List ℕ) (port : ℕ) (datagram answer : List ℕ) : Type 0 where
+pub record IsAnswered (config : Configuration) (arrival : Arrival) (answer : List ℕ) : Type 0 where
   pub status : Status
-  pub taken : Takes config address port datagram (incoming.Status status)
+  pub taken : Takes config arrival.address arrival.port arrival.octets.now (incoming.Status status)
   pub sent : answer ≡ accounting_response (identifier_of status.text) (authenticator_of status.text) [] status.secret
 
--- What the datagram was, and the packet that is written for it.
-abbrev pub Gives : Configuration → List ℕ → ℕ → List ℕ → Given → List ℕ → Type 0
-Gives config address port datagram (Forwarded lane) written =
-    (request : Request) × IsRequest config address port datagram request × GivesRequest config request (Forwarded lane) written
-Gives config address port datagram Answered written = IsAnswered config address port datagram written
-
--- The datagram is neither forwarded nor answered, for this reason.
-abbrev pub Stops : Configuration → List ℕ → ℕ → List ℕ → PathFault → Type 0
-Stops config address port datagram (IsDropped dropped) = Drops config address datagram dropped
-Stops config address port datagram WrongLane =
-    (request : Request) × IsRequest config address port datagram request × StopsRequest config request WrongLane
-Stops config address port datagram (TooLong lane) =
-    (request : Request) × IsRequest config address port datagram request × StopsRequest config request (TooLong lane)
+-- What becomes of a NAS's datagram.
+abbrev pub TakesIn : Configuration → Arrival → List Book → Result Given PathFault → Datagrams → List Book → Type 0
+TakesIn config arrival old (Ok Answered) d new = IsAnswered config arrival d.after × (new ≡ old)
+TakesIn config arrival old (Err (Dropped reason)) d new =
+    Drops config arrival.address arrival.octets.now reason × Stays old d new
+TakesIn config arrival old (Ok (Taken lane taken)) d new = TakesRequest config arrival old (Ok (Taken lane taken)) d new
+TakesIn config arrival old (Err WrongLane) d new = TakesRequest config arrival old (Err WrongLane) d new
+TakesIn config arrival old (Err (Refused refusal)) d new = TakesRequest config arrival old (Err (Refused refusal)) d new

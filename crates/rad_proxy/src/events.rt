@@ -19,6 +19,14 @@ pub enum Event<'a> {
     Step {
         lane: u16,
     },
+    /// The events from now on happen at this moment.
+    At {
+        milliseconds: u64,
+    },
+    /// Each lane is to take no request from now on.
+    Drain,
+    /// Each lane is to tell how it stands.
+    State,
 }
 
 /// How a datagram is made.
@@ -75,6 +83,11 @@ impl<'a> Event<'a> {
             b"step" => Event::Step {
                 lane: parse_u16(words.next()?)?,
             },
+            b"at" => Event::At {
+                milliseconds: parse_usize(words.next()?)? as u64,
+            },
+            b"drain" => Event::Drain,
+            b"state" => Event::State,
             _ => return None,
         };
         match words.next() {

@@ -16,7 +16,7 @@ pub enum Fault {
     Configuration(ConfigFault),
     #[error("memory: refused")]
     Memory,
-    /// The line of this number after the separator is malformed, or names a lane that there is not.
+    /// The line of this number after the separator is malformed, or names a lane or a moment that there is not.
     #[error("events: line {0}")]
     Events(usize),
     /// Standard output takes nothing more. Nobody is told.
@@ -38,7 +38,7 @@ impl Fault {
 /// Why an event ends the run.
 #[derive(Clone, Copy, Debug)]
 pub enum Halt {
-    /// Its line writes no event, names a lane that there is not, or cuts more octets than there are.
+    /// Its line writes no event, names a lane or a moment that there is not, or cuts more octets than there are.
     Malformed,
     /// A growth was refused.
     Memory,

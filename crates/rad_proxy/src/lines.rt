@@ -1,16 +1,25 @@
 //! The lines that `replay` prints.
 
-use rad_packet::ReadFault;
+use crate::names::{DroppedText, ModeText, RefusalText, WatchText};
+use crate::path::{Given, PathFault};
+use rad_lane::{Action, Counts, Refusal, Taken};
 use rad_realms::Dropped;
+use rad_tables::Moment;
 use std::fmt;
 
 /// A packet, printed as its Code, Identifier, Length and attributes.
 #[derive(Drop)]
 pub struct PacketLine<'a> {
+    head: HeadLine,
+    attributes: AttributesText<'a>,
+}
+
+/// A packet, printed as its Code, Identifier and Length.
+#[derive(Drop)]
+pub struct HeadLine {
     code: u8,
     identifier: u8,
     length: usize,
-    attributes: AttributesText<'a>,
 }
 
 /// Attributes in hexadecimal, `-` for none.
@@ -21,7 +30,21 @@ struct AttributesText<'a>(&'a [u8]);
 #[derive(Drop)]
 pub enum NasLine<'a> {
     /// A request was taken on this lane, under this number.
-    New { lane: u16, number: u64 },
+    New {
+        lane: u16,
+        number: u64,
+    },
+    /// A request was repeated that waits on this lane for its answer.
+    Waiting {
+        lane: u16,
+        number: u64,
+    },
+    /// A request was repeated that this lane had answered by this packet.
+    Again {
+        lane: u16,
+        number: u64,
+        answer: PacketLine<'a>,
+    },
     /// A Status-Server was answered.
     Status(PacketLine<'a>),
     /// A datagram was dropped.
@@ -30,25 +53,43 @@ pub enum NasLine<'a> {
     Refused(Refusal),
 }
 
-/// Why a request is not taken. The first reason in this order is told.
-#[derive(Clone, Copy, Debug)]
-pub enum Refusal {
-    /// The book is full.
-    BookFull,
-    /// The request's Length is above 4084.
-    TooLong,
-    /// The request's lane has no home server.
-    WrongLane,
-}
-
 /// What a step did.
 #[derive(Drop)]
 pub enum StepLine<'a> {
     /// It sent a request for the first time.
     Sent(PacketLine<'a>),
-    /// Nothing.
-    Idle,
+    /// It sent a request again.
+    Resent(PacketLine<'a>),
+    /// It sent a Status-Server.
+    Probed(HeadLine),
+    /// The home server is taken to be down.
+    Down,
+    /// The home server is taken to be up.
+    Up,
+    /// Nothing, until this moment or until something comes.
+    Idle(Option<Moment>),
 }
+
+/// That a lane takes no more requests.
+#[derive(Clone, Copy)]
+pub struct DrainLine {
+    pub lane: usize,
+    /// How many it had accepted.
+    pub count: u64,
+}
+
+/// How a lane stands.
+#[derive(Drop)]
+pub struct StateLine<'a> {
+    pub lane: usize,
+    /// The home server's name.
+    pub name: &'a str,
+    pub counts: Counts,
+}
+
+/// How many requests a lane has had, and has.
+#[derive(Drop)]
+struct CountsText(Counts);
 
 /// What is left at the end.
 #[derive(Clone, Copy)]
@@ -69,14 +110,6 @@ pub struct CountLine {
     pub realms: usize,
 }
 
-/// The reason of a drop by its name.
-#[derive(Drop)]
-struct DroppedText(Dropped);
-
-/// A read fault by its name.
-#[derive(Drop)]
-struct ReadFaultText(ReadFault);
-
 impl<'a> PacketLine<'a> {
     ghost use Rattle.std.specs.Prelude.{◌≡◌, ◌≤◌, length};
     ghost use Rattle.rad_proxy.specs.PacketText.{packet_text};
@@ -88,10 +121,73 @@ impl<'a> PacketLine<'a> {
         ensures { packet_line result ≡ packet_text octets.now }
     {
         PacketLine {
+            head: HeadLine::new(octets),
+            attributes: AttributesText(&octets[20..]),
+        }
+    }
+}
+
+impl HeadLine {
+    ghost use Rattle.std.specs.Prelude.{◌≡◌, ◌≤◌, length};
+    ghost use Rattle.rad_proxy.specs.PacketText.{head_text};
+    ghost use Rattle.rad_proxy.specs.Lines.{head_line};
+
+    /// Of a packet's octets.
+    pub fn new(octets: &[u8]) -> Self
+        requires { 20 ≤ length octets.now }
+        ensures { head_line result ≡ head_text octets.now }
+    {
+        HeadLine {
             code: octets[0],
             identifier: octets[1],
             length: octets.len(),
-            attributes: AttributesText(&octets[20..]),
+        }
+    }
+}
+
+impl<'a> NasLine<'a> {
+    ghost use Rattle.std.specs.Prelude.{◌≡◌, ◌≤◌, length};
+    ghost use Rattle.rad_proxy.specs.Lines.{nas_line};
+    ghost use Rattle.rad_proxy.specs.Answers.{given_text};
+
+    /// Of what became of a NAS's datagram, with the octets of the packet that was written for it.
+    pub fn new(outcome: Result<Given, PathFault>, written: &'a [u8]) -> Self
+        requires { 20 ≤ length written.now }
+        ensures { nas_line result ≡ given_text outcome written.now }
+    {
+        match outcome {
+            Ok(Given::Answered) => NasLine::Status(PacketLine::new(written)),
+            Ok(Given::Taken(lane, Taken::New(number))) => NasLine::New { lane, number },
+            Ok(Given::Taken(lane, Taken::Waiting(number))) => NasLine::Waiting { lane, number },
+            Ok(Given::Taken(lane, Taken::Again(number))) => NasLine::Again {
+                lane,
+                number,
+                answer: PacketLine::new(written),
+            },
+            Err(PathFault::Dropped(dropped)) => NasLine::Dropped(dropped),
+            Err(PathFault::WrongLane) => NasLine::Refused(Refusal::WrongLane),
+            Err(PathFault::Refused(refusal)) => NasLine::Refused(refusal),
+        }
+    }
+}
+
+impl<'a> StepLine<'a> {
+    ghost use Rattle.std.specs.Prelude.{◌≡◌, ◌≤◌, length};
+    ghost use Rattle.rad_proxy.specs.Lines.{step_line};
+    ghost use Rattle.rad_proxy.specs.Answers.{action_text};
+
+    /// Of what a step did, with the octets of the packet that it sent.
+    pub fn new(action: Action, sent: &'a [u8]) -> Self
+        requires { 20 ≤ length sent.now }
+        ensures { step_line result ≡ action_text action sent.now }
+    {
+        match action {
+            Action::Sent(..) => StepLine::Sent(PacketLine::new(sent)),
+            Action::Resent(..) => StepLine::Resent(PacketLine::new(sent)),
+            Action::Probed(_) => StepLine::Probed(HeadLine::new(sent)),
+            Action::WentDown => StepLine::Down,
+            Action::WentUp => StepLine::Up,
+            Action::Idle(next) => StepLine::Idle(next),
         }
     }
 }
@@ -131,12 +227,23 @@ impl fmt::Display for PacketLine<'_> {
     ghost output = { λ line. Some (packet_line line) };
 
     fn fmt<W: fmt::Write>(&self, f: &mut fmt::Formatter<W>) -> fmt::Result {
+        let head = &self.head;
+        let attributes = &self.attributes;
+        write!(f, "{head} {attributes}")
+    }
+}
+
+impl fmt::Display for HeadLine {
+    ghost use Rattle.std.specs.Prelude.{Some};
+    ghost use Rattle.rad_proxy.specs.Lines.{head_line};
+
+    ghost output = { λ line. Some (head_line line) };
+
+    fn fmt<W: fmt::Write>(&self, f: &mut fmt::Formatter<W>) -> fmt::Result {
         let code = self.code;
         let identifier = self.identifier;
         let length = self.length;
-        let attributes = &self.attributes;
-        write!(f, "{code} {identifier} ")?;
-        write!(f, "{length} {attributes}")
+        write!(f, "{code} {identifier} {length}")
     }
 }
 
@@ -149,12 +256,21 @@ impl fmt::Display for NasLine<'_> {
     fn fmt<W: fmt::Write>(&self, f: &mut fmt::Formatter<W>) -> fmt::Result {
         match self {
             NasLine::New { lane, number } => write!(f, "nas: new {lane} {number}"),
+            NasLine::Waiting { lane, number } => write!(f, "nas: waiting {lane} {number}"),
+            NasLine::Again {
+                lane,
+                number,
+                answer,
+            } => write!(f, "nas: again {lane} {number} {answer}"),
             NasLine::Status(answer) => write!(f, "nas: status {answer}"),
             NasLine::Dropped(dropped) => {
                 let dropped = DroppedText(*dropped);
                 write!(f, "nas: dropped {dropped}")
             }
-            NasLine::Refused(refusal) => write!(f, "nas: refused {refusal}"),
+            NasLine::Refused(refusal) => {
+                let refusal = RefusalText(*refusal);
+                write!(f, "nas: refused {refusal}")
+            }
         }
     }
 }
@@ -168,8 +284,66 @@ impl fmt::Display for StepLine<'_> {
     fn fmt<W: fmt::Write>(&self, f: &mut fmt::Formatter<W>) -> fmt::Result {
         match self {
             StepLine::Sent(packet) => write!(f, "step: sent {packet}"),
-            StepLine::Idle => write!(f, "step: idle"),
+            StepLine::Resent(packet) => write!(f, "step: resent {packet}"),
+            StepLine::Probed(head) => write!(f, "step: probed {head}"),
+            StepLine::Down => write!(f, "step: down"),
+            StepLine::Up => write!(f, "step: up"),
+            StepLine::Idle(None) => write!(f, "step: idle"),
+            StepLine::Idle(Some(next)) => {
+                let next = next.get();
+                write!(f, "step: idle {next}")
+            }
         }
+    }
+}
+
+impl fmt::Display for DrainLine {
+    ghost use Rattle.std.specs.Prelude.{Some};
+    ghost use Rattle.rad_proxy.specs.Lines.{drain_line};
+
+    ghost output = { λ line. Some (drain_line line) };
+
+    fn fmt<W: fmt::Write>(&self, f: &mut fmt::Formatter<W>) -> fmt::Result {
+        let lane = self.lane;
+        let count = self.count;
+        write!(f, "drain: {lane} {count}")
+    }
+}
+
+impl fmt::Display for StateLine<'_> {
+    ghost use Rattle.std.specs.Prelude.{Some};
+    ghost use Rattle.rad_proxy.specs.Lines.{state_line};
+
+    ghost output = { λ line. Some (state_line line) };
+
+    fn fmt<W: fmt::Write>(&self, f: &mut fmt::Formatter<W>) -> fmt::Result {
+        let lane = self.lane;
+        let name = self.name;
+        let watch = WatchText { up: self.counts.up };
+        let mode = ModeText(self.counts);
+        let counts = CountsText(self.counts);
+        write!(f, "lane {lane} {name} ")?;
+        write!(f, "{watch} {mode} {counts}")
+    }
+}
+
+impl fmt::Display for CountsText {
+    ghost use Rattle.std.specs.Prelude.{Some};
+    ghost use Rattle.rad_proxy.specs.Lines.{counts_text};
+
+    ghost output = { λ line. Some (counts_text line.0) };
+
+    fn fmt<W: fmt::Write>(&self, f: &mut fmt::Formatter<W>) -> fmt::Result {
+        let accepted = self.0.accepted;
+        let queued = self.0.queued;
+        let outstanding = self.0.outstanding;
+        let answered = self.0.answered;
+        let opening = self.0.opening;
+        write!(f, "accepted {accepted} queued {queued} ")?;
+        write!(
+            f,
+            "outstanding {outstanding} answered {answered} opening {opening}"
+        )
     }
 }
 
@@ -201,58 +375,5 @@ impl fmt::Display for CountLine {
         let homes = self.homes;
         let realms = self.realms;
         write!(f, "clients {clients} homes {homes} realms {realms}")
-    }
-}
-
-impl fmt::Display for Refusal {
-    ghost use Rattle.std.specs.Prelude.{Some};
-    ghost use Rattle.rad_proxy.specs.Names.{refusal_name};
-
-    ghost output = { λ refusal. Some (refusal_name refusal) };
-
-    fn fmt<W: fmt::Write>(&self, f: &mut fmt::Formatter<W>) -> fmt::Result {
-        match self {
-            Refusal::BookFull => write!(f, "BookFull"),
-            Refusal::TooLong => write!(f, "TooLong"),
-            Refusal::WrongLane => write!(f, "WrongLane"),
-        }
-    }
-}
-
-impl fmt::Display for DroppedText {
-    ghost use Rattle.std.specs.Prelude.{Some};
-    ghost use Rattle.rad_proxy.specs.Names.{dropped_name};
-
-    ghost output = { λ dropped. Some (dropped_name dropped.0) };
-
-    fn fmt<W: fmt::Write>(&self, f: &mut fmt::Formatter<W>) -> fmt::Result {
-        match self.0 {
-            Dropped::UnknownClient => write!(f, "UnknownClient"),
-            Dropped::Unread(fault) => {
-                let fault = ReadFaultText(fault);
-                write!(f, "Unread {fault}")
-            }
-            Dropped::WrongCode => write!(f, "WrongCode"),
-            Dropped::BadAuthenticator => write!(f, "BadAuthenticator"),
-            Dropped::BadMessageAuthenticator => write!(f, "BadMessageAuthenticator"),
-            Dropped::MessageAuthenticatorHere => write!(f, "MessageAuthenticatorHere"),
-            Dropped::NoRealm => write!(f, "NoRealm"),
-        }
-    }
-}
-
-impl fmt::Display for ReadFaultText {
-    ghost use Rattle.std.specs.Prelude.{Some};
-    ghost use Rattle.rad_proxy.specs.Names.{read_fault_name};
-
-    ghost output = { λ fault. Some (read_fault_name fault.0) };
-
-    fn fmt<W: fmt::Write>(&self, f: &mut fmt::Formatter<W>) -> fmt::Result {
-        match self.0 {
-            ReadFault::Short => write!(f, "Short"),
-            ReadFault::BadLength => write!(f, "BadLength"),
-            ReadFault::Truncated => write!(f, "Truncated"),
-            ReadFault::BadAttribute(place) => write!(f, "BadAttribute {place}"),
-        }
     }
 }

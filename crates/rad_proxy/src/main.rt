@@ -6,10 +6,13 @@ mod checking;
 mod events;
 mod faults;
 mod hex;
+mod lanes;
 mod lines;
+mod names;
 mod path;
 mod pieces;
 mod replaying;
+mod script;
 #[cfg(test)]
 mod tests;
 mod words;

@@ -1,51 +1,65 @@
-//! The way of a NAS's datagram through the proxy: to the packet that goes to the home server of its realm, or
-//! to an answer.
+//! The way of a NAS's datagram through the proxy: to the lane of its realm, or to an answer.
 
-ghost use Rattle.std.specs.Prelude.{◌≡◌, IfErr, IfOk};
-ghost use Rattle.rad_proxy.specs.Path.{Gives, GivesRequest, Stops, StopsRequest};
+ghost use Rattle.std.specs.Prelude.{◌≡◌};
+ghost use Rattle.rad_lane.specs.Accepts.{Datagrams};
+ghost use Rattle.rad_proxy.specs.Path.{TakesIn, AcceptsRequest};
 
-use rad_auth::{Mark, answer_status, forward};
+use crate::lanes::HomeLane;
+use rad_auth::answer_status;
+use rad_lane::{Refusal, Taken};
 use rad_packet::Datagram;
 use rad_realms::{Checked, Config, Dropped, Incoming, check_in};
+use rad_tables::Moment;
+use std::alloc::Global;
+
+/// A datagram of a NAS: where it comes from, its octets, and when it comes.
+#[derive(Clone, Copy)]
+pub struct Arrival<'a> {
+    pub address: [u8; 4],
+    pub port: u16,
+    pub octets: &'a [u8],
+    pub moment: Moment,
+}
 
 /// What a NAS's datagram was.
 #[derive(Clone, Copy, Debug, PartialEq, Eq)]
 pub enum Given {
-    /// An Accounting-Request of this lane, and what is written forwards it.
-    Forwarded(u16),
+    /// An Accounting-Request, which this lane took like this.
+    Taken(u16, Taken),
     /// A Status-Server, and what is written answers it.
     Answered,
 }
 
-/// Why a NAS's datagram is neither forwarded nor answered.
+/// Why a NAS's datagram is neither taken nor answered.
 #[derive(Clone, Copy, Debug, PartialEq, Eq)]
 pub enum PathFault {
     /// It is dropped.
     Dropped(Dropped),
-    /// Its lane has no home server.
+    /// There is no such lane as its request's, or the request is not of the lane's realms.
     WrongLane,
-    /// The request, of this lane, has a Length above 4084, so there is no room for the mark.
-    TooLong(u16),
+    /// Its request's lane refuses it.
+    Refused(Refusal),
 }
 
-/// Writes the packet that forwards a NAS's request to the home server of its realm, under Identifier 0 and the
-/// mark of the lane's first record, or the packet that answers its Status-Server.
+/// Gives a NAS's request to the lane of its realm, or answers its Status-Server. What answers the NAS is
+/// written; of a request that is the response, where the lane still has it.
 ///
 /// # Errors
 ///
-/// Why there is neither: nothing is written then.
+/// Why neither is done: no lane changes then, and nothing is written.
 pub fn take_in(
+    alloc: Global,
     config: &Config,
-    address: [u8; 4],
-    port: u16,
-    datagram: &[u8],
+    lanes: &mut [HomeLane],
+    arrival: Arrival<'_>,
     written: &mut Datagram,
 ) -> Result<Given, PathFault>
-    ensures given { IfOk result (λ given. Gives config.now address port datagram.now given written.new) }
-    ensures stopped { IfErr result (λ fault. Stops config.now address port datagram.now fault × (written.new ≡ written.old)) }
+    ensures { TakesIn config.now arrival.entry lanes.old result (record { before = written.old; after = written.new }) lanes.new }
 {
-    match check_in(config, address, port, datagram) {
-        Ok(Incoming::Request(request)) => forward_request(config, &request, written),
+    match check_in(config, arrival.address, arrival.port, arrival.octets) {
+        Ok(Incoming::Request(request)) => {
+            accept_request(alloc, lanes, &request, arrival.moment, written)
+        }
         Ok(Incoming::Status(status)) => {
             answer_status(status.packet(), status.secret(), written);
             Ok(Given::Answered)
@@ -54,22 +68,26 @@ pub fn take_in(
     }
 }
 
-/// Forwards a request that was checked.
-fn forward_request(
-    config: &Config,
+/// Gives a request that was checked to its lane.
+fn accept_request(
+    alloc: Global,
+    lanes: &mut [HomeLane],
     request: &Checked<'_>,
+    moment: Moment,
     written: &mut Datagram,
 ) -> Result<Given, PathFault>
-    ensures given { IfOk result (λ given. GivesRequest config.now request.now given written.new) }
-    ensures stopped { IfErr result (λ fault. StopsRequest config.now request.now fault × (written.new ≡ written.old)) }
+    ensures { AcceptsRequest lanes.old request.now moment result (record { before = written.old; after = written.new }) lanes.new }
 {
-    let lane = request.lane();
-    let Some(home) = config.homes().get(usize::from(lane)) else {
+    let place = usize::from(request.lane());
+    if place >= lanes.len() {
         return Err(PathFault::WrongLane);
-    };
-    let mark = Mark { lane, number: 0 };
-    match forward(request.packet(), mark, 0, home.secret(), written) {
-        Ok(()) => Ok(Given::Forwarded(lane)),
-        Err(_) => Err(PathFault::TooLong(lane)),
+    }
+    let lane = &mut lanes[place];
+    if !lane.takes(request) {
+        return Err(PathFault::WrongLane);
+    }
+    match lane.accept(alloc, request, moment, written) {
+        Ok(taken) => Ok(Given::Taken(request.lane(), taken)),
+        Err(refusal) => Err(PathFault::Refused(refusal)),
     }
 }
