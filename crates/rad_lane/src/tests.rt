@@ -53,6 +53,7 @@ fn new_requests_are_numbered(rt: HostRuntime) -> Result<(), Fail> {
     ];
     assert_eq!(rt; lane.accepted(), stamps.as_slice());
     assert!(rt; lane.has_sent_none());
+    lane.end();
     Ok(())
 }
 
@@ -66,6 +67,7 @@ fn a_repeat_waits(rt: HostRuntime) -> Result<(), Fail> {
     assert_eq!(rt; lane.accepted().first(), Some(&first));
     assert!(rt; lane.has_sent_none());
     assert!(rt; lane.keeps_its_datagram());
+    lane.end();
     Ok(())
 }
 
@@ -80,6 +82,7 @@ fn refusals_change_nothing(rt: HostRuntime) -> Result<(), Fail> {
         assert_refused(&rt, &mut lane, &EIGHTH, reason);
         lane.drain();
         assert_refused(&rt, &mut lane, &EIGHTH, Refusal::Draining);
+        lane.end();
     }
     Ok(())
 }
@@ -91,6 +94,7 @@ fn the_mark_has_to_fit(rt: HostRuntime) -> Result<(), Fail> {
     let mut lane = TestLane::new(rt.alloc(), "", 0)?;
     assert_refused(&rt, &mut lane, too_long.as_slice(), Refusal::TooLong);
     assert_eq!(rt; lane.accept(longest.as_slice(), 100), Ok(Taken::New(0)));
+    lane.end();
     Ok(())
 }
 
@@ -98,8 +102,10 @@ fn the_mark_has_to_fit(rt: HostRuntime) -> Result<(), Fail> {
 fn takes_requests_of_its_own_realms(rt: HostRuntime) -> Result<(), Fail> {
     let lane = TestLane::new(rt.alloc(), OTHER_HOME, 0)?;
     assert!(rt; lane.takes(&SEVENTH));
+    lane.end();
     let other = TestLane::new(rt.alloc(), OTHER_HOME, 1)?;
     assert!(rt; !other.takes(&SEVENTH));
+    other.end();
     Ok(())
 }
 
@@ -113,6 +119,7 @@ fn drains_once(rt: HostRuntime) -> Result<(), Fail> {
     assert!(rt; lane.is_draining());
     assert!(rt; !lane.is_done());
     assert_eq!(rt; lane.counts(), unsent(1, true));
+    lane.end();
     Ok(())
 }
 
@@ -122,5 +129,6 @@ fn is_done_with_nothing_queued(rt: HostRuntime) -> Result<(), Fail> {
     assert!(rt; !lane.is_done());
     assert_eq!(rt; lane.drain(), 0);
     assert!(rt; lane.is_done());
+    lane.end();
     Ok(())
 }
