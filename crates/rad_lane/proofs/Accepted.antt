@@ -1,6 +1,6 @@
 -- A lane that accepted a request is lawful still.
-use Rattle.std.proofs.Common.{◌≡◌, ℕ, zero, suc, ◌+◌, ◌-◌, ◌^◌, ◌≤◌, ◌<◌, List, [], ◌∷◌, ◌++◌, length, get_or, take, Bool, true, false, cond, Option, Some, None, inl, inr, refl, sym, ap, ◌∙◌, subst, arith, length-append}
-use Rattle.std.specs.Prelude.{map as each, All, AllPairs, filter, option_map, IsNone, IfSome}
+use Rattle.std.proofs.Common.{◌≡◌, ℕ, ◌+◌, ◌-◌, ◌^◌, ◌≤◌, ◌<◌, List, [], ◌∷◌, ◌++◌, length, get_or, take, Bool, true, false, cond, Option, Some, None, inl, inr, refl, sym, ap, ◌∙◌, subst, arith, length-append}
+use Rattle.std.specs.Prelude.{map as each, option_map, IsNone, IfSome}
 use Rattle.std.specs.Ordering.{is_eq, eq_by_cmp}
 use Rattle.std.specs.Cmp.{eq_by_cmp_equiv}
 use Rattle.std.specs.FinMap as map
@@ -9,7 +9,6 @@ use Rattle.std.proofs.Common.{append_assoc}
 use Rattle.std.proofs.lemmas.List.Elements.{All-push, All-get_or, filter-append}
 use Rattle.std.proofs.lemmas.List.Quantifiers.{all_pairs_push}
 use Rattle.std.proofs.lemmas.Bool.Decides.{leb_tells}
-use Rattle.rad_packet.specs.Packet.{identifier_of, authenticator_of}
 use Rattle.rad_tables.specs.declared.duplicates.Key.{Key}
 use Rattle.rad_tables.specs.Keys.{key_cmp}
 use Rattle.rad_tables.specs.Pairs.{Table}
@@ -23,10 +22,10 @@ use Rattle.rad_lane.specs.Stamp.{Recorded, Kept, IsRecord, key_of}
 use Rattle.rad_lane.specs.Setup.{LaneSetup, IsOfItsRealms}
 use Rattle.rad_lane.specs.Outstanding.{AnswerKept}
 use Rattle.rad_lane.specs.Book.{Book, next_number}
-use Rattle.rad_lane.specs.Repeat.{fresh, repeats, of_key, last_of, answer_to}
-use Rattle.rad_lane.specs.Accepts.{IsTaken, IsRefused, IsBookFull, IsQueueFull, request_key, stamp_of, record_of, with_request}
+use Rattle.rad_lane.specs.Repeat.{fresh, repeats, of_key, last_of}
+use Rattle.rad_lane.specs.Accepts.{IsTaken, IsRefused, request_key, stamp_of, record_of, with_request}
 use Rattle.rad_lane.specs.Lawful.{IsLawful, NoRepeatWithinSpan}
-use Rattle.rad_lane.specs.Standing.{Stands, HasRoom, book_of, last_number, place_in, at_place}
+use Rattle.rad_lane.specs.Standing.{Stands, HasRoom, book_of, last_number, at_place}
 use Rattle.rad_lane.proofs.Numbered.{numbered_more, front_same, none_more}
 use Rattle.rad_lane.proofs.Passed.{passed_later, verified_later}
 use Rattle.rad_lane.proofs.Unrepeated.{unrepeated}

@@ -1,6 +1,6 @@
 -- A lane that keeps an answer is lawful still.
-use Rattle.std.proofs.Common.{◌≡◌, ℕ, zero, suc, ◌+◌, ◌-◌, ◌<◌, ◌≤◌, ◌≢◌, Bool, true, false, cond, eqb, List, [], ◌∷◌, ◌++◌, length, get_or, set, Option, Some, None, ◌⊎◌, inl, inr, refl, sym, ap, ◌∙◌, subst, arith, append_assoc, length-append}
-use Rattle.std.specs.Prelude.{map as each, All, AllPairs, IfSome, find, ◌==◌, slice_get}
+use Rattle.std.proofs.Common.{◌≡◌, ℕ, zero, suc, ◌+◌, ◌-◌, ◌<◌, ◌≤◌, Bool, true, false, cond, eqb, List, [], ◌∷◌, ◌++◌, length, get_or, set, Option, Some, None, inl, inr, refl, sym, ap, ◌∙◌, subst, arith, append_assoc, length-append}
+use Rattle.std.specs.Prelude.{map as each, All, IfSome, ◌==◌, slice_get}
 use Rattle.std.specs.Option.{option_flatten, option_or}
 use Rattle.std.specs.List.{AllByRecursion, IsDistinct, range_with_len, Contains}
 use Rattle.std.specs.Ordering.{eq_by_cmp}
@@ -18,7 +18,7 @@ use Rattle.std.proofs.lemmas.Map.Keys.{IsDistinct-IsPermutation, IsDistinct-head
 use Rattle.rad_tables.specs.declared.slots.Slot.{Slot}
 use Rattle.rad_tables.specs.Keys.{key_cmp}
 use Rattle.rad_tables.specs.Pairs.{slot_cmp}
-use Rattle.rad_tables.proofs.SlotLemmas.{slots_total, tied, itself}
+use Rattle.rad_tables.proofs.SlotLemmas.{slots_total, tied}
 use Rattle.rad_lane.specs.declared.stamp.Stamp.{Stamp}
 use Rattle.rad_lane.specs.declared.entry.Entry.{Entry}
 use Rattle.rad_lane.specs.declared.entry.Entry.TheVariants.{Sending as sending, Probe as probe}
@@ -27,7 +27,7 @@ use Rattle.rad_lane.specs.declared.watch.Watch.TheVariants.{Up as up, Down as do
 use Rattle.rad_lane.specs.Stamp.{Recorded, Kept, IsRecord}
 use Rattle.rad_lane.specs.Outstanding.{Outstanding, AnswerKept, answered_record}
 use Rattle.rad_lane.specs.Setup.{IsOfItsRealms}
-use Rattle.rad_lane.specs.Book.{Book, outstanding_at, next_number}
+use Rattle.rad_lane.specs.Book.{Book, outstanding_at}
 use Rattle.rad_lane.specs.Repeat.{answer_to}
 use Rattle.rad_lane.specs.declared.outgoing.Outgoing.{Outgoing}
 use Rattle.rad_lane.specs.declared.hearing.HearFault.TheVariants.{OutOfMemory}

@@ -1,20 +1,16 @@
 -- A lane in which nothing happened yet.
-use Rattle.std.proofs.Common.{◌≡◌, ℕ, ◌+◌, ◌<◌, ◌≤◌, List, [], ◌∷◌, ◌++◌, length, Option, Some, None, refl, sym, ap, ◌∙◌, subst, arith, rules, zero-le}
-use Rattle.std.specs.Prelude.{map as each, All, AllPairs}
+use Rattle.std.proofs.Common.{◌≡◌, List, [], ◌∷◌, length, Some, None, refl, sym, ◌∙◌, arith, zero-le}
 use Rattle.std.specs.FinMap as map
-use Rattle.std.specs.List.Sorted.{IsPermutation}
 use Rattle.std.proofs.lemmas.List.Sorted.{IsPermutation-refl}
 use Rattle.std.proofs.lemmas.List.Elements.{All-nil}
 use Rattle.rad_tables.specs.declared.slots.Slot.{Slot}
 use Rattle.rad_tables.specs.Pairs.{slot_cmp}
 use Rattle.rad_tables.specs.Keys.{key_cmp}
 use Rattle.rad_lane.specs.declared.entry.Entry.{Entry}
-use Rattle.rad_lane.specs.Stamp.{Kept}
 use Rattle.rad_lane.specs.Setup.{LaneSetup}
-use Rattle.rad_lane.specs.Book.{Book}
 use Rattle.rad_lane.specs.Empty.{empty_book}
-use Rattle.rad_lane.specs.Lawful.{IsLawful, NoRepeatWithinSpan}
-use Rattle.rad_lane.specs.Standing.{Stands, HasRoom}
+use Rattle.rad_lane.specs.Lawful.{IsLawful}
+use Rattle.rad_lane.specs.Standing.{Stands}
 
 no_items : {X : Type 0} (xs : List X) → length xs ≡ 0 → xs ≡ []
 no_items [] e = refl

@@ -1,9 +1,9 @@
 -- Lists of numbers, and of what has them.
-use Rattle.std.proofs.Common.{◌≡◌, ℕ, zero, suc, ◌+◌, ◌-◌, ◌≤◌, ◌<◌, List, [], ◌∷◌, ◌++◌, length, take, Option, Some, None, refl, sym, ap, ◌∙◌, arith, add-zero, add-one, length-append}
+use Rattle.std.proofs.Common.{◌≡◌, ℕ, zero, suc, ◌+◌, ◌-◌, ◌≤◌, List, [], ◌∷◌, ◌++◌, length, take, Option, None, refl, sym, ap, ◌∙◌, arith, add-zero, add-one, length-append}
 use Rattle.std.specs.Prelude.{map as each, slice_get}
 use Rattle.std.specs.Option.{option_flatten}
 use Rattle.std.specs.List.{range_with_len}
-use Rattle.std.proofs.lemmas.List.{length-map, map-append, take-append-le}
+use Rattle.std.proofs.lemmas.List.{map-append, take-append-le}
 
 pub range_more : (from count : ℕ) → range_with_len from (count + 1) ≡ range_with_len from count ++ (from + count) ∷ []
 range_more from zero = rw add-zero refl

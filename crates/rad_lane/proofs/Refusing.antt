@@ -1,8 +1,8 @@
 -- Why a packet from the home server is not heard.
-use Rattle.std.proofs.Common.{◌≡◌, ℕ, List, Bool, Some, false, refl, sym, ap, ◌∙◌, subst}
+use Rattle.std.proofs.Common.{◌≡◌, ℕ, List, Bool, Some, false, sym, ap, ◌∙◌, subst}
 use Rattle.std.specs.Prelude.{IsTrue}
 use Rattle.std.specs.FinMap as map
-use Rattle.rad_packet.specs.Packet.{code_of, identifier_of, authenticator_of}
+use Rattle.rad_packet.specs.Packet.{code_of, authenticator_of}
 use Rattle.rad_packet.specs.Reading.{ReadsAs}
 use Rattle.rad_auth.specs.Authenticator.{IsRightResponse}
 use Rattle.rad_auth.specs.Refusing.{RefusesReply}

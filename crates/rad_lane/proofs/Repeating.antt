@@ -1,14 +1,13 @@
 -- What a request repeats, as it is found by the last number of its key.
-use Rattle.std.proofs.Common.{◌≡◌, ℕ, ◌+◌, ◌-◌, ◌≤◌, ◌<◌, List, [], ◌∷◌, ◌++◌, Bool, true, false, cond, Option, Some, None, refl, sym, ap, ◌∙◌, arith}
+use Rattle.std.proofs.Common.{◌≡◌, ℕ, Option, Some, None, refl, sym, ap, ◌∙◌}
 use Rattle.std.specs.Prelude.{option_map}
 use Rattle.std.specs.FinMap as map
 use Rattle.rad_tables.specs.declared.duplicates.Key.{Key}
 use Rattle.rad_tables.specs.Keys.{key_cmp}
 use Rattle.rad_lane.specs.declared.stamp.Stamp.{Stamp}
-use Rattle.rad_lane.specs.Outstanding.{AnswerKept}
 use Rattle.rad_lane.specs.Book.{Book}
-use Rattle.rad_lane.specs.Repeat.{Repeats, fresh, repeats, repeats_last, repeats_answered, of_key, last_of, answer_to}
-use Rattle.rad_lane.specs.Standing.{last_number, place_in, at_place}
+use Rattle.rad_lane.specs.Repeat.{fresh, repeats, repeats_last, repeats_answered, of_key, last_of, answer_to}
+use Rattle.rad_lane.specs.Standing.{last_number}
 
 none_last : (book : Book) (now : ℕ) (last : Option Stamp) → option_map (λ (s : Stamp). s.number) last ≡ None → fresh ≡ repeats_last book now last
 none_last book now None h = refl

@@ -1,5 +1,5 @@
 -- A lane in which the same requests are outstanding as before is lawful still.
-use Rattle.std.proofs.Common.{◌≡◌, ℕ, ◌+◌, ◌<◌, ◌≤◌, Bool, true, false, cond, List, [], ◌∷◌, ◌++◌, length, Option, Some, None, refl, sym, ap, ◌∙◌, subst, arith}
+use Rattle.std.proofs.Common.{◌≡◌, ℕ, ◌≤◌, Bool, true, false, cond, List, Option, Some, None, refl, sym, ap, ◌∙◌, subst}
 use Rattle.std.specs.Prelude.{map as each, option_map}
 use Rattle.std.specs.Ordering.{eq_by_cmp}
 use Rattle.std.specs.FinMap as map
@@ -12,15 +12,14 @@ use Rattle.rad_tables.proofs.SlotLemmas.{slots_total, tied, itself}
 use Rattle.rad_lane.specs.declared.entry.Entry.{Entry}
 use Rattle.rad_lane.specs.declared.entry.Entry.TheVariants.{Sending as sending, Probe as probe}
 use Rattle.rad_lane.specs.declared.watch.Watch.{Watch}
-use Rattle.rad_lane.specs.declared.watch.Watch.TheVariants.{Up as up, Down as down}
 use Rattle.rad_lane.specs.Stamp.{Recorded, Kept, IsRecord}
 use Rattle.rad_lane.specs.Outstanding.{Outstanding, AnswerKept}
 use Rattle.rad_lane.specs.Setup.{LaneSetup, IsOfItsRealms}
-use Rattle.rad_lane.specs.Book.{Book, outstanding_at}
+use Rattle.rad_lane.specs.Book.{Book}
 use Rattle.rad_lane.specs.Lawful.{IsLawful, ProbeStands}
 use Rattle.rad_lane.specs.Standing.{Stands, book_of}
 use Rattle.rad_lane.specs.declared.stamp.Stamp.{Stamp}
-use Rattle.rad_lane.specs.Steps.{octets_of, freed}
+use Rattle.rad_lane.specs.Steps.{octets_of}
 use Rattle.rad_lane.specs.Timing.{begun_anew}
 use Rattle.rad_lane.proofs.Held.{stamps_in, as_many, probe_comes, probe_leaves, sending_stays, all_anew}
 use Rattle.rad_lane.proofs.Passed.{passed_later, verified_later}

@@ -1,5 +1,5 @@
 -- A lane that sent a request for the first time is lawful still.
-use Rattle.std.proofs.Common.{◌≡◌, ℕ, suc, ◌+◌, ◌-◌, ◌<◌, ◌≤◌, Bool, true, false, cond, List, [], ◌∷◌, ◌++◌, length, take, Option, Some, None, refl, sym, ap, ◌∙◌, subst, arith, append_assoc, length-append}
+use Rattle.std.proofs.Common.{◌≡◌, ℕ, ◌+◌, ◌-◌, ◌<◌, ◌≤◌, Bool, true, false, cond, List, [], ◌∷◌, ◌++◌, length, take, Option, Some, None, refl, sym, ap, ◌∙◌, subst, arith, append_assoc, length-append}
 use Rattle.std.specs.Prelude.{map as each, All}
 use Rattle.std.specs.Ordering.{eq_by_cmp}
 use Rattle.std.specs.FinMap as map
@@ -24,7 +24,6 @@ use Rattle.rad_lane.specs.Dues.{NoneDue, outstanding_count, table_of}
 use Rattle.rad_lane.specs.Lawful.{IsLawful, ForwardsItsRecord, ProbeStands}
 use Rattle.rad_lane.specs.Standing.{Stands, HasRoom, IsTheLanes, book_of}
 use Rattle.rad_lane.specs.declared.stepping.Action.TheVariants.{Sent}
-use Rattle.rad_lane.specs.Accepts.{Datagrams}
 use Rattle.rad_lane.specs.Steps.{StepsUp, first_sending, octets_of, with_sending}
 use Rattle.rad_lane.proofs.Held.{stamps_in, sending_comes, one_more}
 use Rattle.rad_lane.proofs.Passed.{passed_later, verified_later}

@@ -1,5 +1,5 @@
 -- A packet's text reads as itself alone.
-use Rattle.std.proofs.Common.{◌≡◌, ℕ, ◌+◌, ◌<◌, ◌≤◌, List, [], ◌∷◌, ◌++◌, length, get_or, refl, sym, ap, ◌∙◌, arith, length-append}
+use Rattle.std.proofs.Common.{◌≡◌, ℕ, ◌<◌, List, [], ◌∷◌, ◌++◌, length, sym, ap, ◌∙◌, arith, length-append}
 use Rattle.std.proofs.lemmas.List.{get_or_append_left, append-nil}
 use Rattle.rad_packet.specs.Packet.{IsPacketText, length_of}
 use Rattle.rad_packet.specs.Reading.{ReadsAs, Refuses}

@@ -1,5 +1,5 @@
 -- Whether a sending is due, as the slots tell it.
-use Rattle.std.proofs.Common.{◌≡◌, ℕ, ◌+◌, ◌<◌, ◌≤◌, Bool, true, false, Option, Some, None, ◌⊎◌, inl, inr, refl, sym, ap, ◌∙◌, subst, arith}
+use Rattle.std.proofs.Common.{◌≡◌, ℕ, ◌<◌, ◌≤◌, Bool, true, false, Option, Some, None, inl, inr, refl, sym, ap, ◌∙◌, subst, arith}
 use Rattle.std.specs.Prelude.{nat_le, option_map, min, List}
 use Rattle.std.specs.FinMap as map
 use Rattle.std.proofs.lemmas.Bool.Decides.{leb_tells}
@@ -10,11 +10,9 @@ use Rattle.rad_lane.specs.declared.entry.Entry.{Entry}
 use Rattle.rad_lane.specs.declared.entry.Entry.TheVariants.{Sending as sending, Probe as probe}
 use Rattle.rad_lane.specs.declared.stepping.Action.TheVariants.{Idle}
 use Rattle.rad_lane.specs.declared.stepping.Turn.TheVariants.{Later}
-use Rattle.rad_lane.specs.declared.watch.Watch.{Watch}
 use Rattle.rad_lane.specs.declared.watch.Watch.TheVariants.{Up as up}
 use Rattle.rad_lane.specs.Book.{Book, outstanding_at}
-use Rattle.rad_lane.specs.Accepts.{Datagrams}
-use Rattle.rad_lane.specs.Dues.{is_spent, NoneDue, NoneOutstanding, IsLeastOfAll, as_moment}
+use Rattle.rad_lane.specs.Dues.{is_spent, NoneDue, IsLeastOfAll, as_moment}
 use Rattle.rad_lane.specs.Lawful.{ProbeStands}
 use Rattle.rad_lane.specs.Standing.{IsTheLanes}
 use Rattle.rad_lane.specs.Steps.{StepsUp, NothingToSend}

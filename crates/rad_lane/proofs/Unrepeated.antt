@@ -1,6 +1,6 @@
 -- A request that repeats none comes a span after the answer to the last one of its key, or is the first of it.
-use Rattle.std.proofs.Common.{◌≡◌, ℕ, zero, suc, ◌+◌, ◌≤◌, ◌<◌, List, [], ◌∷◌, ◌++◌, length, get_or, Bool, true, false, cond, leb, ltb, Option, Some, None, ◌⊎◌, inl, inr, Ordering, refl, sym, ap, ◌∙◌, arith}
-use Rattle.std.specs.Prelude.{filter, All, AllPairs, nat_lt}
+use Rattle.std.proofs.Common.{◌≡◌, ℕ, zero, suc, ◌+◌, ◌≤◌, ◌<◌, List, [], ◌∷◌, length, get_or, Bool, true, false, cond, Option, Some, None, ◌⊎◌, inl, inr, Ordering, refl, sym, ap, ◌∙◌, arith}
+use Rattle.std.specs.Prelude.{nat_lt}
 use Rattle.std.specs.Ordering.{is_eq}
 use Rattle.std.specs.declared.cmp.Ordering.TheVariants.{Less, Equal, Greater}
 use Rattle.std.specs.Cmp.{eq_by_cmp_equiv}
@@ -13,7 +13,7 @@ use Rattle.rad_lane.specs.declared.stamp.Stamp.{Stamp}
 use Rattle.rad_lane.specs.Stamp.{key_of}
 use Rattle.rad_lane.specs.Outstanding.{AnswerKept}
 use Rattle.rad_lane.specs.Book.{Book}
-use Rattle.rad_lane.specs.Repeat.{Repeats, fresh, waits, again, repeats, repeats_last, repeats_answered, of_key, last_of, answer_to}
+use Rattle.rad_lane.specs.Repeat.{fresh, again, repeats, repeats_last, repeats_answered, of_key, last_of, answer_to}
 use Rattle.rad_lane.specs.Lawful.{IsLawful, NoRepeatWithinSpan}
 
 abbrev has_key : Key → Stamp → Bool

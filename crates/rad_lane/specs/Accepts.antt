@@ -1,6 +1,6 @@
 -- What accepting a request may answer, and the book after it (own). The first case that applies is answered;
 -- want of memory comes last and is the only free choice. A refusal leaves book and datagram.
-use Rattle.std.specs.Prelude.{◌≡◌, ℕ, ◌+◌, ◌^◌, ◌<◌, ◌≤◌, ◌⊎◌, List, [], ◌∷◌, ◌++◌, length, Option, Some, None, IsSome, IsNone, Result, Ok, Err}
+use Rattle.std.specs.Prelude.{◌≡◌, ℕ, ◌^◌, ◌<◌, ◌≤◌, ◌⊎◌, List, [], ◌∷◌, ◌++◌, length, IsSome, IsNone, Result, Ok, Err}
 use Rattle.rad_packet.specs.Packet.{identifier_of, authenticator_of}
 use Rattle.rad_realms.specs.Checking.{Request}
 use Rattle.rad_tables.specs.declared.duplicates.Key.{Key}
@@ -12,7 +12,7 @@ use Rattle.rad_lane.specs.declared.accepting.Refusal.TheVariants.{Draining, Book
 use Rattle.rad_lane.specs.Stamp.{Recorded}
 use Rattle.rad_lane.specs.Book.{Book, moment_in, next_number}
 use Rattle.rad_lane.specs.Setup.{IsOfItsRealms}
-use Rattle.rad_lane.specs.Repeat.{Repeats, fresh, waits, again, repeats}
+use Rattle.rad_lane.specs.Repeat.{fresh, waits, again, repeats}
 
 abbrev pub request_key : Request → Key
 request_key request = record {

@@ -1,5 +1,5 @@
 -- What a lane's counts are, and when it is done (own).
-use Rattle.std.specs.Prelude.{◌≡◌, ℕ, List, [], length, Option, IsSome, is_some, Bool, true, false}
+use Rattle.std.specs.Prelude.{◌≡◌, [], length, IsSome, is_some, Bool, true, false}
 use Rattle.rad_lane.specs.declared.counts.Counts.{Counts}
 use Rattle.rad_lane.specs.declared.watch.Watch.{Watch}
 use Rattle.rad_lane.specs.declared.watch.Watch.TheVariants.{Up as up, Down as down}

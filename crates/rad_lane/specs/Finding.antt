@@ -1,5 +1,4 @@
 -- What a lane finds of a request that it may have seen (own). No public clause cites this module.
-use Rattle.std.specs.Prelude.{ℕ}
 use Rattle.rad_lane.specs.declared.repeats.Repeat.{Repeat}
 use Rattle.rad_lane.specs.declared.repeats.Repeat.TheVariants.{Fresh, Waits, Answered}
 use Rattle.rad_lane.specs.Repeat.{Repeats, fresh, waits, again}

@@ -1,13 +1,12 @@
 -- What hearing a datagram from the home server may answer, and the book after it (own). The first case that
 -- applies is answered; want of memory comes last. A refusal leaves the book.
-use Rattle.std.specs.Prelude.{◌≡◌, ◌≢◌, ℕ, ◌+◌, List, [], ◌∷◌, ◌++◌, Option, Some, None, Result, Ok, Err}
+use Rattle.std.specs.Prelude.{◌≡◌, ◌≢◌, ℕ, ◌+◌, List, [], ◌∷◌, ◌++◌, Some, None, Result, Ok, Err}
 use Rattle.std.specs.FinMap as map
 use Rattle.rad_packet.specs.Packet.{code_of, identifier_of, authenticator_of}
 use Rattle.rad_packet.specs.Reading.{ReadsAs, Refuses}
 use Rattle.rad_auth.specs.Authenticator.{IsRightResponse}
 use Rattle.rad_auth.specs.Answers.{Answers}
 use Rattle.rad_auth.specs.Refusing.{RefusesReply}
-use Rattle.rad_auth.specs.Replied.{Replied}
 use Rattle.rad_auth.specs.declared.responding.ReplyFault.TheVariants as reply
 use Rattle.rad_tables.specs.declared.slots.Slot.{Slot}
 use Rattle.rad_lane.specs.declared.hearing.Heard.{Heard}

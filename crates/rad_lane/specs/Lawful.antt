@@ -1,18 +1,15 @@
 -- The lawful book (own): what a biller may rely on, whatever came in and in whatever order.
-use Rattle.std.specs.Prelude.{◌≡◌, ℕ, ◌+◌, ◌<◌, ◌≤◌, List, ◌++◌, length, map as each, All, AllPairs, Option, Some, None, IfSome}
+use Rattle.std.specs.Prelude.{◌≡◌, ℕ, ◌+◌, ◌<◌, ◌≤◌, List, ◌++◌, length, map as each, All, AllPairs, Some, None, IfSome}
 use Rattle.std.specs.List.{range_with_len}
-use Rattle.std.specs.List.Sorted.{IsPermutation, IsNonDecreasing, IsStrictlyIncreasing}
+use Rattle.std.specs.List.Sorted.{IsPermutation, IsStrictlyIncreasing}
 use Rattle.std.specs.FinMap as map
-use Rattle.rad_auth.specs.declared.mark.Mark.{Mark}
-use Rattle.rad_auth.specs.Forwarding.{forwarded}
 use Rattle.rad_auth.specs.Answers.{Answers}
 use Rattle.rad_tables.specs.declared.slots.Slot.{Slot}
 use Rattle.rad_lane.specs.declared.stamp.Stamp.{Stamp}
-use Rattle.rad_lane.specs.Stamp.{Recorded, IsRecord, key_of}
+use Rattle.rad_lane.specs.Stamp.{IsRecord, key_of}
 use Rattle.rad_lane.specs.Setup.{LaneSetup, IsOfItsRealms}
 use Rattle.rad_lane.specs.Outstanding.{Outstanding, AnswerKept, answered_record}
-use Rattle.rad_lane.specs.declared.entry.Entry.{Entry}
-use Rattle.rad_lane.specs.declared.entry.Entry.TheVariants.{Sending as sending, Probe as probe}
+use Rattle.rad_lane.specs.declared.entry.Entry.TheVariants.{Probe as probe}
 use Rattle.rad_lane.specs.declared.watch.Watch.{Watch}
 use Rattle.rad_lane.specs.declared.watch.Watch.TheVariants.{Up as up, Down as down}
 use Rattle.rad_lane.specs.Book.{Book, next_number, outstanding_at}

@@ -1,6 +1,5 @@
 -- What was sent and is not answered, and what was answered (own).
 use Rattle.std.specs.Prelude.{◌≡◌, ℕ, ◌<◌, ◌≤◌, List}
-use Rattle.rad_auth.specs.declared.mark.Mark.{Mark}
 use Rattle.rad_auth.specs.Forwarding.{forwarded}
 use Rattle.rad_auth.specs.Answers.{Answers}
 use Rattle.rad_auth.specs.Replied.{Replied}

@@ -1,7 +1,7 @@
 -- Repeats of a request (RFC 2866 section 3, Identifier, for the client's address and port and the Identifier;
 -- the authenticator in the key and the span counted from the answer are own). A NAS that hears no answer
 -- sends again; to bill once, the proxy must know that it is the same request.
-use Rattle.std.specs.Prelude.{◌≡◌, ℕ, ◌+◌, ◌==◌, List, [], ◌∷◌, filter, find, Option, Some, None, nat_lt, if◌then◌else◌}
+use Rattle.std.specs.Prelude.{ℕ, ◌+◌, ◌==◌, List, [], ◌∷◌, filter, find, Option, Some, None, nat_lt, if◌then◌else◌}
 use Rattle.std.specs.Ordering.{is_eq}
 use Rattle.rad_tables.specs.declared.duplicates.Key.{Key}
 use Rattle.rad_tables.specs.Keys.{key_cmp}

@@ -1,15 +1,15 @@
 -- What a lane keeps, and how it is the book. No public clause cites this module.
-use Rattle.std.specs.Prelude.{◌≡◌, ℕ, ◌+◌, ◌-◌, ◌^◌, ◌<◌, ◌≤◌, List, length, take, slice_get, map as each, All, Option, Some, None, IfSome, option_map, option_and_then}
+use Rattle.std.specs.Prelude.{◌≡◌, ℕ, ◌+◌, ◌-◌, ◌^◌, ◌<◌, ◌≤◌, List, length, take, slice_get, map as each, All, Option, Some, IfSome, option_map, option_and_then}
 use Rattle.std.specs.Option.{option_flatten}
 use Rattle.std.specs.FinMap as map
 use Rattle.rad_tables.specs.declared.duplicates.Key.{Key}
 use Rattle.rad_tables.specs.Keys.{key_cmp}
 use Rattle.rad_tables.specs.declared.slots.Slot.{Slot}
-use Rattle.rad_tables.specs.Pairs.{slot_cmp, Table}
+use Rattle.rad_tables.specs.Pairs.{Table}
 use Rattle.rad_lane.specs.declared.stamp.Stamp.{Stamp}
 use Rattle.rad_lane.specs.declared.entry.Entry.{Entry}
 use Rattle.rad_lane.specs.declared.watch.Watch.{Watch}
-use Rattle.rad_lane.specs.Stamp.{Recorded, Kept}
+use Rattle.rad_lane.specs.Stamp.{Kept}
 use Rattle.rad_lane.specs.Outstanding.{Outstanding, AnswerKept}
 use Rattle.rad_lane.specs.Setup.{LaneSetup}
 use Rattle.rad_lane.specs.Book.{Book, next_number, outstanding_at}

@@ -1,11 +1,10 @@
 -- What a step may do, and the book after it (own): the first case that applies. A step never refuses.
-use Rattle.std.specs.Prelude.{◌≡◌, ℕ, ◌+◌, ◌<◌, ◌≤◌, ◌⊎◌, min, List, [], ◌∷◌, ◌++◌, Option, Some, None, true, false}
+use Rattle.std.specs.Prelude.{◌≡◌, ◌≢◌, ⊤, ℕ, ◌+◌, ◌<◌, ◌≤◌, ◌⊎◌, min, List, [], ◌∷◌, ◌++◌, Option, Some, None, true, false}
 use Rattle.std.specs.FinMap as map
-use Rattle.rad_auth.specs.declared.mark.Mark.{Mark}
 use Rattle.rad_auth.specs.Forwarding.{forwarded}
 use Rattle.rad_auth.specs.Status.{status_server}
 use Rattle.rad_tables.specs.declared.slots.Slot.{Slot}
-use Rattle.rad_tables.specs.Pairs.{slot_cmp, Table, IsFirstFree}
+use Rattle.rad_tables.specs.Pairs.{slot_cmp, IsFirstFree}
 use Rattle.rad_tables.specs.Waiting.{wait_of}
 use Rattle.rad_lane.specs.declared.stepping.Action.{Action}
 use Rattle.rad_lane.specs.declared.stepping.Action.TheVariants.{Sent, Resent, Probed, WentDown, WentUp, Idle}
@@ -120,3 +119,12 @@ StepsBy (down until next out) old now random action d new = StepsDown old now ra
 
 abbrev pub Steps : Book → ℕ → List ℕ → Action → Datagrams → Book → Type 0
 Steps old moment random action d new = StepsBy old.watch old (moment_in old moment) random action d new
+
+-- A pair that is allotted is another than the one allotted before it.
+abbrev pub AllotsAnother : Book → Action → Type 0
+AllotsAnother old (Sent number slot) = old.allotted ≢ Some slot
+AllotsAnother old (Probed slot) = old.allotted ≢ Some slot
+AllotsAnother old (Resent number slot) = ⊤
+AllotsAnother old WentDown = ⊤
+AllotsAnother old WentUp = ⊤
+AllotsAnother old (Idle moment) = ⊤

@@ -1,13 +1,13 @@
 //! What a lane does by itself, one thing at a time.
 
-ghost use Rattle.std.specs.Prelude.{◌≡◌, ◌≤◌, Some, None, IsSome, option_map, false, true};
+ghost use Rattle.std.specs.Prelude.{◌≡◌, ◌≢◌, ◌≤◌, Some, None, IsSome, option_map, false, true};
 ghost use Rattle.std.specs.Bool.{OnTrue, OnFalse};
 ghost use Rattle.std.specs.FinMap as map;
 ghost use Rattle.rad_tables.specs.Pairs.{IsFirstFree, IsInRange};
 ghost use Rattle.rad_lane.specs.declared.watch.Watch.TheVariants.{Up as up, Down as down};
 ghost use Rattle.rad_lane.specs.Accepts.{Datagrams};
 ghost use Rattle.rad_lane.specs.Dues.{NoneDue, as_moment};
-ghost use Rattle.rad_lane.specs.Steps.{Steps, StepsUp, NothingToSend};
+ghost use Rattle.rad_lane.specs.Steps.{AllotsAnother, Steps, StepsUp, NothingToSend};
 ghost use Rattle.rad_lane.specs.Timing.{Turns, IsTheNext, MaySend, due_in, earlier as the_earlier};
 
 use crate::{Entry, Lane, Record, Sending, Setup, Watch};
@@ -45,7 +45,8 @@ impl<Q: Fifo<Record>> Lane<Q> {
     ///
     /// It takes no memory. It looks at each outstanding sending twice at most; going up changes each of them.
     pub fn step(&mut self, moment: Moment, random: [u8; 16], datagram: &mut Datagram) -> Action
-        ensures { Steps self.old moment random result (record { before = datagram.old; after = datagram.new }) self.new }
+        ensures steps { Steps self.old moment random result (record { before = datagram.old; after = datagram.new }) self.new }
+        ensures another { AllotsAnother self.old result }
     {
         let now = self.moment_of(moment);
         match self.watch {
@@ -72,7 +73,8 @@ impl<Q: Fifo<Record>> Lane<Q> {
     fn step_up(&mut self, now: Moment, datagram: &mut Datagram) -> Action
         requires is_up { self.old.watch ≡ up }
         requires later { self.old.last ≤ now }
-        ensures { StepsUp self.old now result (record { before = datagram.old; after = datagram.new }) self.new }
+        ensures steps { StepsUp self.old now result (record { before = datagram.old; after = datagram.new }) self.new }
+        ensures another { AllotsAnother self.old result }
     {
         let fresh = match self.turn(false, now) {
             Turn::Now(slot) => return self.resend(slot, now, datagram),
@@ -116,7 +118,8 @@ impl<Q: Fifo<Record>> Lane<Q> {
         requires is_up { self.old.watch ≡ up }
         requires later { self.old.last ≤ now }
         requires next { IsTheNext self.old now false slot }
-        ensures { StepsUp self.old now result (record { before = datagram.old; after = datagram.new }) self.new }
+        ensures steps { StepsUp self.old now result (record { before = datagram.old; after = datagram.new }) self.new }
+        ensures another { AllotsAnother self.old result }
     {
         let first_wait = self.setup.limits().numbers().first_wait;
         let number = match self.slots.get_mut(slot) {
@@ -134,7 +137,8 @@ impl<Q: Fifo<Record>> Lane<Q> {
         requires fresh { NoneDue self.old now false }
         requires spent { NoneDue self.old now true }
         requires may { MaySend self.old }
-        ensures { StepsUp self.old now result (record { before = datagram.old; after = datagram.new }) self.new }
+        ensures steps { StepsUp self.old now result (record { before = datagram.old; after = datagram.new }) self.new }
+        ensures another { AllotsAnother self.old result }
     {
         let slot = free_slot(&self.slots, &self.setup);
         let record = self.queued.pop_front().unwrap();
@@ -171,6 +175,7 @@ pub(crate) fn free_slot(slots: &Slots<Entry>, setup: &Setup) -> Slot
     ensures free { IsFirstFree slots.now result }
     ensures in_range { IsInRange slots.now.ports result }
     ensures few { setup.now.limits.window ≤ 254 }
+    ensures another { slots.now.allotted ≢ Some result }
 {
     let pairs = 256 * usize::from(setup.ports());
     let window = setup.limits().numbers().window as usize;

@@ -1,6 +1,6 @@
 //! Whether the home server answers, and the probes that find it out (RFC 5997).
 
-ghost use Rattle.std.specs.Prelude.{◌≡◌, ◌+◌, ◌≤◌, ℕ, None};
+ghost use Rattle.std.specs.Prelude.{◌≡◌, ◌≢◌, ◌+◌, ◌≤◌, ℕ, None, Some};
 ghost use Rattle.rad_lane.specs.declared.watch.Watch.TheVariants.{Up as up, Down as down};
 ghost use Rattle.rad_lane.specs.Dues.{ComesUp, GoesUp};
 ghost use Rattle.rad_lane.specs.Steps.{Probes, freed};
@@ -112,7 +112,8 @@ impl<Q: Fifo<Record>> Lane<Q> {
     ) -> Slot
         requires later { self.old.last ≤ now }
         requires is_down { (next : ℕ) × (self.old.watch ≡ down until next out) }
-        ensures { Probes self.old now random until out result (record { before = datagram.old; after = datagram.new }) self.new }
+        ensures probes { Probes self.old now random until out result (record { before = datagram.old; after = datagram.new }) self.new }
+        ensures another { self.old.allotted ≢ Some result }
     {
         free(&mut self.slots, out);
         let slot = free_slot(&self.slots, &self.setup);

@@ -1,5 +1,3 @@
-use Rattle.std.proofs.Common.{◌≡◌, ◌∙◌, ◌++◌, ◌∷◌, [], None}
-use Rattle.std.specs.FinMap as map
 use Rattle.rad_lane.proofs.Accepted.{stands_accepted}
 use Rattle.rad_lane.proofs.lane.Lane.keep.Goals as goal
 

@@ -1,5 +1,3 @@
-use Rattle.std.proofs.Common.{ℕ, ◌≡◌, ◌<◌, ◌^◌, Some}
-use Rattle.std.specs.Prelude.{SomeIff}
 use Rattle.rad_lane.proofs.Beginning.{stands_empty}
 use Rattle.rad_lane.proofs.lane.Lane.new.Goals as goal
 

@@ -1,7 +1,3 @@
-use Rattle.rad_tables.specs.Pairs.{Table}
-use Rattle.std.proofs.Common.{◌≡◌, Some, None, ap, ◌∙◌, subst, sym}
-use Rattle.std.specs.FinMap as map
-use Rattle.rad_lane.specs.Steps.{freed}
 use Rattle.rad_lane.proofs.Watched.{few_free, stands_probed}
 use Rattle.rad_lane.proofs.lane.Lane.probe.Goals as goal
 

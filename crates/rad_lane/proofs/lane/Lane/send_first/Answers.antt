@@ -1,4 +1,4 @@
-use Rattle.std.proofs.Common.{◌≡◌, ap, sym, ◌∙◌, arith}
+use Rattle.std.proofs.Common.{ap, sym, ◌∙◌, arith}
 use Rattle.std.specs.FinMap as map
 use Rattle.std.proofs.lemmas.List.Elements.{All-head}
 use Rattle.rad_lane.specs.Book.{Book}
@@ -32,8 +32,8 @@ invariant_of-self g c =
     rw (c.put.ensures, c.first-sending.ensures.sending)
     (stands_sent _ _ _ c.unwrap-record.result (g.Q.Fifo.items c.pop_front.new.self) _ _ c.self.inside.slots _ _ _ c.args.now c.free_slot-slot.result _ same c.requires.later c.requires.is_up free c.requires.may.room _ _ _ _ stands)
 
-pub returns : goal.returns
-returns g c =
+pub returns-clause-steps : goal.returns-clause-steps
+returns-clause-steps g c =
     let queue = rw c.unwrap-record.ensures at c.pop_front.ensures.items in
     let same = rw queue at c.self.view_is in
     let stands = rw queue at c.self.invariant in

@@ -1,4 +1,4 @@
-use Rattle.std.proofs.Common.{◌≡◌, ap, sym, ◌∙◌, subst, List, ℕ}
+use Rattle.std.proofs.Common.{ap, sym, ◌∙◌, subst, List, ℕ}
 use Rattle.rad_auth.specs.Mark.{EndsWithMark}
 use Rattle.rad_auth.specs.declared.mark.Mark.{Mark}
 use Rattle.rad_auth.proofs.Forwards.{forwarded-ends}

@@ -1,4 +1,4 @@
-use Rattle.std.proofs.Common.{◌≡◌, ap, sym, ◌∙◌, subst}
+use Rattle.std.proofs.Common.{ap, sym, ◌∙◌, subst}
 use Rattle.rad_packet.specs.Packet.{IsPacketText}
 use Rattle.rad_auth.proofs.Forwards.{forwarded-packet}
 use Rattle.rad_lane.specs.Outstanding.{Outstanding}
