@@ -8,6 +8,7 @@ pub mod Passed
 pub mod Realms
 pub mod Refusing
 pub mod Repeating
+pub mod OneMore
 pub mod Resting
 pub mod Sent
 pub mod Turning

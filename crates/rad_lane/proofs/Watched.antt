@@ -18,8 +18,9 @@ use Rattle.rad_lane.specs.Outstanding.{Outstanding, AnswerKept}
 use Rattle.rad_lane.specs.Book.{Book}
 use Rattle.rad_lane.specs.Dues.{renewed, outstanding_count, GoesUp}
 use Rattle.rad_lane.specs.Lawful.{ProbeStands}
-use Rattle.rad_lane.specs.Standing.{Stands, book_of}
+use Rattle.rad_lane.specs.Standing.{Stands, book_of, left_of}
 use Rattle.rad_lane.specs.Steps.{freed}
+use Rattle.rad_lane.specs.Closes.{Left, Leaves, but_a_probe}
 use Rattle.rad_lane.specs.Timing.{begun_anew, probe_of, once_more, IfSending}
 use Rattle.rad_lane.proofs.Held.{as_many, all_sendings}
 use Rattle.rad_lane.proofs.Resting.{AreTheSame, unchanged, the_same_after, resent_same, freed_same, probed_same, anew_same, put_there, rested, stands_as}
@@ -48,6 +49,25 @@ module _ (book : Book) where
   few_left : (watch : Watch) → ProbeStands book watch → map.len (freed book.held (probe_of watch)) ≡ outstanding_count book
   few_left watch apart =
       sym (all_sendings (freed book.held (probe_of watch)) (none_left watch apart)) ∙ as_many book.held (freed book.held (probe_of watch)) (free_same watch apart).stamps
+
+  left_none : (o : Option Entry) → ((octets : List ℕ) → o ≡ Some (probe octets) → ⊥) → o ≡ but_a_probe o
+  left_none None h = refl
+  left_none (Some (sending entry)) h = refl
+  left_none (Some (probe octets)) h = absurd (h octets refl)
+
+  left_by : (b : Bool) (old : Option Entry) (octets : List ℕ) → (b ≡ true → old ≡ Some (probe octets)) → ((other : List ℕ) → old ≡ Some (probe other) → b ≡ true) → cond b None old ≡ but_a_probe old
+  left_by true old octets here h = ap but_a_probe (sym (here refl))
+  left_by false old octets here h = left_none old (λ other is. let at = h other is in cc)
+
+  -- what stands under each pair, once the probe's is free
+  left_freed : (watch : Watch) → ProbeStands book watch → (slot : Slot) → map.get (freed book.held (probe_of watch)) slot ≡ but_a_probe (map.get book.held slot)
+  left_freed up apart slot = left_none (map.get book.held slot) (apart slot)
+  left_freed (down until next None) apart slot = left_none (map.get book.held slot) (apart slot)
+  left_freed (down until next (Some out)) apart slot =
+      map.get-remove slots_total book.held out slot
+      ∙ left_by (eq_by_cmp slot_cmp slot out) (map.get book.held slot) apart.0.0
+      (λ h. ap (map.get book.held) (tied slot out h) ∙ apart.0.1)
+      (λ other there. itself slot out (apart.1 slot other there))
 
   module _ (now : ℕ) where
     anew_none : (o : Option Entry) → ((octets : List ℕ) → o ≡ Some (probe octets) → ⊥) → option_map (begun_anew now) o ≡ renewed now o
@@ -178,6 +198,28 @@ module _ (setup : LaneSetup) (opening : ℕ) (accepted : List Stamp) (kept : Lis
           (resent_same slots.entries slot entry (once_more now first entry) there refl refl refl refl)
           (subst (λ w. ProbeStands (rested before (map.insert slots.entries slot (sending (once_more now first entry))) slots.allotted watch now) w) (sym up_here) (no_probe_beside slots.entries slot (once_more now first entry) none))
           )
+
+  -- what is left once the probe's pair is free
+  module _ (value : Book) (is : before ≡ value) (ports : ℕ) (numbers : map.FinMap key_cmp ℕ) (cells : List (Option ℕ)) (count : ℕ) (s : Stands before kept ports numbers cells count) where
+    pub leaves_freed : (its : slots.ports ≡ ports) (out : Option Slot) → out ≡ probe_of watch → (free : Table Entry) → free ≡ record slots { entries = freed slots.entries out } → (lane : ℕ) → lane ≡ setup.lane → (left : Left) → left ≡ left_of lane opening accepted kept answered free → Leaves value left
+    leaves_freed its out out_is free free_is lane lane_is left left_is =
+        let here : Leaves before left = record {
+          lane = ap (λ (l : Left). l.lane) left_is ∙ lane_is;
+          opening = ap (λ (l : Left). l.opening) left_is;
+          accepted = ap (λ (l : Left). l.accepted) left_is;
+          sent = ap (λ (l : Left). l.sent) left_is;
+          queued = ap (λ (l : Left). l.queued) left_is;
+          answered = ap (λ (l : Left). l.answered) left_is;
+          outstanding = λ slot.
+              ap (λ (l : Left). map.get l.outstanding.entries slot) left_is
+              ∙ ap (λ (t : Table Entry). map.get t.entries slot) free_is
+              ∙ ap (λ o. map.get (freed slots.entries o) slot) out_is
+              ∙ left_freed before watch s.lawful.probe_apart slot;
+          ports =
+              ap (λ (l : Left). l.outstanding.ports) left_is
+              ∙ ap (λ (t : Table Entry). t.ports) free_is ∙ its ∙ s.ports_are;
+        } in
+        subst (λ (b : Book). Leaves b left) is here
 
 pub again_is : (x new : Entry) (entry : Outstanding) (now first : ℕ) → Some x ≡ Some (sending entry) → IfSending x (λ e. new ≡ sending (once_more now first e)) → new ≡ sending (once_more now first entry)
 again_is (sending e) new entry now first same h = let one : e ≡ entry = cc in h ∙ ap (λ (o : Outstanding). sending (once_more now first o)) one

@@ -12,7 +12,9 @@ pub mod Steps
 pub mod Timing
 pub mod Hearing
 pub mod Hears
+pub mod Runs
 pub mod Lawful
 pub mod Counting
+pub mod Closes
 pub mod Finding
 pub mod Standing

@@ -16,6 +16,7 @@ use Rattle.rad_lane.specs.Book.{Book, next_number, outstanding_at}
 use Rattle.rad_lane.specs.Repeat.{of_key, last_of, answer_to}
 use Rattle.rad_lane.specs.Dues.{outstanding_count}
 use Rattle.rad_lane.specs.Lawful.{IsLawful}
+use Rattle.rad_lane.specs.Closes.{Left}
 
 -- The book: those sent are all that were accepted but the queued ones.
 abbrev pub book_of : LaneSetup → ℕ → List Stamp → List Kept → List AnswerKept → ℕ → Table Entry → Option ℕ → Watch → ℕ → Book
@@ -32,6 +33,18 @@ book_of setup opening accepted kept answered served slots drain watch last = rec
   drain = drain;
   watch = watch;
   last = last;
+}
+
+-- What is left of a lane: of those accepted, all but the queued ones were sent.
+abbrev pub left_of : ℕ → ℕ → List Stamp → List Kept → List AnswerKept → Table Entry → Left
+left_of lane opening accepted kept answered outstanding = record {
+  lane = lane;
+  opening = opening;
+  accepted = accepted;
+  sent = take (length accepted - length kept) accepted;
+  queued = each (λ k. k.recorded) kept;
+  answered = answered;
+  outstanding = outstanding;
 }
 
 -- The place of the answer to the request of a number, if it is answered: the cells begin at the opening.

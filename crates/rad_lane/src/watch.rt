@@ -131,7 +131,7 @@ impl<Q: Fifo<Record>> Lane<Q> {
 }
 
 /// Takes a probe out.
-fn free(slots: &mut Slots<Entry>, probe: Option<Slot>)
+pub(crate) fn free(slots: &mut Slots<Entry>, probe: Option<Slot>)
     ensures { slots.new ≡ record slots.old { entries = freed slots.old.entries probe } }
 {
     if let Some(slot) = probe {

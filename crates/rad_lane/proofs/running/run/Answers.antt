@@ -1,0 +1,22 @@
+use Rattle.std.proofs.Common.{[], ◌∙◌, arith}
+use Rattle.std.specs.Prelude.{replicate}
+use Rattle.rad_packet.specs.Packet.{packet_text}
+use Rattle.rad_lane.specs.declared.running.Given.{Given}
+use Rattle.rad_lane.proofs.OneMore.{takes_here, runs_on, came_on, gives_stays}
+use Rattle.rad_lane.proofs.running.run.Goals as goal
+
+pub give-answer-requires : goal.give-answer-requires
+give-answer-requires g c =
+    takes_here (packet_text 0 0 (replicate 16 0) []) c.args.events.now c.loop-event.event-index c.event-item.result c.loop-event-test.true c.event-item.is
+    c.args.lane.now c.loop-event.lane c.loop-event.invariant.setup c.requires
+
+pub loop-event-preserved : goal.loop-event-preserved
+loop-event-preserved g c =
+    let given : Given = record { answer = c.give-answer.result; datagram = c.copy_of.result } in
+    record {
+      runs = runs_on _ c.args.events.now c.loop-event.event-index c.event-item.result c.loop-event-test.true c.event-item.is _ _ _ _ _ given c.push_reserved.ensures.items _ c.loop-event.invariant.datagram _ c.copy_of.ensures c.loop-event.invariant.runs c.give-answer.ensures;
+      datagram = came_on _ c.args.events.now c.loop-event.event-index c.event-item.result c.loop-event-test.true c.event-item.is c.args.lane.now c.loop-event.lane c.give-answer.new.lane _ _ given c.push_reserved.ensures.items _ c.loop-event.invariant.datagram _ c.copy_of.ensures;
+      setup = gives_stays _ _ _ _ _ c.give-answer.ensures ∙ c.loop-event.invariant.setup;
+      count = grind (arith, c.push_reserved.ensures.len, c.loop-event.invariant.count);
+      room = grind (arith, c.push_reserved.ensures.capacity, c.loop-event.invariant.room);
+    }

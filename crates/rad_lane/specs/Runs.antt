@@ -1,0 +1,40 @@
+-- A run of events over a lane (own): each event in order, from the book and the datagram that the one before it
+-- left.
+use Rattle.std.specs.Prelude.{◌≡◌, ⊤, ℕ, List, [], ◌∷◌, All}
+use Rattle.rad_lane.specs.declared.running.Event.{Event}
+use Rattle.rad_lane.specs.declared.running.Event.TheVariants.{Accept as accept, Step as step, Hear as hear, Drain as drain}
+use Rattle.rad_lane.specs.declared.running.GivenAnswer.{GivenAnswer}
+use Rattle.rad_lane.specs.declared.running.GivenAnswer.TheVariants.{Accept as accepted, Step as stepped, Hear as heard, Drain as drained}
+use Rattle.rad_lane.specs.declared.running.Given.{Given}
+use Rattle.rad_lane.specs.Book.{Book}
+use Rattle.rad_lane.specs.Accepts.{Accepts, Datagrams, IsTaken}
+use Rattle.rad_lane.specs.Steps.{Steps}
+use Rattle.rad_lane.specs.Hears.{Hears}
+use Rattle.rad_lane.specs.Drains.{Drains}
+
+-- What one event may answer, and the datagram and the book after it.
+abbrev pub Gives : Book → Event → GivenAnswer → Datagrams → Book → Type 0
+Gives old (accept request moment) (accepted result) d new = Accepts old request.now moment result d new
+Gives old (step moment random) (stepped action) d new = Steps old moment random action d new
+Gives old (hear moment port datagram) (heard result) d new = Hears old moment port datagram.now result new × (d.after ≡ d.before)
+Gives old drain (drained count) d new = Drains old count new × (d.after ≡ d.before)
+Gives old event answer d new = ⊥
+
+-- There is one answer for each event.
+abbrev pub Runs : Book → List ℕ → List Event → List Given → Book → Type 0
+Runs old before [] [] new = new ≡ old
+Runs old before (event ∷ events) (given ∷ gives) new =
+    (next : Book) × Gives old event given.answer (record { before = before; after = given.datagram }) next
+    × Runs next given.datagram events gives new
+Runs old before [] (given ∷ gives) new = ⊥
+Runs old before (event ∷ events) [] new = ⊥
+
+-- The lane takes the request of an event that has one.
+abbrev pub TakesEvent : Book → Event → Type 0
+TakesEvent book (accept request moment) = IsTaken book request.now
+TakesEvent book (step moment random) = ⊤
+TakesEvent book (hear moment port datagram) = ⊤
+TakesEvent book drain = ⊤
+
+abbrev pub TakesEach : Book → List Event → Type 0
+TakesEach book events = All (TakesEvent book) events

@@ -1,0 +1,111 @@
+use crate::rows::Rows;
+use crate::{Answered, Entry, Record, Stamp};
+use block_queue::Fifo;
+use rad_tables::Slots;
+use std::marker::Model;
+
+/// What is left of a lane: all that its book held when it was closed.
+#[derive(Drop)]
+pub struct Leftover<Q: Fifo<Record>> {
+    lane: u16,
+    opening: u64,
+    accepted: Rows<Stamp>,
+    answered: Rows<Answered>,
+    outstanding: Slots<Entry>,
+    queued: Q,
+}
+
+impl<Q: Fifo<Record>> Model for Leftover<Q> {
+    ghost use Rattle.std.specs.Prelude.{◌≤◌, length};
+    ghost use Rattle.std.specs.Coded.{codes};
+    ghost use Rattle.std.specs.FinMap as map;
+    ghost use Rattle.rad_tables.specs.Pairs.{slot_cmp, coded_slot};
+    ghost use Rattle.rad_lane.specs.contracts.entry.Entry as entry;
+    ghost use Rattle.rad_lane.specs.Closes.{Left};
+    ghost use Rattle.rad_lane.specs.Standing.{left_of};
+
+    ghost Value = { Left };
+
+    ghost coded = { Prim.hlevel (codes, map.code {R = slot_cmp} coded_slot entry.the_row.coded) };
+
+    ghost view = { λ l. left_of l.lane l.opening l.accepted.items (Q.items l.queued) l.answered.items l.outstanding };
+
+    ghost invariant = { λ l. length (Q.items l.queued) ≤ length l.accepted.items };
+}
+
+impl<Q: Fifo<Record>> Leftover<Q> {
+    ghost use Rattle.std.specs.Prelude.{◌≡◌, ◌≤◌, length, map as each};
+    ghost use Rattle.rad_lane.specs.Standing.{left_of};
+
+    /// What a lane leaves.
+    pub(crate) fn new(
+        lane: u16,
+        opening: u64,
+        accepted: Rows<Stamp>,
+        answered: Rows<Answered>,
+        outstanding: Slots<Entry>,
+        queued: Q,
+    ) -> Leftover<Q>
+        requires { length (Q.items queued) ≤ length accepted.items }
+        ensures { result ≡ left_of lane opening accepted.items (Q.items queued) answered.items outstanding }
+    {
+        Leftover {
+            lane,
+            opening,
+            accepted,
+            answered,
+            outstanding,
+            queued,
+        }
+    }
+
+    /// The lane's number.
+    pub fn lane(&self) -> u16
+        ensures { result ≡ self.now.lane }
+    {
+        self.lane
+    }
+
+    /// The number of the first request that is still held.
+    pub fn opening(&self) -> u64
+        ensures { result ≡ self.now.opening }
+    {
+        self.opening
+    }
+
+    /// The stamps of the requests accepted, in order.
+    pub fn accepted(&self) -> &[Stamp]
+        ensures { result.now ≡ self.now.accepted }
+    {
+        self.accepted.as_slice()
+    }
+
+    /// The stamps of those that were sent, in order.
+    pub fn sent(&self) -> &[Stamp]
+        ensures { result.now ≡ self.now.sent }
+    {
+        let accepted = self.accepted();
+        &accepted[..accepted.len() - self.queued.len()]
+    }
+
+    /// The answers, in order.
+    pub fn answered(&self) -> &[Answered]
+        ensures { result.now ≡ self.now.answered }
+    {
+        self.answered.as_slice()
+    }
+
+    /// What was sent and not answered, under its pairs. There is no probe among them.
+    pub fn outstanding(&self) -> &Slots<Entry>
+        ensures { result.now ≡ self.now.outstanding }
+    {
+        &self.outstanding
+    }
+
+    /// The records that were never sent, in order.
+    pub fn queued(&self) -> &Q
+        ensures { each (λ k. k.recorded) (Q.items result.now) ≡ self.now.queued }
+    {
+        &self.queued
+    }
+}
