@@ -11,13 +11,13 @@ use block_queue::Fifo;
 use rad_packet::Datagram;
 use rad_realms::Checked;
 use rad_tables::Moment;
-use std::alloc::{AllocError, Global};
+use std::alloc::Global;
 
 /// A call of a lane.
 #[derive(Drop)]
-pub enum Event<'a> {
+pub enum Event<'a, 'c> {
     /// To accept a request at a moment.
-    Accept(&'a Checked<'a>, Moment),
+    Accept(&'a Checked<'c>, Moment),
     /// To step at a moment, with octets for a probe's Authenticator.
     Step(Moment, [u8; 16]),
     /// To hear at a moment what came to a source port from the home server.
@@ -64,15 +64,14 @@ pub enum RunFault {
 pub fn run<Q: Fifo<Record>>(
     alloc: Global,
     lane: &mut Lane<Q>,
-    events: &[Event<'_>],
+    events: &[Event<'_, '_>],
 ) -> Result<Vec<Given>, RunFault>
     requires { TakesEach lane.old events.now }
     ensures runs { IfOk result (λ gives. Runs lane.old (packet_text 0 0 (replicate 16 0) []) events.now gives.items lane.new) }
     ensures stays { OnErr result (lane.new ≡ lane.old) }
 {
-    let mut gives = match Vec::with_capacity(alloc, events.len()) {
-        Ok(gives) => gives,
-        Err(AllocError) => return Err(RunFault::OutOfMemory),
+    let Ok(mut gives) = Vec::with_capacity(alloc, events.len()) else {
+        return Err(RunFault::OutOfMemory);
     };
     let mut datagram = Datagram::new();
     for event in events {
@@ -89,7 +88,7 @@ pub fn run<Q: Fifo<Record>>(
 fn give<Q: Fifo<Record>>(
     alloc: Global,
     lane: &mut Lane<Q>,
-    event: &Event<'_>,
+    event: &Event<'_, '_>,
     datagram: &mut Datagram,
 ) -> GivenAnswer
     requires { TakesEvent lane.old event.now }

@@ -1,6 +1,8 @@
 //! What no clause says: that a lane takes requests where memory is ample, and that each reason not to comes up.
 
 mod requests;
+mod run_lane;
+mod runs;
 mod test_lane;
 
 use crate::{Counts, Refusal, Stamp, Taken};

@@ -106,13 +106,13 @@ impl TestLane {
     pub fn end(self) {}
 }
 
-fn config(alloc: Global, more: &str) -> Result<Config, Fail> {
+pub fn config(alloc: Global, more: &str) -> Result<Config, Fail> {
     let mut text = String::from_str(alloc, TEXT)?;
     text.push_str(more)?;
     Ok(read_config(alloc, text.as_str())?)
 }
 
-fn lane(alloc: Global, config: &Config, number: u16) -> Result<Lane<PlainQueue<Record>>, Fail> {
+pub fn lane(alloc: Global, config: &Config, number: u16) -> Result<Lane<PlainQueue<Record>>, Fail> {
     if usize::from(number) >= config.homes().len() {
         return Err(Fail::from("a home server"));
     }
