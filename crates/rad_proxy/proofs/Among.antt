@@ -17,10 +17,10 @@ use Rattle.rad_proxy.specs.Lanes.{StepsAmong, IsEmptyAt}
 use Rattle.rad_proxy.specs.Path.{AcceptsAmong, IsOfNoLane}
 
 -- what is read at a place is there
-read_there : (books : List Book) (place lane : ℕ) (other : Book) → place ≡ lane → place < length books
-    → slice_get books lane ≡ Some (get_or books place other)
-read_there books place lane other at within =
-    subst (λ k. slice_get books k ≡ Some (get_or books place other)) at (slice_get-get_or books place other within)
+pub read_there : {A : Type 0} (items : List A) (place lane : ℕ) (other : A) → place ≡ lane → place < length items
+    → slice_get items lane ≡ Some (get_or items place other)
+read_there items place lane other at within =
+    subst (λ k. slice_get items k ≡ Some (get_or items place other)) at (slice_get-get_or items place other within)
 
 pub accepts_among : (old : List Book) (request : Request) (moment : ℕ) (outcome : Result Taken Refusal) (d : Datagrams) (place : ℕ) (other after : Book)
     → place ≡ request.lane → place < length old → IsTaken (get_or old place other) request → Accepts (get_or old place other) request moment outcome d after
@@ -50,15 +50,15 @@ steps_among old lane moment random action d place other after at within steps = 
   others = subst (λ k. set old place after ≡ set old k after) at refl;
 }
 
--- one book more changes none of those before it
-pub there_still : (books more : List Book) (k : ℕ) (book : Book) → slice_get books k ≡ Some book → slice_get (books ++ more) k ≡ Some book
-there_still [] more k book h = absurd (none-some book h)
-there_still (first ∷ books) more zero book h = h
-there_still (first ∷ books) more (suc k) book h = there_still books more k book h
+-- one item more changes none of those before it
+pub there_still : {A : Type 0} (items more : List A) (k : ℕ) (item : A) → slice_get items k ≡ Some item → slice_get (items ++ more) k ≡ Some item
+there_still [] more k item h = absurd (none-some item h)
+there_still (first ∷ items) more zero item h = h
+there_still (first ∷ items) more (suc k) item h = there_still items more k item h
 
-pub last_there : (books : List Book) (book : Book) → slice_get (books ++ book ∷ []) (length books) ≡ Some book
-last_there [] book = refl
-last_there (first ∷ books) book = last_there books book
+pub last_there : {A : Type 0} (items : List A) (item : A) → slice_get (items ++ item ∷ []) (length items) ≡ Some item
+last_there [] item = refl
+last_there (first ∷ items) item = last_there items item
 
 pub still_empty : (config : Configuration) (books more : List Book) (k : ℕ) → IsEmptyAt config books k → IsEmptyAt config (books ++ more) k
 still_empty config books more k e = record {

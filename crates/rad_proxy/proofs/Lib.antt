@@ -1,1 +1,3 @@
 pub mod Among
+pub mod LastSent
+pub mod Waiting

@@ -5,9 +5,13 @@ use Rattle.rad_lane.specs.declared.accepting.Taken.TheVariants.{New, Waiting, Ag
 use Rattle.rad_lane.specs.declared.accepting.Refusal.TheVariants as refusal
 use Rattle.rad_lane.specs.declared.stepping.Action.{Action}
 use Rattle.rad_lane.specs.declared.stepping.Action.TheVariants.{Sent, Resent, Probed, WentDown, WentUp, Idle}
-use Rattle.rad_proxy.specs.Lines.{request_text}
-use Rattle.rad_proxy.specs.Names.{dropped_name, refusal_name}
+use Rattle.rad_lane.specs.declared.outgoing.Outgoing.{Outgoing}
+use Rattle.rad_proxy.specs.Lines.{request_text, goal_text}
+use Rattle.rad_proxy.specs.Names.{dropped_name, home_fault_name, refusal_name}
 use Rattle.rad_proxy.specs.PacketText.{head_text, packet_text}
+use Rattle.rad_proxy.specs.declared.hearing.HomeFault.{HomeFault}
+use Rattle.rad_proxy.specs.declared.hearing.Told.{Told}
+use Rattle.rad_proxy.specs.declared.hearing.Told.TheVariants.{Answer, ProbeAnswered}
 use Rattle.rad_proxy.specs.declared.path.Given.{Given}
 use Rattle.rad_proxy.specs.declared.path.Given.TheVariants.{Taken, Answered}
 use Rattle.rad_proxy.specs.declared.path.PathFault.{PathFault}
@@ -33,3 +37,15 @@ action_text WentDown octets = codes "step: down"
 action_text WentUp octets = codes "step: up"
 action_text (Idle None) octets = codes "step: idle"
 action_text (Idle (Some next)) octets = codes "step: idle " ++ decimal next
+
+-- What became of a datagram of a lane's home server.
+abbrev pub told_text : ℕ → Result Told HomeFault → List ℕ
+told_text lane (Ok (Answer serial)) = codes "home: answer " ++ request_text lane serial
+told_text lane (Ok ProbeAnswered) = codes "home: probe"
+told_text lane (Err fault) = codes "home: dropped " ++ home_fault_name fault
+
+-- What was taken of the responses that wait, with whom it goes to.
+abbrev pub taken_text : Option Outgoing → List ℕ
+taken_text None = codes "take: none"
+taken_text (Some response) =
+    codes "take: " ++ goal_text response.client response.port ++ codes " " ++ packet_text response.reply.response

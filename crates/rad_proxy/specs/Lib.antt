@@ -1,8 +1,10 @@
 pub mod Answers
+pub mod Hearing
 pub mod Hex
 pub mod Lanes
 pub mod Lines
 pub mod Names
+pub mod Outlets
 pub mod PacketText
 pub mod Path
 pub mod Pieces

@@ -2,7 +2,7 @@
 use Rattle.std.specs.Prelude.{ℕ, List, ◌++◌, codes, Some, None}
 use Rattle.std.specs.Fmt.{decimal}
 use Rattle.rad_lane.specs.declared.counts.Counts.{Counts}
-use Rattle.rad_proxy.specs.Names.{dropped_name, refusal_name, watch_name, mode_name}
+use Rattle.rad_proxy.specs.Names.{address_text, dropped_name, home_fault_name, refusal_name, watch_name, mode_name}
 use Rattle.rad_proxy.specs.PacketText.{parts_text, attributes_text}
 use Rattle.rad_proxy.specs.declared.lines.HeadLine.{HeadLine}
 use Rattle.rad_proxy.specs.declared.lines.PacketLine.{PacketLine}
@@ -10,6 +10,10 @@ use Rattle.rad_proxy.specs.declared.lines.NasLine.{NasLine}
 use Rattle.rad_proxy.specs.declared.lines.NasLine.TheVariants.{New, Waiting, Again, Status, Dropped, Refused}
 use Rattle.rad_proxy.specs.declared.lines.StepLine.{StepLine}
 use Rattle.rad_proxy.specs.declared.lines.StepLine.TheVariants.{Sent, Resent, Probed, Down, Up, Idle}
+use Rattle.rad_proxy.specs.declared.lines.HomeLine.{HomeLine}
+use Rattle.rad_proxy.specs.declared.lines.HomeLine.TheVariants as home
+use Rattle.rad_proxy.specs.declared.lines.TakeLine.{TakeLine}
+use Rattle.rad_proxy.specs.declared.lines.TakeLine.TheVariants as take
 use Rattle.rad_proxy.specs.declared.lines.DrainLine.{DrainLine}
 use Rattle.rad_proxy.specs.declared.lines.StateLine.{StateLine}
 use Rattle.rad_proxy.specs.declared.lines.EndLine.{EndLine}
@@ -21,7 +25,7 @@ head_line line = parts_text line.code line.identifier line.length
 abbrev pub packet_line : PacketLine → List ℕ
 packet_line line = head_line line.head ++ codes " " ++ attributes_text line.attributes.0.now
 
--- A request by its lane and its number.
+-- A lane with a number: of a request, or of a response.
 abbrev pub request_text : ℕ → ℕ → List ℕ
 request_text lane number = decimal lane ++ codes " " ++ decimal number
 
@@ -41,6 +45,19 @@ step_line Down = codes "step: down"
 step_line Up = codes "step: up"
 step_line (Idle None) = codes "step: idle"
 step_line (Idle (Some next)) = codes "step: idle " ++ decimal next
+
+abbrev pub home_line : HomeLine → List ℕ
+home_line (home.Answer lane serial) = codes "home: answer " ++ request_text lane serial
+home_line home.Probe = codes "home: probe"
+home_line (home.Dropped fault) = codes "home: dropped " ++ home_fault_name fault
+
+-- To whom a response goes: an address and a port.
+abbrev pub goal_text : List ℕ → ℕ → List ℕ
+goal_text address port = address_text address ++ codes " " ++ decimal port
+
+abbrev pub take_line : TakeLine → List ℕ
+take_line (take.Response client port packet) = codes "take: " ++ goal_text client port ++ codes " " ++ packet_line packet
+take_line take.Nothing = codes "take: none"
 
 abbrev pub drain_line : DrainLine → List ℕ
 drain_line line = codes "drain: " ++ decimal line.lane ++ codes " " ++ decimal line.count

@@ -1,5 +1,5 @@
--- The names of the faults, as they are printed.
-use Rattle.std.specs.Prelude.{ℕ, List, ◌++◌, codes, suc, zero, Bool, true, false}
+-- What is printed as one word: addresses, and the names of the faults.
+use Rattle.std.specs.Prelude.{ℕ, List, ◌++◌, codes, slice_index, suc, zero, Bool, true, false}
 use Rattle.std.specs.Fmt.{decimal}
 use Rattle.rad_packet.specs.declared.faults.ReadFault.{ReadFault}
 use Rattle.rad_packet.specs.declared.faults.ReadFault.TheVariants.{Short, BadLength, Truncated, BadAttribute}
@@ -7,6 +7,16 @@ use Rattle.rad_realms.specs.declared.faults.Dropped.{Dropped}
 use Rattle.rad_realms.specs.declared.faults.Dropped.TheVariants.{UnknownClient, Unread, WrongCode, BadAuthenticator, BadMessageAuthenticator, MessageAuthenticatorHere, NoRealm}
 use Rattle.rad_lane.specs.declared.accepting.Refusal.{Refusal}
 use Rattle.rad_lane.specs.declared.accepting.Refusal.TheVariants.{Draining, BookFull, QueueFull, TooLong, OutOfMemory, WrongLane}
+use Rattle.rad_lane.specs.declared.hearing.HearFault.{HearFault}
+use Rattle.rad_lane.specs.declared.hearing.HearFault.TheVariants as hear
+use Rattle.rad_proxy.specs.declared.hearing.HomeFault.{HomeFault}
+use Rattle.rad_proxy.specs.declared.hearing.HomeFault.TheVariants as home
+
+-- An IPv4 address in dotted decimal.
+abbrev pub address_text : List ℕ → List ℕ
+address_text octets =
+    decimal (slice_index octets 0) ++ codes "." ++ decimal (slice_index octets 1) ++ codes "."
+    ++ decimal (slice_index octets 2) ++ codes "." ++ decimal (slice_index octets 3)
 
 abbrev pub read_fault_name : ReadFault → List ℕ
 read_fault_name Short = codes "Short"
@@ -30,6 +40,20 @@ refusal_name QueueFull = codes "QueueFull"
 refusal_name TooLong = codes "TooLong"
 refusal_name OutOfMemory = codes "OutOfMemory"
 refusal_name WrongLane = codes "WrongLane"
+
+abbrev pub hear_fault_name : HearFault → List ℕ
+hear_fault_name (hear.Unread fault) = codes "Unread " ++ read_fault_name fault
+hear_fault_name hear.WrongCode = codes "WrongCode"
+hear_fault_name hear.Unknown = codes "Unknown"
+hear_fault_name hear.BadAuthenticator = codes "BadAuthenticator"
+hear_fault_name hear.MessageAuthenticatorHere = codes "MessageAuthenticatorHere"
+hear_fault_name hear.NoProxyState = codes "NoProxyState"
+hear_fault_name hear.OutOfMemory = codes "OutOfMemory"
+
+abbrev pub home_fault_name : HomeFault → List ℕ
+home_fault_name home.RingFull = codes "RingFull"
+home_fault_name home.OutOfMemory = codes "OutOfMemory"
+home_fault_name (home.Unheard fault) = hear_fault_name fault
 
 -- Whether a home server is up.
 abbrev pub watch_name : Bool → List ℕ

@@ -4,25 +4,57 @@ ghost use Rattle.std.specs.Prelude.{◌≤◌, OnOk, length, vec_len};
 
 use crate::events::{Changes, Make, Packet, Template};
 use crate::faults::Halt;
-use rad_auth::{MESSAGE_AUTHENTICATOR, STATUS_SERVER, Secret, make_status, request_authenticator};
-use rad_packet::{Datagram, read};
+use crate::sent::LastSent;
+use rad_auth::{
+    MESSAGE_AUTHENTICATOR, STATUS_SERVER, Secret, make_status, request_authenticator,
+    response_authenticator,
+};
+use rad_packet::{Datagram, PacketRef, read};
 use std::alloc::AllocError;
 
 /// The Authenticator of a Status-Server that is made.
 const STATUS_AUTHENTICATOR: [u8; 16] = [0xa5; 16];
 
-/// The octets of a NAS's datagram, in place of what `octets` had. What is made is right under the
-/// secret, where there is one.
-pub fn build(
-    packet: &Packet<'_>,
-    secret: Option<&Secret>,
-    octets: &mut Vec<u8>,
-) -> Result<(), Halt> {
+/// Who sends a datagram.
+#[derive(Clone, Copy)]
+pub enum Sender<'a> {
+    /// A NAS, with its client's secret, where its address is a client's.
+    Nas(Option<&'a Secret>),
+    /// A home server, with its secret, which answers what its lane sent last.
+    Home(&'a Secret, &'a LastSent),
+}
+
+impl Sender<'_> {
+    /// The secret that it signs with, where it has one.
+    fn secret(&self) -> Option<&Secret> {
+        match self {
+            Sender::Nas(secret) => *secret,
+            Sender::Home(secret, _) => Some(*secret),
+        }
+    }
+
+    /// The Authenticator of its packet (RFC 2866 section 3): a Request Authenticator of a NAS, or zeros
+    /// without a secret; a Response Authenticator of a home server, for the packet that was sent to it last
+    /// under the packet's Identifier.
+    fn authenticator_of(&self, packet: &PacketRef<'_>) -> [u8; 16] {
+        match self {
+            Sender::Nas(None) => [0; 16],
+            Sender::Nas(Some(secret)) => request_authenticator(packet, secret),
+            Sender::Home(secret, sent) => {
+                let answered = sent.authenticator(packet.identifier());
+                response_authenticator(packet, &answered, secret)
+            }
+        }
+    }
+}
+
+/// The octets of a datagram, in place of what `octets` had. What is made is right for its sender.
+pub fn build(packet: &Packet<'_>, sender: Sender<'_>, octets: &mut Vec<u8>) -> Result<(), Halt> {
     octets.clear();
     match packet {
         Packet::Raw(raw) => raw.push_to(octets)?,
         Packet::Made(template, changes) => {
-            write_template(template, secret, octets)?;
+            write_template(template, sender, octets)?;
             if changes.spoil {
                 spoil(template, octets);
             }
@@ -34,22 +66,18 @@ pub fn build(
 
 fn write_template(
     template: &Template<'_>,
-    secret: Option<&Secret>,
+    sender: Sender<'_>,
     octets: &mut Vec<u8>,
 ) -> Result<(), AllocError>
     ensures { OnOk result (20 ≤ vec_len octets.new) }
 {
     match template {
-        Template::Make(make) => write_made(make, secret, octets),
-        Template::Status { identifier } => write_status(*identifier, secret, octets),
+        Template::Make(make) => write_made(make, sender, octets),
+        Template::Status { identifier } => write_status(*identifier, sender.secret(), octets),
     }
 }
 
-fn write_made(
-    make: &Make<'_>,
-    secret: Option<&Secret>,
-    octets: &mut Vec<u8>,
-) -> Result<(), AllocError>
+fn write_made(make: &Make<'_>, sender: Sender<'_>, octets: &mut Vec<u8>) -> Result<(), AllocError>
     ensures { OnOk result (20 ≤ vec_len octets.new) }
 {
     let attributes = &make.attributes;
@@ -59,9 +87,7 @@ fn write_made(
     octets.extend_from_slice(&length)?;
     octets.extend_from_slice(&[0; 16])?;
     attributes.push_to(octets)?;
-    if let Some(secret) = secret {
-        sign(octets, secret);
-    }
+    sign(octets, sender);
     Ok(())
 }
 
@@ -85,11 +111,11 @@ fn write_status(
     octets.extend_from_slice(status.bytes())
 }
 
-/// Sets the Authenticator to the Request Authenticator (RFC 2866 section 3). Octets that read as no packet
-/// stay: they are dropped before anyone looks at their Authenticator.
-fn sign(octets: &mut [u8], secret: &Secret) {
+/// Sets the Authenticator to the sender's. Octets that read as no packet stay: they are dropped before
+/// anyone looks at their Authenticator.
+fn sign(octets: &mut [u8], sender: Sender<'_>) {
     let authenticator = match read(octets) {
-        Ok(packet) => request_authenticator(&packet, secret),
+        Ok(packet) => sender.authenticator_of(&packet),
         Err(_) => return,
     };
     octets[4..20].copy_from_slice(&authenticator);

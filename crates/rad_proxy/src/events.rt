@@ -15,6 +15,15 @@ pub enum Event<'a> {
         port: u16,
         packet: Packet<'a>,
     },
+    /// A datagram comes from the home server of a lane.
+    Home {
+        lane: u16,
+        packet: Packet<'a>,
+    },
+    /// The first response that waits at a lane is taken.
+    Take {
+        lane: u16,
+    },
     /// A lane is to do its next step.
     Step {
         lane: u16,
@@ -80,6 +89,10 @@ impl<'a> Event<'a> {
         let mut words = Pieces::new(line, b' ');
         let event = match words.next()? {
             b"nas" => parse_nas(&mut words)?,
+            b"home" => parse_home(&mut words)?,
+            b"take" => Event::Take {
+                lane: parse_u16(words.next()?)?,
+            },
             b"step" => Event::Step {
                 lane: parse_u16(words.next()?)?,
             },
@@ -106,6 +119,15 @@ fn parse_nas<'a>(words: &mut Pieces<'a>) -> Option<Event<'a>> {
         port,
         packet,
     })
+}
+
+/// A home server sends no Status-Server.
+fn parse_home<'a>(words: &mut Pieces<'a>) -> Option<Event<'a>> {
+    let lane = parse_u16(words.next()?)?;
+    match parse_packet(words)? {
+        Packet::Made(Template::Status { .. }, _) => None,
+        packet => Some(Event::Home { lane, packet }),
+    }
 }
 
 fn parse_packet<'a>(words: &mut Pieces<'a>) -> Option<Packet<'a>> {

@@ -3,9 +3,11 @@
 ghost use Rattle.std.specs.Prelude.{◌≡◌, IfOk};
 ghost use Rattle.rad_lane.specs.Dues.{outstanding_count};
 ghost use Rattle.rad_proxy.specs.Lanes.{AreEmpty, StepsAt, all_of, queued_of};
+ghost use Rattle.rad_proxy.specs.Outlets.{waiting_in};
 ghost use Rattle.rad_lane.specs.Accepts.{Datagrams};
 
 use crate::lines::EndLine;
+use crate::outlets::{Outlet, count_waiting};
 use block_queue::PlainQueue;
 use rad_lane::{Action, Lane, Record, Setup, SetupFault};
 use rad_packet::Datagram;
@@ -54,11 +56,12 @@ pub fn step(
     Some(lane.step(moment, random, datagram))
 }
 
-/// How many requests of all lanes are left: those never sent, and those sent and not answered.
-pub fn left_over(lanes: &[HomeLane]) -> EndLine
+/// What is left of all lanes: the requests never sent, those sent and not answered, and the responses that
+/// wait to be taken.
+pub fn left_over(lanes: &[HomeLane], outlets: &[Outlet]) -> EndLine
     ensures queued { result.queued ≡ all_of queued_of lanes.now }
     ensures outstanding { result.outstanding ≡ all_of outstanding_count lanes.now }
-    ensures untaken { result.untaken ≡ 0 }
+    ensures untaken { result.untaken ≡ waiting_in outlets.now }
 {
     let mut queued = 0_usize;
     let mut outstanding = 0_usize;
@@ -70,6 +73,6 @@ pub fn left_over(lanes: &[HomeLane]) -> EndLine
     EndLine {
         queued,
         outstanding,
-        untaken: 0,
+        untaken: count_waiting(outlets),
     }
 }

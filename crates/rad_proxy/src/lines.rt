@@ -1,8 +1,12 @@
 //! The lines that `replay` prints.
 
-use crate::names::{DroppedText, ModeText, RefusalText, WatchText};
+ghost use Rattle.std.specs.Prelude.{◌≡◌, ◌≤◌, length};
+
+use crate::hearing::{HomeFault, Told};
+use crate::names::{AddressText, DroppedText, HomeFaultText, ModeText, RefusalText, WatchText};
 use crate::path::{Given, PathFault};
-use rad_lane::{Action, Counts, Refusal, Taken};
+use rad_auth::Reply;
+use rad_lane::{Action, Counts, Outgoing, Refusal, Taken};
 use rad_realms::Dropped;
 use rad_tables::Moment;
 use std::fmt;
@@ -68,6 +72,30 @@ pub enum StepLine<'a> {
     Up,
     /// Nothing, until this moment or until something comes.
     Idle(Option<Moment>),
+}
+
+/// What a home server's datagram came to.
+#[derive(Clone, Copy)]
+pub enum HomeLine {
+    /// It answers a request of this lane, and the response has this serial.
+    Answer { lane: u16, serial: u64 },
+    /// It answers the probe.
+    Probe,
+    /// It was dropped.
+    Dropped(HomeFault),
+}
+
+/// What was taken of the responses that wait.
+#[derive(Drop)]
+pub enum TakeLine<'a> {
+    /// This one, which goes to this client's port.
+    Response {
+        client: [u8; 4],
+        port: u16,
+        packet: PacketLine<'a>,
+    },
+    /// None waits.
+    Nothing,
 }
 
 /// That a lane takes no more requests.
@@ -192,6 +220,53 @@ impl<'a> StepLine<'a> {
     }
 }
 
+impl HomeLine {
+    ghost use Rattle.std.specs.Prelude.{◌≡◌};
+    ghost use Rattle.rad_proxy.specs.Lines.{home_line};
+    ghost use Rattle.rad_proxy.specs.Answers.{told_text};
+
+    /// Of what became of a datagram of a lane's home server.
+    pub fn new(lane: u16, outcome: Result<Told, HomeFault>) -> Self
+        ensures { home_line result ≡ told_text lane outcome }
+    {
+        match outcome {
+            Ok(Told::Answer(serial)) => HomeLine::Answer { lane, serial },
+            Ok(Told::ProbeAnswered) => HomeLine::Probe,
+            Err(fault) => HomeLine::Dropped(fault),
+        }
+    }
+}
+
+impl<'a> TakeLine<'a> {
+    ghost use Rattle.std.specs.Prelude.{◌≡◌};
+    ghost use Rattle.std.specs.Option.{option_copied};
+    ghost use Rattle.rad_proxy.specs.Lines.{take_line};
+    ghost use Rattle.rad_proxy.specs.Answers.{taken_text};
+
+    /// Of the response that was taken, where one was.
+    pub fn new(taken: Option<&'a Outgoing>) -> Self
+        ensures { take_line result ≡ taken_text (option_copied taken.entry) }
+    {
+        match taken {
+            Some(response) => TakeLine::Response {
+                client: response.client,
+                port: response.port,
+                packet: PacketLine::new(response_of(&response.reply)),
+            },
+            None => TakeLine::Nothing,
+        }
+    }
+}
+
+/// The octets of a response. That they are a packet is kept by its type, and told with its head.
+fn response_of(reply: &Reply) -> &[u8]
+    ensures value { result.now ≡ reply.now.response }
+    ensures packet { 20 ≤ length result.now }
+{
+    let _head = reply.head();
+    reply.response()
+}
+
 impl EndLine {
     ghost use Rattle.std.specs.Prelude.{◌≡◌, ◌↔◌, IsTrue};
 
@@ -293,6 +368,45 @@ impl fmt::Display for StepLine<'_> {
                 let next = next.get();
                 write!(f, "step: idle {next}")
             }
+        }
+    }
+}
+
+impl fmt::Display for HomeLine {
+    ghost use Rattle.std.specs.Prelude.{Some};
+    ghost use Rattle.rad_proxy.specs.Lines.{home_line};
+
+    ghost output = { λ line. Some (home_line line) };
+
+    fn fmt<W: fmt::Write>(&self, f: &mut fmt::Formatter<W>) -> fmt::Result {
+        match self {
+            HomeLine::Answer { lane, serial } => write!(f, "home: answer {lane} {serial}"),
+            HomeLine::Probe => write!(f, "home: probe"),
+            HomeLine::Dropped(fault) => {
+                let fault = HomeFaultText(*fault);
+                write!(f, "home: dropped {fault}")
+            }
+        }
+    }
+}
+
+impl fmt::Display for TakeLine<'_> {
+    ghost use Rattle.std.specs.Prelude.{Some};
+    ghost use Rattle.rad_proxy.specs.Lines.{take_line};
+
+    ghost output = { λ line. Some (take_line line) };
+
+    fn fmt<W: fmt::Write>(&self, f: &mut fmt::Formatter<W>) -> fmt::Result {
+        match self {
+            TakeLine::Response {
+                client,
+                port,
+                packet,
+            } => {
+                let client = AddressText(*client);
+                write!(f, "take: {client} {port} {packet}")
+            }
+            TakeLine::Nothing => write!(f, "take: none"),
         }
     }
 }

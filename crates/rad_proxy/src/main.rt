@@ -5,14 +5,17 @@ mod building;
 mod checking;
 mod events;
 mod faults;
+mod hearing;
 mod hex;
 mod lanes;
 mod lines;
 mod names;
+mod outlets;
 mod path;
 mod pieces;
 mod replaying;
 mod script;
+mod sent;
 #[cfg(test)]
 mod tests;
 mod words;

@@ -1,9 +1,14 @@
-//! What the lines name by a word.
+//! What the lines write as one word.
 
-use rad_lane::{Counts, Refusal};
+use crate::hearing::HomeFault;
+use rad_lane::{Counts, HearFault, Refusal};
 use rad_packet::ReadFault;
 use rad_realms::Dropped;
 use std::fmt;
+
+/// An IPv4 address in dotted decimal.
+#[derive(Drop)]
+pub struct AddressText(pub [u8; 4]);
 
 /// Whether a home server is up, by its name.
 #[derive(Drop)]
@@ -23,9 +28,29 @@ pub struct RefusalText(pub Refusal);
 #[derive(Drop)]
 pub struct DroppedText(pub Dropped);
 
+/// The reason why a home server's datagram is dropped by its name.
+#[derive(Drop)]
+pub struct HomeFaultText(pub HomeFault);
+
+/// The reason why a lane does not hear a datagram by its name.
+#[derive(Drop)]
+pub struct HearFaultText(pub HearFault);
+
 /// A read fault by its name.
 #[derive(Drop)]
 pub struct ReadFaultText(pub ReadFault);
+
+impl fmt::Display for AddressText {
+    ghost use Rattle.std.specs.Prelude.{Some};
+    ghost use Rattle.rad_proxy.specs.Names.{address_text};
+
+    ghost output = { λ address. Some (address_text address.0) };
+
+    fn fmt<W: fmt::Write>(&self, f: &mut fmt::Formatter<W>) -> fmt::Result {
+        let [a, b, c, d] = self.0;
+        write!(f, "{a}.{b}.{c}.{d}")
+    }
+}
 
 impl fmt::Display for WatchText {
     ghost use Rattle.std.specs.Prelude.{Some};
@@ -93,6 +118,46 @@ impl fmt::Display for DroppedText {
             Dropped::BadMessageAuthenticator => write!(f, "BadMessageAuthenticator"),
             Dropped::MessageAuthenticatorHere => write!(f, "MessageAuthenticatorHere"),
             Dropped::NoRealm => write!(f, "NoRealm"),
+        }
+    }
+}
+
+impl fmt::Display for HomeFaultText {
+    ghost use Rattle.std.specs.Prelude.{Some};
+    ghost use Rattle.rad_proxy.specs.Names.{home_fault_name};
+
+    ghost output = { λ fault. Some (home_fault_name fault.0) };
+
+    fn fmt<W: fmt::Write>(&self, f: &mut fmt::Formatter<W>) -> fmt::Result {
+        match self.0 {
+            HomeFault::RingFull => write!(f, "RingFull"),
+            HomeFault::OutOfMemory => write!(f, "OutOfMemory"),
+            HomeFault::Unheard(fault) => {
+                let fault = HearFaultText(fault);
+                write!(f, "{fault}")
+            }
+        }
+    }
+}
+
+impl fmt::Display for HearFaultText {
+    ghost use Rattle.std.specs.Prelude.{Some};
+    ghost use Rattle.rad_proxy.specs.Names.{hear_fault_name};
+
+    ghost output = { λ fault. Some (hear_fault_name fault.0) };
+
+    fn fmt<W: fmt::Write>(&self, f: &mut fmt::Formatter<W>) -> fmt::Result {
+        match self.0 {
+            HearFault::Unread(fault) => {
+                let fault = ReadFaultText(fault);
+                write!(f, "Unread {fault}")
+            }
+            HearFault::WrongCode => write!(f, "WrongCode"),
+            HearFault::Unknown => write!(f, "Unknown"),
+            HearFault::BadAuthenticator => write!(f, "BadAuthenticator"),
+            HearFault::MessageAuthenticatorHere => write!(f, "MessageAuthenticatorHere"),
+            HearFault::NoProxyState => write!(f, "NoProxyState"),
+            HearFault::OutOfMemory => write!(f, "OutOfMemory"),
         }
     }
 }

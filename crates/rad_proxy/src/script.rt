@@ -1,12 +1,17 @@
 //! A script of events that runs over the proxy.
 
-use crate::building::build;
+ghost use Rattle.std.specs.Prelude.{◌≤◌, length};
+
+use crate::building::{Sender, build};
 use crate::events::{Event, Packet};
 use crate::faults::{Fault, Halt};
+use crate::hearing::hear_at;
 use crate::lanes::{HomeLane, left_over, set_up, step};
-use crate::lines::{DrainLine, EndLine, NasLine, StateLine, StepLine};
+use crate::lines::{DrainLine, EndLine, HomeLine, NasLine, StateLine, StepLine, TakeLine};
+use crate::outlets::{Outlet, set_up_outlets, take_at};
 use crate::path::{Arrival, take_in};
 use crate::pieces::Pieces;
+use crate::sent::{LastSent, keep_sent};
 use rad_packet::Datagram;
 use rad_realms::Config;
 use rad_tables::Moment;
@@ -24,18 +29,29 @@ pub struct Script {
     config: Config,
     /// One for each home server, in the order of the configuration.
     lanes: Vec<HomeLane>,
+    outlets: Vec<Outlet>,
+    /// What each lane sent last.
+    sent: Vec<LastSent>,
     moment: Moment,
     datagram: Vec<u8>,
+    ghost beside: { length lanes.items ≤ length outlets.items },
 }
 
 impl Script {
     /// A script at moment 0, over empty lanes.
     pub fn new(alloc: Global, config: Config) -> Result<Self, AllocError> {
         let lanes = set_up(alloc, &config)?;
+        let outlets = set_up_outlets(alloc, &config)?;
+        let mut sent = Vec::with_capacity(alloc, lanes.len())?;
+        for _ in &lanes {
+            sent.push(LastSent::new(alloc)?)?;
+        }
         Ok(Script {
             alloc,
             config,
             lanes,
+            outlets,
+            sent,
             moment: Moment::new(0).unwrap(),
             datagram: Vec::new(alloc),
         })
@@ -51,7 +67,7 @@ impl Script {
                 return Err(halt.at_line(index + 1));
             }
         }
-        let end = left_over(&self.lanes);
+        let end = left_over(&self.lanes, &self.outlets);
         match print(output, &end) {
             Ok(()) => Ok(end),
             Err(_) => Err(Fault::Output),
@@ -68,6 +84,8 @@ impl Script {
                     packet,
                 },
             ) => self.nas(address, port, &packet, output),
+            Some(Event::Home { lane, packet }) => self.home(lane, &packet, output),
+            Some(Event::Take { lane }) => self.take(lane, output),
             Some(Event::Step { lane }) => self.step(lane, output),
             Some(Event::At { milliseconds }) => self.set_moment(milliseconds),
             Some(Event::Drain) => self.drain(output),
@@ -99,7 +117,7 @@ impl Script {
             Some(client) => Some(client.secret()),
             None => None,
         };
-        build(packet, secret, &mut self.datagram)?;
+        build(packet, Sender::Nas(secret), &mut self.datagram)?;
         let mut written = Datagram::new();
         let arrival = Arrival {
             address,
@@ -121,7 +139,51 @@ impl Script {
     fn step<W: Write>(&mut self, lane: u16, output: &mut W) -> Result<(), Halt> {
         let mut sent = Datagram::new();
         match step(&mut self.lanes, lane, self.moment, RANDOM, &mut sent) {
-            Some(action) => print(output, &StepLine::new(action, sent.bytes())),
+            Some(action) => {
+                keep_sent(&mut self.sent, lane, &action, &sent);
+                print(output, &StepLine::new(action, sent.bytes()))
+            }
+            None => Err(Halt::Malformed),
+        }
+    }
+
+    /// Writes what a datagram of a lane's home server comes to.
+    fn home<W: Write>(
+        &mut self,
+        lane: u16,
+        packet: &Packet<'_>,
+        output: &mut W,
+    ) -> Result<(), Halt> {
+        let place = usize::from(lane);
+        let Some(home) = self.config.homes().get(place) else {
+            return Err(Halt::Malformed);
+        };
+        let Some(sent) = self.sent.get(place) else {
+            return Err(Halt::Malformed);
+        };
+        build(
+            packet,
+            Sender::Home(home.secret(), sent),
+            &mut self.datagram,
+        )?;
+        let outcome = hear_at(
+            self.alloc,
+            &mut self.lanes,
+            &mut self.outlets,
+            lane,
+            self.moment,
+            self.datagram.as_slice(),
+        );
+        match outcome {
+            Some(outcome) => print(output, &HomeLine::new(lane, outcome)),
+            None => Err(Halt::Malformed),
+        }
+    }
+
+    /// Takes a lane's first response that waits, and writes it.
+    fn take<W: Write>(&mut self, lane: u16, output: &mut W) -> Result<(), Halt> {
+        match take_at(&mut self.outlets, lane) {
+            Some(taken) => print(output, &TakeLine::new(taken.as_ref())),
             None => Err(Halt::Malformed),
         }
     }

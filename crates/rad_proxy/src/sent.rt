@@ -1,0 +1,78 @@
+use rad_lane::Action;
+use rad_packet::Datagram;
+use std::alloc::{AllocError, Global};
+use std::marker::Model;
+
+/// How many Identifiers there are.
+const IDENTIFIERS: usize = 256;
+
+/// The Authenticators of the packets that a lane sent last, one for each Identifier: zeros where there was
+/// none.
+#[derive(Drop)]
+pub struct LastSent {
+    authenticators: Vec<[u8; 16]>,
+}
+
+impl Model for LastSent {
+    ghost use Rattle.std.specs.Prelude.{◌≡◌, List, ℕ, length};
+
+    ghost Value = { List (List ℕ) };
+
+    ghost view = { λ sent. sent.authenticators.items };
+
+    ghost invariant = { λ sent. length sent.authenticators.items ≡ 256 };
+}
+
+impl LastSent {
+    ghost use Rattle.std.specs.Prelude.{◌≡◌, ◌<◌, ℕ, Some, IfOk, replicate, slice_get, slice_set};
+    ghost use Rattle.rad_packet.specs.Packet.{IsPacketText, identifier_of, authenticator_of};
+
+    /// Nothing was sent.
+    ///
+    /// # Errors
+    ///
+    /// Where memory is refused.
+    pub fn new(alloc: Global) -> Result<Self, AllocError>
+        ensures { IfOk result (λ sent. (k : ℕ) → k < 256 → slice_get sent k ≡ Some (replicate 16 0)) }
+    {
+        let mut authenticators = Vec::with_capacity(alloc, IDENTIFIERS)?;
+        for _ in 0..IDENTIFIERS {
+            authenticators.push([0; 16])?;
+        }
+        Ok(LastSent { authenticators })
+    }
+
+    /// The Authenticator of the packet that was sent last under an Identifier.
+    pub fn authenticator(&self, identifier: u8) -> [u8; 16]
+        ensures { slice_get self.now identifier ≡ Some result }
+    {
+        self.authenticators[usize::from(identifier)]
+    }
+
+    /// A packet was sent, given as its octets.
+    pub fn keep(&mut self, packet: &[u8])
+        requires { IsPacketText packet.now }
+        ensures { self.new ≡ slice_set self.old (identifier_of packet.now) (authenticator_of packet.now) }
+    {
+        let mut authenticator = [0; 16];
+        authenticator.copy_from_slice(&packet[4..20]);
+        self.authenticators[usize::from(packet[1])] = authenticator;
+    }
+}
+
+/// Keeps the packet that a lane's step gave to be sent, where it gave one.
+pub fn keep_sent(sent: &mut [LastSent], lane: u16, action: &Action, packet: &Datagram) {
+    let place = usize::from(lane);
+    if place < sent.len() && sends(action) {
+        let sent = &mut sent[place];
+        sent.keep(packet.bytes());
+    }
+}
+
+/// Whether a step gave a packet to be sent.
+fn sends(action: &Action) -> bool {
+    matches!(
+        action,
+        Action::Sent(..) | Action::Resent(..) | Action::Probed(_)
+    )
+}
