@@ -1,5 +1,5 @@
 -- One of the lanes, at its place.
-use Rattle.std.proofs.Common.{◌≡◌, ℕ, ◌<◌, ◌≤◌, List, [], ◌∷◌, ◌++◌, length, suc, zero, Option, Some, None, Result, get_or, set, refl, sym, ◌∙◌, subst, ◌+◌, below_more, arith}
+use Rattle.std.proofs.Common.{◌≡◌, ℕ, ◌<◌, List, [], ◌∷◌, ◌++◌, length, suc, zero, Some, Result, get_or, set, refl, sym, ◌∙◌, subst, ◌+◌, below_more, arith}
 use Rattle.std.specs.Prelude.{slice_get}
 use Rattle.std.proofs.lemmas.List.{length-append}
 use Rattle.std.proofs.lemmas.Option.{slice_get-get_or, same_Some, none-some}

@@ -1,5 +1,5 @@
 -- The Authenticators of what was sent last, while nothing was sent.
-use Rattle.std.proofs.Common.{◌≡◌, ℕ, ◌<◌, ◌+◌, List, [], ◌∷◌, ◌++◌, length, Some, replicate, sym, subst, below_more, arith}
+use Rattle.std.proofs.Common.{◌≡◌, ℕ, ◌<◌, ◌+◌, List, [], ◌∷◌, ◌++◌, length, Some, replicate, subst, below_more, arith}
 use Rattle.std.specs.Prelude.{slice_get}
 use Rattle.std.proofs.lemmas.List.{length-append}
 use Rattle.rad_proxy.proofs.Among.{there_still, last_there}

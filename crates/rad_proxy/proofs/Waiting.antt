@@ -7,14 +7,13 @@ use Rattle.rad_realms.specs.Configuration.{Configuration, HomeEntry}
 use Rattle.rad_lane.specs.Book.{Book}
 use Rattle.rad_proxy.specs.declared.hearing.HomeFault.{HomeFault}
 use Rattle.rad_proxy.specs.declared.hearing.Told.{Told}
-use Rattle.rad_proxy.specs.declared.outlets.Outlet.{Outlet}
 use Rattle.rad_proxy.specs.Hearing.{HearsInto, HearsAmong}
 use Rattle.rad_proxy.specs.Lanes.{AreEmpty, IsEmptyAt}
-use Rattle.rad_proxy.specs.Outlets.{AreEmptyOutlets, IsEmptyOutletAt, responses, most_of}
+use Rattle.rad_proxy.specs.Outlets.{Waiting, AreEmptyOutlets, IsEmptyOutletAt}
 use Rattle.rad_proxy.proofs.Among.{read_there, there_still, last_there}
 
-pub hears_among : (books : List Book) (outlets : List Outlet) (lane moment : ℕ) (datagram : List ℕ) (outcome : Result Told HomeFault) (place : ℕ)
-    (book after : Book) (outlet later : Outlet)
+pub hears_among : (books : List Book) (outlets : List Waiting) (lane moment : ℕ) (datagram : List ℕ) (outcome : Result Told HomeFault) (place : ℕ)
+    (book after : Book) (outlet later : Waiting)
     → place ≡ lane → place < length books → place < length outlets
     → HearsInto (get_or books place book) (get_or outlets place outlet) moment datagram outcome after later
     → HearsAmong (record { books = books; outlets = outlets }) lane moment datagram outcome
@@ -31,7 +30,7 @@ hears_among books outlets lane moment datagram outcome place book after outlet l
   other_outlets = subst (λ k. set outlets place later ≡ set outlets k later) at refl;
 }
 
-pub still_empty_outlet : (config : Configuration) (outlets more : List Outlet) (k : ℕ)
+pub still_empty_outlet : (config : Configuration) (outlets more : List Waiting) (k : ℕ)
     → IsEmptyOutletAt config outlets k → IsEmptyOutletAt config (outlets ++ more) k
 still_empty_outlet config outlets more k e = record {
   home = e.home;
@@ -42,8 +41,8 @@ still_empty_outlet config outlets more k e = record {
   most = e.most;
 }
 
-pub last_empty_outlet : (config : Configuration) (outlets : List Outlet) (k : ℕ) (home : HomeEntry) (outlet : Outlet)
-    → k ≡ length outlets → slice_get config.homes k ≡ Some home → responses outlet ≡ [] → most_of outlet ≡ home.limits.ring
+pub last_empty_outlet : (config : Configuration) (outlets : List Waiting) (k : ℕ) (home : HomeEntry) (outlet : Waiting)
+    → k ≡ length outlets → slice_get config.homes k ≡ Some home → outlet.responses ≡ [] → outlet.most ≡ home.limits.ring
     → IsEmptyOutletAt config (outlets ++ outlet ∷ []) k
 last_empty_outlet config outlets k home outlet at of_home empty most = record {
   home = home;
@@ -55,13 +54,13 @@ last_empty_outlet config outlets k home outlet at of_home empty most = record {
 }
 
 -- there is an empty outlet at each place below this one
-pub record EmptyOutletsBelow (config : Configuration) (outlets : List Outlet) (lane : ℕ) : Type 0 where
+pub record EmptyOutletsBelow (config : Configuration) (outlets : List Waiting) (lane : ℕ) : Type 0 where
   pub counted : length outlets ≡ lane
   pub each : (k : ℕ) → k < lane → IsEmptyOutletAt config outlets k
 
-pub one_more_outlet : (config : Configuration) (outlets : List Outlet) (lane : ℕ) (home : HomeEntry) (outlet : Outlet)
-    → EmptyOutletsBelow config outlets lane → slice_get config.homes lane ≡ Some home → responses outlet ≡ []
-    → most_of outlet ≡ home.limits.ring → EmptyOutletsBelow config (outlets ++ outlet ∷ []) (lane + 1)
+pub one_more_outlet : (config : Configuration) (outlets : List Waiting) (lane : ℕ) (home : HomeEntry) (outlet : Waiting)
+    → EmptyOutletsBelow config outlets lane → slice_get config.homes lane ≡ Some home → outlet.responses ≡ []
+    → outlet.most ≡ home.limits.ring → EmptyOutletsBelow config (outlets ++ outlet ∷ []) (lane + 1)
 one_more_outlet config outlets lane home outlet below of_home empty most = record {
   counted = omega (arith, below.counted, length-append outlets (outlet ∷ []));
   each = below_more (λ k. IsEmptyOutletAt config (outlets ++ outlet ∷ []) k) lane
@@ -76,7 +75,7 @@ least_above (suc n) m each =
     omega arith
 
 -- each lane has an outlet
-pub lanes_beside : (config : Configuration) (books : List Book) (outlets : List Outlet)
+pub lanes_beside : (config : Configuration) (books : List Book) (outlets : List Waiting)
     → AreEmpty config books → AreEmptyOutlets config outlets → length books ≤ length outlets
 lanes_beside config books outlets empty waiting =
     subst (λ n. length books ≤ n) (sym waiting.counted)

@@ -6,44 +6,41 @@ use Rattle.rad_lane.specs.declared.outgoing.Outgoing.{Outgoing}
 use Rattle.rad_lane.specs.Book.{Book}
 use Rattle.rad_lane.specs.Hears.{Hears}
 use Rattle.rad_proxy.specs.declared.hearing.HomeFault.{HomeFault}
-use Rattle.rad_proxy.specs.declared.hearing.HomeFault.TheVariants.{RingFull, OutOfMemory, Unheard}
+use Rattle.rad_proxy.specs.declared.hearing.HomeFault.TheVariants.{RingFull, Unheard}
 use Rattle.rad_proxy.specs.declared.hearing.Told.{Told}
 use Rattle.rad_proxy.specs.declared.hearing.Told.TheVariants.{Answer, ProbeAnswered}
-use Rattle.rad_proxy.specs.declared.outlets.Outlet.{Outlet}
-use Rattle.rad_proxy.specs.Outlets.{HasPlace, Holds, IsFull, responses}
+use Rattle.rad_proxy.specs.Outlets.{Waiting, HasPlace, Holds, IsFull}
 
 -- The lane hears the reply to a request, and the response of this serial waits behind the others.
-pub record GivesResponse (book : Book) (outlet : Outlet) (moment : ℕ) (datagram : List ℕ) (serial : ℕ) (after : Book) (later : Outlet) : Type 0 where
+pub record GivesResponse (book : Book) (outlet : Waiting) (moment : ℕ) (datagram : List ℕ) (serial : ℕ) (after : Book) (later : Waiting) : Type 0 where
   pub place : HasPlace outlet
   pub response : Outgoing
   pub hears : Hears book moment 0 datagram (Ok (heard.Answer response)) after
   pub serial_is : serial ≡ response.serial
-  pub waits : Holds outlet (responses outlet ++ response ∷ []) later
+  pub waits : Holds outlet (outlet.responses ++ response ∷ []) later
 
--- What becomes of a datagram at its lane and the lane's outlet. Where no response more may wait, or no memory
--- is there for one, it is not read.
-abbrev pub HearsInto : Book → Outlet → ℕ → List ℕ → Result Told HomeFault → Book → Outlet → Type 0
+-- What becomes of a datagram at its lane and the lane's outlet. Where no response more may wait, it is not
+-- read.
+abbrev pub HearsInto : Book → Waiting → ℕ → List ℕ → Result Told HomeFault → Book → Waiting → Type 0
 HearsInto book outlet moment datagram (Ok (Answer serial)) after later = GivesResponse book outlet moment datagram serial after later
 HearsInto book outlet moment datagram (Ok ProbeAnswered) after later =
-    HasPlace outlet × Hears book moment 0 datagram (Ok heard.ProbeAnswered) after × Holds outlet (responses outlet) later
+    HasPlace outlet × Hears book moment 0 datagram (Ok heard.ProbeAnswered) after × Holds outlet outlet.responses later
 HearsInto book outlet moment datagram (Err RingFull) after later =
-    IsFull outlet × (after ≡ book) × Holds outlet (responses outlet) later
-HearsInto book outlet moment datagram (Err OutOfMemory) after later =
-    HasPlace outlet × (after ≡ book) × Holds outlet (responses outlet) later
+    IsFull outlet × (after ≡ book) × Holds outlet outlet.responses later
 HearsInto book outlet moment datagram (Err (Unheard fault)) after later =
-    HasPlace outlet × Hears book moment 0 datagram (Err fault) after × Holds outlet (responses outlet) later
+    HasPlace outlet × Hears book moment 0 datagram (Err fault) after × Holds outlet outlet.responses later
 
 -- The lanes and their outlets, in order.
 pub record Homes : Type 0 where
   pub books : List Book
-  pub outlets : List Outlet
+  pub outlets : List Waiting
 
 -- The lane at a place hears the datagram, with its outlet, and the others stay.
 pub record HearsAmong (old : Homes) (lane moment : ℕ) (datagram : List ℕ) (outcome : Result Told HomeFault) (new : Homes) : Type 0 where
   pub book : Book
-  pub outlet : Outlet
+  pub outlet : Waiting
   pub after : Book
-  pub later : Outlet
+  pub later : Waiting
   pub there : slice_get old.books lane ≡ Some book
   pub beside : slice_get old.outlets lane ≡ Some outlet
   pub hears : HearsInto book outlet moment datagram outcome after later

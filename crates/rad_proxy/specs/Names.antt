@@ -52,7 +52,6 @@ hear_fault_name hear.OutOfMemory = codes "OutOfMemory"
 
 abbrev pub home_fault_name : HomeFault → List ℕ
 home_fault_name home.RingFull = codes "RingFull"
-home_fault_name home.OutOfMemory = codes "OutOfMemory"
 home_fault_name (home.Unheard fault) = hear_fault_name fault
 
 -- Whether a home server is up.

@@ -1,6 +1,6 @@
 -- The way of a NAS's datagram (RFC 2866 section 2.1, Proxy): a request goes to the lane of its realm. A
 -- Status-Server (RFC 5997 section 3) is answered in place, and changes no lane.
-use Rattle.std.specs.Prelude.{◌≡◌, ℕ, ◌≤◌, List, [], length, slice_get, slice_set, Some, Result, Ok, Err}
+use Rattle.std.specs.Prelude.{◌≡◌, ℕ, List, [], slice_get, slice_set, Some, Result, Ok, Err}
 use Rattle.rad_packet.specs.Packet.{identifier_of, authenticator_of}
 use Rattle.rad_auth.specs.Authenticator.{accounting_response}
 use Rattle.rad_realms.specs.Configuration.{Configuration}

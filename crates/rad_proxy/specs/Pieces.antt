@@ -1,5 +1,5 @@
 -- A text that is cut at each separator.
-use Rattle.std.specs.Prelude.{◌≡◌, ◌≤◌, ◌+◌, ◌<◌, ℕ, suc, List, [], ◌∷◌, ◌++◌, Option, None, Some, length, MatchOption}
+use Rattle.std.specs.Prelude.{◌≡◌, ◌≤◌, ◌+◌, ◌<◌, ℕ, suc, List, [], Option, None, Some, length, MatchOption}
 use Rattle.std.specs.Borrow.{Bor}
 use Rattle.rad_proxy.specs.declared.pieces.Pieces.{Pieces}
 

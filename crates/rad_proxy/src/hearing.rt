@@ -27,8 +27,6 @@ pub enum Told {
 pub enum HomeFault {
     /// As many responses wait as may. The datagram was not read.
     RingFull,
-    /// There is no memory for one response more. The datagram was not read.
-    OutOfMemory,
     /// The lane does not hear it.
     Unheard(HearFault),
 }
@@ -54,8 +52,8 @@ pub fn hear_at(
     Some(hear_into(alloc, lane, outlet, moment, octets))
 }
 
-/// Has a lane hear a datagram, and puts the response into its outlet. Nothing is read unless the outlet has
-/// room for a response.
+/// Has a lane hear a datagram, and puts the response into its outlet. Nothing is read unless one response more
+/// may wait.
 fn hear_into(
     alloc: Global,
     lane: &mut HomeLane,
@@ -68,9 +66,6 @@ fn hear_into(
     if outlet.is_full() {
         return Err(HomeFault::RingFull);
     }
-    let Ok(()) = outlet.reserve_one() else {
-        return Err(HomeFault::OutOfMemory);
-    };
     match lane.hear(alloc, moment, SOURCE_PORT, octets) {
         Ok(Heard::Answer(response)) => {
             let serial = response.serial;

@@ -131,7 +131,6 @@ impl fmt::Display for HomeFaultText {
     fn fmt<W: fmt::Write>(&self, f: &mut fmt::Formatter<W>) -> fmt::Result {
         match self.0 {
             HomeFault::RingFull => write!(f, "RingFull"),
-            HomeFault::OutOfMemory => write!(f, "OutOfMemory"),
             HomeFault::Unheard(fault) => {
                 let fault = HearFaultText(fault);
                 write!(f, "{fault}")

@@ -3,33 +3,48 @@
 ghost use Rattle.std.specs.Prelude.{◌≡◌, IfOk};
 ghost use Rattle.rad_proxy.specs.Outlets.{AreEmptyOutlets, TakesAt, waiting_in};
 
-use block_queue::{Fifo, PlainQueue};
 use rad_lane::Outgoing;
 use rad_realms::Config;
 use std::alloc::{AllocError, Global};
+use std::collections::VecDeque;
+use std::marker::Model;
 
-/// The responses of a lane that wait to be taken, the first to be taken first.
+/// The responses of a lane that wait to be taken, the first to be taken first. Their places are made with it.
 #[derive(Drop)]
 pub struct Outlet {
-    waiting: PlainQueue<Outgoing>,
+    waiting: VecDeque<Outgoing>,
     /// The most that may wait.
     most: usize,
 }
 
+impl Model for Outlet {
+    ghost use Rattle.std.specs.Prelude.{◌≤◌};
+    ghost use Rattle.std.specs.VecDeque.{deque_capacity};
+    ghost use Rattle.rad_proxy.specs.Outlets.{Waiting};
+
+    ghost Value = { Waiting };
+
+    ghost view = { λ o. record { responses = o.waiting.items; most = o.most } };
+
+    ghost invariant = { λ o. o.most ≤ deque_capacity o.waiting };
+}
+
 impl Outlet {
-    ghost use Rattle.std.specs.Prelude.{◌≡◌, ◌≤◌, ◌↔◌, [], ◌∷◌, ◌++◌, length, IsTrue, OnOk};
+    ghost use Rattle.std.specs.Prelude.{◌≡◌, ◌↔◌, [], ◌∷◌, ◌++◌, length, IsTrue, IfOk};
     ghost use Rattle.block_queue.specs.Queue.{TakesOldest};
-    ghost use Rattle.rad_proxy.specs.Outlets.{IsFull, responses, most_of, room_of};
+    ghost use Rattle.rad_proxy.specs.Outlets.{IsFull, HasPlace};
 
     /// One in which nothing waits, and never more than `most` do.
-    pub fn new(alloc: Global, most: usize) -> Self
-        ensures responses { responses result ≡ [] }
-        ensures most { most_of result ≡ most }
+    ///
+    /// # Errors
+    ///
+    /// Where memory is refused.
+    pub fn new(alloc: Global, most: usize) -> Result<Self, AllocError>
+        ensures responses { IfOk result (λ outlet. outlet.responses ≡ []) }
+        ensures most { IfOk result (λ outlet. outlet.most ≡ most) }
     {
-        Outlet {
-            waiting: PlainQueue::new(alloc),
-            most,
-        }
+        let waiting = VecDeque::with_capacity(alloc, most)?;
+        Ok(Outlet { waiting, most })
     }
 
     /// Whether no more may wait.
@@ -41,37 +56,24 @@ impl Outlet {
 
     /// How many wait.
     pub fn len(&self) -> usize
-        ensures { result ≡ length (responses self.now) }
+        ensures { result ≡ length self.now.responses }
     {
         self.waiting.len()
     }
 
-    /// Makes room for one more.
-    ///
-    /// # Errors
-    ///
-    /// Where memory is refused.
-    pub fn reserve_one(&mut self) -> Result<(), AllocError>
-        ensures responses { responses self.new ≡ responses self.old }
-        ensures most { most_of self.new ≡ most_of self.old }
-        ensures room { OnOk result (1 ≤ room_of self.new) }
-    {
-        self.waiting.reserve_one()
-    }
-
-    /// One more waits, behind the others.
+    /// One more waits, behind the others. It takes no memory.
     pub fn push(&mut self, response: Outgoing)
-        requires { 1 ≤ room_of self.old }
-        ensures responses { responses self.new ≡ responses self.old ++ response ∷ [] }
-        ensures most { most_of self.new ≡ most_of self.old }
+        requires { HasPlace self.old }
+        ensures responses { self.new.responses ≡ self.old.responses ++ response ∷ [] }
+        ensures most { self.new.most ≡ self.old.most }
     {
-        self.waiting.push_back(response);
+        self.waiting.push_back_reserved(response);
     }
 
     /// Takes the first one, where one waits.
     pub fn take(&mut self) -> Option<Outgoing>
-        ensures taken { TakesOldest (responses self.old) result (responses self.new) }
-        ensures most { most_of self.new ≡ most_of self.old }
+        ensures taken { TakesOldest self.old.responses result self.new.responses }
+        ensures most { self.new.most ≡ self.old.most }
     {
         self.waiting.pop_front()
     }
@@ -88,7 +90,8 @@ pub fn set_up_outlets(alloc: Global, config: &Config) -> Result<Vec<Outlet>, All
     let mut outlets = Vec::with_capacity(alloc, config.homes().len())?;
     for home in config.homes() {
         let most = home.limits().numbers().ring as usize;
-        outlets.push(Outlet::new(alloc, most))?;
+        let outlet = Outlet::new(alloc, most)?;
+        outlets.push(outlet)?;
     }
     Ok(outlets)
 }

@@ -2,7 +2,6 @@ use Rattle.std.proofs.Common.{◌≡◌, ◌<◌, length, Some, refl, ap, subst,
 use Rattle.std.specs.Prelude.{slice_get}
 use Rattle.std.proofs.lemmas.Option.{slice_get_read}
 use Rattle.rad_realms.specs.declared.limits.LimitNumbers.{LimitNumbers}
-use Rattle.rad_proxy.specs.Outlets.{most_of}
 use Rattle.rad_proxy.proofs.Waiting.{one_more_outlet}
 use Rattle.rad_proxy.proofs.outlets.set_up_outlets.Goals as goal
 
@@ -12,8 +11,8 @@ loop-home-preserved c =
     let there : slice_get c.args.config.now.homes c.loop-home.home-index ≡ Some c.home-item.result =
     subst (λ homes. slice_get homes c.loop-home.home-index ≡ Some c.home-item.result) c.homes-home-items.ensures
     (slice_get_read c.homes-home-items.result.now _ c.loop-home.home-index c.home-item.result refl within c.home-item.is) in
-    let most : most_of c.new.result ≡ c.home-item.result.limits.ring =
-    c.new.ensures.most ∙ ap (λ (n : LimitNumbers). n.ring) (c.numbers-most.ensures.value ∙ c.limits.ensures) in
+    let most : c.in_ok-outlet.outlet.most ≡ c.home-item.result.limits.ring =
+    c.in_ok-outlet.ensures.most ∙ ap (λ (n : LimitNumbers). n.ring) (c.numbers-most.ensures.value ∙ c.limits.ensures) in
     rw c.in_ok-push.ensures.items
-    (one_more_outlet c.args.config.now c.loop-home.outlets.items c.loop-home.home-index c.home-item.result c.new.result
-    c.loop-home.invariant there c.new.ensures.responses most)
+    (one_more_outlet c.args.config.now c.loop-home.outlets.items c.loop-home.home-index c.home-item.result c.in_ok-outlet.outlet
+    c.loop-home.invariant there c.in_ok-outlet.ensures.responses most)
