@@ -1,6 +1,9 @@
-//! Accounting-Requests of `bob@example.org`, right under `nas-secret`.
+//! Accounting-Requests of `bob@example.org`, right under `nas-secret`, and replies under `home-secret`.
 
-use rad_auth::{ACCOUNTING_REQUEST, Secret, request_authenticator};
+use rad_auth::{
+    ACCOUNTING_REQUEST, ACCOUNTING_RESPONSE, PROXY_STATE, Secret, request_authenticator,
+    response_authenticator,
+};
 use rad_packet::{Datagram, read};
 use std::alloc::Global;
 use std::test::Fail;
@@ -18,6 +21,29 @@ pub const EIGHTH: [u8; 47] = [
     0x80, 0xbe, 0xb6, 0x20, 0x01, 0x11, 0x62, 0x6f, 0x62, 0x40, 0x65, 0x78, 0x61, 0x6d, 0x70, 0x6c,
     0x65, 0x2e, 0x6f, 0x72, 0x67, 0x28, 0x06, 0x00, 0x00, 0x00, 0x01, 0x2c, 0x04, 0x53, 0x31,
 ];
+
+/// One of this identifier, which signs itself.
+pub fn request_of(identifier: u8) -> Result<Datagram, Fail> {
+    let mut datagram = Datagram::new();
+    datagram.begin(ACCOUNTING_REQUEST, identifier, [0; 16]);
+    datagram.push(1, b"bob@example.org")?;
+    sign(&mut datagram)?;
+    Ok(datagram)
+}
+
+/// The reply to a packet that was sent: under its identifier, with the Proxy-State of ten octets at its end.
+pub fn reply_to(sent: &[u8]) -> Result<Datagram, Fail> {
+    let secret = Secret::new(b"home-secret")?;
+    let sent = read(sent)?;
+    let octets = sent.octets();
+    let mut datagram = Datagram::new();
+    datagram.begin(ACCOUNTING_RESPONSE, sent.identifier(), [0; 16]);
+    datagram.push(PROXY_STATE, &octets[octets.len() - 10..])?;
+    let reply = read(datagram.bytes())?;
+    let authenticator = response_authenticator(&reply, &sent.authenticator(), &secret);
+    datagram.set_authenticator(authenticator);
+    Ok(datagram)
+}
 
 /// One of identifier 9 and this Length, which is that of its last attribute and 3872 or a little more.
 pub fn request_of_length(alloc: Global, length: usize) -> Result<Vec<u8>, Fail> {
