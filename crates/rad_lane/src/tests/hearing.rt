@@ -125,18 +125,18 @@ fn answer_each_identifier(rt: &impl Abort, lane: &mut TestLane) -> Result<(), Fa
             Did(Action::Sent(number, slot(identifier))),
             answer(number),
         ];
-        assert_eq!(rt; answer_one(lane, identifier)?, gives, "number {number}");
+        assert_eq!(rt; answer_one(rt, lane, identifier)?, gives, "number {number}");
     }
     Ok(())
 }
 
 /// What a lane gives to a request of this identifier, to a step, and to the reply to what that sent.
-fn answer_one(lane: &mut TestLane, identifier: u8) -> Result<[Gives; 3], Fail> {
+fn answer_one(rt: &impl Abort, lane: &mut TestLane, identifier: u8) -> Result<[Gives; 3], Fail> {
     let request = request_of(identifier)?;
-    let took = lane.call(0, Accept(request.bytes()));
-    let did = lane.call(0, Step);
+    let took = lane.call(rt, 0, Accept(request.bytes()));
+    let did = lane.call(rt, 0, Step);
     let reply = reply_to(lane.octets())?;
-    let told = lane.call(0, Hear(0, reply.bytes()));
+    let told = lane.call(rt, 0, Hear(0, reply.bytes()));
     Ok([took, did, told])
 }
 
