@@ -6,6 +6,7 @@ mod replies;
 mod requests;
 mod script;
 mod test_lane;
+mod waiting;
 
 use crate::{Counts, Refusal, Stamp, Taken};
 use requests::{EIGHTH, SEVENTH, request_of_length};
