@@ -4,6 +4,8 @@
 mod hearing;
 mod replies;
 mod requests;
+mod run_lane;
+mod runs;
 mod script;
 mod test_lane;
 mod waiting;

@@ -1,7 +1,7 @@
 //! Whole runs: that the calls follow one another as they should, over many requests.
 
 use super::run_lane::{RunLane, Served, request};
-use crate::{Action, Refusal, Taken};
+use crate::{Action, Taken};
 use block_queue::Fifo;
 use rad_tables::{Moment, Slot};
 use std::process::Abort;
@@ -78,45 +78,6 @@ fn the_window_fills(rt: HostRuntime) -> Result<(), Fail> {
 fn step_at(lane: &mut RunLane, milliseconds: u32) -> Result<Action, Fail> {
     lane.set_moment(milliseconds);
     lane.step()
-}
-
-/// The first request is sent until its home server is taken to be down, and the queue fills meanwhile.
-fn go_down_and_fill(rt: &impl Abort, lane: &mut RunLane) -> Result<(), Fail> {
-    accept_each(rt, lane, 0, 1)?;
-    let first = Action::Resent(0, slot(0));
-    for (moment, action) in [
-        (0, Action::Sent(0, slot(0))),
-        (2000, first),
-        (6000, first),
-        (14_000, Action::WentDown),
-    ] {
-        assert_eq!(rt; step_at(lane, moment)?, action);
-    }
-    accept_each(rt, lane, 1, 66)?;
-    let late = request(66)?;
-    assert_eq!(rt; lane.accept(late.bytes())?, Err(Refusal::QueueFull));
-    Ok(())
-}
-
-/// Once it is taken to be up, the first goes again and then the others in order.
-fn come_up_and_empty(rt: &impl Abort, lane: &mut RunLane) -> Result<(), Fail> {
-    for action in [Action::WentUp, Action::Resent(0, slot(0))] {
-        assert_eq!(rt; step_at(lane, 74_000)?, action);
-    }
-    send_each(rt, lane, 1, 66)
-}
-
-fn go_down_fill_and_empty(rt: &impl Abort, lane: &mut RunLane) -> Result<(), Fail> {
-    go_down_and_fill(rt, lane)?;
-    come_up_and_empty(rt, lane)
-}
-
-#[test]
-fn the_queue_keeps_its_order(rt: HostRuntime) -> Result<(), Fail> {
-    let mut lane = RunLane::new(rt.alloc(), "queue = 65\nwindow = 100\n")?;
-    let went = go_down_fill_and_empty(&rt, &mut lane);
-    lane.end();
-    went
 }
 
 /// One request is answered, one sent with the home server down and a probe out, and one queued.

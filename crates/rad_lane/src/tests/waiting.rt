@@ -2,38 +2,13 @@
 
 use super::replies::{FORWARDED, REQUEST};
 use super::requests::{EIGHTH, request_of};
-use super::script::Call::{Accept, Look, Step};
-use super::script::Gives::{Did, Seen};
-use super::script::{Stage, at, moment, puts, refused, slot, taken};
+use super::script::Call::{Accept, Step};
+use super::script::Gives::Did;
+use super::script::{at, puts, refused, slot, taken};
 use super::test_lane::TestLane;
-use crate::{Action, Counts, Refusal};
+use crate::{Action, Refusal};
 use std::process::Abort;
 use std::test::Fail;
-
-#[test]
-fn a_window_is_sent_in_order(rt: HostRuntime) -> Result<(), Fail> {
-    let mut lane = TestLane::new(rt.alloc(), "window = 254\n", 0)?;
-    let accepted = accept_each(&rt, &mut lane, 0, 254);
-    send_each(&rt, &mut lane, 0, 253);
-    let counts = Counts {
-        opening: 0,
-        accepted: 255,
-        answered: 0,
-        queued: 1,
-        outstanding: 254,
-        up: true,
-        draining: false,
-    };
-    lane.play(
-        &rt,
-        &[
-            at(0, Step, Did(Action::Idle(Some(moment(2000))))),
-            at(0, Look, Seen(counts, Stage::Open)),
-        ],
-    );
-    lane.end();
-    accepted
-}
 
 #[test]
 fn a_queue_waits_for_its_home(rt: HostRuntime) -> Result<(), Fail> {
