@@ -6,7 +6,7 @@ use Rattle.rad_lane.specs.declared.accepting.Refusal.TheVariants as refusal
 use Rattle.rad_lane.specs.declared.stepping.Action.{Action}
 use Rattle.rad_lane.specs.declared.stepping.Action.TheVariants.{Sent, Resent, Probed, WentDown, WentUp, Idle}
 use Rattle.rad_lane.specs.declared.outgoing.Outgoing.{Outgoing}
-use Rattle.rad_proxy.specs.Lines.{request_text, goal_text}
+use Rattle.rad_proxy.specs.Lines.{request_text, receiver_text}
 use Rattle.rad_proxy.specs.Names.{dropped_name, home_fault_name, refusal_name}
 use Rattle.rad_proxy.specs.PacketText.{head_text, packet_text}
 use Rattle.rad_proxy.specs.declared.hearing.HomeFault.{HomeFault}
@@ -48,4 +48,4 @@ told_text lane (Err fault) = codes "home: dropped " ++ home_fault_name fault
 abbrev pub taken_text : Option Outgoing → List ℕ
 taken_text None = codes "take: none"
 taken_text (Some response) =
-    codes "take: " ++ goal_text response.client response.port ++ codes " " ++ packet_text response.reply.response
+    codes "take: " ++ receiver_text response.client response.port ++ codes " " ++ packet_text response.reply.response

@@ -52,11 +52,11 @@ home_line home.Probe = codes "home: probe"
 home_line (home.Dropped fault) = codes "home: dropped " ++ home_fault_name fault
 
 -- To whom a response goes: an address and a port.
-abbrev pub goal_text : List ℕ → ℕ → List ℕ
-goal_text address port = address_text address ++ codes " " ++ decimal port
+abbrev pub receiver_text : List ℕ → ℕ → List ℕ
+receiver_text address port = address_text address ++ codes " " ++ decimal port
 
 abbrev pub take_line : TakeLine → List ℕ
-take_line (take.Response client port packet) = codes "take: " ++ goal_text client port ++ codes " " ++ packet_line packet
+take_line (take.Response client port packet) = codes "take: " ++ receiver_text client port ++ codes " " ++ packet_line packet
 take_line take.Nothing = codes "take: none"
 
 abbrev pub drain_line : DrainLine → List ℕ

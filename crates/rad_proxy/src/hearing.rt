@@ -31,7 +31,12 @@ pub enum HomeFault {
     Unheard(HearFault),
 }
 
-/// Has a lane hear a datagram of its home server, where there is such a lane.
+/// Has a lane hear a datagram of its home server, where there is such a lane. The response that goes out after
+/// it waits in the lane's outlet, which is beside the lane.
+///
+/// # Errors
+///
+/// Why the datagram is dropped: neither the lane nor what waits changes then.
 pub fn hear_at(
     alloc: Global,
     lanes: &mut [HomeLane],

@@ -34,7 +34,7 @@ impl Outlet {
     ghost use Rattle.block_queue.specs.Queue.{TakesOldest};
     ghost use Rattle.rad_proxy.specs.Outlets.{IsFull, HasPlace};
 
-    /// One in which nothing waits, and never more than `most` do.
+    /// One in which nothing waits, and `most` may.
     ///
     /// # Errors
     ///
@@ -55,6 +55,7 @@ impl Outlet {
     }
 
     /// How many wait.
+    #[allow(clippy::len_without_is_empty)]
     pub fn len(&self) -> usize
         ensures { result ≡ length self.now.responses }
     {
@@ -96,7 +97,8 @@ pub fn set_up_outlets(alloc: Global, config: &Config) -> Result<Vec<Outlet>, All
     Ok(outlets)
 }
 
-/// Takes the first response that waits at a lane, where there is such a lane and one waits.
+/// Takes the first response that waits at a lane: `Some(None)` where none waits, and `None` where there is no
+/// such lane.
 pub fn take_at(outlets: &mut [Outlet], lane: u16) -> Option<Option<Outgoing>>
     ensures { TakesAt outlets.old lane result outlets.new }
 {
