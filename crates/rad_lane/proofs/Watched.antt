@@ -218,6 +218,9 @@ module _ (setup : LaneSetup) (opening : ℕ) (accepted : List Stamp) (kept : Lis
           ports =
               ap (λ (l : Left). l.outstanding.ports) left_is
               ∙ ap (λ (t : Table Entry). t.ports) free_is ∙ its ∙ s.ports_are;
+          allotted =
+              ap (λ (l : Left). l.outstanding.allotted) left_is
+              ∙ ap (λ (t : Table Entry). t.allotted) free_is;
         } in
         subst (λ (b : Book). Leaves b left) is here
 

@@ -1,4 +1,5 @@
--- What is left of a lane when it is closed (own): all that its book still holds, but for a probe that is out.
+-- What is left of a lane when it is closed (own): the requests and answers that its book still holds, and what is
+-- outstanding, but for a probe that is out. The watch, the drain and the last moment go with the lane.
 use Rattle.std.specs.Prelude.{◌≡◌, ℕ, List, Option, Some, None}
 use Rattle.std.specs.FinMap as map
 use Rattle.rad_tables.specs.declared.slots.Slot.{Slot}
@@ -34,3 +35,4 @@ pub record Leaves (book : Book) (left : Left) : Type 0 where
   pub answered : left.answered ≡ book.answered
   pub outstanding : (slot : Slot) → map.get left.outstanding.entries slot ≡ but_a_probe (map.get book.held slot)
   pub ports : left.outstanding.ports ≡ book.setup.ports
+  pub allotted : left.outstanding.allotted ≡ book.allotted

@@ -8,8 +8,8 @@ use crate::{Lane, Leftover, Record};
 use block_queue::Fifo;
 
 impl<Q: Fifo<Record>> Lane<Q> {
-    /// Ends the lane, and gives all that its book holds. A probe that is out goes. It takes no memory and
-    /// moves no item.
+    /// Ends the lane, and gives the requests and answers that its book holds, and what is outstanding. A probe
+    /// that is out goes. It takes no memory and moves no item.
     pub fn close(self) -> Leftover<Q>
         ensures leaves { Leaves self result }
         ensures lawful { IsLawful self }

@@ -4,7 +4,8 @@ use block_queue::Fifo;
 use rad_tables::Slots;
 use std::marker::Model;
 
-/// What is left of a lane: all that its book held when it was closed.
+/// What is left of a lane: the requests and answers that its book held when it was closed, and what was
+/// outstanding.
 #[derive(Drop)]
 pub struct Leftover<Q: Fifo<Record>> {
     lane: u16,
