@@ -13,6 +13,8 @@ import re
 import subprocess
 import sys
 
+sys.dont_write_bytecode = True
+
 import progress
 
 TOP = pathlib.Path(__file__).resolve().parent.parent
