@@ -9,6 +9,7 @@ A row is a file FOLDER/NAME.row. It reads as a conversation, with what goes in a
     # TEXT           what the row shows
     words: WORD ..   what the program is called with, as a shell splits it (without this line: replay)
     over: PATH       a file, by its path from the top of the repository, which stands before the input
+    answers: PATH    a file of what stands before the lines of standard output
     output: full     standard output is a device that is full
     < LINE           a line of the input
     > LINE           a line of standard output
@@ -59,6 +60,8 @@ class Row:
             self.words = shlex.split(rest)
         elif head == "over:":
             self.streams["<"] += (TOP / rest).read_bytes()
+        elif head == "answers:":
+            self.streams[">"] += (TOP / rest).read_bytes()
         elif line == "output: full":
             self.is_full = True
         elif head == "status:":
