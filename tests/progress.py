@@ -18,7 +18,9 @@ import time
 SECONDS_BETWEEN_LOOKS = 0.5
 TICKS = os.sysconf("SC_CLK_TCK")
 LINES_SHOWN = 40
-TROUBLE = re.compile(r"error[:\[]|NOT PROVED|NOT REFUSED|BAD EDIT|FAILED|panicked")
+TROUBLE = re.compile(r"error[:\[]|panicked")
+VERDICT = re.compile(r"^rt: .*(NOT PROVED|NOT REFUSED|BAD EDIT|FAILED)")
+NAMES = {"proof": "its proof", "tests": "its tests", "edits": "its edits", "program": "its program"}
 TRYING = re.compile(r"^rt: (\w+): trying its must-fail edits \((\d+)\)")
 
 
@@ -54,8 +56,8 @@ def part_of(process):
 class Watch:
     """What the parts of a run take, as its processes come and go."""
 
-    def __init__(self, parts):
-        self.parts, self.ended = parts, []
+    def __init__(self, parts, is_in_order):
+        self.parts, self.is_in_order, self.ended = parts, is_in_order, set()
         self.running, self.taken, self.edits = {}, {}, {}
         self.began, self.tried = time.monotonic(), {}
 
@@ -86,23 +88,30 @@ class Watch:
             self.end(*self.running.pop(process))
 
     def begin(self, part):
-        if part not in self.taken and part[1] != "program":
-            print(f"{part[0]}: {part[1]} begins", flush=True)
+        if part not in self.taken:
+            print(f"{part[0]}: {NAMES[part[1]]} ..", flush=True)
         self.taken.setdefault(part, [0.0, 0.0])
 
     def end(self, part, began, ended, spent):
+        crate, kind = part
         taken = self.taken[part]
         taken[0] += ended - began
         taken[1] += spent / TICKS
-        if part[1] == "edits":
-            self.tried[part[0]] = self.tried.get(part[0], 0) + 1
-            if self.tried[part[0]] != self.edits.get(part[0]):
+        if kind == "edits":
+            self.tried[crate] = self.tried.get(crate, 0) + 1
+            tried, all_of_it = self.tried[crate], self.edits.get(crate, 0)
+            if tried != all_of_it:
+                if tried % 10 == 0 and tried < all_of_it:
+                    print(f"{crate}: {tried} of {all_of_it} edits tried", flush=True)
                 return
-        if part in self.parts and part not in self.ended:
-            self.ended.append(part)
-        place = f" ({len(self.ended)} of {len(self.parts)})" if part in self.parts else ""
+        place = f" ({self.count(part)} of {len(self.parts)})" if part in self.parts else ""
         since = time.monotonic() - self.began
-        print(f"{part[0]}: {part[1]} took {taken[0]:.0f} s{place}; {since:.0f} s since the beginning", flush=True)
+        print(f"{crate}: {NAMES[kind]} took {taken[0]:.0f} s{place}, {since:.0f} s since the beginning", flush=True)
+
+    def count(self, part):
+        """How many parts have ended with this one. Where they come in order, those before it were kept."""
+        self.ended.add(part)
+        return self.parts.index(part) + 1 if self.is_in_order else len(self.ended)
 
     def table(self):
         """The processor seconds and the seconds of each part, as a table in Markdown."""
@@ -126,11 +135,11 @@ def show_trouble(log):
     print(f"all of it stands in {log}", flush=True)
 
 
-def run(words, folder, log, parts):
-    """Runs a command and gives its status and the watch over it."""
+def run(words, folder, log, parts, is_in_order=False):
+    """Runs a command and gives its status and the watch over it. Its parts are what it is known to do."""
     log.parent.mkdir(parents=True, exist_ok=True)
     print(f"{' '.join(words)}: what it says goes to {log}", flush=True)
-    watch, over = Watch(parts), threading.Event()
+    watch, over = Watch(parts, is_in_order), threading.Event()
     how = {"cwd": folder, "stdout": subprocess.PIPE, "stderr": subprocess.STDOUT}
     with log.open("w") as kept, subprocess.Popen(words, errors="replace", **how) as ran:
 
@@ -140,14 +149,18 @@ def run(words, folder, log, parts):
 
         looking = threading.Thread(target=look_on)
         looking.start()
-        for line in ran.stdout:
-            kept.write(line)
-            kept.flush()
-            if trying := TRYING.match(line):
-                watch.edits[trying[1]] = int(trying[2])
-        status = ran.wait()
-        over.set()
-        looking.join()
+        try:
+            for line in ran.stdout:
+                kept.write(line)
+                kept.flush()
+                if trying := TRYING.match(line):
+                    watch.edits[trying[1]] = int(trying[2])
+                if VERDICT.search(line):
+                    print(line, end="", flush=True)
+            status = ran.wait()
+        finally:
+            over.set()
+            looking.join()
         watch.look(ran.pid)
     if status:
         show_trouble(log)
@@ -165,10 +178,13 @@ def main():
         sys.exit(__doc__)
     top = pathlib.Path(__file__).resolve().parent.parent
     log = pathlib.Path(sys.argv[1]).resolve()
-    status, watch = run(sys.argv[2:], pathlib.Path.cwd(), log, [(it, "proof") for it in crates(top)])
+    status, watch = run(sys.argv[2:], pathlib.Path.cwd(), log, [(it, "proof") for it in crates(top)], is_in_order=True)
     print(f"{sys.argv[2]} ended with status {status}" if status else f"done in {time.monotonic() - watch.began:.0f} s")
     sys.exit(status if status >= 0 else 128 - status)
 
 
 if __name__ == "__main__":
-    main()
+    try:
+        main()
+    except KeyboardInterrupt:
+        sys.exit("stopped")
