@@ -10,6 +10,7 @@ line of its own counts as a failure.
 import os
 import pathlib
 import re
+import resource
 import subprocess
 import sys
 
@@ -51,12 +52,21 @@ def rows(program, log):
     return ran.returncode
 
 
+def taken(watch):
+    """What each crate took, as a table, with the processor time of all that ran so far."""
+    used = resource.getrusage(resource.RUSAGE_CHILDREN)
+    minutes = (used.ru_utime + used.ru_stime) / 60
+    head = "Processor seconds, and in brackets the seconds that passed:"
+    tail = f"With the runs of tests and programs, and what was too short to be seen, it took {minutes:.0f} processor minutes."
+    return "\n".join([head, "", *watch.table(), "", tail, ""])
+
+
 def main():
     if len(sys.argv) != 2:
         sys.exit(__doc__)
     gate, told, times = (TOP / "out" / name for name in ("gate.txt", "rows.txt", "times.md"))
     status, watch = progress.run([*RT, "ci"], TOP, gate, list(parts()))
-    times.write_text("\n".join(watch.table()) + "\n")
+    times.write_text(taken(watch))
     print(f"what each crate took stands in {times}", flush=True)
     both = counted(status, gate), counted(rows(sys.argv[1], told), told)
     passed, failed = map(sum, zip(*both))

@@ -131,7 +131,7 @@ def show_trouble(log):
     """The lines of a log that tell of trouble, and its end."""
     lines = log.read_text(errors="replace").splitlines()
     told = [line for line in lines[:-LINES_SHOWN] if TROUBLE.search(line)]
-    print(*told[:LINES_SHOWN], "..", *lines[-LINES_SHOWN:], sep="\n")
+    print(*told[:LINES_SHOWN], *[".."] * bool(told), *lines[-LINES_SHOWN:], sep="\n")
     print(f"all of it stands in {log}", flush=True)
 
 
