@@ -57,7 +57,7 @@ def taken(watch):
     used = resource.getrusage(resource.RUSAGE_CHILDREN)
     minutes = (used.ru_utime + used.ru_stime) / 60
     head = "Processor seconds, and in brackets the seconds that passed:"
-    tail = f"With the runs of tests and programs, and what was too short to be seen, it took {minutes:.0f} processor minutes."
+    tail = f"With the runs of tests and of the program, all of it took {minutes:.0f} processor minutes."
     return "\n".join([head, "", *watch.table(), "", tail, ""])
 
 
