@@ -112,6 +112,8 @@ def try_share(uses, name, edits, room):
     room = pathlib.Path(tempfile.mkdtemp(dir=room))
     (room / "tmp").mkdir()
     copy_to(room, uses, name, edits)
+    with PRINTING:
+        print(f"{name}: {len(edits)} edits ..", flush=True)
     _, said = told([*RT, "must-fail", name], room, env={**os.environ, "TMPDIR": str(room / "tmp")})
     shutil.rmtree(room)
     verdicts = dict(re.findall(rf"^rt: must-fail {name}/(\S+): (.*)", said, re.M))
