@@ -60,9 +60,10 @@ def shares(names, count):
 def told(words, folder, **more):
     """Runs a command to its end, and gives its status and what it said, which goes to the log too."""
     how = {"stdin": subprocess.DEVNULL, "stdout": subprocess.PIPE, "stderr": subprocess.STDOUT}
+    how |= {"encoding": "utf-8", "errors": "replace", "start_new_session": True}
     if STOPPED.is_set():
         raise KeyboardInterrupt
-    run = subprocess.Popen(words, cwd=folder, start_new_session=True, errors="replace", **how, **more)
+    run = subprocess.Popen(words, cwd=folder, **how, **more)
     RUNNING.add(run)
     try:
         said, _ = run.communicate()
@@ -70,7 +71,7 @@ def told(words, folder, **more):
         RUNNING.discard(run)
     if STOPPED.is_set():
         raise KeyboardInterrupt
-    with PRINTING, LOG.open("a") as log:
+    with PRINTING, LOG.open("a", encoding="utf-8") as log:
         log.write(said)
     return run.returncode, said
 
@@ -83,7 +84,7 @@ def build_below(names, uses):
         below.update(more)
         left += more
     for name in (it for it in uses if it in below):
-        print(f"{name}: building", flush=True)
+        print(f"{name}: its library ..", flush=True)
         status, said = told([*RT, "lib"], TOP / "crates" / name)
         if status:
             sys.exit(f"{said[-2000:]}\n{name} is not proved, so no edit above it was tried")

@@ -28,7 +28,7 @@ def parts():
     for name in progress.crates(TOP):
         folder = TOP / "crates" / name
         yield name, "proof"
-        if any("#[test]" in file.read_text() for file in folder.glob("src/**/*.rt")):
+        if any("#[test]" in file.read_text("utf-8") for file in folder.glob("src/**/*.rt")):
             yield name, "tests"
         if any(folder.glob("must-fail/*.edit")):
             yield name, "edits"
@@ -36,7 +36,7 @@ def parts():
 
 def counted(status, log):
     """What passed and what failed by the last line of a log, where the run that wrote it ended with this status."""
-    lines = log.read_text(errors="replace").splitlines()
+    lines = log.read_text("utf-8", "replace").splitlines()
     counts = COUNTS.fullmatch(lines[-1]) if lines else None
     passed, failed = map(int, counts.groups()) if counts else (0, 1)
     return passed, max(failed, 1) if status else failed
@@ -45,7 +45,8 @@ def counted(status, log):
 def rows(program, log):
     """Runs the rows, shown and kept in a log, and gives their status."""
     words = [sys.executable, str(TOP / "tests" / "rows" / "run.py"), program]
-    with log.open("w") as kept, subprocess.Popen(words, stdout=subprocess.PIPE, errors="replace") as ran:
+    how = {"stdout": subprocess.PIPE, "encoding": "utf-8", "errors": "replace"}
+    with log.open("w", encoding="utf-8") as kept, subprocess.Popen(words, **how) as ran:
         for line in ran.stdout:
             print(line, end="", flush=True)
             kept.write(line)

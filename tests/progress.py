@@ -129,7 +129,7 @@ class Watch:
 
 def show_trouble(log):
     """The lines of a log that tell of trouble, and its end."""
-    lines = log.read_text(errors="replace").splitlines()
+    lines = log.read_text("utf-8", "replace").splitlines()
     told = [line for line in lines[:-LINES_SHOWN] if TROUBLE.search(line)]
     print(*told[:LINES_SHOWN], *[".."] * bool(told), *lines[-LINES_SHOWN:], sep="\n")
     print(f"all of it stands in {log}", flush=True)
@@ -141,7 +141,8 @@ def run(words, folder, log, parts, is_in_order=False):
     print(f"{' '.join(words)}: what it says goes to {log}", flush=True)
     watch, over = Watch(parts, is_in_order), threading.Event()
     how = {"cwd": folder, "stdout": subprocess.PIPE, "stderr": subprocess.STDOUT}
-    with log.open("w") as kept, subprocess.Popen(words, errors="replace", **how) as ran:
+    how |= {"encoding": "utf-8", "errors": "replace"}
+    with log.open("w", encoding="utf-8") as kept, subprocess.Popen(words, **how) as ran:
 
         def look_on():
             while not over.wait(SECONDS_BETWEEN_LOOKS):
