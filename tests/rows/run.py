@@ -109,7 +109,7 @@ def faults(program, name):
     except subprocess.TimeoutExpired:
         return [f"  it did not end in {SECONDS} seconds"]
     except Exception as fault:
-        return [f"  the row can't be read: {fault}"]
+        return [f"  it can't be read or run: {fault}"]
     told = []
     for title, sign, got in (("standard output", ">", run.stdout or b""), ("standard error", "!", run.stderr)):
         if got != row.streams[sign]:
