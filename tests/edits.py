@@ -59,11 +59,11 @@ def shares(names, count):
 
 def told(words, folder, **more):
     """Runs a command to its end, and gives its status and what it said, which goes to the log too."""
-    how = {"stdin": subprocess.DEVNULL, "stdout": subprocess.PIPE, "stderr": subprocess.STDOUT}
-    how |= {"encoding": "utf-8", "errors": "replace", "start_new_session": True}
+    how = {"cwd": folder, "encoding": "utf-8", "errors": "replace", "start_new_session": True}
+    how.update(stdin=subprocess.DEVNULL, stdout=subprocess.PIPE, stderr=subprocess.STDOUT)
     if STOPPED.is_set():
         raise KeyboardInterrupt
-    run = subprocess.Popen(words, cwd=folder, **how, **more)
+    run = subprocess.Popen(words, **how, **more)
     RUNNING.add(run)
     try:
         said, _ = run.communicate()
@@ -153,10 +153,13 @@ def main():
     dealt = shares(names, count)
     total = sum(len(edits) for _, edits in dealt)
     print(f"{total} edits in {len(dealt)} shares, {count} of them at once; what rt says goes to {LOG}", flush=True)
-    with tempfile.TemporaryDirectory(prefix="edits-", ignore_cleanup_errors=True) as room:
+    room = tempfile.mkdtemp(prefix="edits-")
+    try:
         with ThreadPoolExecutor(count) as pool:
             tried = [pool.submit(try_share, uses, name, edits, room) for name, edits in dealt]
             refused = sum(it.result() for it in tried)
+    finally:
+        shutil.rmtree(room, ignore_errors=True)
     print(f"{refused} refused, {total - refused} not")
     sys.exit(1 if refused < total else 0)
 

@@ -140,8 +140,8 @@ def run(words, folder, log, parts, is_in_order=False):
     log.parent.mkdir(parents=True, exist_ok=True)
     print(f"{' '.join(words)}: what it says goes to {log}", flush=True)
     watch, over = Watch(parts, is_in_order), threading.Event()
-    how = {"cwd": folder, "stdout": subprocess.PIPE, "stderr": subprocess.STDOUT}
-    how |= {"encoding": "utf-8", "errors": "replace"}
+    how = {"cwd": folder, "encoding": "utf-8", "errors": "replace"}
+    how.update(stdout=subprocess.PIPE, stderr=subprocess.STDOUT)
     with log.open("w", encoding="utf-8") as kept, subprocess.Popen(words, **how) as ran:
 
         def look_on():
