@@ -1,0 +1,171 @@
+#!/usr/bin/env python3
+"""Tries the wrong bodies that the gate leaves out, and says of each whether the prover refused it.
+
+usage: edits.py [CRATE ..]
+
+The edits are crates/CRATE/wrong-bodies/*.edit, of every crate where none is named. They are dealt into shares of one
+crate each. A share is tried by `rt must-fail` in a copy of the repository in which it stands as the crate's
+must-fail/, and the shares run side by side: on JOBS processors, or on as many as there are and memory holds. What
+`rt` says stands in out/edits.txt. A line comes for each edit as its share ends, and the last line is
+`N refused, M not`.
+"""
+import math
+import os
+import pathlib
+import re
+import shutil
+import signal
+import subprocess
+import sys
+import tempfile
+import threading
+from concurrent.futures import ThreadPoolExecutor
+
+TOP = pathlib.Path(__file__).resolve().parent.parent
+RT = os.environ.get("RT", "rt").split()
+LOG = TOP / "out" / "edits.txt"
+MEMORY_OF_A_SHARE = 3_000_000_000
+LEAST_SHARE = 8
+PRINTING = threading.Lock()
+RUNNING = set()
+STOPPED = threading.Event()
+
+
+def crates():
+    """The libraries that each crate names, by crate, lowest first."""
+    lines = (line.partition("#")[0] for line in (TOP / "crates.txt").read_text().splitlines())
+    named = (line.partition(":") for line in lines if line.strip())
+    return {head.split()[0]: tail.split() for head, _, tail in named}
+
+
+def places():
+    """How many shares run side by side: each takes a processor, and beyond the first one its memory too."""
+    if os.environ.get("JOBS"):
+        return max(1, int(os.environ["JOBS"]))
+    free = re.search(r"MemAvailable:\s+(\d+) kB", pathlib.Path("/proc/meminfo").read_text())
+    return max(1, min(len(os.sched_getaffinity(0)), int(free[1]) * 1024 // MEMORY_OF_A_SHARE))
+
+
+def shares(names, count):
+    """The edits of each crate, dealt into shares: a share begins by checking the whole crate, so few are better."""
+    edits = {name: sorted((TOP / "crates" / name / "wrong-bodies").glob("*.edit")) for name in names}
+    size = max(LEAST_SHARE, math.ceil(sum(map(len, edits.values())) / count))
+    dealt = []
+    for name, all_of_it in edits.items():
+        parts = math.ceil(len(all_of_it) / size)
+        dealt += [(name, all_of_it[part::parts]) for part in range(parts)]
+    return sorted(dealt, key=lambda share: -len(share[1]))
+
+
+def told(words, folder, **more):
+    """Runs a command to its end, and gives its status and what it said, which goes to the log too."""
+    how = {"cwd": folder, "encoding": "utf-8", "errors": "replace", "start_new_session": True}
+    how.update(stdin=subprocess.DEVNULL, stdout=subprocess.PIPE, stderr=subprocess.STDOUT)
+    if STOPPED.is_set():
+        raise KeyboardInterrupt
+    run = subprocess.Popen(words, **how, **more)
+    RUNNING.add(run)
+    try:
+        said, _ = run.communicate()
+    finally:
+        RUNNING.discard(run)
+    if STOPPED.is_set():
+        raise KeyboardInterrupt
+    with PRINTING, LOG.open("a", encoding="utf-8") as log:
+        log.write(said)
+    return run.returncode, said
+
+
+def build_below(names, uses):
+    """Builds the libraries below these crates, over the work that is kept, and says where one is not proved."""
+    below, left = set(), list(names)
+    while left:
+        more = [it for it in uses[left.pop()] if it in uses and it not in below]
+        below.update(more)
+        left += more
+    for name in (it for it in uses if it in below):
+        print(f"{name}: its library ..", flush=True)
+        status, said = told([*RT, "lib"], TOP / "crates" / name)
+        if status:
+            sys.exit(f"{said[-2000:]}\n{name} is not proved, so no edit above it was tried")
+
+
+def copy_to(room, uses, name, edits):
+    """A copy of the repository without its edits but these. The libraries that are built are linked and not copied."""
+    for file in ("crates.txt", "HANDLES"):
+        shutil.copy(TOP / file, room)
+    for it in uses:
+        crate = pathlib.Path(room, "crates", it)
+        left_out = shutil.ignore_patterns("out", "must-fail", "wrong-bodies")
+        shutil.copytree(TOP / "crates" / it, crate, ignore=left_out)
+        built = TOP / "crates" / it / "out" / "rlib"
+        if it != name and built.is_dir():
+            (crate / "out").mkdir()
+            (crate / "out" / "rlib").symlink_to(built)
+    folder = pathlib.Path(room, "crates", name, "must-fail")
+    folder.mkdir()
+    for edit in edits:
+        shutil.copy(edit, folder)
+
+
+def try_share(uses, name, edits, room):
+    """Tries a crate's edits in a copy, prints a line for each, and gives how many were refused."""
+    room = pathlib.Path(tempfile.mkdtemp(dir=room))
+    (room / "tmp").mkdir()
+    copy_to(room, uses, name, edits)
+    with PRINTING:
+        print(f"{name}: {len(edits)} edits ..", flush=True)
+    _, said = told([*RT, "must-fail", name], room, env={**os.environ, "TMPDIR": str(room / "tmp")})
+    shutil.rmtree(room)
+    verdicts = dict(re.findall(rf"^rt: must-fail {name}/(\S+): (.*)", said, re.M))
+    refused = 0
+    with PRINTING:
+        for edit in edits:
+            verdict = verdicts.get(edit.name, f"NOT TRIED: {said[-400:]}")
+            is_refused = verdict.startswith("refused")
+            refused += is_refused
+            print(f"{name}/{edit.stem}: {'refused' if is_refused else verdict}", flush=True)
+    return refused
+
+
+def stop(*_):
+    """Ends what this run started, so that its temporary copies can be removed."""
+    STOPPED.set()
+    for run in list(RUNNING):
+        try:
+            os.killpg(run.pid, signal.SIGKILL)
+        except ProcessLookupError:
+            pass
+    raise KeyboardInterrupt
+
+
+def main():
+    uses = crates()
+    names = sys.argv[1:] or list(uses)
+    if unknown := [it for it in names if it not in uses]:
+        sys.exit(f"crates.txt has no crate {unknown[0]}")
+    LOG.parent.mkdir(exist_ok=True)
+    LOG.write_text("")
+    for number in (signal.SIGINT, signal.SIGTERM, signal.SIGHUP):
+        signal.signal(number, stop)
+    build_below(names, uses)
+    count = places()
+    dealt = shares(names, count)
+    total = sum(len(edits) for _, edits in dealt)
+    print(f"{total} edits in {len(dealt)} shares, {count} of them at once; what rt says goes to {LOG}", flush=True)
+    room = tempfile.mkdtemp(prefix="edits-")
+    try:
+        with ThreadPoolExecutor(count) as pool:
+            tried = [pool.submit(try_share, uses, name, edits, room) for name, edits in dealt]
+            refused = sum(it.result() for it in tried)
+    finally:
+        shutil.rmtree(room, ignore_errors=True)
+    print(f"{refused} refused, {total - refused} not")
+    sys.exit(1 if refused < total else 0)
+
+
+if __name__ == "__main__":
+    try:
+        main()
+    except KeyboardInterrupt:
+        sys.exit("stopped: not every edit was tried")
