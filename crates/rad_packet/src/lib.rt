@@ -2,7 +2,9 @@
 //! packet is written into a datagram. Nothing here allocates.
 //!
 //! A packet is seen by contracts as its text, the list of its octets. `specs/Attribute.antt` and
-//! `specs/Packet.antt` say what such a text is, and `specs/Reading.antt` what a datagram reads as.
+//! `specs/Packet.antt` say what such a text is, `specs/Item.antt` how a borrowed attribute is seen as one of
+//! it, `specs/Place.antt` where an attribute stands, `specs/Reading.antt` what a datagram reads as,
+//! `specs/Writing.antt` which attributes are not added, and `specs/Faults.antt` what is printed of a fault.
 #![tactic(auto)]
 
 mod attributes;

@@ -1,3 +1,6 @@
+//! A packet that was read.
+
+use crate::HEADER_LENGTH;
 use crate::attributes::Attributes;
 use crate::authenticator::authenticator_of;
 use std::marker::Model;
@@ -5,6 +8,7 @@ use std::marker::Model;
 /// A packet, borrowed from the datagram that it was read from: its octets, without padding.
 #[derive(Drop)]
 pub struct PacketRef<'a> {
+    /// All octets that Length counts.
     octets: &'a [u8],
 }
 
@@ -64,7 +68,7 @@ impl<'a> PacketRef<'a> {
         authenticator_of(self.octets)
     }
 
-    /// All octets that Length counts, without padding.
+    /// The octets that Length counts, without padding.
     pub fn octets(&self) -> &'a [u8]
         ensures value { result.now ≡ self.now }
         ensures packet { IsPacketText self.now }
@@ -73,12 +77,12 @@ impl<'a> PacketRef<'a> {
         octets
     }
 
-    /// The attributes in order. An attribute that is taken costs nothing that grows with the packet.
+    /// The attributes in order. Each costs the same, however long the packet is.
     pub fn attributes(&self) -> Attributes<'a>
         ensures attributes { result ≡ attribute_octets self.now }
         ensures packet { IsPacketText self.now }
     {
-        Attributes::over(&self.octets[20..])
+        Attributes::over(&self.octets[HEADER_LENGTH..])
     }
 
     /// The first attribute of a Type. Looks at each attribute up to it once.
@@ -86,7 +90,7 @@ impl<'a> PacketRef<'a> {
         ensures found { MatchOption result (of_kind kind (packet_attributes self.now) ≡ []) (λ at. IsFirstAt self.now kind at.place at.length) }
         ensures within { IfSome result (λ at. at.place + at.length ≤ length self.now) }
     {
-        let mut place = 20;
+        let mut place = HEADER_LENGTH;
         for attribute in self.attributes() {
             let length = 2 + attribute.value.len();
             if attribute.kind == kind {
@@ -102,7 +106,7 @@ impl<'a> PacketRef<'a> {
         ensures found { MatchOption result (of_kind kind (packet_attributes self.now) ≡ []) (λ at. IsLastAt self.now kind at.place at.length) }
         ensures within { IfSome result (λ at. at.place + at.length ≤ length self.now) }
     {
-        let mut place = 20;
+        let mut place = HEADER_LENGTH;
         let mut last = None;
         for attribute in self.attributes() {
             let length = 2 + attribute.value.len();
