@@ -108,3 +108,23 @@ fn tests_the_length(rt: HostRuntime) {
         Some(ReadFault::BadAttribute(20))
     );
 }
+
+#[test]
+fn faults_print_their_names(rt: HostRuntime) -> Result<(), Fail> {
+    for (fault, text) in [
+        (ReadFault::Short, "Short"),
+        (ReadFault::BadLength, "BadLength"),
+        (ReadFault::Truncated, "Truncated"),
+        (ReadFault::BadAttribute(20), "BadAttribute 20"),
+        (ReadFault::BadAttribute(4095), "BadAttribute 4095"),
+    ] {
+        assert_eq!(rt; format!(in rt.alloc(); "{fault}")?.as_str(), text);
+    }
+    for (fault, text) in [
+        (WriteFault::ValueTooLong, "ValueTooLong"),
+        (WriteFault::PacketTooLong, "PacketTooLong"),
+    ] {
+        assert_eq!(rt; format!(in rt.alloc(); "{fault}")?.as_str(), text);
+    }
+    Ok(())
+}
