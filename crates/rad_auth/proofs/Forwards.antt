@@ -1,11 +1,9 @@
--- Laws of the forwarded packet.
-use Rattle.std.proofs.Common.{◌≡◌, ℕ, ◌+◌, ◌<◌, ◌≤◌, List, [], ◌∷◌, ◌++◌, length, get_or, drop, replicate, refl, sym, ap, ◌∙◌, subst, arith, length-append, length-drop}
-use Rattle.std.specs.List.{AllByRecursion}
-use Rattle.std.proofs.lemmas.List.{append-nil, nil_from_length, get_or_append_left}
+-- Laws of the forwarded packet. Proofs of the crates above cite these.
+use Rattle.std.proofs.Common.{◌≡◌, ℕ, ◌+◌, ◌<◌, ◌≤◌, List, [], ◌∷◌, ◌++◌, length, replicate, refl, sym, ap, ◌∙◌, subst, arith, length-append, length-drop}
 use Rattle.rad_packet.specs.Attribute.{Attribute, IsAttribute, attribute_text, joined, attributes_of}
 use Rattle.rad_packet.specs.Packet.{IsPacketText, code_of, identifier_of, attribute_octets, packet_attributes, packet_text, with_attributes}
-use Rattle.rad_packet.specs.Reading.{ReadsAs}
-use Rattle.rad_packet.proofs.Joined.{attributes_of-joined, attributes_of-is}
+use Rattle.rad_packet.proofs.Each.{AllByRecursion-append, packet_attributes-each}
+use Rattle.rad_packet.proofs.Joined.{attributes_of-joined}
 use Rattle.rad_packet.proofs.Parts.{AreOctets-append, AreOctets-drop}
 use Rattle.rad_packet.proofs.Walk.{joined-append, joined-packet_attributes}
 use Rattle.rad_auth.specs.Authenticator.{IsRightRequest, request_authenticator}
@@ -15,14 +13,6 @@ use Rattle.rad_auth.specs.declared.mark.Mark.{Mark}
 use Rattle.rad_auth.proofs.Marks.{IsAttribute-mark, attribute_text-mark, joined-mark, length-mark_text, AreOctets-mark_text}
 use Rattle.rad_auth.proofs.Signing.{code_of-accounting_request, identifier_of-accounting_request, attribute_octets-accounting_request, length-accounting_request, IsRightRequest-accounting_request, IsPacketText-accounting_request, accounting_request-made}
 use Rattle.rad_auth.proofs.Packets.{with_attributes-packet_text}
-
-pub All-append : (xs ys : List Attribute) → AllByRecursion IsAttribute xs → AllByRecursion IsAttribute ys → AllByRecursion IsAttribute (xs ++ ys)
-All-append [] ys a b = b
-All-append (x ∷ xs) ys a b = (a.0, All-append xs ys a.1 b)
-
--- each attribute of a packet is one
-pub All-packet_attributes : (text : List ℕ) → IsPacketText text → AllByRecursion IsAttribute (packet_attributes text)
-All-packet_attributes text p = rw (attributes_of-is (drop 20 text) p.attributes.0 p.attributes.1) p.attributes.1.each
 
 -- The forwarded packet has the request's attributes in their order, and then the mark.
 module _ (text : List ℕ) (mark : Mark) (identifier : ℕ) (secret : List ℕ) where
@@ -72,27 +62,16 @@ module _ (text : List ℕ) (mark : Mark) (identifier : ℕ) (secret : List ℕ) 
       (omega (arith, length-append (attribute_octets text) (mark_text mark), length-mark_text mark, length-drop 20 text, p.least)) (
         packet_attributes text ++ mark_attribute mark ∷ [],
         record {
-          each = All-append (packet_attributes text) (mark_attribute mark ∷ []) (All-packet_attributes text p) (IsAttribute-mark mark, tt);
+          each = AllByRecursion-append IsAttribute (packet_attributes text) (mark_attribute mark ∷ []) (packet_attributes-each text p) (IsAttribute-mark mark, tt);
           whole = whole p;
         },
       )
 
--- a packet's text reads as itself
-pub read-whole : (text packet : List ℕ) → IsPacketText text → ReadsAs text packet → packet ≡ text
-read-whole text packet p r =
-    let least : 20 ≤ length packet = r.is_packet.least in
-    let two : 2 < length packet = omega arith in
-    let three : 3 < length packet = omega arith in
-    let high : get_or text 2 0 ≡ get_or packet 2 0 = ap (λ xs. get_or xs 2 0) r.whole ∙ get_or_append_left packet r.padding 0 2 two in
-    let low : get_or text 3 0 ≡ get_or packet 3 0 = ap (λ xs. get_or xs 3 0) r.whole ∙ get_or_append_left packet r.padding 0 3 three in
-    let none : r.padding ≡ [] = nil_from_length r.padding (omega (arith, p.counted, r.is_packet.counted, ap length r.whole, length-append packet r.padding)) in
-    sym (r.whole ∙ ap (λ xs. packet ++ xs) none ∙ append-nil packet)
-
--- so a forwarded packet that is read ends with its mark
-pub EndsWithMark-read : (text : List ℕ) (mark : Mark) (identifier : ℕ) (secret datagram packet : List ℕ) → IsPacketText text → IsPacketText datagram → datagram ≡ forwarded text mark identifier secret → ReadsAs datagram packet → EndsWithMark mark packet
-EndsWithMark-read text mark identifier secret datagram packet p q e r =
+-- so a packet that is the forwarded one ends with its mark
+pub EndsWithMark-forwarded : (text : List ℕ) (mark : Mark) (identifier : ℕ) (secret packet : List ℕ) → IsPacketText text → packet ≡ forwarded text mark identifier secret → EndsWithMark mark packet
+EndsWithMark-forwarded text mark identifier secret packet p e =
     let P : List ℕ → Type 0 = λ t. EndsWithMark mark t in
-    subst P (sym (read-whole datagram packet q r ∙ e)) (forwarded-ends text mark identifier secret p)
+    subst P (sym e) (forwarded-ends text mark identifier secret p)
 
 -- What `forward` does: it begins a packet, adds the request's attributes and the mark, takes the digest and
 -- writes it in the Authenticator's place.

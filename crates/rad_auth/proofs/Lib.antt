@@ -1,5 +1,6 @@
 pub mod Cuts
 pub mod Digests
+pub mod Exclusive
 pub mod Forwards
 pub mod Marks
 pub mod OneKind

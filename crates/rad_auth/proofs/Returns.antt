@@ -8,6 +8,7 @@ use Rattle.std.specs.Cmp.Lexicographic.{pointwise}
 use Rattle.rad_packet.specs.Attribute.{Attribute, IsAttribute, attribute_text, joined, of_kind, attributes_of, AreAttributes}
 use Rattle.rad_packet.specs.Packet.{IsPacketText, code_of, identifier_of, authenticator_of, packet_attributes, packet_text, with_attributes}
 use Rattle.rad_packet.specs.Place.{StandsAt, IsLastAt}
+use Rattle.rad_packet.proofs.Each.{AllByRecursion-left, AllByRecursion-right, packet_attributes-each}
 use Rattle.rad_packet.proofs.Joined.{attributes_of-joined}
 use Rattle.rad_packet.proofs.Walk.{joined-append}
 use Rattle.rad_auth.specs.Answers.{Answers}
@@ -18,7 +19,6 @@ use Rattle.rad_auth.specs.Returning.{HasAttributeAt, IsReturnedAt, octets_withou
 use Rattle.rad_auth.specs.declared.mark.Mark.{Mark}
 use Rattle.rad_auth.specs.declared.reply.RequestHead.{RequestHead}
 use Rattle.rad_auth.proofs.Cuts.{attributes_parted, from_here, cut_here, cut_after, cut_before, cut_fits}
-use Rattle.rad_auth.proofs.Forwards.{All-packet_attributes}
 use Rattle.rad_auth.proofs.Marks.{length-mark_value}
 use Rattle.rad_auth.proofs.OneKind.{same_last}
 use Rattle.rad_auth.proofs.Packets.{with_attributes-packet_text, length-packet_text}
@@ -89,18 +89,10 @@ compared sending reply sent read place len r s t e =
     take_rest sent (length sent - 12) ∙ ap (λ x. drop (length x - 12) x) s in
     slice_eq-Decides Decides-eqb _ _ r (e ∙ ap (λ x. pointwise eqb x (take (length sent - (length sent - 12)) (drop (length sent - 12) sent))) left ∙ ap (λ y. pointwise eqb (slice_range reply place (place + len)) y) right)
 
-All-left : (xs ys : List Attribute) → AllByRecursion IsAttribute (xs ++ ys) → AllByRecursion IsAttribute xs
-All-left [] ys a = tt
-All-left (x ∷ xs) ys a = (a.0, All-left xs ys a.1)
-
-All-right : (xs ys : List Attribute) → AllByRecursion IsAttribute (xs ++ ys) → AllByRecursion IsAttribute ys
-All-right [] ys a = a
-All-right (x ∷ xs) ys a = All-right xs ys a.1
-
 -- What stands before an attribute of a packet and after it.
 module _ (text : List ℕ) (place len : ℕ) (p : IsPacketText text) (h : HasAttributeAt text place len) where
   all : AllByRecursion IsAttribute (h.before ++ h.attribute ∷ h.after)
-  all = let P : List Attribute → Type 0 = λ xs. AllByRecursion IsAttribute xs in subst P h.stands.split (All-packet_attributes text p)
+  all = let P : List Attribute → Type 0 = λ xs. AllByRecursion IsAttribute xs in subst P h.stands.split (packet_attributes-each text p)
 
   whole : drop 20 text ≡ joined h.before ++ (attribute_text h.attribute ++ joined h.after)
   whole = attributes_parted text h.before h.attribute h.after p h.stands.split
@@ -118,10 +110,10 @@ module _ (text : List ℕ) (place len : ℕ) (p : IsPacketText text) (h : HasAtt
   place_fits = cut_fits 20 text (joined h.before) (attribute_text h.attribute) (joined h.after) place len p.least whole h.stands.offset long
 
   pub AreAttributes-before : AreAttributes (slice_range text 20 place)
-  AreAttributes-before = (h.before, record { each = All-left h.before (h.attribute ∷ h.after) all; whole = octets_before })
+  AreAttributes-before = (h.before, record { each = AllByRecursion-left IsAttribute h.before (h.attribute ∷ h.after) all; whole = octets_before })
 
   pub AreAttributes-after : AreAttributes (drop (place + len) text)
-  AreAttributes-after = (h.after, record { each = (All-right h.before (h.attribute ∷ h.after) all).1; whole = octets_after })
+  AreAttributes-after = (h.after, record { each = (AllByRecursion-right IsAttribute h.before (h.attribute ∷ h.after) all).1; whole = octets_after })
 
   pub octets_without-joined : octets_without text place len ≡ joined (h.before ++ h.after)
   unfolding octets_without

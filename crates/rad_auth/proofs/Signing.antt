@@ -117,6 +117,11 @@ pub response_authenticator-taken : (secret authenticator text digest : List ℕ)
 unfolding response_authenticator
 response_authenticator-taken secret authenticator text digest d = d
 
+-- where no Authenticator is known, the digest with zeros in its place is the Request Authenticator
+pub response_authenticator-unknown : (secret text : List ℕ) → response_authenticator secret (replicate 16 0) text ≡ request_authenticator secret text
+unfolding request_authenticator response_authenticator
+response_authenticator-unknown secret text = refl
+
 -- What `sign` does: it writes the Identifier, takes the digest with zeros in place of the Authenticator, and
 -- writes the digest there.
 put_authenticator : (identifier : ℕ) (authenticator attributes digest : List ℕ) → length authenticator ≡ 16 → put_mid 4 16 (packet_text 4 identifier authenticator attributes) digest ≡ packet_text 4 identifier digest attributes

@@ -1,9 +1,9 @@
 pub mod Answers
 pub mod Authenticator
 pub mod Buffer
+pub mod Faults
 pub mod Forwarding
 pub mod Hmac
-pub mod Kept
 pub mod Mark
 pub mod Refusing
 pub mod Replied

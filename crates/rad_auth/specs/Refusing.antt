@@ -3,9 +3,10 @@
 use Rattle.std.specs.Prelude.{◌≡◌, ◌≢◌, ℕ, List, []}
 use Rattle.rad_packet.specs.Attribute.{Attribute, of_kind}
 use Rattle.rad_packet.specs.Packet.{authenticator_of, packet_attributes}
-use Rattle.rad_auth.specs.Answers.{ReturnsMark}
+use Rattle.rad_auth.specs.Answers.{Answers, ReturnsMark}
 use Rattle.rad_auth.specs.Authenticator.{IsRightResponse}
 use Rattle.rad_auth.specs.declared.mark.Mark.{Mark}
+use Rattle.rad_auth.specs.declared.reply.RequestHead.{RequestHead}
 use Rattle.rad_auth.specs.declared.responding.ReplyFault.{ReplyFault}
 use Rattle.rad_auth.specs.declared.responding.ReplyFault.TheVariants.{BadAuthenticator, MessageAuthenticatorHere, NoProxyState, OutOfMemory}
 
@@ -24,3 +25,14 @@ RefusesReply sending reply home NoProxyState =
 RefusesReply sending reply home OutOfMemory =
     IsRightResponse home (authenticator_of sending) reply × (of_kind 80 (packet_attributes reply) ≡ [])
     × ReturnsItsMark sending reply
+
+-- No two faults refuse one reply.
+abbrev pub IsRefusedOnce : List ℕ → List ℕ → List ℕ → Type 0
+IsRefusedOnce sending reply home =
+    (e f : ReplyFault) → RefusesReply sending reply home e → RefusesReply sending reply home f → e ≡ f
+
+-- A reply after which there is a response that answers the request is refused for want of memory alone.
+abbrev pub IsAnsweredOrRefused : List ℕ → List ℕ → List ℕ → Type 0
+IsAnsweredOrRefused sending reply home =
+    (head : RequestHead) (client response : List ℕ) (fault : ReplyFault)
+    → Answers head sending reply client home response → RefusesReply sending reply home fault → fault ≡ OutOfMemory

@@ -1,11 +1,16 @@
+//! Request and Response Authenticators (RFC 2866 section 3).
+
 ghost use Rattle.std.specs.Prelude.{◌≡◌, ◌≤◌, ◌++◌, ◌↔◌, length, take, drop, IsTrue};
 ghost use Rattle.md5.specs.Md5.{md5};
-ghost use Rattle.rad_packet.specs.Packet.{IsPacketText, attribute_octets, code_of};
+ghost use Rattle.rad_packet.specs.Packet.{IsPacketText, attribute_octets, code_of, identifier_of, packet_text};
 ghost use Rattle.rad_auth.specs.Authenticator.{IsRightRequest, IsRightResponse, accounting_request, request_authenticator, response_authenticator};
 
 use crate::secret::Secret;
 use md5::{Digest, Md5};
-use rad_packet::PacketRef;
+use rad_packet::{Datagram, PacketRef};
+
+/// What stands in place of the Authenticator where none is known (RFC 2866 section 3).
+pub(crate) const NO_AUTHENTICATOR: [u8; 16] = [0; 16];
 
 /// The Request Authenticator of an Accounting-Request (RFC 2866 section 3). Hashes the packet once.
 pub fn request_authenticator(packet: &PacketRef<'_>, secret: &Secret) -> [u8; 16]
@@ -55,8 +60,15 @@ pub fn sign(packet: &mut [u8], identifier: u8, secret: &Secret)
     packet[4..20].copy_from_slice(&authenticator);
 }
 
-/// What stands in place of the Authenticator where none is known (RFC 2866 section 3).
-pub(crate) const NO_AUTHENTICATOR: [u8; 16] = [0; 16];
+/// Signs a packet that is written: its Authenticator becomes its digest with these octets in that place.
+/// Hashes the packet once.
+pub(crate) fn sign_datagram(datagram: &mut Datagram, authenticator: &[u8; 16], secret: &Secret)
+    ensures { let text = datagram.old in
+        datagram.new ≡ packet_text (code_of text) (identifier_of text) (response_authenticator secret.now authenticator.now text) (attribute_octets text) }
+{
+    let signature = digest(datagram.bytes(), authenticator, secret);
+    datagram.set_authenticator(signature);
+}
 
 /// The digest of a packet with these octets in place of its Authenticator, followed by the secret.
 pub(crate) fn digest(packet: &[u8], authenticator: &[u8; 16], secret: &Secret) -> [u8; 16]

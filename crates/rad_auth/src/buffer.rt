@@ -1,3 +1,5 @@
+//! Room for octets that is made before they are there.
+
 use crate::octets::Octets;
 use std::alloc::{AllocError, Global};
 use std::marker::Model;
@@ -5,6 +7,7 @@ use std::marker::Model;
 /// A place for octets that is made beforehand, so that filling it takes no memory.
 #[derive(Drop)]
 pub struct Buffer {
+    /// The octets, with the room behind them.
     octets: Vec<u8>,
 }
 
@@ -34,7 +37,7 @@ impl Buffer {
         })
     }
 
-    /// Puts octets in the place of those that it has, without memory.
+    /// Puts octets in the place of those that it has. It takes no memory.
     pub fn fill(&mut self, octets: &[u8])
         requires { length octets.now ≤ self.old.room }
         ensures filled { self.new.octets ≡ octets.now }
@@ -51,7 +54,7 @@ impl Buffer {
         self.octets.as_slice()
     }
 
-    /// Its octets, without memory.
+    /// Its octets, to be kept. It takes no memory.
     pub fn into_octets(self) -> Octets
         ensures { result ≡ self.octets }
     {

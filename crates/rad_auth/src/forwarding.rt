@@ -1,7 +1,9 @@
+//! What goes to a home server: a request with a mark added.
+
 ghost use Rattle.std.specs.Prelude.{◌≡◌, ◌<◌, ◌≤◌, length, OnOk, IfErr};
 ghost use Rattle.rad_auth.specs.Forwarding.{forwarded};
 
-use crate::authenticators::{NO_AUTHENTICATOR, digest};
+use crate::authenticators::{NO_AUTHENTICATOR, sign_datagram};
 use crate::mark::{MARK_LENGTH, Mark};
 use crate::secret::Secret;
 use crate::{ACCOUNTING_REQUEST, PROXY_STATE};
@@ -29,10 +31,10 @@ pub fn forward(
     if octets.len() > GREATEST_LENGTH - MARK_LENGTH {
         return Err(WriteFault::PacketTooLong);
     }
+    // The mark fits, so nothing is refused from here on, when the datagram changes.
     datagram.begin(ACCOUNTING_REQUEST, identifier, NO_AUTHENTICATOR);
     datagram.push_all(&octets[HEADER_LENGTH..])?;
     datagram.push(PROXY_STATE, &mark.value())?;
-    let authenticator = digest(datagram.bytes(), &NO_AUTHENTICATOR, secret);
-    datagram.set_authenticator(authenticator);
+    sign_datagram(datagram, &NO_AUTHENTICATOR, secret);
     Ok(())
 }

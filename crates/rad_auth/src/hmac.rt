@@ -3,7 +3,7 @@
 ghost use Rattle.std.specs.Prelude.{◌≡◌, ◌≤◌, ◌++◌, length};
 ghost use Rattle.rad_auth.specs.Hmac.{each_xor, hmac_md5, key_block, short_key};
 
-use crate::secret::put;
+use crate::copying::put;
 use md5::{Digest, Md5};
 
 /// The octets of a block of MD5.

@@ -6,6 +6,7 @@ ghost use Rattle.rad_auth.specs.Answers.{Answers};
 ghost use Rattle.rad_auth.specs.Authenticator.{IsRightRequest};
 ghost use Rattle.rad_auth.specs.Forwarding.{forwarded};
 ghost use Rattle.rad_auth.specs.Mark.{mark_attribute};
+ghost use Rattle.rad_auth.specs.Refusing.{IsAnsweredOrRefused, IsRefusedOnce};
 ghost use Rattle.rad_auth.specs.declared.mark.Mark.{Mark};
 ghost use Rattle.rad_auth.specs.declared.reply.RequestHead.{RequestHead};
 
@@ -23,4 +24,10 @@ pub fn forwarded_packet()
 /// A request has one response after a reply to its sending.
 pub fn one_response()
     ensures { (head : RequestHead) (sending reply client home a b : List ℕ) → Answers head sending reply client home a → Answers head sending reply client home b → a ≡ b }
+{}
+
+/// No two faults refuse one reply, and a reply that has a response is refused for want of memory alone.
+pub fn refused_or_answered()
+    ensures fault { (sending reply home : List ℕ) → IsRefusedOnce sending reply home }
+    ensures answered { (sending reply home : List ℕ) → IsAnsweredOrRefused sending reply home }
 {}

@@ -5,11 +5,13 @@
 //!
 //! Packets, secrets and authenticators are seen by contracts as lists of octets. `specs/` has one file for
 //! each family of definitions; `specs/Answers.antt` says what a response answers, and `Reply` keeps that in
-//! its type. No call hashes a packet twice. `respond` and the copies alone take memory.
+//! its type. No call hashes a packet twice. [`respond`], the copies and [`Buffer::with_room`] alone take
+//! memory.
 #![tactic(auto)]
 
 mod authenticators;
 mod buffer;
+mod copying;
 mod forwarding;
 mod hmac;
 mod laws;
@@ -28,7 +30,7 @@ pub use authenticators::{
 pub use buffer::Buffer;
 pub use forwarding::forward;
 pub use hmac::hmac_md5;
-pub use laws::{forwarded_packet, one_response};
+pub use laws::{forwarded_packet, one_response, refused_or_answered};
 pub use mark::{MARK_LENGTH, Mark};
 pub use octets::Octets;
 pub use reply::{Reply, RequestHead};

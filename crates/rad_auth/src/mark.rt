@@ -1,4 +1,6 @@
-use crate::secret::put;
+//! The mark that a request bears on its way to a home server.
+
+use crate::copying::put;
 
 /// The octets of a mark as an attribute: Type, Length and Value.
 pub const MARK_LENGTH: usize = 12;

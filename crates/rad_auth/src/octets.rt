@@ -1,9 +1,12 @@
+//! Octets that are kept.
+
 use std::alloc::{AllocError, Global};
 use std::marker::Model;
 
 /// Octets that are kept, as a packet's.
 #[derive(Drop)]
 pub struct Octets {
+    /// The octets. How much room the vector has, no contract shows.
     octets: Vec<u8>,
 }
 
@@ -18,8 +21,8 @@ impl Model for Octets {
 impl Octets {
     ghost use Rattle.std.specs.Prelude.{◌≡◌, IfOk};
 
-    /// Keeps a vector's octets, without memory.
-    pub fn from_vec(octets: Vec<u8>) -> Octets
+    /// Keeps a vector's octets. It takes no memory.
+    pub(crate) fn from_vec(octets: Vec<u8>) -> Octets
         ensures { result ≡ octets.items }
     {
         Octets { octets }
@@ -43,13 +46,5 @@ impl Octets {
         ensures { result.now ≡ self.now }
     {
         self.octets.as_slice()
-    }
-
-    /// The vector with these octets, without memory.
-    pub fn into_vec(self) -> Vec<u8>
-        ensures { result.items ≡ self }
-    {
-        let Octets { octets } = self;
-        octets
     }
 }

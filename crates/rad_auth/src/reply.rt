@@ -1,3 +1,5 @@
+//! A response with all that it rests on.
+
 use crate::octets::Octets;
 use crate::secret::Secret;
 use rad_packet::PacketRef;
@@ -18,11 +20,17 @@ pub struct RequestHead {
 /// home. Made by `respond` and `copy` alone.
 #[derive(Drop)]
 pub struct Reply {
+    /// The head of the request that is answered.
     head: RequestHead,
+    /// The packet that was sent to the home server.
     sending: Octets,
+    /// The home server's reply to it, without padding.
     reply: Octets,
+    /// The secret that is shared with the client.
     client: Secret,
+    /// The secret that is shared with the home server.
     home: Secret,
+    /// The packet that goes to the client.
     response: Octets,
 }
 
@@ -43,7 +51,11 @@ impl Reply {
     ghost use Rattle.rad_auth.specs.Answers.{Answers};
     ghost use Rattle.rad_auth.specs.Replied.{IsAnswer};
 
-    /// Copies the three packets.
+    /// Keeps copies of the three packets.
+    ///
+    /// # Errors
+    ///
+    /// Where memory is refused.
     pub(crate) fn keep(
         alloc: Global,
         head: RequestHead,
@@ -66,7 +78,7 @@ impl Reply {
         })
     }
 
-    /// A copy.
+    /// A copy, of the three packets too.
     ///
     /// # Errors
     ///

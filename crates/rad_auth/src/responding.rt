@@ -1,3 +1,5 @@
+//! The response to a request, out of a home server's reply.
+
 ghost use Rattle.std.specs.Prelude.{◌≡◌, ◌+◌, ◌≤◌, ◌++◌, length, IfOk, IfErr, MatchOption};
 ghost use Rattle.rad_packet.specs.Attribute.{AreAttributes};
 ghost use Rattle.rad_packet.specs.Packet.{IsPacketText, code_of, identifier_of};
@@ -8,13 +10,15 @@ ghost use Rattle.rad_auth.specs.Returning.{HasAttributeAt, IsReturnedAt, octets_
 ghost use Rattle.rad_auth.specs.Refusing.{RefusesReply, ReturnsItsMark};
 ghost use Rattle.rad_auth.specs.declared.mark.Mark.{Mark};
 
-use crate::authenticators::{check_response, digest};
+use crate::authenticators::{check_response, sign_datagram};
 use crate::mark::MARK_LENGTH;
 use crate::reply::{Reply, RequestHead};
 use crate::secret::Secret;
 use crate::{ACCOUNTING_RESPONSE, MESSAGE_AUTHENTICATOR, PROXY_STATE};
 use rad_packet::{AttributePlace, Datagram, HEADER_LENGTH, PacketRef};
 use std::alloc::{AllocError, Global};
+use std::error::Error;
+use std::fmt;
 
 /// Why a home server's reply gives no response. The first fault in this order is told.
 #[derive(Clone, Copy, Debug, PartialEq, Eq)]
@@ -28,6 +32,24 @@ pub enum ReplyFault {
     /// Memory was refused.
     OutOfMemory,
 }
+
+impl fmt::Display for ReplyFault {
+    ghost use Rattle.std.specs.Prelude.{Some};
+    ghost use Rattle.rad_auth.specs.Faults.{reply_fault_text};
+
+    ghost output = { λ fault. Some (reply_fault_text fault) };
+
+    fn fmt<W: fmt::Write>(&self, f: &mut fmt::Formatter<W>) -> fmt::Result {
+        match self {
+            ReplyFault::BadAuthenticator => f.write_str("BadAuthenticator"),
+            ReplyFault::MessageAuthenticatorHere => f.write_str("MessageAuthenticatorHere"),
+            ReplyFault::NoProxyState => f.write_str("NoProxyState"),
+            ReplyFault::OutOfMemory => f.write_str("OutOfMemory"),
+        }
+    }
+}
+
+impl Error for ReplyFault {}
 
 impl From<AllocError> for ReplyFault {
     ghost use Rattle.std.specs.Prelude.{◌≡◌};
@@ -46,7 +68,7 @@ impl From<AllocError> for ReplyFault {
 ///
 /// # Errors
 ///
-/// See `ReplyFault`.
+/// Where the reply gives no response, or memory is refused: the first [`ReplyFault`] in their order.
 pub fn respond(
     alloc: Global,
     head: RequestHead,
@@ -77,7 +99,8 @@ pub fn respond(
     Ok(Reply::keep(alloc, head, sending, reply, client, home, bytes)?)
 }
 
-/// Where the reply's last Proxy-State stands, if it is the sending's mark.
+/// Where the reply's last Proxy-State stands, if it is the sending's mark: what `forward` added is the last
+/// attribute of the sending.
 fn returned_mark(sending: &PacketRef<'_>, reply: &PacketRef<'_>) -> Option<AttributePlace>
     requires { (mark : Mark) × EndsWithMark mark sending.now }
     ensures { MatchOption result (¬ ReturnsItsMark sending.now reply.now) (λ at. IsReturnedAt sending.now reply.now at.place at.length) }
@@ -122,8 +145,8 @@ fn write_response(
 {
     let (before, after) = attributes_around(reply, mark);
     response.begin(ACCOUNTING_RESPONSE, head.identifier, head.authenticator);
+    // Both fit, since they were in the reply.
     response.push_all(before).unwrap();
     response.push_all(after).unwrap();
-    let authenticator = digest(response.bytes(), &head.authenticator, client);
-    response.set_authenticator(authenticator);
+    sign_datagram(response, &head.authenticator, client);
 }

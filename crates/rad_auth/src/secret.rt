@@ -1,12 +1,19 @@
+//! Shared secrets.
+
+use crate::copying::put;
+use std::error::Error;
+use std::fmt;
 use std::marker::Model;
 
-/// The greatest length of a secret in octets.
+/// The greatest count of octets of a secret. RFC 2865 section 3 has none: this is our own.
 pub const GREATEST_SECRET_LENGTH: usize = 128;
 
 /// A shared secret (RFC 2865 section 3): 1 to 128 octets, kept in place.
 #[derive(Clone, Copy)]
 pub struct Secret {
+    /// The secret, and zeros behind it.
     octets: [u8; GREATEST_SECRET_LENGTH],
+    /// How many octets the secret has.
     count: usize,
 }
 
@@ -20,9 +27,9 @@ pub enum SecretFault {
 }
 
 impl Model for Secret {
-    ghost use Rattle.std.specs.Prelude.{List, ℕ, ◌++◌, ◌-◌, length, take, replicate};
+    ghost use Rattle.std.specs.Prelude.{List, ℕ, ◌++◌, ◌-◌, ◌≤◌, length, take, replicate};
+    ghost use Rattle.std.proofs.Common.{ap, subst, sym, ◌∙◌, length-take-le};
     ghost use Rattle.rad_auth.specs.Secret.{IsFilled};
-    ghost use Rattle.rad_auth.specs.Kept.{filled_again};
 
     ghost Value = { List ℕ };
 
@@ -32,14 +39,19 @@ impl Model for Secret {
 
     ghost inverse = { λ octets. record { octets = octets ++ replicate (128 - length octets) 0; count = length octets } };
 
-    ghost inverse_ok = { λ s filled. filled_again s filled };
+    ghost inverse_ok = { λ s filled.
+        let counted = length-take-le s.count s.octets (subst (λ n. s.count ≤ n) (sym filled.room) filled.most) in
+        λ i. record {
+          octets = (ap (λ n. take s.count s.octets ++ replicate (128 - n) 0) counted ∙ sym filled.zeros) i;
+          count = counted i;
+        } };
 }
 
 impl Secret {
     ghost use Rattle.std.specs.Prelude.{◌≡◌, ◌<◌, ◌≤◌, length, MatchResult};
     ghost use Rattle.rad_auth.specs.Secret.{RefusesSecret};
 
-    /// Takes these octets as a secret.
+    /// The secret of these octets.
     ///
     /// # Errors
     ///
@@ -72,12 +84,18 @@ impl Secret {
     }
 }
 
-ghost use Rattle.std.specs.Prelude.{◌≡◌, ◌≤◌, ◌++◌, length, drop};
+impl fmt::Display for SecretFault {
+    ghost use Rattle.std.specs.Prelude.{Some};
+    ghost use Rattle.rad_auth.specs.Faults.{secret_fault_text};
 
-/// Copies octets to the front of a buffer.
-pub(crate) fn put(buffer: &mut [u8], octets: &[u8])
-    requires { length octets.now ≤ length buffer.old }
-    ensures { buffer.new ≡ octets.now ++ drop (length octets.now) buffer.old }
-{
-    buffer[..octets.len()].copy_from_slice(octets);
+    ghost output = { λ fault. Some (secret_fault_text fault) };
+
+    fn fmt<W: fmt::Write>(&self, f: &mut fmt::Formatter<W>) -> fmt::Result {
+        match self {
+            SecretFault::Empty => f.write_str("Empty"),
+            SecretFault::TooLong => f.write_str("TooLong"),
+        }
+    }
 }
+
+impl Error for SecretFault {}

@@ -1,3 +1,5 @@
+//! Status-Server: made, checked and answered.
+
 ghost use Rattle.std.specs.Prelude.{◌≡◌, ◌+◌, ◌≤◌, ◌↔◌, [], length, slice_range, IsTrue};
 ghost use Rattle.rad_packet.specs.Attribute.{attribute_text};
 ghost use Rattle.rad_packet.specs.Packet.{authenticator_of, code_of, identifier_of, packet_text};
@@ -5,7 +7,7 @@ ghost use Rattle.rad_auth.specs.Authenticator.{IsRightResponse, accounting_respo
 ghost use Rattle.rad_auth.specs.Hmac.{hmac_md5};
 ghost use Rattle.rad_auth.specs.Status.{IsRightStatus, status_server, zeroed_at};
 
-use crate::authenticators::digest;
+use crate::authenticators::sign_datagram;
 use crate::hmac::{hmac_md5, hmac_md5_of_parts};
 use crate::secret::Secret;
 use crate::{ACCOUNTING_RESPONSE, MESSAGE_AUTHENTICATOR, STATUS_SERVER};
@@ -27,6 +29,7 @@ pub fn check_status(packet: &PacketRef<'_>, secret: &Secret) -> bool
     }
     match packet.first_of(MESSAGE_AUTHENTICATOR) {
         Some(at) if at.length == MESSAGE_AUTHENTICATOR_LENGTH => {
+            // The Value follows Type and Length.
             is_right_value(packet.octets(), at.place + 2, secret)
         }
         _ => false,
@@ -79,6 +82,5 @@ pub fn answer_status(packet: &PacketRef<'_>, secret: &Secret, datagram: &mut Dat
 {
     let authenticator = packet.authenticator();
     datagram.begin(ACCOUNTING_RESPONSE, packet.identifier(), authenticator);
-    let response = digest(datagram.bytes(), &authenticator, secret);
-    datagram.set_authenticator(response);
+    sign_datagram(datagram, &authenticator, secret);
 }

@@ -1,8 +1,9 @@
 use super::*;
 use md5::{Digest, Md5};
-use rad_packet::{Datagram, WriteFault, read};
+use rad_packet::{Datagram, WriteFault, authenticator_of, read};
 use std::test::Fail;
 
+mod replies;
 mod vectors;
 
 use vectors::*;
@@ -11,12 +12,15 @@ const CLIENT: &[u8] = b"client secret";
 
 const HOME: &[u8] = b"the secret of the home";
 
+/// 64 characters of two octets each.
+const ACCENTED: &str = "éééééééééééééééééééééééééééééééééééééééééééééééééééééééééééééééé";
+
 const MARK: Mark = Mark {
     lane: 0x1234,
     number: 0x0123_4567_89ab_cdef,
 };
 
-fn secret(octets: &[u8]) -> Result<Secret, Fail> {
+fn secret_of(octets: &[u8]) -> Result<Secret, Fail> {
     Ok(Secret::new(octets)?)
 }
 
@@ -68,15 +72,33 @@ fn md5_of_rfc_1321(rt: HostRuntime) {
 fn secrets_have_1_to_128_octets(rt: HostRuntime) -> Result<(), Fail> {
     let octets = [0xa5; 129];
     assert_eq!(rt; Secret::new(&octets[..0]).err(), Some(SecretFault::Empty));
-    assert_eq!(rt; secret(&octets[..1])?.octets(), &octets[..1]);
-    assert_eq!(rt; secret(&octets[..128])?.octets(), &octets[..128]);
+    assert_eq!(rt; secret_of(&octets[..1])?.octets(), &octets[..1]);
+    assert_eq!(rt; secret_of(&octets[..128])?.octets(), &octets[..128]);
     assert_eq!(rt; Secret::new(&octets).err(), Some(SecretFault::TooLong));
+    Ok(())
+}
+
+/// The digests are those of Python's hashlib.
+#[test]
+fn secrets_of_each_length_sign(rt: HostRuntime) -> Result<(), Fail> {
+    let octets = [0xa5; 128];
+    let rows: [(&[u8], u128); 3] = [
+        (&octets[..1], 0xa47c6f62a74d1cb2d1824dc208bbf3de),
+        (&octets, 0x594ee1f5ad1df6c9d3bfaeb532ecb06f),
+        (ACCENTED.as_bytes(), 0x490581c9d1159a3b40d1a4332440a951),
+    ];
+    for (octets, digest) in rows {
+        let secret = secret_of(octets)?;
+        assert_eq!(rt; secret.octets(), octets);
+        let authenticator = request_authenticator(&read(&REQUEST)?, &secret);
+        assert_eq!(rt; authenticator, digest.to_be_bytes());
+    }
     Ok(())
 }
 
 #[test]
 fn requests_are_checked_forwarded_and_signed(rt: HostRuntime) -> Result<(), Fail> {
-    let (client, home) = (secret(CLIENT)?, secret(HOME)?);
+    let (client, home) = (secret_of(CLIENT)?, secret_of(HOME)?);
     let request = read(&REQUEST)?;
     assert!(rt; check_request(&request, &client));
     assert!(rt; !check_request(&request, &home));
@@ -95,7 +117,7 @@ fn requests_are_checked_forwarded_and_signed(rt: HostRuntime) -> Result<(), Fail
 
 #[test]
 fn the_longest_request_fits(rt: HostRuntime) -> Result<(), Fail> {
-    let home = secret(HOME)?;
+    let home = secret_of(HOME)?;
     let mut request = Datagram::new();
     request.begin(ACCOUNTING_REQUEST, 7, [0; 16]);
     request.push(1, b"bob@example.org")?;
@@ -122,15 +144,13 @@ fn the_longest_request_fits(rt: HostRuntime) -> Result<(), Fail> {
 
 #[test]
 fn status_servers_have_one_message_authenticator(rt: HostRuntime) -> Result<(), Fail> {
-    let client = secret(CLIENT)?;
-    let mut authenticator = [0; 16];
-    authenticator.copy_from_slice(&STATUS[4..20]);
+    let client = secret_of(CLIENT)?;
     let mut datagram = Datagram::new();
-    make_status(9, authenticator, &client, &mut datagram);
+    make_status(9, authenticator_of(&STATUS), &client, &mut datagram);
     assert_eq!(rt; datagram.bytes(), &STATUS[..]);
     let status = read(&STATUS)?;
     assert!(rt; check_status(&status, &client));
-    assert!(rt; !check_status(&status, &secret(HOME)?));
+    assert!(rt; !check_status(&status, &secret_of(HOME)?));
     assert!(rt; check_status(&read(&STATUS_AMONG_OTHERS)?, &client));
     assert!(rt; !check_status(&read(&TWO_MESSAGE_AUTHENTICATORS)?, &client));
     assert!(rt; !check_status(&read(&REQUEST)?, &client));
@@ -139,39 +159,12 @@ fn status_servers_have_one_message_authenticator(rt: HostRuntime) -> Result<(), 
 
 #[test]
 fn status_servers_are_answered(rt: HostRuntime) -> Result<(), Fail> {
-    let client = secret(CLIENT)?;
+    let client = secret_of(CLIENT)?;
     let status = read(&STATUS)?;
     let mut datagram = Datagram::new();
     if check_status(&status, &client) && status.code() == STATUS_SERVER {
         answer_status(&status, &client, &mut datagram);
     }
     assert_eq!(rt; datagram.bytes(), &STATUS_ANSWER[..]);
-    Ok(())
-}
-
-#[test]
-fn replies_give_responses(rt: HostRuntime) -> Result<(), Fail> {
-    let (client, home) = (secret(CLIENT)?, secret(HOME)?);
-    let request = read(&REQUEST)?;
-    let mut datagram = Datagram::new();
-    forward(&request, MARK, 0xa5, &home, &mut datagram)?;
-    let sending = read(datagram.bytes())?;
-    let reply = read(&REPLY)?;
-    let head = RequestHead {
-        identifier: request.identifier(),
-        authenticator: request.authenticator(),
-    };
-    assert_eq!(rt; reply.code(), ACCOUNTING_RESPONSE);
-    assert_eq!(rt; reply.identifier(), sending.identifier());
-    let made = respond(rt.alloc(), head, &sending, &reply, &client, &home)?;
-    let copy = made.copy(rt.alloc())?;
-    for reply in [&made, &copy] {
-        assert_eq!(rt; reply.head(), head);
-        assert_eq!(rt; reply.sending(), &FORWARDED[..]);
-        assert_eq!(rt; reply.reply(), &REPLY[..]);
-        assert_eq!(rt; reply.response(), &RESPONSE[..]);
-    }
-    let refused = respond(rt.alloc(), head, &sending, &reply, &home, &client);
-    assert_eq!(rt; refused.err(), Some(ReplyFault::BadAuthenticator));
     Ok(())
 }

@@ -1,12 +1,14 @@
--- A datagram that reads as a packet is not refused, and no two faults refuse one.
+-- A datagram that reads as a packet is not refused, and no two faults refuse one. Proofs of the crates above
+-- cite these.
 use Rattle.std.proofs.Common.{◌≡◌, ℕ, ◌+◌, ◌-◌, ◌<◌, ◌≤◌, List, [], ◌∷◌, ◌++◌, length, get_or, take, drop, refl, sym, ap, subst, ◌∙◌, ⊎_elim, arith, length-append, length-drop, length-take, append_assoc, slice_range}
 use Rattle.std.specs.List.{AllByRecursion}
-use Rattle.std.proofs.lemmas.List.{take_at, drop_at, take-append-drop, drop-append-le, get_or_append_left, take-append-le, drop-drop, take-take, drop-take}
+use Rattle.std.proofs.lemmas.List.{take_at, drop_at, take-append-drop, drop-append-le, take-append-le, drop-drop, take-take, drop-take}
 use Rattle.std.proofs.lemmas.Bool.{cases_lt}
 use Rattle.rad_packet.specs.Attribute.{Attribute, IsAttribute, attribute_text, joined, AreAttributes}
 use Rattle.rad_packet.specs.Packet.{length_of}
 use Rattle.rad_packet.specs.Reading.{ReadsAs, Refuses, BeginsNoAttribute, IsInvalidAt}
 use Rattle.std.proofs.Math.Seq.{take-add}
+use Rattle.rad_packet.proofs.OneReading.{read_length}
 use Rattle.rad_packet.specs.declared.faults.ReadFault.{ReadFault}
 use Rattle.rad_packet.specs.declared.faults.ReadFault.TheVariants.{Short, BadLength, Truncated, BadAttribute}
 
@@ -31,13 +33,6 @@ none_among octets n (xs, i) (ys, j) h none =
     begins_rest xs ys (drop n octets) i.each
     (sym i.whole ∙ (sym (take-append-drop n octets) ∙ ap (λ t. t ++ drop n octets) j.whole))
     (omega (arith, length-drop n octets)) none
-
--- a datagram that reads as a packet has its Length
-read_length : (datagram packet : List ℕ) → ReadsAs datagram packet → length_of datagram ≡ length packet
-read_length datagram packet r =
-    let high : 2 < length packet = omega (arith, r.is_packet.least) in
-    let low : 3 < length packet = omega (arith, r.is_packet.least) in
-    ap length_of r.whole ∙ (rw (get_or_append_left packet r.padding 0 2 high, get_or_append_left packet r.padding 0 3 low) r.is_packet.counted)
 
 read_longer : (datagram packet : List ℕ) → ReadsAs datagram packet → length packet ≤ length datagram
 read_longer datagram packet r = omega (arith, ap length r.whole, length-append packet r.padding)

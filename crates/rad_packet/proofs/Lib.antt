@@ -1,6 +1,8 @@
-pub mod Joined
-pub mod Walk
-pub mod Parts
 pub mod Buffer
-pub mod Scan
+pub mod Each
 pub mod Exclusive
+pub mod Joined
+pub mod OneReading
+pub mod Parts
+pub mod Scan
+pub mod Walk

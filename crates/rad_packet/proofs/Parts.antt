@@ -1,15 +1,11 @@
 -- A packet's text and its parts.
 use Rattle.std.proofs.Common.{◌≡◌, ℕ, zero, suc, ◌+◌, ◌-◌, ◌*◌, ◌/◌, ◌%◌, ◌<◌, ◌≤◌, List, [], ◌∷◌, ◌++◌, length, get_or, set, take, drop, refl, sym, ap, ◌∙◌, arith, length-append, length-drop, length-take, append_assoc, get_or-drop}
 use Rattle.std.proofs.lemmas.List.{drop_at, append-nil, take-append-drop}
-use Rattle.std.specs.List.{AllByRecursion}
 use Rattle.rad_packet.specs.Attribute.{Attribute, IsAttribute, attribute_text, joined, AreAttributes}
 use Rattle.rad_packet.specs.Packet.{AreOctets, IsPacketText, packet_text, code_of, identifier_of, authenticator_of, attribute_octets, with_attributes}
 use Rattle.rad_packet.specs.Reading.{BeginsAttribute}
+use Rattle.rad_packet.proofs.Each.{AllByRecursion-append}
 use Rattle.rad_packet.proofs.Walk.{joined-append}
-
-AllByRecursion-append : (xs ys : List Attribute) → AllByRecursion IsAttribute xs → AllByRecursion IsAttribute ys → AllByRecursion IsAttribute (xs ++ ys)
-AllByRecursion-append [] ys a b = b
-AllByRecursion-append (x ∷ xs) ys a b = (a.0, AllByRecursion-append xs ys a.1 b)
 
 -- octets by parts
 pub AreOctets-append : (xs ys : List ℕ) → AreOctets xs → AreOctets ys → AreOctets (xs ++ ys)
@@ -78,7 +74,7 @@ take-set (suc n) (suc i) (x ∷ xs) y = ap (λ ys. x ∷ ys) (take-set n i xs y)
 
 -- texts of attributes, and more texts of attributes
 pub AreAttributes-append : (xs ys : List ℕ) → AreAttributes xs → AreAttributes ys → AreAttributes (xs ++ ys)
-AreAttributes-append xs ys (a, i) (b, j) = (a ++ b, record { each = AllByRecursion-append a b i.each j.each; whole = ap (λ t. t ++ ys) i.whole ∙ (ap (λ t. joined a ++ t) j.whole ∙ sym (joined-append a b)) })
+AreAttributes-append xs ys (a, i) (b, j) = (a ++ b, record { each = AllByRecursion-append IsAttribute a b i.each j.each; whole = ap (λ t. t ++ ys) i.whole ∙ (ap (λ t. joined a ++ t) j.whole ∙ sym (joined-append a b)) })
 
 pub AreAttributes-nil : AreAttributes []
 AreAttributes-nil = ([], record { each = tt; whole = refl })

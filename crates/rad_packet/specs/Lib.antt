@@ -4,3 +4,4 @@ pub mod Reading
 pub mod Item
 pub mod Place
 pub mod Writing
+pub mod Faults

@@ -1,3 +1,5 @@
+//! The attributes of a packet, one after another.
+
 use std::marker::Model;
 
 /// An attribute (RFC 2865 section 5): its Type, and its Value of at most 253 octets.
@@ -12,6 +14,7 @@ pub struct AttributeRef<'a> {
 /// The attributes of a packet, in order.
 #[derive(Drop)]
 pub struct Attributes<'a> {
+    /// The texts of those that are still to come, joined.
     rest: &'a [u8],
 }
 
@@ -30,6 +33,7 @@ impl<'a> Attributes<'a> {
     ghost use Rattle.std.specs.Prelude.{◌≡◌};
     ghost use Rattle.rad_packet.specs.Attribute.{AreAttributes};
 
+    /// The attributes with these texts, joined.
     pub(crate) fn over(rest: &'a [u8]) -> Self
         requires { AreAttributes rest.now }
         ensures { result ≡ rest.now }

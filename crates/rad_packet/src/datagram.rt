@@ -1,3 +1,5 @@
+//! A packet that is written.
+
 ghost use Rattle.std.specs.Prelude.{◌≡◌, ◌+◌, ◌/◌, ◌%◌, ◌<◌, ◌≤◌, ◌++◌, length, take, drop, slice_set};
 ghost use Rattle.rad_packet.specs.Packet.{AreOctets};
 
@@ -6,10 +8,15 @@ use crate::packet_ref::PacketRef;
 use crate::{GREATEST_LENGTH, HEADER_LENGTH};
 use std::marker::Model;
 
+/// The greatest count of octets of an attribute's Value (RFC 2865 section 5).
+const GREATEST_VALUE_LENGTH: usize = 253;
+
 /// A packet that is written, in place: always a whole packet, of Length 20 to 4096.
 #[derive(Drop)]
 pub struct Datagram {
+    /// The packet at the front, and whatever stood there before behind it.
     octets: [u8; GREATEST_LENGTH],
+    /// The packet's Length.
     length: usize,
 }
 
@@ -30,19 +37,19 @@ impl Datagram {
     ghost use Rattle.rad_packet.specs.Packet.{IsPacketText, packet_text, with_attributes, code_of, identifier_of, authenticator_of, attribute_octets};
     ghost use Rattle.rad_packet.specs.Writing.{RefusesValue};
 
-    /// Code 0, Identifier 0, an Authenticator of zeros, no attributes.
+    /// A packet of Code 0 and Identifier 0, with an Authenticator of zeros and no attributes.
     pub fn new() -> Self
         ensures { result ≡ packet_text 0 0 (replicate 16 0) [] }
     {
         let mut octets = [0; GREATEST_LENGTH];
-        octets[3] = 20;
+        octets[3] = HEADER_LENGTH as u8;
         Datagram {
             octets,
             length: HEADER_LENGTH,
         }
     }
 
-    /// Begins a packet: these parts, and no attributes.
+    /// Begins a packet anew, with these parts and no attributes.
     pub fn begin(&mut self, code: u8, identifier: u8, authenticator: [u8; 16])
         ensures { self.new ≡ packet_text code identifier authenticator [] }
     {
@@ -55,7 +62,7 @@ impl Datagram {
         self.length = HEADER_LENGTH;
     }
 
-    /// Copies a packet.
+    /// Copies a packet into this one's place. It costs what the copied packet's Length is.
     pub fn load(&mut self, packet: &PacketRef<'_>)
         ensures { self.new ≡ packet.now }
     {
@@ -64,7 +71,7 @@ impl Datagram {
         self.length = octets.len();
     }
 
-    /// Adds an attribute at the end. Copies the value alone.
+    /// Adds an attribute at the end. It copies the value alone.
     ///
     /// # Errors
     ///
@@ -90,7 +97,7 @@ impl Datagram {
         Ok(())
     }
 
-    /// Adds texts of attributes, joined, at the end. Copies them alone.
+    /// Adds texts of attributes, joined, at the end. It copies them alone.
     ///
     /// # Errors
     ///
@@ -125,6 +132,23 @@ impl Datagram {
         put(&mut self.octets, 4, &authenticator);
     }
 
+    /// A copy, of all 4096 octets that it has room for.
+    pub fn copy(&self) -> Datagram
+        ensures { result ≡ self.now }
+    {
+        Datagram {
+            octets: self.octets,
+            length: self.length,
+        }
+    }
+
+    /// The packet, without reading it again.
+    pub fn packet(&self) -> PacketRef<'_>
+        ensures { result ≡ self.now }
+    {
+        PacketRef::over(self.bytes())
+    }
+
     /// The packet's octets.
     pub fn bytes(&self) -> &[u8]
         ensures value { result.now ≡ self.now }
@@ -141,9 +165,6 @@ impl Datagram {
         self.bytes().len()
     }
 }
-
-/// The greatest count of octets of an attribute's Value (RFC 2865 section 5).
-const GREATEST_VALUE_LENGTH: usize = 253;
 
 /// Copies octets into a buffer, from a place on.
 fn put(buffer: &mut [u8], place: usize, octets: &[u8])

@@ -1,3 +1,8 @@
+//! Why there is no packet to read, and why one does not grow.
+
+use std::error::Error;
+use std::fmt;
+
 /// Why a datagram is no packet. The first fault in this order is told.
 #[derive(Clone, Copy, Debug, PartialEq, Eq)]
 pub enum ReadFault {
@@ -20,3 +25,37 @@ pub enum WriteFault {
     /// The packet would be longer than 4096 octets.
     PacketTooLong,
 }
+
+impl fmt::Display for ReadFault {
+    ghost use Rattle.std.specs.Prelude.{Some};
+    ghost use Rattle.rad_packet.specs.Faults.{read_fault_text};
+
+    ghost output = { λ fault. Some (read_fault_text fault) };
+
+    fn fmt<W: fmt::Write>(&self, f: &mut fmt::Formatter<W>) -> fmt::Result {
+        match self {
+            ReadFault::Short => f.write_str("Short"),
+            ReadFault::BadLength => f.write_str("BadLength"),
+            ReadFault::Truncated => f.write_str("Truncated"),
+            ReadFault::BadAttribute(place) => write!(f, "BadAttribute {place}"),
+        }
+    }
+}
+
+impl Error for ReadFault {}
+
+impl fmt::Display for WriteFault {
+    ghost use Rattle.std.specs.Prelude.{Some};
+    ghost use Rattle.rad_packet.specs.Faults.{write_fault_text};
+
+    ghost output = { λ fault. Some (write_fault_text fault) };
+
+    fn fmt<W: fmt::Write>(&self, f: &mut fmt::Formatter<W>) -> fmt::Result {
+        match self {
+            WriteFault::ValueTooLong => f.write_str("ValueTooLong"),
+            WriteFault::PacketTooLong => f.write_str("PacketTooLong"),
+        }
+    }
+}
+
+impl Error for WriteFault {}

@@ -1,9 +1,14 @@
+//! A packet that was read.
+
+use crate::HEADER_LENGTH;
 use crate::attributes::Attributes;
+use crate::authenticator::authenticator_of;
 use std::marker::Model;
 
 /// A packet, borrowed from the datagram that it was read from: its octets, without padding.
 #[derive(Drop)]
 pub struct PacketRef<'a> {
+    /// All octets that Length counts.
     octets: &'a [u8],
 }
 
@@ -33,8 +38,9 @@ impl<'a> PacketRef<'a> {
     ghost use Rattle.rad_packet.specs.Attribute.{of_kind};
     ghost use Rattle.rad_packet.specs.Place.{IsFirstAt, IsLastAt};
 
-    /// The packet with these octets.
-    pub(crate) fn over(octets: &'a [u8]) -> Self
+    /// The packet with these octets, which are known to be one. It looks at none of them: for octets that
+    /// come from outside there is [`read`](crate::read).
+    pub fn over(octets: &'a [u8]) -> Self
         requires { IsPacketText octets.now }
         ensures { result ≡ octets.now }
     {
@@ -59,12 +65,10 @@ impl<'a> PacketRef<'a> {
     pub fn authenticator(&self) -> [u8; 16]
         ensures { result ≡ authenticator_of self.now }
     {
-        let mut authenticator = [0; 16];
-        authenticator.copy_from_slice(&self.octets[4..20]);
-        authenticator
+        authenticator_of(self.octets)
     }
 
-    /// All octets that Length counts, without padding.
+    /// The octets that Length counts, without padding.
     pub fn octets(&self) -> &'a [u8]
         ensures value { result.now ≡ self.now }
         ensures packet { IsPacketText self.now }
@@ -73,12 +77,12 @@ impl<'a> PacketRef<'a> {
         octets
     }
 
-    /// The attributes in order. An attribute that is taken costs nothing that grows with the packet.
+    /// The attributes in order. Each costs the same, however long the packet is.
     pub fn attributes(&self) -> Attributes<'a>
         ensures attributes { result ≡ attribute_octets self.now }
         ensures packet { IsPacketText self.now }
     {
-        Attributes::over(&self.octets[20..])
+        Attributes::over(&self.octets[HEADER_LENGTH..])
     }
 
     /// The first attribute of a Type. Looks at each attribute up to it once.
@@ -86,7 +90,7 @@ impl<'a> PacketRef<'a> {
         ensures found { MatchOption result (of_kind kind (packet_attributes self.now) ≡ []) (λ at. IsFirstAt self.now kind at.place at.length) }
         ensures within { IfSome result (λ at. at.place + at.length ≤ length self.now) }
     {
-        let mut place = 20;
+        let mut place = HEADER_LENGTH;
         for attribute in self.attributes() {
             let length = 2 + attribute.value.len();
             if attribute.kind == kind {
@@ -102,7 +106,7 @@ impl<'a> PacketRef<'a> {
         ensures found { MatchOption result (of_kind kind (packet_attributes self.now) ≡ []) (λ at. IsLastAt self.now kind at.place at.length) }
         ensures within { IfSome result (λ at. at.place + at.length ≤ length self.now) }
     {
-        let mut place = 20;
+        let mut place = HEADER_LENGTH;
         let mut last = None;
         for attribute in self.attributes() {
             let length = 2 + attribute.value.len();

@@ -1,3 +1,5 @@
+//! Reading a datagram as a packet.
+
 ghost use Rattle.std.specs.Prelude.{◌≡◌, ◌≤◌, List, ℕ, length, take, drop, slice_range, MatchResult, MatchOption, IfSome};
 ghost use Rattle.rad_packet.specs.Attribute.{AreAttributes};
 ghost use Rattle.rad_packet.specs.Packet.{IsPacketText};
@@ -7,8 +9,15 @@ use crate::faults::ReadFault;
 use crate::packet_ref::PacketRef;
 use crate::{GREATEST_LENGTH, HEADER_LENGTH};
 
-/// Reads a datagram as a packet. Octets past the packet's Length are padding and ignored. Looks at each
-/// attribute once.
+/// The least Length of an attribute: it counts Type and Length (RFC 2865 section 5).
+const LEAST_ATTRIBUTE_LENGTH: usize = 2;
+
+/// Reads a datagram as a packet (RFC 2866 section 3). Octets past the packet's Length are padding and
+/// ignored. It looks at each attribute once.
+///
+/// # Errors
+///
+/// Where the datagram holds no packet: the first [`ReadFault`] in their order.
 pub fn read(datagram: &[u8]) -> Result<PacketRef<'_>, ReadFault>
     ensures { MatchResult result (λ packet. ReadsAs datagram.now packet) (λ fault. Refuses datagram.now fault) }
 {
@@ -57,6 +66,3 @@ fn first_length(octets: &[u8]) -> Option<usize>
     }
     Some(length)
 }
-
-/// The least Length of an attribute: it counts Type and Length (RFC 2865 section 5).
-const LEAST_ATTRIBUTE_LENGTH: usize = 2;

@@ -40,9 +40,13 @@ fn reads_what_is_written(rt: HostRuntime) -> Result<(), Fail> {
     );
     assert_eq!(rt; packet.first_of(2), None);
     assert_eq!(rt; packet.count_of(1), 1);
-    let mut copy = Datagram::new();
-    copy.load(&packet);
+    assert_eq!(rt; authenticator_of(&REQUEST), authenticator);
+    assert_eq!(rt; written.packet().octets(), REQUEST.as_slice());
+    let mut loaded = Datagram::new();
+    loaded.load(&packet);
+    let mut copy = loaded.copy();
     copy.set_identifier(8);
+    assert_eq!(rt; loaded.bytes(), REQUEST.as_slice());
     copy.set_authenticator([9; 16]);
     assert_eq!(rt; copy.push_all(&REQUEST[20..]), Ok(()));
     assert_eq!(rt;
@@ -103,4 +107,24 @@ fn tests_the_length(rt: HostRuntime) {
         .err(),
         Some(ReadFault::BadAttribute(20))
     );
+}
+
+#[test]
+fn faults_print_their_names(rt: HostRuntime) -> Result<(), Fail> {
+    for (fault, text) in [
+        (ReadFault::Short, "Short"),
+        (ReadFault::BadLength, "BadLength"),
+        (ReadFault::Truncated, "Truncated"),
+        (ReadFault::BadAttribute(20), "BadAttribute 20"),
+        (ReadFault::BadAttribute(4095), "BadAttribute 4095"),
+    ] {
+        assert_eq!(rt; format!(in rt.alloc(); "{fault}")?.as_str(), text);
+    }
+    for (fault, text) in [
+        (WriteFault::ValueTooLong, "ValueTooLong"),
+        (WriteFault::PacketTooLong, "PacketTooLong"),
+    ] {
+        assert_eq!(rt; format!(in rt.alloc(); "{fault}")?.as_str(), text);
+    }
+    Ok(())
 }

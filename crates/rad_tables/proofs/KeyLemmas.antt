@@ -1,4 +1,5 @@
--- The keys of requests, and the finite map that entries with such keys make.
+-- The keys of requests, and the finite map that entries with such keys make. Proofs of the crates above
+-- cite what is said of the order of the keys.
 use Rattle.std.proofs.Common.{◌≡◌, ℕ, cond, List, [], ◌∷◌, Option, Some, None, refl, sym, ap, ◌∙◌}
 use Rattle.std.specs.Ordering.{nat_cmp}
 use Rattle.std.specs.Cmp.{IsTotalOrder, nat_cmp_total, eq_by_cmp_equiv}

@@ -1,4 +1,5 @@
--- The entries of a finite map after a change, in any order of the keys that tells them apart.
+-- The entries of a finite map after a change, in any order of the keys that tells them apart. Proofs of
+-- the crates above cite them, as of the slots' entries.
 use Rattle.std.proofs.Common.{◌≡◌, Bool, true, false, cond, List, [], ◌∷◌, map, Option, Ordering, Some, None, is_some, refl, sym, ap, subst, ◌∙◌, arith}
 use Rattle.std.specs.Prelude.{T, ◌&&◌}
 use Rattle.std.specs.declared.cmp.Ordering.TheVariants.{Less, Equal, Greater}

@@ -1,3 +1,5 @@
+//! The cells in which the slots keep their entries, one for each pair, and the walks over them.
+
 ghost use Rattle.std.specs.Prelude.{◌≡◌, ◌≤◌, length, None, Some, is_none, IsSome, IfOk, MatchOption, replicate};
 ghost use Rattle.std.specs.Option.{option_copied, option_map};
 ghost use Rattle.std.specs.Bool.{OnTrue, OnFalse};
@@ -12,13 +14,16 @@ use std::alloc::{AllocError, Global};
 /// What stands at a pair.
 #[derive(Drop)]
 pub(crate) enum Cell<T> {
+    /// Nothing: the pair is not in use.
     Free,
+    /// The entry at the pair.
     Used(T),
 }
 
 impl<T> Cell<T> {
     ghost use Rattle.rad_tables.specs.contracts.cells.Cell.{the_row};
 
+    /// The entry, if there is one.
     pub(crate) fn get(&self) -> Option<&T>
         ensures { option_copied result ≡ entry_of self.now }
     {
@@ -28,6 +33,7 @@ impl<T> Cell<T> {
         }
     }
 
+    /// Changes the entry, if there is one.
     fn change<C: Change<T>>(&mut self, change: &C)
         ensures { entry_of self.new ≡ option_map (C.changed change.now) (entry_of self.old) }
     {
@@ -42,6 +48,7 @@ impl<T> Cell<T> {
         matches!(self, Cell::Free)
     }
 
+    /// The entry of a cell that is in use.
     pub(crate) fn entry(&self) -> &T
         requires { IsSome (entry_of self.now) }
         ensures { entry_of self.now ≡ Some result.now }
@@ -52,6 +59,7 @@ impl<T> Cell<T> {
         }
     }
 
+    /// The entry of a cell that is in use, for writing.
     pub(crate) fn entry_mut(&mut self) -> &mut T
         requires { IsSome (entry_of self.old) }
         ensures* lends { sem 𝓛 (Lends (the_row T.row) T.row self.entry result Cell.Used) }
@@ -64,7 +72,11 @@ impl<T> Cell<T> {
     }
 }
 
-/// So many cells with nothing in them.
+/// So many free cells.
+///
+/// # Errors
+///
+/// Where memory is refused.
 pub(crate) fn free_cells<T: Drop>(alloc: Global, count: usize) -> Result<Vec<Cell<T>>, AllocError>
     ensures { IfOk result (λ cells. contents_of cells.items ≡ replicate count None) }
 {
@@ -115,12 +127,16 @@ fn first_free<T>(cells: &[Cell<T>], from: usize, to: usize) -> Option<usize>
 /// When an entry is due, and where it stands.
 #[derive(Clone, Copy)]
 pub(crate) struct Waiting {
+    /// When the entry is due, in milliseconds.
     due: u64,
+    /// The entry's number.
     number: u64,
+    /// The entry's index among the cells.
     pub(crate) place: usize,
 }
 
 impl Waiting {
+    /// Whether this one is due first, or at one due has the lesser number.
     fn is_before(&self, other: &Waiting) -> bool
         ensures before { OnTrue result
             (NotAfter (self.now.due, self.now.number) (other.now.due, other.now.number)) }
@@ -156,6 +172,7 @@ pub(crate) fn least_of<T: Timed>(cells: &[Cell<T>], places: &[u16], spent: bool)
     least
 }
 
+/// The first to be due of one entry and of the first before it.
 fn earlier(waiting: Waiting, least: Option<Waiting>) -> Waiting
     ensures { IsEarlier waiting least result }
 {

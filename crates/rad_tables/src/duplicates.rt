@@ -1,3 +1,5 @@
+//! What was seen before: the last number of each request's key.
+
 ghost use Rattle.std.specs.Prelude.{◌≡◌, OnOk, OnErr};
 ghost use Rattle.std.specs.FinMap as map;
 
@@ -25,6 +27,7 @@ pub struct Key {
 /// keys that grows with the logarithm of how many there are.
 #[derive(Drop)]
 pub struct Duplicates {
+    /// The number that was inserted last for each key.
     numbers: BTreeMap<Key, u64>,
 }
 
@@ -58,7 +61,11 @@ impl Duplicates {
         self.numbers.get(key).copied()
     }
 
-    /// Makes this the last number of the key. An error means that memory was refused.
+    /// Makes this the last number of the key.
+    ///
+    /// # Errors
+    ///
+    /// Where memory is refused: the table stays.
     pub fn insert(&mut self, key: Key, number: u64) -> Result<(), AllocError>
         ensures ok { OnOk result (self.new ≡ map.insert self.old key number) }
         ensures err { OnErr result (self.new ≡ self.old) }
@@ -67,7 +74,7 @@ impl Duplicates {
         Ok(())
     }
 
-    /// Forgets the key.
+    /// Forgets the key, if it is there.
     pub fn remove(&mut self, key: &Key)
         ensures { self.new ≡ map.remove self.old key.now }
     {

@@ -7,8 +7,10 @@
 //! sending waits for its answer.
 //!
 //! Callers see the tables as finite maps. The definitions that the contracts cite stand in `specs/`:
-//! `Pairs.antt` has the cyclic order and the allotment, `Dues.antt` the least due, `Keys.antt` the
-//! order of the keys and `Waiting.antt` the wait.
+//! `Pairs.antt` has the cyclic order and the allotment, `Lends.antt` what becomes of the slots when an
+//! entry is lent for writing, `Dues.antt` the least due, `Keys.antt` the order of the keys and
+//! `Waiting.antt` the wait. `Kept.antt` and `Least.antt` are about how the slots are kept, and no caller
+//! needs them.
 #![tactic(auto)]
 
 mod cells;

@@ -1,9 +1,11 @@
+//! Moments, and how long a sending waits.
+
 ghost use Rattle.std.specs.Prelude.{◌≡◌, ◌<◌, ◌≤◌, ◌^◌, SomeIff};
 ghost use Rattle.rad_tables.specs.Waiting.{wait_of};
 
 use std::marker::Model;
 
-/// The longest wait, in milliseconds.
+/// The longest wait, in milliseconds: two minutes.
 const LONGEST_WAIT: u32 = 120_000;
 
 /// A moment in milliseconds, counted from one that the caller chose.
@@ -11,6 +13,7 @@ const LONGEST_WAIT: u32 = 120_000;
 /// It is below 2^62, so that a wait can be added to it.
 #[derive(Clone, Copy, Debug, PartialEq, Eq, PartialOrd, Ord)]
 pub struct Moment {
+    /// How many milliseconds have passed since the moment that the caller chose.
     milliseconds: u64,
 }
 
@@ -27,7 +30,7 @@ impl Model for Moment {
 }
 
 impl Moment {
-    /// None where there is no such moment.
+    /// The moment of so many milliseconds, which are below 2^62.
     pub fn new(milliseconds: u64) -> Option<Moment>
         ensures { SomeIff result (milliseconds < 2 ^ 62) milliseconds }
     {

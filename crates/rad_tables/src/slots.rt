@@ -1,3 +1,5 @@
+//! What is outstanding: an entry at each pair of a source port and an identifier that is in use.
+
 ghost use Rattle.std.specs.Prelude.{◌≡◌, ◌+◌, ◌*◌, ◌<◌, ◌≤◌, ◌↔◌, Some, None, IsNone, IsSome, IfSome, IfOk, MatchOption};
 ghost use Rattle.std.specs.Option.{option_copied, option_copied_mut, option_map};
 ghost use Rattle.std.specs.Borrow.{sem};
@@ -32,7 +34,9 @@ pub struct Slots<T> {
     places: Vec<u16>,
     /// Where each place in use stands among `places`.
     positions: Vec<u16>,
+    /// The pair last allotted, behind which the next is looked for.
     allotted: Option<Slot>,
+    /// How many source ports there are, 1 to 4.
     ports: u16,
 }
 
@@ -61,9 +65,11 @@ impl<T: Drop> Slots<T> {
     ghost use Rattle.rad_tables.specs.Lends.{LendsEntry, LendsEntryIf};
     ghost use Rattle.rad_tables.specs.declared.slots.Slot.{Slot};
 
-    /// Room for an entry at each pair of 1 to 4 source ports. An error means that memory was refused.
+    /// Room for an entry at each pair of 1 to 4 source ports. No other call takes memory.
     ///
-    /// No other call takes memory.
+    /// # Errors
+    ///
+    /// Where memory is refused.
     pub fn new(alloc: Global, ports: u16) -> Result<Slots<T>, AllocError>
         requires least { 1 ≤ ports }
         requires most { ports ≤ 4 }
@@ -88,8 +94,8 @@ impl<T: Drop> Slots<T> {
         ensures first { IfSome result (IsFirstFree self.now) }
         ensures in_range { IfSome result (IsInRange self.now.ports) }
 
-        // The same by numbers: where fewer than all are in use there is one, and the one last allotted
-        // comes again only where no other is free.
+        // The same by numbers, for callers that count: where fewer than all are in use there is one, and
+        // the one last allotted comes again only where no other is free.
         ensures room { map.len self.now.entries < 256 * self.now.ports → IsSome result }
         ensures again { IfSome result (λ slot.
             self.now.allotted ≡ Some slot → map.len self.now.entries + 1 ≡ 256 * self.now.ports) }
@@ -138,6 +144,7 @@ impl<T: Drop> Slots<T> {
         }
     }
 
+    /// The entry at a pair that is in use, for writing.
     fn entry_mut(&mut self, slot: Slot) -> &mut T
         requires { IsSome (map.get self.old.entries slot) }
         ensures* writes_back { sem 𝓛 (LendsEntry T.row self.entry slot result) }
@@ -214,6 +221,7 @@ fn start_of(allotted: Option<Slot>) -> usize
     allotted.map_or(0, |slot| place_of(slot) + 1)
 }
 
+/// The pair of a place among the cells.
 fn slot_at(place: usize) -> Slot
     requires { place < 1024 }
     ensures { result ≡ the_slot place }

@@ -1,3 +1,5 @@
+//! What the slots ask of an entry, to find the least due.
+
 ghost use Rattle.std.specs.Prelude.{◌≡◌, ℕ, Bool};
 
 /// What is sent, and has to be sent again at a moment.

@@ -1,9 +1,7 @@
-use Rattle.std.proofs.Common.{◌≡◌, ◌∙◌, ◌+◌, ◌≤◌, length, ap, arith}
+use Rattle.std.proofs.Common.{◌≡◌, ◌+◌, ◌≤◌, length, arith}
 use Rattle.std.proofs.lemmas.Grind.{common_steps}
-use Rattle.rad_packet.specs.Packet.{packet_text, code_of, identifier_of, attribute_octets}
-use Rattle.rad_auth.specs.Authenticator.{response_authenticator}
 use Rattle.rad_auth.proofs.Returns.{length-response_first, response_second}
-use Rattle.rad_auth.proofs.Signing.{accounting_response-made, response_authenticator-taken}
+use Rattle.rad_auth.proofs.Signing.{accounting_response-made}
 use Rattle.rad_auth.proofs.responding.write_response.Goals as goal
 
 pub unwrap-requires-2 : goal.unwrap-requires-2
@@ -19,11 +17,8 @@ pub returns-clause-made : goal.returns-clause-made
 returns-clause-made c =
     let sixteen : length c.args.head.authenticator ≡ 16 = omega arith in
     let a = c.args.head.authenticator in
-    let secret = c.args.client.now in
     let text = c.push_all-2.new.self in
     let first = rw c.unwrap.ensures at c.push_all.ensures.added in
     let second = rw c.unwrap-2.ensures at c.push_all-2.ensures.added in
-    let digest = response_authenticator-taken secret a c.bytes.result.now c.digest-authenticator.result c.digest-authenticator.ensures ∙ ap (response_authenticator secret a) c.bytes.ensures.value in
     let written = response_second c.args.head.identifier a c.attributes_around.result.0.now c.attributes_around.result.1.now _ c.begin.new.self c.push_all.new.self text sixteen c.begin.ensures first second c.attributes_around.ensures.others in
-    accounting_response-made c.args.head.identifier a _ secret text c.set_authenticator.new.self sixteen written
-    (c.set_authenticator.ensures ∙ ap (λ x. packet_text (code_of text) (identifier_of text) x (attribute_octets text)) digest)
+    accounting_response-made c.args.head.identifier a _ c.args.client.now text c.sign_datagram.new.datagram sixteen written c.sign_datagram.ensures
