@@ -63,7 +63,8 @@ pub enum Entry {
 impl Entry {
     ghost use Rattle.std.specs.Prelude.{◌≡◌, ◌<◌, ◌≤◌};
     ghost use Rattle.rad_lane.specs.declared.entry.Entry.TheVariants.{Sending as sending};
-    ghost use Rattle.rad_lane.specs.Timing.{IfSending, once_more};
+    ghost use Rattle.rad_lane.specs.Entries.{IfSending};
+    ghost use Rattle.rad_lane.specs.Outstanding.{sent_again};
 
     /// Sends again what was sent, which is not spent: its octets are put into the datagram. It tells the
     /// request's number.
@@ -76,7 +77,7 @@ impl Entry {
         requires first_least { 100 ≤ first_wait }
         requires first_most { first_wait ≤ 60000 }
         requires few { IfSending self.old (λ e. e.sendings < 10) }
-        ensures again { IfSending self.old (λ e. self.new ≡ sending (once_more now first_wait e)) }
+        ensures again { IfSending self.old (λ e. self.new ≡ sending (sent_again first_wait now e)) }
         ensures octets { IfSending self.old (λ e. datagram.new ≡ e.octets) }
         ensures number { IfSending self.old (λ e. result ≡ e.request.stamp.number) }
     {
@@ -93,7 +94,7 @@ impl Entry {
 
 /// A probe is never due: a lane that is up has none, and one that is down sends nothing again.
 impl Timed for Entry {
-    ghost use Rattle.rad_lane.specs.Timing.{due_in, number_in, is_spent_in};
+    ghost use Rattle.rad_lane.specs.Entries.{due_in, number_in, is_spent_in};
 
     ghost due_of = { due_in };
 

@@ -3,7 +3,7 @@ ghost use Rattle.rad_lane.specs.Book.{moment_in, next_number};
 ghost use Rattle.rad_lane.specs.Drains.{drained_at};
 ghost use Rattle.rad_lane.specs.Empty.{empty_book};
 
-use crate::rows::Rows;
+use crate::reserved_list::ReservedList;
 use crate::{Answered, Entry, Record, Setup, Stamp, Watch};
 use block_queue::Fifo;
 use rad_tables::{Duplicates, Moment, Slots};
@@ -20,11 +20,11 @@ pub struct Lane<Q: Fifo<Record>> {
     /// The number of the first request that is kept.
     pub(crate) opening: u64,
     /// The stamps of the requests, in order: first those that were sent, then those that are queued.
-    pub(crate) accepted: Rows<Stamp>,
+    pub(crate) accepted: ReservedList<Stamp>,
     pub(crate) queued: Q,
-    pub(crate) answered: Rows<Answered>,
+    pub(crate) answered: ReservedList<Answered>,
     /// For each of the requests accepted the place of its answer among `answered`.
-    pub(crate) places: Rows<Option<usize>>,
+    pub(crate) places: ReservedList<Option<usize>>,
     /// How many answers there were.
     pub(crate) served: u64,
     pub(crate) slots: Slots<Entry>,
@@ -48,11 +48,11 @@ impl<Q: Fifo<Record>> Model for Lane<Q> {
 
     ghost coded = { Prim.hlevel (codes, map.code {R = slot_cmp} coded_slot entry.the_row.coded) };
 
-    ghost use Rattle.rad_lane.specs.Standing.{book_of, Stands};
+    ghost use Rattle.rad_lane.specs.Invariant.{book_of, IsConsistent};
 
     ghost view = { λ l. book_of l.setup l.opening l.accepted.items (Q.items l.queued) l.answered.items l.served l.slots l.drain l.watch l.last };
 
-    ghost invariant = { λ l. Stands (book_of l.setup l.opening l.accepted.items (Q.items l.queued) l.answered.items l.served l.slots l.drain l.watch l.last) (Q.items l.queued) l.slots.ports l.duplicates l.places.items l.outstanding };
+    ghost invariant = { λ l. IsConsistent (book_of l.setup l.opening l.accepted.items (Q.items l.queued) l.answered.items l.served l.slots l.drain l.watch l.last) (Q.items l.queued) l.slots.ports l.duplicates l.places.items l.outstanding };
 }
 
 /// Why there is no lane.
@@ -76,10 +76,10 @@ impl<Q: Fifo<Record>> Lane<Q> {
             Ok(slots) => Ok(Lane {
                 setup,
                 opening: 0,
-                accepted: Rows::new(alloc),
+                accepted: ReservedList::new(alloc),
                 queued: Q::new(alloc),
-                answered: Rows::new(alloc),
-                places: Rows::new(alloc),
+                answered: ReservedList::new(alloc),
+                places: ReservedList::new(alloc),
                 served: 0,
                 slots,
                 outstanding: 0,
@@ -122,7 +122,7 @@ impl<Q: Fifo<Record>> Lane<Q> {
     }
 
     /// Makes this the last moment.
-    pub(crate) fn pass(&mut self, now: Moment)
+    pub(crate) fn set_last(&mut self, now: Moment)
         requires { self.old.last ≤ now }
         ensures { self.new ≡ record self.old { last = now } }
     {

@@ -2,7 +2,7 @@
 
 ghost use Rattle.std.specs.Prelude.{◌≡◌, [], replicate, IfOk, OnErr};
 ghost use Rattle.rad_packet.specs.Packet.{packet_text};
-ghost use Rattle.rad_lane.specs.Accepts.{Datagrams};
+ghost use Rattle.rad_lane.specs.Datagrams.{Datagrams};
 ghost use Rattle.rad_lane.specs.Runs.{Gives, Runs, TakesEvent, TakesEach};
 
 use crate::packets::packet_of;

@@ -33,14 +33,12 @@ impl Model for Sending {
 }
 
 impl Sending {
-    ghost use Rattle.std.specs.Prelude.{◌≡◌, ◌+◌, ◌<◌, ◌≤◌, nat_le, IfOk, IfErr};
+    ghost use Rattle.std.specs.Prelude.{◌≡◌, ◌<◌, ◌≤◌, IfOk, IfErr};
     ghost use Rattle.rad_packet.specs.Packet.{code_of, identifier_of};
     ghost use Rattle.rad_auth.specs.Refusing.{RefusesReply};
     ghost use Rattle.rad_lane.specs.Hears.{KeepsAnswer, GoesOut};
-    ghost use Rattle.rad_tables.specs.Waiting.{wait_of};
-    ghost use Rattle.rad_lane.specs.Outstanding.{IsForwarded};
-    ghost use Rattle.rad_lane.specs.Standing.{HasRoom};
-    ghost use Rattle.rad_lane.specs.Steps.{octets_of, first_sending};
+    ghost use Rattle.rad_lane.specs.Invariant.{HasRoom};
+    ghost use Rattle.rad_lane.specs.Outstanding.{IsForwarded, is_spent, octets_of, first_sending, renewed, sent_again};
 
     /// The record whose forwarded packet was sent.
     pub fn request(&self) -> &Record
@@ -69,6 +67,20 @@ impl Sending {
         ensures { result ≡ self.now.due }
     {
         self.due
+    }
+
+    /// The secret of the home server that it was sent to.
+    pub fn home(&self) -> &Secret
+        ensures { result.now ≡ self.now.home }
+    {
+        &self.home
+    }
+
+    /// How many sendings a round has.
+    pub fn tries(&self) -> u32
+        ensures { result ≡ self.now.tries }
+    {
+        self.tries
     }
 
     /// Sends a record for the first time: its forwarded packet is written into the datagram, and kept in the
@@ -148,7 +160,7 @@ impl Sending {
 
     /// Whether its round has used all its sendings.
     pub(crate) fn is_spent(&self) -> bool
-        ensures { result ≡ nat_le self.now.tries self.now.sendings }
+        ensures { result ≡ is_spent self.now }
     {
         self.tries <= self.sendings
     }
@@ -158,10 +170,7 @@ impl Sending {
         requires first_least { 100 ≤ first_wait }
         requires first_most { first_wait ≤ 60000 }
         requires few { self.old.sendings < 10 }
-        ensures { self.new ≡ record self.old {
-          sendings = self.old.sendings + 1;
-          due = now + wait_of first_wait (self.old.sendings + 1);
-        } }
+        ensures { self.new ≡ sent_again first_wait now self.old }
     {
         self.sendings += 1;
         self.due = due_after(now, first_wait, self.sendings);
@@ -169,7 +178,7 @@ impl Sending {
 
     /// Begins its round anew at this moment.
     pub(crate) fn renew(&mut self, now: Moment)
-        ensures { self.new ≡ record self.old { sendings = 0; due = now } }
+        ensures { self.new ≡ renewed now self.old }
     {
         self.sendings = 0;
         self.due = now.get();

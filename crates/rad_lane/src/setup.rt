@@ -3,7 +3,7 @@ ghost use Rattle.std.specs.List.{list_any};
 ghost use Rattle.rad_realms.specs.Realm.{same_name};
 ghost use Rattle.rad_lane.specs.Setup.{realms_of as the_realms, is_lane};
 
-use crate::rows::Rows;
+use crate::reserved_list::ReservedList;
 use rad_auth::{Octets, Secret};
 use rad_realms::{Config, Limits, Realm};
 use std::alloc::{AllocError, Global};
@@ -18,7 +18,7 @@ pub struct Setup {
     ports: u16,
     home: Secret,
     limits: Limits,
-    realms: Rows<Octets>,
+    realms: ReservedList<Octets>,
     is_default: bool,
 }
 
@@ -97,10 +97,10 @@ impl Setup {
 }
 
 /// The names of the realms that lead to a lane.
-fn realms_of(alloc: Global, realms: &[Realm], lane: u16) -> Result<Rows<Octets>, AllocError>
+fn realms_of(alloc: Global, realms: &[Realm], lane: u16) -> Result<ReservedList<Octets>, AllocError>
     ensures { IfOk result (λ names. names.items ≡ the_realms realms.now lane) }
 {
-    let mut names = Rows::new(alloc);
+    let mut names = ReservedList::new(alloc);
     for realm in realms {
         if realm.lane() == lane {
             let name = Octets::copy_of(alloc, realm.name().as_bytes())?;

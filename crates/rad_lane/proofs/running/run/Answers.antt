@@ -2,7 +2,7 @@ use Rattle.std.proofs.Common.{[], ◌∙◌, arith}
 use Rattle.std.specs.Prelude.{replicate}
 use Rattle.rad_packet.specs.Packet.{packet_text}
 use Rattle.rad_lane.specs.declared.running.Given.{Given}
-use Rattle.rad_lane.proofs.OneMore.{takes_here, runs_on, came_on, gives_stays}
+use Rattle.rad_lane.proofs.RunsOneMore.{takes_here, runs_on, came_on, gives_stays}
 use Rattle.rad_lane.proofs.running.run.Goals as goal
 
 pub give-answer-requires : goal.give-answer-requires

@@ -1,4 +1,6 @@
-use Rattle.rad_lane.proofs.Watched.{few_free, stands_probed}
+use Rattle.std.proofs.Common.{ap, ◌∙◌}
+use Rattle.rad_auth.specs.Status.{status_server}
+use Rattle.rad_lane.proofs.LawfulAfterWatch.{few_free, stands_probed}
 use Rattle.rad_lane.proofs.lane.Lane.probe.Goals as goal
 
 pub free_slot-slot-requires-clause-fits : goal.free_slot-slot-requires-clause-fits
@@ -8,5 +10,11 @@ free_slot-slot-requires-clause-fits g c =
 pub invariant_of-self : goal.invariant_of-self
 invariant_of-self g c =
     let free = rw c.free.ensures at c.free_slot-slot.ensures.free.free in
+    let in_range = rw c.free.ensures at c.free_slot-slot.ensures.in_range in
+    let made = record {
+      random = c.args.random;
+      sixteen = ?;
+      made = c.of.ensures ∙ c.make_status.ensures.made ∙ ap (λ home. status_server c.free_slot-slot.result.identifier c.args.random home) c.home.ensures;
+    } in
     rw (c.put.ensures, c.free.ensures)
-    (stands_probed _ _ _ _ _ _ c.self.inside.slots _ _ _ _ c.self.view_is c.args.now c.requires.later _ _ _ c.self.invariant _ _ c.args.out c.requires.is_down.1 c.free_slot-slot.result _ _ _ free)
+    (stands_probed _ _ _ _ _ _ c.self.inside.slots _ _ _ _ c.self.view_is c.args.now c.requires.later _ _ _ c.self.invariant _ _ c.args.out c.requires.is_down.1 c.free_slot-slot.result _ _ _ free in_range made)

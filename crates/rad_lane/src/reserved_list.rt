@@ -1,29 +1,30 @@
+use crate::Series;
 use std::alloc::{AllocError, Global};
 use std::marker::Model;
 
-/// Items in order, whose places are made before they are needed.
+/// Items in order, whose room is made before it is needed.
 #[derive(Drop)]
-pub(crate) struct Rows<T> {
+pub(crate) struct ReservedList<T> {
     items: Vec<T>,
 }
 
-impl<T> Model for Rows<T> {
+impl<T> Model for ReservedList<T> {
     ghost use Rattle.std.specs.Prelude.{◌-◌, vec_capacity, vec_len};
-    ghost use Rattle.rad_lane.specs.Rows.{Rowed};
+    ghost use Rattle.rad_lane.specs.ReservedList.{ListWithRoom};
 
-    ghost Value = { Rowed T };
+    ghost Value = { ListWithRoom T };
 
     ghost view = { λ r. record { items = r.items.items; room = vec_capacity r.items - vec_len r.items } };
 }
 
-impl<T> Rows<T> {
+impl<T> ReservedList<T> {
     ghost use Rattle.std.specs.Prelude.{◌≡◌, ◌<◌, ◌≤◌, [], ◌∷◌, ◌++◌, length, slice_get, slice_set, option_copied, OnOk};
 
     /// No items. It takes no memory: what it needs later is made with `alloc`.
-    pub(crate) fn new(alloc: Global) -> Rows<T>
+    pub(crate) fn new(alloc: Global) -> ReservedList<T>
         ensures { result.items ≡ [] }
     {
-        Rows {
+        ReservedList {
             items: Vec::new(alloc),
         }
     }
@@ -66,5 +67,13 @@ impl<T> Rows<T> {
         ensures { result.now ≡ self.now.items }
     {
         self.items.as_slice()
+    }
+
+    /// The items, which no more are added to. It takes no memory and moves no item.
+    pub(crate) fn into_series(self) -> Series<T>
+        ensures { result ≡ self.items }
+    {
+        let ReservedList { items } = self;
+        Series::from_vec(items)
     }
 }

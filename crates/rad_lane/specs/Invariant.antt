@@ -1,22 +1,19 @@
--- What a lane keeps, and how it is the book. No public clause cites this module.
+-- What a lane keeps, and how it is the book (own). No public clause cites this module, but the model of a lane does.
 use Rattle.std.specs.Prelude.{◌≡◌, ℕ, ◌+◌, ◌-◌, ◌^◌, ◌<◌, ◌≤◌, List, length, take, slice_get, map as each, All, Option, Some, IfSome, option_map, option_and_then}
 use Rattle.std.specs.Option.{option_flatten}
 use Rattle.std.specs.FinMap as map
 use Rattle.rad_tables.specs.declared.duplicates.Key.{Key}
 use Rattle.rad_tables.specs.Keys.{key_cmp}
-use Rattle.rad_tables.specs.declared.slots.Slot.{Slot}
 use Rattle.rad_tables.specs.Pairs.{Table}
 use Rattle.rad_lane.specs.declared.stamp.Stamp.{Stamp}
 use Rattle.rad_lane.specs.declared.entry.Entry.{Entry}
 use Rattle.rad_lane.specs.declared.watch.Watch.{Watch}
 use Rattle.rad_lane.specs.Stamp.{Kept}
-use Rattle.rad_lane.specs.Outstanding.{Outstanding, AnswerKept}
+use Rattle.rad_lane.specs.Outstanding.{AnswerKept}
 use Rattle.rad_lane.specs.Setup.{LaneSetup}
-use Rattle.rad_lane.specs.Book.{Book, next_number, outstanding_at}
+use Rattle.rad_lane.specs.Book.{Book, next_number, outstanding_count}
 use Rattle.rad_lane.specs.Repeat.{of_key, last_of, answer_to}
-use Rattle.rad_lane.specs.Dues.{outstanding_count}
 use Rattle.rad_lane.specs.Lawful.{IsLawful}
-use Rattle.rad_lane.specs.Closes.{Left}
 
 -- The book: those sent are all that were accepted but the queued ones.
 abbrev pub book_of : LaneSetup → ℕ → List Stamp → List Kept → List AnswerKept → ℕ → Table Entry → Option ℕ → Watch → ℕ → Book
@@ -35,18 +32,6 @@ book_of setup opening accepted kept answered served slots drain watch last = rec
   last = last;
 }
 
--- What is left of a lane: of those accepted, all but the queued ones were sent.
-abbrev pub left_of : ℕ → ℕ → List Stamp → List Kept → List AnswerKept → Table Entry → Left
-left_of lane opening accepted kept answered outstanding = record {
-  lane = lane;
-  opening = opening;
-  accepted = accepted;
-  sent = take (length accepted - length kept) accepted;
-  queued = each (λ k. k.recorded) kept;
-  answered = answered;
-  outstanding = outstanding;
-}
-
 -- The place of the answer to the request of a number, if it is answered: the cells begin at the opening.
 abbrev pub place_in : List (Option ℕ) → ℕ → ℕ → Option ℕ
 place_in cells opening number = option_flatten (slice_get cells (number - opening))
@@ -62,18 +47,13 @@ last_number key stamps = option_map (λ s. s.number) (last_of (of_key key stamps
 abbrev pub HasRoom : Kept → Type 0
 HasRoom k = length k.recorded.text + 12 ≤ k.room
 
--- A sending is the lane's: by its home's secret and with its number of sendings.
-abbrev pub IsTheLanes : Book → Outstanding → Type 0
-IsTheLanes book entry = (entry.home ≡ book.setup.home_secret) × (entry.tries ≡ book.setup.limits.tries)
-
 -- What is kept beside the book is in step with it: each queued record has its room; the slots have the source ports
--- of the setup, and their sendings are the lane's and counted; and by the last number of each key, and the place of each
+-- of the setup, and their sendings are counted; and by the last number of each key, and the place of each
 -- answer, a repeat is found without a look through the book.
-pub record Stands (book : Book) (kept : List Kept) (ports : ℕ) (numbers : map.FinMap key_cmp ℕ) (cells : List (Option ℕ)) (count : ℕ) : Type 0 where
+pub record IsConsistent (book : Book) (kept : List Kept) (ports : ℕ) (numbers : map.FinMap key_cmp ℕ) (cells : List (Option ℕ)) (count : ℕ) : Type 0 where
   pub lawful : IsLawful book
   pub rooms : All HasRoom kept
   pub ports_are : ports ≡ book.setup.ports
-  pub sendings_are : (slot : Slot) (entry : Outstanding) → outstanding_at book slot entry → IsTheLanes book entry
   pub counted : count ≡ outstanding_count book
   pub last_numbers : (key : Key) → map.get numbers key ≡ last_number key book.accepted
   pub since_opening : (key : Key) (number : ℕ) → map.get numbers key ≡ Some number → book.opening ≤ number

@@ -1,6 +1,7 @@
 -- What stands under the pairs: the sendings that are outstanding, and their stamps.
-use Rattle.std.proofs.Common.{◌≡◌, ℕ, suc, ◌+◌, List, [], ◌∷◌, length, Option, Some, None, refl, sym, ap, ◌∙◌, subst, arith}
+use Rattle.std.proofs.Common.{◌≡◌, ℕ, suc, ◌+◌, Bool, true, false, cond, List, [], ◌∷◌, length, Option, Some, None, refl, sym, ap, ◌∙◌, subst, arith}
 use Rattle.std.specs.Prelude.{map as each, option_map}
+use Rattle.std.specs.Ordering.{eq_by_cmp}
 use Rattle.std.specs.List.{filter_map}
 use Rattle.std.specs.FinMap as map
 use Rattle.std.specs.List.Sorted.{IsPermutation}
@@ -8,20 +9,16 @@ use Rattle.std.proofs.lemmas.List.{length-map}
 use Rattle.std.proofs.lemmas.List.Sorted.{IsPermutation-refl, IsPermutation-sym, IsPermutation-trans, IsPermutation-map, length_permutation}
 use Rattle.rad_tables.specs.declared.slots.Slot.{Slot}
 use Rattle.rad_tables.specs.Pairs.{slot_cmp}
-use Rattle.rad_tables.proofs.SlotLemmas.{exact_slots, slots_total}
+use Rattle.rad_tables.proofs.SlotLemmas.{exact_slots, slots_total, tied}
 use Rattle.rad_tables.proofs.MapLemmas.{given-insert_absent, given-remove_present, insert_anew, removed_absent, entries-changed, with_values}
 use Rattle.rad_lane.specs.declared.stamp.Stamp.{Stamp}
 use Rattle.rad_lane.specs.Stamp.{Recorded}
 use Rattle.rad_lane.specs.Outstanding.{Outstanding}
 use Rattle.rad_lane.specs.declared.entry.Entry.{Entry}
 use Rattle.rad_lane.specs.declared.entry.Entry.TheVariants.{Sending as sending, Probe as probe}
-use Rattle.rad_lane.specs.Dues.{request_in}
-use Rattle.rad_lane.specs.Timing.{begun_anew}
+use Rattle.rad_lane.specs.Entries.{request_in, sendings_in, renewed_in}
 
--- the sendings under the pairs, and the stamps of their requests
-abbrev pub sendings_in : map.FinMap slot_cmp Entry → List Outstanding
-sendings_in held = filter_map request_in (map.values held)
-
+-- the stamps of the requests whose sendings stand under the pairs
 abbrev pub stamps_in : map.FinMap slot_cmp Entry → List Stamp
 stamps_in held = each (λ e. e.request.stamp) (sendings_in held)
 
@@ -34,6 +31,34 @@ as_many_stamps xs ys p = sym (length-map ys stamp_of) ∙ length_permutation _ _
 -- the same stamps are as many sendings
 pub as_many : (held other : map.FinMap slot_cmp Entry) → IsPermutation (stamps_in held) (stamps_in other) → length (sendings_in other) ≡ length (sendings_in held)
 as_many held other p = as_many_stamps (sendings_in held) (sendings_in other) p
+
+-- what holds of each entry, holds of each still where one comes, one goes, or each changes and keeps it
+module _ (P : Slot → Entry → Type 0) (held : map.FinMap slot_cmp Entry) (every : (slot : Slot) (entry : Entry) → map.get held slot ≡ Some entry → P slot entry) where
+  put_by : (slot at : Slot) (x y : Entry) (b : Bool) → (b ≡ true → at ≡ slot) → P slot x → cond b (Some x) (map.get held at) ≡ Some y → P at y
+  put_by slot at x y true same here is =
+      let one : x ≡ y = cc in
+      subst (λ e. P at e) one (subst (λ s. P s x) (sym (same refl)) here)
+  put_by slot at x y false same here is = every at y is
+
+  pub every_put : (slot : Slot) (x : Entry) → P slot x → (at : Slot) (y : Entry) → map.get (map.insert held slot x) at ≡ Some y → P at y
+  every_put slot x here at y is = put_by slot at x y (eq_by_cmp slot_cmp at slot) (λ h. tied at slot h) here (sym (map.get-insert slots_total held slot x at) ∙ is)
+
+  left_by : (at : Slot) (y : Entry) (b : Bool) → cond b None (map.get held at) ≡ Some y → P at y
+  left_by at y true is = cc
+  left_by at y false is = every at y is
+
+  pub every_left : (slot : Slot) (at : Slot) (y : Entry) → map.get (map.remove held slot) at ≡ Some y → P at y
+  every_left slot at y is = left_by at y (eq_by_cmp slot_cmp at slot) (sym (map.get-remove slots_total held slot at) ∙ is)
+
+  module _ (f : Entry → Entry) (keeps : (at : Slot) (x : Entry) → P at x → P at (f x)) where
+    changed_by : (at : Slot) (o : Option Entry) (y : Entry) → ((x : Entry) → o ≡ Some x → P at x) → option_map f o ≡ Some y → P at y
+    changed_by at None y before is = cc
+    changed_by at (Some x) y before is =
+        let one : f x ≡ y = cc in
+        subst (λ e. P at e) one (keeps at x (before x refl))
+
+    pub every_changed : (other : map.FinMap slot_cmp Entry) → ((slot : Slot) → map.get other slot ≡ option_map f (map.get held slot)) → (at : Slot) (y : Entry) → map.get other at ≡ Some y → P at y
+    every_changed other changed at y is = changed_by at (map.get held at) y (every at) (sym (changed at) ∙ is)
 
 module _ (held : map.FinMap slot_cmp Entry) (slot : Slot) where
   -- a sending under a free pair comes to the others
@@ -68,7 +93,7 @@ module _ (held : map.FinMap slot_cmp Entry) (slot : Slot) where
       (IsPermutation-trans _ _ _ leaves (IsPermutation-sym _ _ comes))
 
 -- a round that begins anew has the same stamps
-anew : (now : ℕ) (entries : List Entry) → each stamp_of (filter_map request_in (each (begun_anew now) entries)) ≡ each stamp_of (filter_map request_in entries)
+anew : (now : ℕ) (entries : List Entry) → each stamp_of (filter_map request_in (each (renewed_in now) entries)) ≡ each stamp_of (filter_map request_in entries)
 anew now [] = refl
 anew now (sending entry ∷ entries) = ap (λ stamps. stamp_of entry ∷ stamps) (anew now entries)
 anew now (probe octets ∷ entries) = anew now entries
@@ -77,10 +102,10 @@ values_of_entries : (f : Entry → Entry) (es : List (Slot × Entry)) → each (
 values_of_entries f [] = refl
 values_of_entries f (e ∷ es) = ap (λ xs. f e.1 ∷ xs) (values_of_entries f es)
 
-pub all_anew : (now : ℕ) (held other : map.FinMap slot_cmp Entry) → ((slot : Slot) → map.get other slot ≡ option_map (begun_anew now) (map.get held slot)) → IsPermutation (stamps_in held) (stamps_in other)
+pub all_anew : (now : ℕ) (held other : map.FinMap slot_cmp Entry) → ((slot : Slot) → map.get other slot ≡ option_map (renewed_in now) (map.get held slot)) → IsPermutation (stamps_in held) (stamps_in other)
 all_anew now held other h =
-    let values : map.values other ≡ each (begun_anew now) (map.values held) =
-    ap (λ (es : List (Slot × Entry)). each (λ e. e.1) es) (entries-changed slot_cmp (begun_anew now) slots_total exact_slots held other h) ∙ values_of_entries (begun_anew now) (map.entries held) in
+    let values : map.values other ≡ each (renewed_in now) (map.values held) =
+    ap (λ (es : List (Slot × Entry)). each (λ e. e.1) es) (entries-changed slot_cmp (renewed_in now) slots_total exact_slots held other h) ∙ values_of_entries (renewed_in now) (map.entries held) in
     subst (λ (vs : List Entry). IsPermutation (stamps_in held) (each stamp_of (filter_map request_in vs))) (sym values)
     (subst (λ (ss : List Stamp). IsPermutation (stamps_in held) ss) (sym (anew now (map.values held))) (IsPermutation-refl _))
 

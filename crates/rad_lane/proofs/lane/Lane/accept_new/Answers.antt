@@ -1,5 +1,5 @@
-use Rattle.rad_lane.proofs.Accepted.{stands_accepted}
-use Rattle.rad_lane.proofs.lane.Lane.keep.Goals as goal
+use Rattle.rad_lane.proofs.LawfulAfterAccept.{stands_accepted}
+use Rattle.rad_lane.proofs.lane.Lane.accept_new.Goals as goal
 
 pub invariant_of-self-2 : goal.invariant_of-self-2
 invariant_of-self-2 g c =

@@ -1,5 +1,5 @@
 -- A lane in which nothing happened yet.
-use Rattle.std.proofs.Common.{◌≡◌, List, [], ◌∷◌, length, Some, None, refl, sym, ◌∙◌, arith, zero-le}
+use Rattle.std.proofs.Common.{◌≡◌, ◌≤◌, List, [], ◌∷◌, length, Some, None, refl, sym, ◌∙◌, arith, zero-le}
 use Rattle.std.specs.FinMap as map
 use Rattle.std.proofs.lemmas.List.Sorted.{IsPermutation-refl}
 use Rattle.std.proofs.lemmas.List.Elements.{All-nil}
@@ -10,7 +10,7 @@ use Rattle.rad_lane.specs.declared.entry.Entry.{Entry}
 use Rattle.rad_lane.specs.Setup.{LaneSetup}
 use Rattle.rad_lane.specs.Empty.{empty_book}
 use Rattle.rad_lane.specs.Lawful.{IsLawful}
-use Rattle.rad_lane.specs.Standing.{Stands}
+use Rattle.rad_lane.specs.Invariant.{IsConsistent}
 
 no_items : {X : Type 0} (xs : List X) → length xs ≡ 0 → xs ≡ []
 no_items [] e = refl
@@ -22,8 +22,8 @@ no_entries = no_items _ (sym (map.len-entries _) ∙ map.len-empty slot_cmp Entr
 nothing_at : {X : Type 0} (slot : Slot) (entry : X) → map.get (map.empty {X = X} {R = slot_cmp}) slot ≡ Some entry → ⊥
 nothing_at {X = X} slot entry h = let none : map.get (map.empty {X = X} {R = slot_cmp}) slot ≡ None = map.get-empty slot_cmp slot in cc
 
-pub empty_lawful : (setup : LaneSetup) → IsLawful (empty_book setup)
-empty_lawful setup = record {
+pub empty_lawful : (setup : LaneSetup) → 1 ≤ setup.ports → setup.ports ≤ 4 → IsLawful (empty_book setup)
+empty_lawful setup least most = record {
   in_order = refl;
   numbered = refl;
   timed = λ i j d less within. absurd (omega arith);
@@ -35,6 +35,10 @@ empty_lawful setup = record {
   answered_realms = All-nil _;
   forwards_its_record = λ slot entry h. absurd (nothing_at slot _ h);
   probe_apart = λ slot octets h. nothing_at slot _ h;
+  holds_its_own = λ slot entry h. absurd (nothing_at slot _ h);
+  allotted_in_range = tt;
+  ports_least = least;
+  ports_most = most;
   queued_bounded = zero-le;
   outstanding_bounded = rw no_entries zero-le;
   accepted_bounded = zero-le;
@@ -44,12 +48,11 @@ empty_lawful setup = record {
   drained_count = tt;
 }
 
-pub stands_empty : (setup : LaneSetup) → Stands (empty_book setup) [] setup.ports map.empty [] 0
-stands_empty setup = record {
-  lawful = empty_lawful setup;
+pub stands_empty : (setup : LaneSetup) → 1 ≤ setup.ports → setup.ports ≤ 4 → IsConsistent (empty_book setup) [] setup.ports map.empty [] 0
+stands_empty setup least most = record {
+  lawful = empty_lawful setup least most;
   rooms = All-nil _;
   ports_are = refl;
-  sendings_are = λ slot entry h. absurd (nothing_at slot _ h);
   counted = rw no_entries refl;
   last_numbers = λ key. map.get-empty key_cmp key;
   since_opening = λ key number h. zero-le;

@@ -1,22 +1,13 @@
--- How an answer is kept, and why it may not be (own). No public clause cites this module.
+-- What becomes of a reply to a sending (own). No public clause cites this module.
 use Rattle.std.specs.Prelude.{◌≡◌, ℕ, List}
 use Rattle.rad_auth.specs.Refusing.{RefusesReply}
 use Rattle.rad_auth.specs.declared.responding.ReplyFault.{ReplyFault}
-use Rattle.rad_auth.specs.declared.responding.ReplyFault.TheVariants as reply
 use Rattle.rad_tables.specs.declared.slots.Slot.{Slot}
 use Rattle.rad_lane.specs.declared.hearing.HearFault.{HearFault}
-use Rattle.rad_lane.specs.declared.hearing.HearFault.TheVariants.{BadAuthenticator, MessageAuthenticatorHere, NoProxyState, OutOfMemory}
 use Rattle.rad_lane.specs.declared.outgoing.Outgoing.{Outgoing}
 use Rattle.rad_lane.specs.Outstanding.{Outstanding, AnswerKept}
 use Rattle.rad_lane.specs.Book.{Book, outstanding_at}
-use Rattle.rad_lane.specs.Hears.{KeepsAnswer, GoesOut, with_answer}
-
--- The fault of a lane for a fault of the reply.
-abbrev pub fault_of : ReplyFault → HearFault
-fault_of reply.BadAuthenticator = BadAuthenticator
-fault_of reply.MessageAuthenticatorHere = MessageAuthenticatorHere
-fault_of reply.NoProxyState = NoProxyState
-fault_of reply.OutOfMemory = OutOfMemory
+use Rattle.rad_lane.specs.Hears.{KeepsAnswer, GoesOut, with_answer, fault_of}
 
 -- The packet is kept as the answer to the sending under the pair, and the response goes out.
 pub record AnswerIsKept (old : Book) (now : ℕ) (slot : Slot) (packet : List ℕ) (outgoing : Outgoing) (new : Book) : Type 0 where

@@ -9,7 +9,7 @@ use Rattle.std.proofs.lemmas.List.Elements.{All-tail, All-head}
 use Rattle.std.proofs.lemmas.List.Sorted.{IsPermutation-sym, IsPermutation-cons, IsPermutation-trans, IsPermutation-append_left, IsPermutation-to_front}
 use Rattle.rad_tables.specs.declared.slots.Slot.{Slot}
 use Rattle.rad_tables.specs.Keys.{key_cmp}
-use Rattle.rad_tables.specs.Pairs.{slot_cmp, Table, IsFirstFree}
+use Rattle.rad_tables.specs.Pairs.{slot_cmp, Table, IsFirstFree, IsInRange}
 use Rattle.rad_tables.proofs.SlotLemmas.{slots_total, tied}
 use Rattle.rad_lane.specs.declared.stamp.Stamp.{Stamp}
 use Rattle.rad_lane.specs.declared.entry.Entry.{Entry}
@@ -17,20 +17,20 @@ use Rattle.rad_lane.specs.declared.entry.Entry.TheVariants.{Sending as sending, 
 use Rattle.rad_lane.specs.declared.watch.Watch.{Watch}
 use Rattle.rad_lane.specs.declared.watch.Watch.TheVariants.{Up as up}
 use Rattle.rad_lane.specs.Stamp.{Recorded, Kept, IsRecord}
-use Rattle.rad_lane.specs.Outstanding.{Outstanding, AnswerKept}
+use Rattle.rad_lane.specs.Outstanding.{Outstanding, AnswerKept, first_sending, octets_of}
 use Rattle.rad_lane.specs.Setup.{LaneSetup, IsOfItsRealms}
-use Rattle.rad_lane.specs.Book.{Book, outstanding_at}
-use Rattle.rad_lane.specs.Dues.{NoneDue, outstanding_count, table_of}
-use Rattle.rad_lane.specs.Lawful.{IsLawful, ForwardsItsRecord, ProbeStands}
-use Rattle.rad_lane.specs.Standing.{Stands, HasRoom, IsTheLanes, book_of}
+use Rattle.rad_lane.specs.Book.{Book, outstanding_at, outstanding_count, table_of}
+use Rattle.rad_lane.specs.Dues.{NoneDue}
+use Rattle.rad_lane.specs.Lawful.{IsLawful, ForwardsItsRecord, ProbeStands, IsTheLanes}
+use Rattle.rad_lane.specs.Invariant.{IsConsistent, HasRoom, book_of}
 use Rattle.rad_lane.specs.declared.stepping.Action.TheVariants.{Sent}
-use Rattle.rad_lane.specs.Steps.{StepsUp, first_sending, octets_of, with_sending}
-use Rattle.rad_lane.proofs.Held.{stamps_in, sending_comes, one_more}
-use Rattle.rad_lane.proofs.Passed.{passed_later, verified_later}
-use Rattle.rad_lane.proofs.Realms.{leads_forwarded}
-use Rattle.rad_lane.proofs.Turning.{no_probe}
+use Rattle.rad_lane.specs.Steps.{StepsWhileUp, with_sending}
+use Rattle.rad_lane.proofs.HeldLemmas.{stamps_in, sending_comes, one_more, every_put}
+use Rattle.rad_lane.proofs.VerifiedLater.{passed_later, verified_later}
+use Rattle.rad_lane.proofs.RealmForwarded.{leads_forwarded}
+use Rattle.rad_lane.proofs.NextDueFound.{no_probe}
 
-module _ (book : Book) (now : ℕ) (r : Recorded) (rest : List Recorded) (slot : Slot) (later : book.last ≤ now) (is_up : book.watch ≡ up) (queue : book.queued ≡ r ∷ rest) (free : map.get book.held slot ≡ None) (room : outstanding_count book < book.setup.limits.window) where
+module _ (book : Book) (now : ℕ) (r : Recorded) (rest : List Recorded) (slot : Slot) (later : book.last ≤ now) (is_up : book.watch ≡ up) (queue : book.queued ≡ r ∷ rest) (free : map.get book.held slot ≡ None) (in_range : IsInRange book.setup.ports slot) (room : outstanding_count book < book.setup.limits.window) where
   abbrev entry : Outstanding
   entry = first_sending book.setup now r slot.identifier
 
@@ -83,6 +83,10 @@ module _ (book : Book) (now : ℕ) (r : Recorded) (rest : List Recorded) (slot :
         answered_realms = l.answered_realms;
         forwards_its_record = of_each (λ at e. ForwardsItsRecord book.setup at e) (record { is_record = first.0; octets = refl }) l.forwards_its_record;
         probe_apart = subst (λ w. ProbeStands after w) (sym is_up) (no_probe_still l.probe_apart);
+        holds_its_own = every_put (λ at x. IsInRange book.setup.ports at × IsTheLanes book.setup at x) book.held l.holds_its_own slot (sending entry) (in_range, (refl, refl));
+        allotted_in_range = in_range;
+        ports_least = l.ports_least;
+        ports_most = l.ports_most;
         queued_bounded = let q = ap length queue in omega (arith, q, l.queued_bounded);
         outstanding_bounded = let n = one_more book.held slot entry free in omega (arith, n, room);
         accepted_bounded = l.accepted_bounded;
@@ -92,12 +96,11 @@ module _ (book : Book) (now : ℕ) (r : Recorded) (rest : List Recorded) (slot :
         drained_count = l.drained_count;
       }
 
-  stands_after : (k : Kept) (kept : List Kept) (ports : ℕ) (numbers : map.FinMap key_cmp ℕ) (cells : List (Option ℕ)) (count : ℕ) → Stands book (k ∷ kept) ports numbers cells count → Stands after kept ports numbers cells (count + 1)
+  stands_after : (k : Kept) (kept : List Kept) (ports : ℕ) (numbers : map.FinMap key_cmp ℕ) (cells : List (Option ℕ)) (count : ℕ) → IsConsistent book (k ∷ kept) ports numbers cells count → IsConsistent after kept ports numbers cells (count + 1)
   stands_after k kept ports numbers cells count s = record {
     lawful = sent_lawful s.lawful;
     rooms = All-tail HasRoom k kept s.rooms;
     ports_are = s.ports_are;
-    sendings_are = of_each (λ at e. IsTheLanes book e) (refl, refl) s.sendings_are;
     counted = ap (λ n. n + 1) s.counted ∙ sym (one_more book.held slot entry free);
     last_numbers = s.last_numbers;
     since_opening = s.since_opening;
@@ -139,7 +142,7 @@ module _ (setup : LaneSetup) (opening : ℕ) (accepted : List Stamp) (k : Kept) 
 
     module _ (value : Book) (same : before ≡ value) where
       -- the step of a lane that sends a request for the first time
-      pub sends : IsLawful before → NoneDue value now false → NoneDue value now true → outstanding_count value < value.setup.limits.window → slots.ports ≡ setup.ports → IsFirstFree slots slot → (octets : List ℕ) → StepsUp value now (Sent k.recorded.stamp.number slot) (record { before = octets; after = octets_of setup k.recorded slot.identifier }) (book_of setup opening accepted kept answered served (record { ports = slots.ports; entries = after_it.held; allotted = Some slot }) drain watch now)
+      pub sends : IsLawful before → NoneDue value now false → NoneDue value now true → outstanding_count value < value.setup.limits.window → slots.ports ≡ setup.ports → IsFirstFree slots slot → (octets : List ℕ) → StepsWhileUp value now (Sent k.recorded.stamp.number slot) (record { before = octets; after = octets_of setup k.recorded slot.identifier }) (book_of setup opening accepted kept answered served (record { ports = slots.ports; entries = after_it.held; allotted = Some slot }) drain watch now)
       sends l fresh spent room ports free octets =
           let queue : value.queued ≡ k.recorded ∷ each (λ q. q.recorded) kept = ap (λ (b : Book). b.queued) (sym same) in
           let first : IsFirstFree (table_of before) slot = subst (λ n. IsFirstFree (record { ports = n; entries = slots.entries; allotted = slots.allotted }) slot) ports free in
@@ -148,11 +151,11 @@ module _ (setup : LaneSetup) (opening : ℕ) (accepted : List Stamp) (k : Kept) 
           let book = as_sent l ∙ ap (λ (b : Book). with_sending b now k.recorded (each (λ q. q.recorded) kept) slot) same in
           (fresh, spent, room, k.recorded, each (λ q. q.recorded) kept, queue, refl, first_there, sent, book)
 
-      pub stands_sent : (later : value.last ≤ now) (is_up : value.watch ≡ up) (free : map.get value.held slot ≡ None) (room : outstanding_count value < value.setup.limits.window) (ports : ℕ) (numbers : map.FinMap key_cmp ℕ) (cells : List (Option ℕ)) (count : ℕ) → Stands before (k ∷ kept) ports numbers cells count → Stands (book_of setup opening accepted kept answered served (record { ports = slots.ports; entries = after_it.held; allotted = Some slot }) drain watch now) kept ports numbers cells (count + 1)
-      stands_sent later is_up free room ports numbers cells count s =
+      pub stands_sent : (later : value.last ≤ now) (is_up : value.watch ≡ up) (free : map.get value.held slot ≡ None) (room : outstanding_count value < value.setup.limits.window) (ports : ℕ) (in_range : IsInRange ports slot) (numbers : map.FinMap key_cmp ℕ) (cells : List (Option ℕ)) (count : ℕ) → IsConsistent before (k ∷ kept) ports numbers cells count → IsConsistent (book_of setup opening accepted kept answered served (record { ports = slots.ports; entries = after_it.held; allotted = Some slot }) drain watch now) kept ports numbers cells (count + 1)
+      stands_sent later is_up free room ports in_range numbers cells count s =
           let later_here : before.last ≤ now = subst (λ (b : Book). b.last ≤ now) (sym same) later in
           let up_here : before.watch ≡ up = subst (λ (b : Book). b.watch ≡ up) (sym same) is_up in
           let free_here : map.get before.held slot ≡ None = subst (λ (b : Book). map.get b.held slot ≡ None) (sym same) free in
           let room_here : outstanding_count before < before.setup.limits.window = subst (λ (b : Book). outstanding_count b < b.setup.limits.window) (sym same) room in
-          subst (λ (b : Book). Stands b kept ports numbers cells (count + 1)) (sym (as_sent s.lawful))
-          (stands_after before now k.recorded (each (λ q. q.recorded) kept) slot later_here up_here refl free_here room_here k kept ports numbers cells count s)
+          subst (λ (b : Book). IsConsistent b kept ports numbers cells (count + 1)) (sym (as_sent s.lawful))
+          (stands_after before now k.recorded (each (λ q. q.recorded) kept) slot later_here up_here refl free_here (subst (λ n. IsInRange n slot) s.ports_are in_range) room_here k kept ports numbers cells count s)

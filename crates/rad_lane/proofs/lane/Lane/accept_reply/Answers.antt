@@ -1,8 +1,8 @@
 use Rattle.std.proofs.Common.{◌∙◌, refl, ap, sym, arith}
 use Rattle.rad_lane.specs.declared.stamp.Stamp.{Stamp}
 use Rattle.rad_lane.specs.Book.{Book}
-use Rattle.rad_lane.proofs.Answering.{keeps_here, has_passed, number_since, number_within, stands_answered, one_less, identifier_is, there_by, refused_for_memory, kept_seen}
-use Rattle.rad_lane.proofs.lane.Lane.keep_answer.Goals as goal
+use Rattle.rad_lane.proofs.LawfulAfterAnswer.{keeps_here, has_passed, number_since, number_within, stands_answered, one_less, identifier_is, there_by, refused_for_memory, kept_seen}
+use Rattle.rad_lane.proofs.lane.Lane.accept_reply.Goals as goal
 
 pub answer-requires-clause-since : goal.answer-requires-clause-since
 answer-requires-clause-since g c =

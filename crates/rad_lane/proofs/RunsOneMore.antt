@@ -22,9 +22,10 @@ use Rattle.rad_lane.specs.declared.watch.Watch.{Watch}
 use Rattle.rad_lane.specs.declared.watch.Watch.TheVariants.{Up as up, Down as down}
 use Rattle.rad_lane.specs.Setup.{LaneSetup, IsOfItsRealms}
 use Rattle.rad_lane.specs.Book.{Book, moment_in}
-use Rattle.rad_lane.specs.Accepts.{Accepts, Datagrams}
-use Rattle.rad_lane.specs.Dues.{ComesUp}
-use Rattle.rad_lane.specs.Steps.{StepsBy, StepsUp, StepsDown}
+use Rattle.rad_lane.specs.Datagrams.{Datagrams}
+use Rattle.rad_lane.specs.Accepts.{Accepts}
+use Rattle.rad_lane.specs.Watch.{GoesUpIfDown}
+use Rattle.rad_lane.specs.Steps.{StepsBy, StepsWhileUp, StepsWhileDown}
 use Rattle.rad_lane.specs.Hears.{Hears}
 use Rattle.rad_lane.specs.Runs.{Gives, Runs, TakesEvent, TakesEach}
 
@@ -52,7 +53,7 @@ accept_stays old new request moment (Ok (Waiting number)) d a = ap (λ (b : Book
 accept_stays old new request moment (Ok (Again number)) d a = ap (λ (b : Book). b.setup) a.1
 accept_stays old new request moment (Err refusal) d a = ap (λ (b : Book). b.setup) a.2
 
-up_stays : (old new : Book) (now : ℕ) (action : Action) (d : Datagrams) → StepsUp old now action d new → new.setup ≡ old.setup
+up_stays : (old new : Book) (now : ℕ) (action : Action) (d : Datagrams) → StepsWhileUp old now action d new → new.setup ≡ old.setup
 up_stays old new now (Resent number slot) d s = ap (λ (b : Book). b.setup) s.4
 up_stays old new now WentDown d s = ap (λ (b : Book). b.setup) s.3
 up_stays old new now (Sent number slot) d s = ap (λ (b : Book). b.setup) s.9
@@ -61,7 +62,7 @@ up_stays old new now (Idle (Some next)) d s = ap (λ (b : Book). b.setup) s.7
 up_stays old new now (Probed slot) d s = absurd s
 up_stays old new now WentUp d s = absurd s
 
-down_stays : (old new : Book) (now : ℕ) (random : List ℕ) (until next : ℕ) (out : Option Slot) (action : Action) (d : Datagrams) → StepsDown old now random until next out action d new → new.setup ≡ old.setup
+down_stays : (old new : Book) (now : ℕ) (random : List ℕ) (until next : ℕ) (out : Option Slot) (action : Action) (d : Datagrams) → StepsWhileDown old now random until next out action d new → new.setup ≡ old.setup
 down_stays old new now random until next out WentUp d s = ap (λ (b : Book). b.setup) s.2.others
 down_stays old new now random until next out (Probed slot) d s = ap (λ (b : Book). b.setup) s.2.2
 down_stays old new now random until next out (Idle (Some later)) d s = ap (λ (b : Book). b.setup) s.4
@@ -74,7 +75,7 @@ step_stays : (watch : Watch) (old new : Book) (now : ℕ) (random : List ℕ) (a
 step_stays up old new now random action d s = up_stays old new now action d s
 step_stays (down until next out) old new now random action d s = down_stays old new now random until next out action d s
 
-comes_stays : (watch : Watch) (now : ℕ) (old new : Book) → ComesUp now old new watch → new.setup ≡ old.setup
+comes_stays : (watch : Watch) (now : ℕ) (old new : Book) → GoesUpIfDown now old new watch → new.setup ≡ old.setup
 comes_stays up now old new c = ap (λ (b : Book). b.setup) c
 comes_stays (down until next out) now old new c = ap (λ (b : Book). b.setup) c.others
 

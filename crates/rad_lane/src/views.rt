@@ -24,7 +24,8 @@ impl<Q: Fifo<Record>> Lane<Q> {
 
     /// How much it has.
     pub fn counts(&self) -> Counts
-        ensures { result ≡ counts_of self.now }
+        ensures counts { result ≡ counts_of self.now }
+        ensures lawful { IsLawful self.now }
     {
         Counts {
             opening: self.opening,

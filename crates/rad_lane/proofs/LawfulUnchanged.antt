@@ -1,28 +1,27 @@
 -- A lane in which the same requests are outstanding as before is lawful still.
 use Rattle.std.proofs.Common.{◌≡◌, ℕ, ◌≤◌, Bool, true, false, cond, List, Option, Some, None, refl, sym, ap, ◌∙◌, subst}
-use Rattle.std.specs.Prelude.{map as each, option_map}
+use Rattle.std.specs.Prelude.{map as each, option_map, IfSome}
 use Rattle.std.specs.Ordering.{eq_by_cmp}
 use Rattle.std.specs.FinMap as map
 use Rattle.std.specs.List.Sorted.{IsPermutation}
 use Rattle.std.proofs.lemmas.List.Sorted.{IsPermutation-refl, IsPermutation-trans, IsPermutation-append_left}
 use Rattle.rad_tables.specs.declared.slots.Slot.{Slot}
 use Rattle.rad_tables.specs.Keys.{key_cmp}
-use Rattle.rad_tables.specs.Pairs.{slot_cmp, Table}
+use Rattle.rad_tables.specs.Pairs.{slot_cmp, Table, IsInRange}
 use Rattle.rad_tables.proofs.SlotLemmas.{slots_total, tied, itself}
 use Rattle.rad_lane.specs.declared.entry.Entry.{Entry}
 use Rattle.rad_lane.specs.declared.entry.Entry.TheVariants.{Sending as sending, Probe as probe}
 use Rattle.rad_lane.specs.declared.watch.Watch.{Watch}
 use Rattle.rad_lane.specs.Stamp.{Recorded, Kept, IsRecord}
-use Rattle.rad_lane.specs.Outstanding.{Outstanding, AnswerKept}
+use Rattle.rad_lane.specs.Outstanding.{Outstanding, AnswerKept, octets_of, renewed}
 use Rattle.rad_lane.specs.Setup.{LaneSetup, IsOfItsRealms}
 use Rattle.rad_lane.specs.Book.{Book}
-use Rattle.rad_lane.specs.Lawful.{IsLawful, ProbeStands}
-use Rattle.rad_lane.specs.Standing.{Stands, book_of}
+use Rattle.rad_lane.specs.Lawful.{IsLawful, ProbeStands, HoldsItsOwn}
+use Rattle.rad_lane.specs.Invariant.{IsConsistent, book_of}
 use Rattle.rad_lane.specs.declared.stamp.Stamp.{Stamp}
-use Rattle.rad_lane.specs.Steps.{octets_of}
-use Rattle.rad_lane.specs.Timing.{begun_anew}
-use Rattle.rad_lane.proofs.Held.{stamps_in, as_many, probe_comes, probe_leaves, sending_stays, all_anew}
-use Rattle.rad_lane.proofs.Passed.{passed_later, verified_later}
+use Rattle.rad_lane.specs.Entries.{renewed_in}
+use Rattle.rad_lane.proofs.HeldLemmas.{stamps_in, as_many, probe_comes, probe_leaves, sending_stays, all_anew}
+use Rattle.rad_lane.proofs.VerifiedLater.{passed_later, verified_later}
 
 -- what stood under a pair was a sending of the same request and octets
 pub record WasTheSame (old : Option Entry) (entry : Outstanding) : Type 0 where
@@ -30,8 +29,6 @@ pub record WasTheSame (old : Option Entry) (entry : Outstanding) : Type 0 where
   pub there : old ≡ Some (sending before)
   pub request : entry.request ≡ before.request
   pub octets : entry.octets ≡ before.octets
-  pub home : entry.home ≡ before.home
-  pub tries : entry.tries ≡ before.tries
 
 -- the same requests are outstanding under the same pairs
 pub record AreTheSame (old new : map.FinMap slot_cmp Entry) : Type 0 where
@@ -40,7 +37,7 @@ pub record AreTheSame (old new : map.FinMap slot_cmp Entry) : Type 0 where
 
 pub unchanged : (held : map.FinMap slot_cmp Entry) → AreTheSame held held
 unchanged held = record {
-  each_one = λ slot entry there. record { before = entry; there = there; request = refl; octets = refl; home = refl; tries = refl };
+  each_one = λ slot entry there. record { before = entry; there = there; request = refl; octets = refl };
   stamps = IsPermutation-refl _;
 }
 
@@ -52,8 +49,6 @@ was_the_same_before old next entry earlier w =
       there = v.there;
       request = w.request ∙ v.request;
       octets = w.octets ∙ v.octets;
-      home = w.home ∙ v.home;
-      tries = w.tries ∙ v.tries;
     }
 
 pub the_same_after : (old next new : map.FinMap slot_cmp Entry) → AreTheSame old next → AreTheSame next new → AreTheSame old new
@@ -67,13 +62,13 @@ module _ (held : map.FinMap slot_cmp Entry) (slot : Slot) where
   put_there x = map.get-insert slots_total held slot x slot ∙ ap (λ b. cond b (Some x) (map.get held slot)) (itself slot slot refl)
 
   -- a sending of the same request in the place of another
-  module _ (entry other : Outstanding) (there : map.get held slot ≡ Some (sending entry)) (request : other.request ≡ entry.request) (octets : other.octets ≡ entry.octets) (home : other.home ≡ entry.home) (tries : other.tries ≡ entry.tries) where
+  module _ (entry other : Outstanding) (there : map.get held slot ≡ Some (sending entry)) (request : other.request ≡ entry.request) (octets : other.octets ≡ entry.octets) where
     was_by : (b : Bool) (at : Slot) (e : Outstanding) → (b ≡ true → at ≡ slot) → cond b (Some (sending other)) (map.get held at) ≡ Some (sending e) → WasTheSame (map.get held at) e
     was_by true at e here is =
         let same : other ≡ e = cc in
         subst (λ (o : Outstanding). WasTheSame (map.get held at) o) same
-        (record { before = entry; there = ap (λ s. map.get held s) (here refl) ∙ there; request = request; octets = octets; home = home; tries = tries })
-    was_by false at e here is = record { before = e; there = is; request = refl; octets = refl; home = refl; tries = refl }
+        (record { before = entry; there = ap (λ s. map.get held s) (here refl) ∙ there; request = request; octets = octets })
+    was_by false at e here is = record { before = e; there = is; request = refl; octets = refl }
 
     pub resent_same : AreTheSame held (map.insert held slot (sending other))
     resent_same = record {
@@ -85,7 +80,7 @@ module _ (held : map.FinMap slot_cmp Entry) (slot : Slot) where
   module _ (octets : List ℕ) (free : map.get held slot ≡ None) where
     was_beside : (b : Bool) (old : Option Entry) (e : Outstanding) → cond b (Some (probe octets)) old ≡ Some (sending e) → WasTheSame old e
     was_beside true old e is = cc
-    was_beside false old e is = record { before = e; there = is; request = refl; octets = refl; home = refl; tries = refl }
+    was_beside false old e is = record { before = e; there = is; request = refl; octets = refl }
 
     pub probed_same : AreTheSame held (map.insert held slot (probe octets))
     probed_same = record {
@@ -97,7 +92,7 @@ module _ (held : map.FinMap slot_cmp Entry) (slot : Slot) where
   module _ (octets : List ℕ) (there : map.get held slot ≡ Some (probe octets)) where
     was_left : (b : Bool) (old : Option Entry) (e : Outstanding) → cond b None old ≡ Some (sending e) → WasTheSame old e
     was_left true old e is = cc
-    was_left false old e is = record { before = e; there = is; request = refl; octets = refl; home = refl; tries = refl }
+    was_left false old e is = record { before = e; there = is; request = refl; octets = refl }
 
     pub freed_same : AreTheSame held (map.remove held slot)
     freed_same = record {
@@ -106,15 +101,15 @@ module _ (held : map.FinMap slot_cmp Entry) (slot : Slot) where
     }
 
 -- each round begins anew
-was_anew : (now : ℕ) (old : Option Entry) (e : Outstanding) → option_map (begun_anew now) old ≡ Some (sending e) → WasTheSame old e
+was_anew : (now : ℕ) (old : Option Entry) (e : Outstanding) → option_map (renewed_in now) old ≡ Some (sending e) → WasTheSame old e
 was_anew now None e is = cc
 was_anew now (Some (probe octets)) e is = cc
 was_anew now (Some (sending before)) e is =
-    let same : record before { sendings = 0; due = now } ≡ e = cc in
+    let same : renewed now before ≡ e = cc in
     subst (λ (o : Outstanding). WasTheSame (Some (sending before)) o) same
-    (record { before = before; there = refl; request = refl; octets = refl; home = refl; tries = refl })
+    (record { before = before; there = refl; request = refl; octets = refl })
 
-pub anew_same : (now : ℕ) (held other : map.FinMap slot_cmp Entry) → ((slot : Slot) → map.get other slot ≡ option_map (begun_anew now) (map.get held slot)) → AreTheSame held other
+pub anew_same : (now : ℕ) (held other : map.FinMap slot_cmp Entry) → ((slot : Slot) → map.get other slot ≡ option_map (renewed_in now) (map.get held slot)) → AreTheSame held other
 anew_same now held other h = record {
   each_one = λ slot e is. was_anew now (map.get held slot) e (sym (h slot) ∙ is);
   stamps = all_anew now held other h;
@@ -124,7 +119,7 @@ anew_same now held other h = record {
 abbrev pub rested : Book → map.FinMap slot_cmp Entry → Option Slot → Watch → ℕ → Book
 rested book held allotted watch now = record book { held = held; allotted = allotted; watch = watch; last = now }
 
-module _ (book : Book) (held : map.FinMap slot_cmp Entry) (allotted : Option Slot) (watch : Watch) (now : ℕ) (later : book.last ≤ now) (same : AreTheSame book.held held) where
+module _ (book : Book) (held : map.FinMap slot_cmp Entry) (allotted : Option Slot) (watch : Watch) (now : ℕ) (later : book.last ≤ now) (same : AreTheSame book.held held) (own : HoldsItsOwn book.setup held) (in_range : IfSome allotted (IsInRange book.setup.ports)) where
   abbrev after : Book
   after = rested book held allotted watch now
 
@@ -149,6 +144,10 @@ module _ (book : Book) (held : map.FinMap slot_cmp Entry) (allotted : Option Slo
           octets = was.octets ∙ forwards.octets ∙ ap (λ (r : Recorded). octets_of book.setup r slot.identifier) (sym was.request);
         };
     probe_apart = apart;
+    holds_its_own = own;
+    allotted_in_range = in_range;
+    ports_least = l.ports_least;
+    ports_most = l.ports_most;
     queued_bounded = l.queued_bounded;
     outstanding_bounded = subst (λ n. n ≤ book.setup.limits.window) (sym (as_many book.held held same.stamps)) l.outstanding_bounded;
     accepted_bounded = l.accepted_bounded;
@@ -158,15 +157,11 @@ module _ (book : Book) (held : map.FinMap slot_cmp Entry) (allotted : Option Slo
     drained_count = l.drained_count;
   }
 
-  pub stands_rested : (kept : List Kept) (ports : ℕ) (numbers : map.FinMap key_cmp ℕ) (cells : List (Option ℕ)) (count : ℕ) → ProbeStands after watch → Stands book kept ports numbers cells count → Stands after kept ports numbers cells count
+  pub stands_rested : (kept : List Kept) (ports : ℕ) (numbers : map.FinMap key_cmp ℕ) (cells : List (Option ℕ)) (count : ℕ) → ProbeStands after watch → IsConsistent book kept ports numbers cells count → IsConsistent after kept ports numbers cells count
   stands_rested kept ports numbers cells count apart s = record {
     lawful = rested_lawful apart s.lawful;
     rooms = s.rooms;
     ports_are = s.ports_are;
-    sendings_are = λ slot entry there.
-        let was = same.each_one slot entry there in
-        let are = s.sendings_are slot was.before was.there in
-        (was.home ∙ are.0, was.tries ∙ are.1);
     counted = s.counted ∙ sym (as_many book.held held same.stamps);
     last_numbers = s.last_numbers;
     since_opening = s.since_opening;
@@ -181,8 +176,8 @@ module _ (setup : LaneSetup) (opening : ℕ) (accepted : List Stamp) (kept : Lis
   abbrev before : Book
   before = book_of setup opening accepted kept answered served slots drain watch last
 
-  module _ (value : Book) (is : before ≡ value) (now : ℕ) (later : value.last ≤ now) (ports : ℕ) (numbers : map.FinMap key_cmp ℕ) (cells : List (Option ℕ)) (count : ℕ) (s : Stands before kept ports numbers cells count) where
-    pub stands_as : (other : Table Entry) (w : Watch) → AreTheSame slots.entries other.entries → ProbeStands (rested before other.entries other.allotted w now) w → Stands (book_of setup opening accepted kept answered served other drain w now) kept ports numbers cells count
-    stands_as other w same apart =
+  module _ (value : Book) (is : before ≡ value) (now : ℕ) (later : value.last ≤ now) (ports : ℕ) (numbers : map.FinMap key_cmp ℕ) (cells : List (Option ℕ)) (count : ℕ) (s : IsConsistent before kept ports numbers cells count) where
+    pub stands_as : (other : Table Entry) (w : Watch) → AreTheSame slots.entries other.entries → HoldsItsOwn setup other.entries → IfSome other.allotted (IsInRange setup.ports) → ProbeStands (rested before other.entries other.allotted w now) w → IsConsistent (book_of setup opening accepted kept answered served other drain w now) kept ports numbers cells count
+    stands_as other w same own in_range apart =
         let later_here : before.last ≤ now = subst (λ (b : Book). b.last ≤ now) (sym is) later in
-        stands_rested before other.entries other.allotted w now later_here same kept ports numbers cells count apart s
+        stands_rested before other.entries other.allotted w now later_here same own in_range kept ports numbers cells count apart s

@@ -7,7 +7,7 @@ use Rattle.rad_tables.specs.Keys.{key_cmp}
 use Rattle.rad_lane.specs.declared.stamp.Stamp.{Stamp}
 use Rattle.rad_lane.specs.Book.{Book}
 use Rattle.rad_lane.specs.Repeat.{fresh, repeats, repeats_last, repeats_answered, of_key, last_of, answer_to}
-use Rattle.rad_lane.specs.Standing.{last_number}
+use Rattle.rad_lane.specs.Invariant.{last_number}
 
 none_last : (book : Book) (now : ℕ) (last : Option Stamp) → option_map (λ (s : Stamp). s.number) last ≡ None → fresh ≡ repeats_last book now last
 none_last book now None h = refl

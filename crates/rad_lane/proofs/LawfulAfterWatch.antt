@@ -1,11 +1,12 @@
 -- A lane that goes up or down, or probes, is lawful still.
 use Rattle.std.proofs.Common.{◌≡◌, ℕ, ◌≤◌, Bool, true, false, cond, List, Option, Some, None, refl, sym, ap, ◌∙◌, subst}
-use Rattle.std.specs.Prelude.{option_map}
+use Rattle.std.specs.Prelude.{option_map, IfSome}
 use Rattle.std.specs.Ordering.{eq_by_cmp}
 use Rattle.std.specs.FinMap as map
+use Rattle.std.specs.List.Sorted.{IsPermutation}
 use Rattle.rad_tables.specs.declared.slots.Slot.{Slot}
 use Rattle.rad_tables.specs.Keys.{key_cmp}
-use Rattle.rad_tables.specs.Pairs.{slot_cmp, Table}
+use Rattle.rad_tables.specs.Pairs.{slot_cmp, Table, IsInRange}
 use Rattle.rad_tables.proofs.SlotLemmas.{slots_total, tied, itself}
 use Rattle.rad_lane.specs.declared.entry.Entry.{Entry}
 use Rattle.rad_lane.specs.declared.entry.Entry.TheVariants.{Sending as sending, Probe as probe}
@@ -14,19 +15,31 @@ use Rattle.rad_lane.specs.declared.watch.Watch.TheVariants.{Up as up, Down as do
 use Rattle.rad_lane.specs.declared.stamp.Stamp.{Stamp}
 use Rattle.rad_lane.specs.Stamp.{Kept}
 use Rattle.rad_lane.specs.Setup.{LaneSetup}
-use Rattle.rad_lane.specs.Outstanding.{Outstanding, AnswerKept}
-use Rattle.rad_lane.specs.Book.{Book}
-use Rattle.rad_lane.specs.Dues.{renewed, outstanding_count, GoesUp}
-use Rattle.rad_lane.specs.Lawful.{ProbeStands}
-use Rattle.rad_lane.specs.Standing.{Stands, book_of, left_of}
+use Rattle.rad_lane.specs.Outstanding.{Outstanding, AnswerKept, sent_again}
+use Rattle.rad_lane.specs.Book.{Book, outstanding_count}
+use Rattle.rad_lane.specs.Watch.{probe_of, GoesUp}
+use Rattle.rad_lane.specs.Lawful.{ProbeStands, HoldsItsOwn, IsTheLanes, IsProbe}
+use Rattle.rad_lane.specs.Invariant.{IsConsistent, book_of}
 use Rattle.rad_lane.specs.Steps.{freed}
-use Rattle.rad_lane.specs.Closes.{Left, Leaves, but_a_probe}
-use Rattle.rad_lane.specs.Timing.{begun_anew, probe_of, once_more, IfSending}
-use Rattle.rad_lane.proofs.Held.{as_many, all_sendings}
-use Rattle.rad_lane.proofs.Resting.{AreTheSame, unchanged, the_same_after, resent_same, freed_same, probed_same, anew_same, put_there, rested, stands_as}
+use Rattle.rad_lane.specs.Closes.{Left, Leaves, left_of}
+use Rattle.rad_lane.specs.Entries.{but_a_probe, renewed_in, IfSending}
+use Rattle.rad_lane.proofs.HeldLemmas.{stamps_in, as_many, all_sendings, every_put, every_left, every_changed}
+use Rattle.rad_lane.proofs.LawfulUnchanged.{AreTheSame, unchanged, the_same_after, resent_same, freed_same, probed_same, anew_same, put_there, rested, stands_as}
 
 abbrev HasNone : map.FinMap slot_cmp Entry → Type 0
 HasNone held = (slot : Slot) (octets : List ℕ) → map.get held slot ≡ Some (probe octets) → ⊥
+
+-- what a lane holds is its own still
+abbrev IsOwn : LaneSetup → Slot → Entry → Type 0
+IsOwn setup slot entry = IsInRange setup.ports slot × IsTheLanes setup slot entry
+
+own_freed : (setup : LaneSetup) (held : map.FinMap slot_cmp Entry) (out : Option Slot) → HoldsItsOwn setup held → HoldsItsOwn setup (freed held out)
+own_freed setup held None own = own
+own_freed setup held (Some slot) own = every_left (IsOwn setup) held own slot
+
+own_renewed : (setup : LaneSetup) (now : ℕ) (slot : Slot) (entry : Entry) → IsOwn setup slot entry → IsOwn setup slot (renewed_in now entry)
+own_renewed setup now slot (sending entry) own = own
+own_renewed setup now slot (probe octets) own = own
 
 module _ (book : Book) where
   free_same : (watch : Watch) → ProbeStands book watch → AreTheSame book.held (freed book.held (probe_of watch))
@@ -70,33 +83,17 @@ module _ (book : Book) where
       (λ other there. itself slot out (apart.1 slot other there))
 
   module _ (now : ℕ) where
-    anew_none : (o : Option Entry) → ((octets : List ℕ) → o ≡ Some (probe octets) → ⊥) → option_map (begun_anew now) o ≡ renewed now o
-    anew_none None h = refl
-    anew_none (Some (sending entry)) h = refl
-    anew_none (Some (probe octets)) h = absurd (h octets refl)
-
-    renewed_by : (b : Bool) (old : Option Entry) (octets : List ℕ) → (b ≡ true → old ≡ Some (probe octets)) → ((other : List ℕ) → old ≡ Some (probe other) → b ≡ true) → option_map (begun_anew now) (cond b None old) ≡ renewed now old
-    renewed_by true old octets here h = ap (renewed now) (sym (here refl))
-    renewed_by false old octets here h = anew_none old (λ other is. let at = h other is in cc)
-
-    -- what stands under each pair, once the probe's is free and each round begins anew
-    renewed_freed : (watch : Watch) → ProbeStands book watch → (slot : Slot) → option_map (begun_anew now) (map.get (freed book.held (probe_of watch)) slot) ≡ renewed now (map.get book.held slot)
-    renewed_freed up apart slot = anew_none (map.get book.held slot) (apart slot)
-    renewed_freed (down until next None) apart slot = anew_none (map.get book.held slot) (apart slot)
-    renewed_freed (down until next (Some out)) apart slot =
-        ap (option_map (begun_anew now)) (map.get-remove slots_total book.held out slot)
-        ∙ renewed_by (eq_by_cmp slot_cmp slot out) (map.get book.held slot) apart.0.0
-        (λ h. ap (map.get book.held) (tied slot out h) ∙ apart.0.1)
-        (λ other there. itself slot out (apart.1 slot other there))
-
-    module _ (watch : Watch) (apart : ProbeStands book watch) (held : map.FinMap slot_cmp Entry) (changed : (slot : Slot) → map.get held slot ≡ option_map (begun_anew now) (map.get (freed book.held (probe_of watch)) slot)) where
+    module _ (watch : Watch) (apart : ProbeStands book watch) (held : map.FinMap slot_cmp Entry) (changed : (slot : Slot) → map.get held slot ≡ option_map (renewed_in now) (map.get (freed book.held (probe_of watch)) slot)) where
       pub up_same : AreTheSame book.held held
       up_same = the_same_after _ _ _ (free_same watch apart) (anew_same now (freed book.held (probe_of watch)) held changed)
 
-      pub up_renews : (slot : Slot) → map.get held slot ≡ renewed now (map.get book.held slot)
-      up_renews slot = changed slot ∙ renewed_freed watch apart slot
+      pub up_renews : (slot : Slot) → map.get held slot ≡ option_map (renewed_in now) (but_a_probe (map.get book.held slot))
+      up_renews slot = changed slot ∙ ap (option_map (renewed_in now)) (left_freed watch apart slot)
 
-      no_probe_anew : (o : Option Entry) (octets : List ℕ) → ((other : List ℕ) → o ≡ Some (probe other) → ⊥) → option_map (begun_anew now) o ≡ Some (probe octets) → ⊥
+      pub up_own : HoldsItsOwn book.setup book.held → HoldsItsOwn book.setup held
+      up_own own = every_changed (IsOwn book.setup) (freed book.held (probe_of watch)) (own_freed book.setup book.held (probe_of watch) own) (renewed_in now) (own_renewed book.setup now) held changed
+
+      no_probe_anew : (o : Option Entry) (octets : List ℕ) → ((other : List ℕ) → o ≡ Some (probe other) → ⊥) → option_map (renewed_in now) o ≡ Some (probe octets) → ⊥
       no_probe_anew None octets h is = cc
       no_probe_anew (Some (sending entry)) octets h is = cc
       no_probe_anew (Some (probe other)) octets h is = h other refl
@@ -110,6 +107,9 @@ module _ (book : Book) where
 
     pub probe_same : AreTheSame book.held probed
     probe_same = the_same_after _ _ _ (free_same watch apart) (probed_same (freed book.held (probe_of watch)) slot octets free)
+
+    pub probe_own : HoldsItsOwn book.setup book.held → IsInRange book.setup.ports slot → IsProbe book.setup slot octets → HoldsItsOwn book.setup probed
+    probe_own own in_range made = every_put (IsOwn book.setup) (freed book.held (probe_of watch)) (own_freed book.setup book.held (probe_of watch) own) slot (probe octets) (in_range, made)
 
     at_its_pair : (b : Bool) (at : Slot) (old : Option Entry) (other : List ℕ) → (b ≡ true → at ≡ slot) → (old ≡ Some (probe other) → ⊥) → cond b (Some (probe octets)) old ≡ Some (probe other) → at ≡ slot
     at_its_pair true at old other same none is = same refl
@@ -135,23 +135,25 @@ module _ (setup : LaneSetup) (opening : ℕ) (accepted : List Stamp) (kept : Lis
   abbrev before : Book
   before = book_of setup opening accepted kept answered served slots drain watch last
 
-  module _ (value : Book) (is : before ≡ value) (now : ℕ) (later : value.last ≤ now) (numbers : map.FinMap key_cmp ℕ) (cells : List (Option ℕ)) (count : ℕ) (s : Stands before kept slots.ports numbers cells count) where
+  module _ (value : Book) (is : before ≡ value) (now : ℕ) (later : value.last ≤ now) (numbers : map.FinMap key_cmp ℕ) (cells : List (Option ℕ)) (count : ℕ) (s : IsConsistent before kept slots.ports numbers cells count) where
     -- the slots once the probe's pair is free and each round begins anew
-    module _ (out : Option Slot) (its : out ≡ probe_of watch) (free new : Table Entry) (free_is : free ≡ record slots { entries = freed slots.entries out }) (changed : (slot : Slot) → map.get new.entries slot ≡ option_map (begun_anew now) (map.get free.entries slot)) (new_is : new ≡ record free { entries = new.entries }) where
-      changed_here : (slot : Slot) → map.get new.entries slot ≡ option_map (begun_anew now) (map.get (freed slots.entries (probe_of watch)) slot)
+    module _ (out : Option Slot) (its : out ≡ probe_of watch) (free new : Table Entry) (free_is : free ≡ record slots { entries = freed slots.entries out }) (changed : (slot : Slot) → map.get new.entries slot ≡ option_map (renewed_in now) (map.get free.entries slot)) (new_is : new ≡ record free { entries = new.entries }) where
+      changed_here : (slot : Slot) → map.get new.entries slot ≡ option_map (renewed_in now) (map.get (freed slots.entries (probe_of watch)) slot)
       changed_here slot =
-          changed slot ∙ ap (λ (t : Table Entry). option_map (begun_anew now) (map.get t.entries slot)) free_is
-          ∙ ap (λ o. option_map (begun_anew now) (map.get (freed slots.entries o) slot)) its
+          changed slot ∙ ap (λ (t : Table Entry). option_map (renewed_in now) (map.get t.entries slot)) free_is
+          ∙ ap (λ o. option_map (renewed_in now) (map.get (freed slots.entries o) slot)) its
 
       same_table : new ≡ record slots { entries = new.entries }
       same_table = new_is ∙ ap (λ (t : Table Entry). let u : Table Entry = record t { entries = new.entries } in u) free_is
 
-      pub stands_up : Stands (book_of setup opening accepted kept answered served new drain up now) kept new.ports numbers cells count
+      pub stands_up : IsConsistent (book_of setup opening accepted kept answered served new drain up now) kept new.ports numbers cells count
       stands_up =
           let ports : slots.ports ≡ new.ports = ap (λ (t : Table Entry). t.ports) (sym same_table) in
-          subst (λ p. Stands (book_of setup opening accepted kept answered served new drain up now) kept p numbers cells count) ports
+          subst (λ p. IsConsistent (book_of setup opening accepted kept answered served new drain up now) kept p numbers cells count) ports
           (stands_as setup opening accepted kept answered served slots drain watch last value is now later slots.ports numbers cells count s new up
           (up_same before now watch s.lawful.probe_apart new.entries changed_here)
+          (up_own before now watch s.lawful.probe_apart new.entries changed_here s.lawful.holds_its_own)
+          (subst (λ (t : Table Entry). IfSome t.allotted (IsInRange setup.ports)) (sym same_table) s.lawful.allotted_in_range)
           (up_apart before now watch s.lawful.probe_apart new.entries changed_here))
 
       pub goes_up : GoesUp now (record value { last = now }) (book_of setup opening accepted kept answered served new drain up now)
@@ -174,11 +176,14 @@ module _ (setup : LaneSetup) (opening : ℕ) (accepted : List Stamp) (kept : Lis
       pub few_free : map.len (freed slots.entries out) ≤ setup.limits.window
       few_free = subst (λ n. n ≤ setup.limits.window) (sym (few_left before (down until next out) apart_here)) s.lawful.outstanding_bounded
 
-      pub stands_probed : (slot : Slot) (octets : List ℕ) (later_until later_next : ℕ) → map.get (freed slots.entries out) slot ≡ None → Stands (book_of setup opening accepted kept answered served (record { ports = slots.ports; entries = map.insert (freed slots.entries out) slot (probe octets); allotted = Some slot }) drain (down later_until later_next (Some slot)) now) kept slots.ports numbers cells count
-      stands_probed slot octets later_until later_next free =
+      pub stands_probed : (slot : Slot) (octets : List ℕ) (later_until later_next : ℕ) → map.get (freed slots.entries out) slot ≡ None → IsInRange slots.ports slot → IsProbe setup slot octets → IsConsistent (book_of setup opening accepted kept answered served (record { ports = slots.ports; entries = map.insert (freed slots.entries out) slot (probe octets); allotted = Some slot }) drain (down later_until later_next (Some slot)) now) kept slots.ports numbers cells count
+      stands_probed slot octets later_until later_next free in_range made =
+          let here : IsInRange setup.ports slot = subst (λ n. IsInRange n slot) s.ports_are in_range in
           stands_as setup opening accepted kept answered served slots drain watch last value is now later slots.ports numbers cells count s
           (record { ports = slots.ports; entries = map.insert (freed slots.entries out) slot (probe octets); allotted = Some slot }) (down later_until later_next (Some slot))
           (probe_same before (down until next out) apart_here slot octets free)
+          (probe_own before (down until next out) apart_here slot octets free s.lawful.holds_its_own here made)
+          here
           (probe_stands before (down until next out) apart_here slot octets free)
 
     pub few_up : value.watch ≡ up → map.len slots.entries ≤ setup.limits.window
@@ -188,19 +193,21 @@ module _ (setup : LaneSetup) (opening : ℕ) (accepted : List Stamp) (kept : Lis
 
     -- the slots with a sending once more in its place
     module _ (is_up : value.watch ≡ up) (slot : Slot) (entry : Outstanding) (there : map.get slots.entries slot ≡ Some (sending entry)) where
-      pub stands_resent : (x : Entry) (first : ℕ) → x ≡ sending (once_more now first entry) → Stands (book_of setup opening accepted kept answered served (record slots { entries = map.insert slots.entries slot x }) drain watch now) kept slots.ports numbers cells count
+      pub stands_resent : (x : Entry) (first : ℕ) → x ≡ sending (sent_again first now entry) → IsConsistent (book_of setup opening accepted kept answered served (record slots { entries = map.insert slots.entries slot x }) drain watch now) kept slots.ports numbers cells count
       stands_resent x first same =
           let up_here : watch ≡ up = ap (λ (b : Book). b.watch) is ∙ is_up in
           let none : HasNone slots.entries = subst (λ w. ProbeStands before w) up_here s.lawful.probe_apart in
           rw same (
           stands_as setup opening accepted kept answered served slots drain watch last value is now later slots.ports numbers cells count s
-          (record slots { entries = map.insert slots.entries slot (sending (once_more now first entry)) }) watch
-          (resent_same slots.entries slot entry (once_more now first entry) there refl refl refl refl)
-          (subst (λ w. ProbeStands (rested before (map.insert slots.entries slot (sending (once_more now first entry))) slots.allotted watch now) w) (sym up_here) (no_probe_beside slots.entries slot (once_more now first entry) none))
+          (record slots { entries = map.insert slots.entries slot (sending (sent_again first now entry)) }) watch
+          (resent_same slots.entries slot entry (sent_again first now entry) there refl refl)
+          (every_put (IsOwn setup) slots.entries s.lawful.holds_its_own slot (sending (sent_again first now entry)) (s.lawful.holds_its_own slot (sending entry) there))
+          s.lawful.allotted_in_range
+          (subst (λ w. ProbeStands (rested before (map.insert slots.entries slot (sending (sent_again first now entry))) slots.allotted watch now) w) (sym up_here) (no_probe_beside slots.entries slot (sent_again first now entry) none))
           )
 
   -- what is left once the probe's pair is free
-  module _ (value : Book) (is : before ≡ value) (ports : ℕ) (numbers : map.FinMap key_cmp ℕ) (cells : List (Option ℕ)) (count : ℕ) (s : Stands before kept ports numbers cells count) where
+  module _ (value : Book) (is : before ≡ value) (ports : ℕ) (numbers : map.FinMap key_cmp ℕ) (cells : List (Option ℕ)) (count : ℕ) (s : IsConsistent before kept ports numbers cells count) where
     pub leaves_freed : (its : slots.ports ≡ ports) (out : Option Slot) → out ≡ probe_of watch → (free : Table Entry) → free ≡ record slots { entries = freed slots.entries out } → (lane : ℕ) → lane ≡ setup.lane → (left : Left) → left ≡ left_of lane opening accepted kept answered free → Leaves value left
     leaves_freed its out out_is free free_is lane lane_is left left_is =
         let here : Leaves before left = record {
@@ -215,6 +222,18 @@ module _ (setup : LaneSetup) (opening : ℕ) (accepted : List Stamp) (kept : Lis
               ∙ ap (λ (t : Table Entry). map.get t.entries slot) free_is
               ∙ ap (λ o. map.get (freed slots.entries o) slot) out_is
               ∙ left_freed before watch s.lawful.probe_apart slot;
+          count =
+              ap (λ (l : Left). map.len l.outstanding.entries) left_is
+              ∙ ap (λ (t : Table Entry). map.len t.entries) free_is
+              ∙ ap (λ o. map.len (freed slots.entries o)) out_is
+              ∙ few_left before watch s.lawful.probe_apart;
+          stamps =
+              let stays = (free_same before watch s.lawful.probe_apart).stamps in
+              let entries : left.outstanding.entries ≡ freed slots.entries (probe_of watch) =
+              ap (λ (l : Left). l.outstanding.entries) left_is
+              ∙ ap (λ (t : Table Entry). t.entries) free_is
+              ∙ ap (λ o. freed slots.entries o) out_is in
+              subst (λ (m : map.FinMap slot_cmp Entry). IsPermutation (stamps_in slots.entries) (stamps_in m)) (sym entries) stays;
           ports =
               ap (λ (l : Left). l.outstanding.ports) left_is
               ∙ ap (λ (t : Table Entry). t.ports) free_is ∙ its ∙ s.ports_are;
@@ -224,6 +243,6 @@ module _ (setup : LaneSetup) (opening : ℕ) (accepted : List Stamp) (kept : Lis
         } in
         subst (λ (b : Book). Leaves b left) is here
 
-pub again_is : (x new : Entry) (entry : Outstanding) (now first : ℕ) → Some x ≡ Some (sending entry) → IfSending x (λ e. new ≡ sending (once_more now first e)) → new ≡ sending (once_more now first entry)
-again_is (sending e) new entry now first same h = let one : e ≡ entry = cc in h ∙ ap (λ (o : Outstanding). sending (once_more now first o)) one
+pub again_is : (x new : Entry) (entry : Outstanding) (now first : ℕ) → Some x ≡ Some (sending entry) → IfSending x (λ e. new ≡ sending (sent_again first now e)) → new ≡ sending (sent_again first now entry)
+again_is (sending e) new entry now first same h = let one : e ≡ entry = cc in h ∙ ap (λ (o : Outstanding). sending (sent_again first now o)) one
 again_is (probe octets) new entry now first same h = absurd h

@@ -12,15 +12,9 @@ passed_later stamps last now later h = All-weaker (λ s. s.moment ≤ last) (λ 
 
 verified_by : (setup : LaneSetup) (last now served more : ℕ) (answer : AnswerKept) → last ≤ now → served ≤ more → IsVerified setup last served answer → IsVerified setup now more answer
 verified_by setup last now served more answer later above v = record {
-  head_identifier = v.head_identifier;
-  head_authenticator = v.head_authenticator;
+  answered = v.answered;
+  lane = v.lane;
   home = v.home;
-  answers = v.answers;
-  text = v.text;
-  is_record = v.is_record;
-  identifier = v.identifier;
-  sending = v.sending;
-  since = v.since;
   until = omega (arith, v.until);
   before = omega (arith, v.before);
 }

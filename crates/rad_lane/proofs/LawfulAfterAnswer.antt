@@ -25,23 +25,24 @@ use Rattle.rad_lane.specs.declared.entry.Entry.TheVariants.{Sending as sending, 
 use Rattle.rad_lane.specs.declared.watch.Watch.{Watch}
 use Rattle.rad_lane.specs.declared.watch.Watch.TheVariants.{Up as up, Down as down}
 use Rattle.rad_lane.specs.Stamp.{Recorded, Kept, IsRecord}
-use Rattle.rad_lane.specs.Outstanding.{Outstanding, AnswerKept, answered_record}
+use Rattle.rad_lane.specs.Outstanding.{Outstanding, AnswerKept, answered_record, octets_of}
 use Rattle.rad_lane.specs.Setup.{IsOfItsRealms}
+use Rattle.rad_lane.specs.Entries.{sendings_in}
 use Rattle.rad_lane.specs.Book.{Book, outstanding_at}
 use Rattle.rad_lane.specs.Repeat.{answer_to}
 use Rattle.rad_lane.specs.declared.outgoing.Outgoing.{Outgoing}
 use Rattle.rad_lane.specs.declared.hearing.HearFault.TheVariants.{OutOfMemory}
 use Rattle.rad_lane.specs.Hears.{KeepsAnswer, GoesOut, with_answer}
-use Rattle.rad_lane.specs.Hearing.{AnswerIsKept, AnswerIsRefused}
+use Rattle.rad_lane.specs.AcceptReply.{AnswerIsKept, AnswerIsRefused}
 use Rattle.rad_lane.specs.Lawful.{IsLawful, IsVerified, ProbeStands}
-use Rattle.rad_lane.specs.Standing.{Stands, place_in, at_place}
-use Rattle.rad_lane.specs.Steps.{octets_of}
+use Rattle.rad_lane.specs.Invariant.{IsConsistent, place_in, at_place}
 use Rattle.rad_packet.specs.Packet.{identifier_of}
+use Rattle.rad_auth.specs.Forwarding.{forwarded}
 use Rattle.rad_auth.specs.Refusing.{RefusesReply}
 use Rattle.rad_auth.specs.declared.responding.ReplyFault.TheVariants as reply
 use Rattle.rad_auth.proofs.Forwards.{forwarded-identifier}
-use Rattle.rad_lane.proofs.Held.{stamps_in, sendings_in, sending_leaves}
-use Rattle.rad_lane.proofs.Passed.{passed_later, verified_more}
+use Rattle.rad_lane.proofs.HeldLemmas.{stamps_in, sending_leaves}
+use Rattle.rad_lane.proofs.VerifiedLater.{passed_later, verified_more}
 
 eqb_flips : (a b : ℕ) → eqb a b ≡ eqb b a
 eqb_flips a b = elim (eqb_tells a b) [
@@ -208,15 +209,21 @@ module _ (book : Book) (l : IsLawful book) (slot : Slot) (entry : Outstanding) (
         let record_is : answered_record answer entry.request.text ≡ entry.request = ap (λ (s : Stamp). let r : Recorded = record { stamp = s; text = entry.request.text; client_secret = answer.reply.client } in r) keeps.stamp
         ∙ ap (λ c. let r : Recorded = record { stamp = stamp; text = entry.request.text; client_secret = c } in r) keeps.client in
         record {
-          head_identifier = keeps.head_identifier ∙ ap (λ (s : Stamp). s.identifier) (sym keeps.stamp);
-          head_authenticator = keeps.head_authenticator ∙ ap (λ (s : Stamp). s.authenticator) (sym keeps.stamp);
+          answered = record {
+            head_identifier = keeps.head_identifier ∙ ap (λ (s : Stamp). s.identifier) (sym keeps.stamp);
+            head_authenticator = keeps.head_authenticator ∙ ap (λ (s : Stamp). s.authenticator) (sym keeps.stamp);
+            answers = rw (keeps.sending, keeps.reply, keeps.client, keeps.home) keeps.answers;
+            text = entry.request.text;
+            is_record = subst (λ (r : Recorded). IsRecord r) (sym record_is) forwards.is_record;
+            lane = book.setup.lane;
+            identifier = slot.identifier;
+            sending =
+                keeps.sending ∙ forwards.octets ∙ ap (λ (r : Recorded). octets_of book.setup r slot.identifier) (sym record_is)
+                ∙ ap (λ home. forwarded entry.request.text (record { lane = book.setup.lane; number = answer.stamp.number }) slot.identifier home) (sym keeps.home);
+            since = let moment = ap (λ (s : Stamp). s.moment) keeps.stamp in omega (arith, moment, keeps.moment, has_passed, later);
+          };
+          lane = refl;
           home = keeps.home;
-          answers = rw (keeps.sending, keeps.reply, keeps.client, keeps.home) keeps.answers;
-          text = entry.request.text;
-          is_record = subst (λ (r : Recorded). IsRecord r) (sym record_is) forwards.is_record;
-          identifier = slot.identifier;
-          sending = keeps.sending ∙ forwards.octets ∙ ap (λ (r : Recorded). octets_of book.setup r slot.identifier) (sym record_is);
-          since = let moment = ap (λ (s : Stamp). s.moment) keeps.stamp in omega (arith, moment, keeps.moment, has_passed, later);
           until = omega (arith, keeps.moment);
           before = omega (arith, keeps.serial);
         }
@@ -257,6 +264,10 @@ module _ (book : Book) (l : IsLawful book) (slot : Slot) (entry : Outstanding) (
       answered_realms = All-push (λ a. IsOfItsRealms book.setup a.reply.sending) book.answered answer l.answered_realms (subst (λ (text : List ℕ). IsOfItsRealms book.setup text) (sym keeps.sending) (l.outstanding_realms slot entry there));
       forwards_its_record = λ at e is. l.forwards_its_record at e (was_there at _ is);
       probe_apart = probe_apart_still book.watch l.probe_apart;
+      holds_its_own = λ at x is. l.holds_its_own at x (was_there at x is);
+      allotted_in_range = l.allotted_in_range;
+      ports_least = l.ports_least;
+      ports_most = l.ports_most;
       queued_bounded = l.queued_bounded;
       outstanding_bounded = let bounded = l.outstanding_bounded in omega (arith, one_less, bounded);
       accepted_bounded = l.accepted_bounded;
@@ -320,12 +331,11 @@ module _ (book : Book) (l : IsLawful book) (slot : Slot) (entry : Outstanding) (
             subst (λ o. IfSome (option_flatten o) (λ place. place < length after.answered)) (sym (get_set_other cells (stamp.number - book.opening) k (Some (length book.answered)) other.1)) (more_by _ (within k))
       ]
 
-      pub stands_answered : (kept : List Kept) (ports : ℕ) (numbers : map.FinMap key_cmp ℕ) (count : ℕ) → Stands book kept ports numbers cells count → Stands after kept ports numbers marked (count - 1)
+      pub stands_answered : (kept : List Kept) (ports : ℕ) (numbers : map.FinMap key_cmp ℕ) (count : ℕ) → IsConsistent book kept ports numbers cells count → IsConsistent after kept ports numbers marked (count - 1)
       stands_answered kept ports numbers count s = record {
         lawful = answered_lawful;
         rooms = s.rooms;
         ports_are = s.ports_are;
-        sendings_are = λ at e is. s.sendings_are at e (was_there at _ is);
         counted = let before = s.counted in omega (arith, one_less, before);
         last_numbers = s.last_numbers;
         since_opening = s.since_opening;
@@ -360,6 +370,6 @@ kept_seen book value new same slot entry there now packet answer outgoing keeps 
     (record { entry = entry; there = there; answer = answer; keeps = keeps; out = out; book = is })
 
 -- an answer by the secret of the sending is one by the lane's
-pub keeps_here : (book : Book) (kept : List Kept) (ports : ℕ) (numbers : map.FinMap key_cmp ℕ) (cells : List (Option ℕ)) (outstanding : ℕ) → Stands book kept ports numbers cells outstanding → (slot : Slot) (entry : Outstanding) → outstanding_at book slot entry → (now count : ℕ) (packet : List ℕ) (answer : AnswerKept) → KeepsAnswer entry.home now count entry packet answer → KeepsAnswer book.setup.home_secret now count entry packet answer
+pub keeps_here : (book : Book) (kept : List Kept) (ports : ℕ) (numbers : map.FinMap key_cmp ℕ) (cells : List (Option ℕ)) (outstanding : ℕ) → IsConsistent book kept ports numbers cells outstanding → (slot : Slot) (entry : Outstanding) → outstanding_at book slot entry → (now count : ℕ) (packet : List ℕ) (answer : AnswerKept) → KeepsAnswer entry.home now count entry packet answer → KeepsAnswer book.setup.home_secret now count entry packet answer
 keeps_here book kept ports numbers cells outstanding s slot entry there now count packet answer keeps =
-    subst (λ home. KeepsAnswer home now count entry packet answer) ((s.sendings_are slot entry there).0) keeps
+    subst (λ home. KeepsAnswer home now count entry packet answer) ((s.lawful.holds_its_own slot (sending entry) there).1.0) keeps
