@@ -1,5 +1,5 @@
 -- A lane that goes up or down, or probes, is lawful still.
-use Rattle.std.proofs.Common.{◌≡◌, ℕ, ◌≤◌, Bool, true, false, cond, List, Option, Some, None, refl, sym, ap, ◌∙◌, subst}
+use Rattle.std.proofs.Common.{◌≡◌, ℕ, ◌≤◌, Bool, true, false, cond, List, length, Option, Some, None, refl, sym, ap, ◌∙◌, subst}
 use Rattle.std.specs.Prelude.{option_map, IfSome}
 use Rattle.std.specs.Ordering.{eq_by_cmp}
 use Rattle.std.specs.FinMap as map
@@ -8,6 +8,7 @@ use Rattle.rad_tables.specs.declared.slots.Slot.{Slot}
 use Rattle.rad_tables.specs.Keys.{key_cmp}
 use Rattle.rad_tables.specs.Pairs.{slot_cmp, Table, IsInRange}
 use Rattle.rad_tables.proofs.SlotLemmas.{slots_total, tied, itself}
+use Rattle.rad_auth.specs.Status.{status_server}
 use Rattle.rad_lane.specs.declared.entry.Entry.{Entry}
 use Rattle.rad_lane.specs.declared.entry.Entry.TheVariants.{Sending as sending, Probe as probe}
 use Rattle.rad_lane.specs.declared.watch.Watch.{Watch}
@@ -40,6 +41,14 @@ own_freed setup held (Some slot) own = every_left (IsOwn setup) held own slot
 own_renewed : (setup : LaneSetup) (now : ℕ) (slot : Slot) (entry : Entry) → IsOwn setup slot entry → IsOwn setup slot (renewed_in now entry)
 own_renewed setup now slot (sending entry) own = own
 own_renewed setup now slot (probe octets) own = own
+
+-- a Status-Server that was made with these octets is a probe
+pub is_probe : (setup : LaneSetup) (slot : Slot) (octets datagram random home : List ℕ) → length random ≡ 16 → octets ≡ datagram → datagram ≡ status_server slot.identifier random home → home ≡ setup.home_secret → IsProbe setup slot octets
+is_probe setup slot octets datagram random home sixteen kept made is = record {
+  random = random;
+  sixteen = sixteen;
+  made = kept ∙ made ∙ ap (λ secret. status_server slot.identifier random secret) is;
+}
 
 module _ (book : Book) where
   free_same : (watch : Watch) → ProbeStands book watch → AreTheSame book.held (freed book.held (probe_of watch))

@@ -1,4 +1,4 @@
--- A lane in which the same requests are outstanding as before is lawful still.
+-- A lane stays lawful where the same requests are outstanding under the same pairs as before.
 use Rattle.std.proofs.Common.{◌≡◌, ℕ, ◌≤◌, Bool, true, false, cond, List, Option, Some, None, refl, sym, ap, ◌∙◌, subst}
 use Rattle.std.specs.Prelude.{map as each, option_map, IfSome}
 use Rattle.std.specs.Ordering.{eq_by_cmp}

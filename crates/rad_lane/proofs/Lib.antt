@@ -14,4 +14,4 @@ pub mod LawfulAfterSend
 pub mod NextDueFound
 pub mod NoRepeatOfFresh
 pub mod LawfulAfterWatch
-pub mod Texts
+pub mod LeadsToItsLane

@@ -1,5 +1,5 @@
 -- What hearing a datagram from the home server may answer, and the book after it (own). The first case that
--- applies is answered; want of memory comes last. A refusal leaves the book.
+-- applies is answered; lack of memory comes last. A refusal leaves the book.
 use Rattle.std.specs.Prelude.{◌≡◌, ◌≢◌, ℕ, ◌+◌, List, [], ◌∷◌, ◌++◌, Some, None, Result, Ok, Err}
 use Rattle.std.specs.FinMap as map
 use Rattle.rad_packet.specs.Packet.{code_of, identifier_of, authenticator_of}

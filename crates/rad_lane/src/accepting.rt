@@ -7,7 +7,6 @@ ghost use Rattle.rad_lane.specs.Invariant.{HasRoom};
 ghost use Rattle.rad_lane.specs.Datagrams.{Datagrams};
 ghost use Rattle.rad_lane.specs.Accepts.{Accepts, IsTaken, IsRefused, request_key, stamp_of as the_stamp, record_of as the_record, with_request};
 
-use crate::packets::packet_of;
 use crate::repeats::Repeat;
 use crate::reserved_list::ReservedList;
 use crate::{Answered, Lane, Record, Stamp};
@@ -47,7 +46,7 @@ pub enum Refusal {
     WrongLane,
 }
 
-/// One more than the greatest number of a request.
+/// One more than the greatest number that a request can have.
 const NUMBER_LIMIT: u64 = 1 << 62;
 
 impl<Q: Fifo<Record>> Lane<Q> {
@@ -60,7 +59,10 @@ impl<Q: Fifo<Record>> Lane<Q> {
 
     /// Takes a request that is this lane's: a new one is accepted and waits to be sent; a repeat of one that
     /// waits for its answer is only told; and for a repeat of one that was answered less than a span ago the
-    /// response is put into the datagram. It costs the logarithm of how much is kept.
+    /// response is put into the datagram.
+    ///
+    /// It takes time logarithmic in the size of the book. Where a list of the book has to grow for a new request, that
+    /// list may be moved, which takes time linear in its length.
     ///
     /// # Errors
     ///
@@ -181,7 +183,7 @@ fn record_of(
     Ok(Record::new(stamp, text, *request.secret(), spare))
 }
 
-/// Makes a place in each.
+/// Makes room for one more in each.
 fn make_room<Q: Fifo<Record>>(
     accepted: &mut ReservedList<Stamp>,
     places: &mut ReservedList<Option<usize>>,
@@ -203,5 +205,5 @@ fn make_room<Q: Fifo<Record>>(
 fn response_of(answer: &Answered) -> PacketRef<'_>
     ensures { result ≡ answer.now.reply.response }
 {
-    packet_of(answer.reply().response())
+    PacketRef::over(answer.reply().response())
 }

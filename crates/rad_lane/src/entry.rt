@@ -1,5 +1,5 @@
 use crate::Sending;
-use rad_packet::Datagram;
+use rad_packet::{Datagram, authenticator_of};
 use rad_tables::{Moment, Timed};
 use std::marker::Model;
 
@@ -22,7 +22,7 @@ impl Model for Probe {
 
 impl Probe {
     ghost use Rattle.std.specs.Prelude.{◌≡◌, length};
-    ghost use Rattle.rad_packet.specs.Packet.{authenticator_of};
+    ghost use Rattle.rad_packet.specs.Packet.{authenticator_of as the_authenticator};
 
     /// Keeps the Status-Server that the datagram has.
     pub(crate) fn of(datagram: &Datagram) -> Probe
@@ -43,11 +43,9 @@ impl Probe {
 
     /// The Authenticator that was sent.
     pub(crate) fn authenticator(&self) -> [u8; 16]
-        ensures { result ≡ authenticator_of self.now }
+        ensures { result ≡ the_authenticator self.now }
     {
-        let mut authenticator = [0; 16];
-        authenticator.copy_from_slice(&self.octets[4..20]);
-        authenticator
+        authenticator_of(&self.octets)
     }
 }
 

@@ -12,28 +12,42 @@ use std::marker::Model;
 
 /// The lane of one home server: the requests that it took, in order, until each is answered.
 ///
-/// It has no socket and no clock. Its calls are handed the moment, and answer what is to be done:
-/// [`Lane::accept`] takes a request in.
+/// It has no socket and no clock: its calls are handed the moment, and answer what is to be done. A moment
+/// earlier than the last one counts as the last one.
+///
+/// [`Lane::new`] makes it. A request comes in by [`Lane::accept`], which wants a request that [`Lane::takes`].
+/// [`Lane::step`] does one thing at a time: call it after each request and each reply, and at the moment that
+/// it tells, again and again until it is idle, and send what it puts into the datagram each time. [`Lane::hear`]
+/// takes what comes from the home server. [`Lane::drain`] ends the taking of requests; go on with the other calls
+/// until [`Lane::is_done`], and then [`Lane::close`] gives what the book holds. The calls that only look, as
+/// [`Lane::counts`], may come at any time.
 #[derive(Drop)]
 pub struct Lane<Q: Fifo<Record>> {
+    /// Whose lane it is, with its home server's secret and limits.
     pub(crate) setup: Setup,
     /// The number of the first request that is kept.
     pub(crate) opening: u64,
     /// The stamps of the requests, in order: first those that were sent, then those that are queued.
     pub(crate) accepted: ReservedList<Stamp>,
+    /// The records of the requests that wait to be sent, in order.
     pub(crate) queued: Q,
+    /// The answers, in the order in which they came.
     pub(crate) answered: ReservedList<Answered>,
     /// For each of the requests accepted the place of its answer among `answered`.
     pub(crate) places: ReservedList<Option<usize>>,
     /// How many answers there were.
     pub(crate) served: u64,
+    /// What was sent and not answered, each under its pair of source port and identifier, and the probe.
     pub(crate) slots: Slots<Entry>,
     /// How many of the entries are sendings.
     pub(crate) outstanding: usize,
+    /// The number of the last request of each key.
     pub(crate) duplicates: Duplicates,
     /// How many requests had been accepted when it was drained.
     pub(crate) drain: Option<u64>,
+    /// Whether the home server is taken to be up.
     pub(crate) watch: Watch,
+    /// The last moment.
     pub(crate) last: Moment,
 }
 
@@ -121,7 +135,8 @@ impl<Q: Fifo<Record>> Lane<Q> {
         }
     }
 
-    /// Makes this the last moment.
+    /// Makes this the last moment, where a call changes nothing else. A call that does writes the field itself,
+    /// together with the others, since they agree only once all are written.
     pub(crate) fn set_last(&mut self, now: Moment)
         requires { self.old.last ≤ now }
         ensures { self.new ≡ record self.old { last = now } }

@@ -1,7 +1,6 @@
 ghost use Rattle.std.specs.Prelude.{◌≡◌, ◌+◌, ◌≤◌};
 ghost use Rattle.rad_tables.specs.Waiting.{wait_of};
 
-use crate::packets::packet_of;
 use crate::{Answered, Outgoing, Record, Setup};
 use rad_auth::{Mark, Octets, ReplyFault, RequestHead, Secret, forward, respond};
 use rad_packet::{Datagram, PacketRef};
@@ -14,11 +13,19 @@ use std::marker::Model;
 /// Its type keeps that what was sent is the forwarded packet of its record.
 #[derive(Drop)]
 pub struct Sending {
+    /// The record of the request.
     request: Record,
+    /// The packet that was sent, and will be again.
     octets: Octets,
+    /// How many sendings of this round there were.
     sendings: u32,
+    /// When it is to be sent again, in milliseconds.
     due: u64,
+    /// The home server's secret. Each sending keeps its own, so that its type can promise that its octets are signed
+    /// with it, and so that it can be told by itself once the lane is closed.
     home: Secret,
+    /// How many sendings a round has. Each sending keeps its own, since the slots look for what is spent and
+    /// know the entries alone.
     tries: u32,
 }
 
@@ -119,7 +126,7 @@ impl Sending {
         ensures { result ≡ self.now.octets }
     {
         let _ = &self.octets;
-        packet_of(self.octets())
+        PacketRef::over(self.octets())
     }
 
     /// The answer to its request, where the packet is a right reply to it, and the response on its way to the

@@ -10,15 +10,20 @@ use std::alloc::{AllocError, Global};
 use std::marker::Model;
 
 /// What a lane is set up with: the number of its home server, that server's secret and limits, the realms
-/// that lead to it, and whether requests of no realm do.
+/// that lead to it, and whether requests without a realm lead to it.
 #[derive(Drop)]
 pub struct Setup {
+    /// The number of its home server, counted from 0 in the order of the configuration.
     lane: u16,
     /// How many source ports it sends from.
     ports: u16,
+    /// The home server's secret.
     home: Secret,
+    /// What the home server's section of the configuration limits.
     limits: Limits,
+    /// The names of the realms that lead to it.
     realms: ReservedList<Octets>,
+    /// Whether requests without a realm lead to it.
     is_default: bool,
 }
 
