@@ -1,8 +1,9 @@
 -- A lane that goes up or down, or probes, is lawful still.
-use Rattle.std.proofs.Common.{◌≡◌, ℕ, ◌≤◌, Bool, true, false, cond, List, length, Option, Some, None, refl, sym, ap, ◌∙◌, subst}
+use Rattle.std.proofs.Common.{◌≡◌, ℕ, ◌<◌, ◌≤◌, inl, inr, arith, Bool, true, false, cond, List, length, Option, Some, None, refl, sym, ap, ◌∙◌, subst}
 use Rattle.std.specs.Prelude.{option_map, IfSome}
 use Rattle.std.specs.Ordering.{eq_by_cmp}
 use Rattle.std.specs.FinMap as map
+use Rattle.std.proofs.lemmas.Bool.Decides.{leb_tells}
 use Rattle.std.specs.List.Sorted.{IsPermutation}
 use Rattle.rad_tables.specs.declared.slots.Slot.{Slot}
 use Rattle.rad_tables.specs.Keys.{key_cmp}
@@ -16,7 +17,7 @@ use Rattle.rad_lane.specs.declared.watch.Watch.TheVariants.{Up as up, Down as do
 use Rattle.rad_lane.specs.declared.stamp.Stamp.{Stamp}
 use Rattle.rad_lane.specs.Stamp.{Kept}
 use Rattle.rad_lane.specs.Setup.{LaneSetup}
-use Rattle.rad_lane.specs.Outstanding.{Outstanding, AnswerKept, sent_again}
+use Rattle.rad_lane.specs.Outstanding.{Outstanding, AnswerKept, is_spent, sent_again}
 use Rattle.rad_lane.specs.Book.{Book, outstanding_count}
 use Rattle.rad_lane.specs.Watch.{probe_of, GoesUp}
 use Rattle.rad_lane.specs.Lawful.{ProbeStands, HoldsItsOwn, IsTheLanes, IsProbe}
@@ -200,6 +201,14 @@ module _ (setup : LaneSetup) (opening : ℕ) (accepted : List Stamp) (kept : Lis
         let up_here : watch ≡ up = ap (λ (b : Book). b.watch) is ∙ is_up in
         subst (λ n. n ≤ setup.limits.window) (sym (few_left before up (subst (λ w. ProbeStands before w) up_here s.lawful.probe_apart))) s.lawful.outstanding_bounded
 
+    -- the same slots, and the lane down
+    pub stands_down : value.watch ≡ up → (until next : ℕ) → IsConsistent (book_of setup opening accepted kept answered served slots drain (down until next None) now) kept slots.ports numbers cells count
+    stands_down is_up until next =
+        let up_here : watch ≡ up = ap (λ (b : Book). b.watch) is ∙ is_up in
+        let none : HasNone slots.entries = subst (λ w. ProbeStands before w) up_here s.lawful.probe_apart in
+        stands_as setup opening accepted kept answered served slots drain watch last value is now later slots.ports numbers cells count s
+        slots (down until next None) (unchanged slots.entries) s.lawful.holds_its_own s.lawful.allotted_in_range none
+
     -- the slots with a sending once more in its place
     module _ (is_up : value.watch ≡ up) (slot : Slot) (entry : Outstanding) (there : map.get slots.entries slot ≡ Some (sending entry)) where
       pub stands_resent : (x : Entry) (first : ℕ) → x ≡ sending (sent_again first now entry) → IsConsistent (book_of setup opening accepted kept answered served (record slots { entries = map.insert slots.entries slot x }) drain watch now) kept slots.ports numbers cells count
@@ -251,6 +260,17 @@ module _ (setup : LaneSetup) (opening : ℕ) (accepted : List Stamp) (kept : Lis
               ∙ ap (λ (t : Table Entry). t.allotted) free_is;
         } in
         subst (λ (b : Book). Leaves b left) is here
+
+-- a sending that is not spent was sent less than ten times in its round
+fresh_few : (entry : Outstanding) (tries : ℕ) → is_spent entry ≡ false → entry.tries ≡ tries → tries ≤ 10 → entry.sendings < 10
+fresh_few entry tries fresh is most = elim (leb_tells entry.tries entry.sendings) [
+  | inl above ↦ let spent = above.0 in cc
+  | inr below ↦ omega (arith, below.1, is)
+]
+
+pub few_sendings : (x : Entry) (entry : Outstanding) (tries : ℕ) → Some x ≡ Some (sending entry) → is_spent entry ≡ false → entry.tries ≡ tries → tries ≤ 10 → IfSending x (λ e. e.sendings < 10)
+few_sendings (sending e) entry tries same fresh is most = let one : e ≡ entry = cc in subst (λ (o : Outstanding). o.sendings < 10) (sym one) (fresh_few entry tries fresh is most)
+few_sendings (probe octets) entry tries same fresh is most = cc
 
 pub again_is : (x new : Entry) (entry : Outstanding) (now first : ℕ) → Some x ≡ Some (sending entry) → IfSending x (λ e. new ≡ sending (sent_again first now e)) → new ≡ sending (sent_again first now entry)
 again_is (sending e) new entry now first same h = let one : e ≡ entry = cc in h ∙ ap (λ (o : Outstanding). sending (sent_again first now o)) one

@@ -12,6 +12,7 @@ use Rattle.rad_tables.proofs.SlotLemmas.{slots_total, tied, itself}
 use Rattle.rad_lane.specs.declared.entry.Entry.{Entry}
 use Rattle.rad_lane.specs.declared.entry.Entry.TheVariants.{Sending as sending, Probe as probe}
 use Rattle.rad_lane.specs.declared.watch.Watch.{Watch}
+use Rattle.rad_lane.specs.declared.watch.Watch.TheVariants.{Up as up, Down as down}
 use Rattle.rad_lane.specs.Stamp.{Recorded, Kept, IsRecord}
 use Rattle.rad_lane.specs.Outstanding.{Outstanding, AnswerKept, octets_of, renewed}
 use Rattle.rad_lane.specs.Setup.{LaneSetup, IsOfItsRealms}
@@ -171,6 +172,12 @@ module _ (book : Book) (held : map.FinMap slot_cmp Entry) (allotted : Option Slo
     numbers_fit = s.numbers_fit;
   }
 
+-- at a later moment the probe stands where it stood
+apart_later : (book : Book) (w : Watch) (now : ℕ) (watch : Watch) → ProbeStands book watch → ProbeStands (rested book book.held book.allotted w now) watch
+apart_later book w now up apart = apart
+apart_later book w now (down until next None) apart = apart
+apart_later book w now (down until next (Some out)) apart = apart
+
 -- the fields of a lane in which the same requests are outstanding
 module _ (setup : LaneSetup) (opening : ℕ) (accepted : List Stamp) (kept : List Kept) (answered : List AnswerKept) (served : ℕ) (slots : Table Entry) (drain : Option ℕ) (watch : Watch) (last : ℕ) where
   abbrev before : Book
@@ -181,3 +188,7 @@ module _ (setup : LaneSetup) (opening : ℕ) (accepted : List Stamp) (kept : Lis
     stands_as other w same own in_range apart =
         let later_here : before.last ≤ now = subst (λ (b : Book). b.last ≤ now) (sym is) later in
         stands_rested before other.entries other.allotted w now later_here same own in_range kept ports numbers cells count apart s
+
+    -- at a later moment nothing else is another
+    pub stands_later : IsConsistent (book_of setup opening accepted kept answered served slots drain watch now) kept ports numbers cells count
+    stands_later = stands_as slots watch (unchanged slots.entries) s.lawful.holds_its_own s.lawful.allotted_in_range (apart_later before watch now watch s.lawful.probe_apart)

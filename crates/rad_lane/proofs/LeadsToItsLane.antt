@@ -1,5 +1,5 @@
 -- What a configuration leads to a lane is of the realms that it sets the lane up with.
-use Rattle.std.proofs.Common.{◌≡◌, ℕ, ◌<◌, Bool, true, false, cond, List, [], ◌∷◌, length, Option, Some, None, inl, inr, refl, sym, ap, ◌∙◌, subst, arith}
+use Rattle.std.proofs.Common.{◌≡◌, ℕ, ◌<◌, Bool, true, false, cond, List, [], ◌∷◌, length, Option, Some, None, inl, inr, refl, sym, ap, subst, arith}
 use Rattle.std.specs.Prelude.{map as each, filter, find, option_map, ◌==◌, IsTrue}
 use Rattle.std.specs.List.{list_any}
 use Rattle.std.proofs.lemmas.Bool.{eq-eqb}
@@ -7,7 +7,7 @@ use Rattle.std.proofs.lemmas.Bool.Decides.{eqb_tells}
 use Rattle.rad_realms.specs.Checking.{Request, IsChecked}
 use Rattle.rad_realms.specs.Configuration.{RealmEntry, Configuration}
 use Rattle.rad_realms.specs.Realm.{same_name, lane_in, lane_by, realm_of_packet, lane_of_packet}
-use Rattle.rad_lane.specs.Setup.{LaneSetup, IsSetUp, LeadsHere, IsOfItsRealms, realms_of, is_lane}
+use Rattle.rad_lane.specs.Setup.{LaneSetup, IsSetUp, LeadsHere, IsOfItsRealms, is_lane}
 use Rattle.rad_lane.specs.Book.{Book}
 use Rattle.rad_lane.specs.Accepts.{IsTaken}
 
@@ -36,7 +36,7 @@ module _ (realm : List ℕ) (lane : ℕ) where
   there_by table true is found = cc
   there_by table false is found = elim (eqb_tells (length realm) 0) [
     | inl none ↦ let empty = none.0 in cc
-    | inr some ↦ (omega (arith, some.1), subst IsTrue (sym (has_found table found)) tt)
+    | inr some ↦ (omega (arith, some.1), has_found table found)
   ]
 
   found_there : (table : List RealmEntry) → lane_in table realm ≡ Some lane → (0 < length realm) × IsTrue (has (of_lane table))
@@ -45,7 +45,7 @@ module _ (realm : List ℕ) (lane : ℕ) where
 
 is_default : (lane : ℕ) (default : Option ℕ) → default ≡ Some lane → IsTrue (is_lane lane default)
 is_default lane None is = cc
-is_default lane (Some other) is = let same : other ≡ lane = cc in subst IsTrue (sym (eq-eqb other lane same)) tt
+is_default lane (Some other) is = let same : other ≡ lane = cc in eq-eqb other lane same
 
 leads_by : (config : Configuration) (lane : ℕ) (setup : LaneSetup) (realm : Option (List ℕ)) → IsSetUp config lane setup → lane_by config.realms config.default_lane realm ≡ Some lane → LeadsHere setup realm
 leads_by config lane setup None s leads = subst (λ b. IsTrue b) (sym (ap (λ (s : LaneSetup). s.is_default) s.parts)) (is_default lane config.default_lane leads)

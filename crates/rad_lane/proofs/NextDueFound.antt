@@ -1,6 +1,6 @@
 -- Whether a sending is due, as the slots tell it.
 use Rattle.std.proofs.Common.{◌≡◌, ℕ, ◌<◌, ◌≤◌, Bool, true, false, Option, Some, None, inl, inr, refl, sym, ap, ◌∙◌, subst, arith}
-use Rattle.std.specs.Prelude.{nat_le, option_map, min, List}
+use Rattle.std.specs.Prelude.{option_map, min, List}
 use Rattle.std.specs.FinMap as map
 use Rattle.std.proofs.lemmas.Bool.Decides.{leb_tells}
 use Rattle.rad_tables.specs.declared.slots.Slot.{Slot}
@@ -28,12 +28,15 @@ at_or_after a b h = elim h [ inl before ↦ omega (arith, before) | inr same ↦
 module _ (book : Book) (none : (slot : Slot) (octets : _) → map.get book.held slot ≡ Some (probe octets) → ⊥) (now : ℕ) (which : Bool) where
   next_by : (slot : Slot) (x : Entry) → map.get book.held slot ≡ Some x → is_spent_in x ≡ which → ((other : Slot) (e : Entry) → map.get book.held other ≡ Some e → is_spent_in e ≡ which → NotAfter (due_in x, number_in x) (due_in e, number_in e)) → due_in x ≤ now → (entry : Outstanding) × IsNextDue book now which slot entry
   next_by slot (probe octets) there kind first due = absurd (none slot octets there)
-  next_by slot (sending entry) there kind first due = (entry, record {
-    there = there;
-    kind = kind;
-    due = due;
-    first = λ other e there_too kind_too. first other (sending e) there_too kind_too;
-  })
+  next_by slot (sending entry) there kind first due = (
+    entry,
+    record {
+      there = there;
+      kind = kind;
+      due = due;
+      first = λ other e there_too kind_too. first other (sending e) there_too kind_too;
+    },
+  )
 
   least_by : (slot : Slot) (x : Entry) → map.get book.held slot ≡ Some x → is_spent_in x ≡ which → ((other : Slot) (e : Entry) → map.get book.held other ≡ Some e → is_spent_in e ≡ which → NotAfter (due_in x, number_in x) (due_in e, number_in e)) → now < due_in x → IsLeastLater book now which (due_in x)
   least_by slot (probe octets) there kind first later = absurd (none slot octets there)

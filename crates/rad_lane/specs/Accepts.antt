@@ -1,6 +1,6 @@
 -- What accepting a request may answer, and the book after it (own). The first case that applies is answered;
 -- lack of memory comes last and is the only free choice. A refusal leaves book and datagram.
-use Rattle.std.specs.Prelude.{◌≡◌, ℕ, ◌^◌, ◌<◌, ◌≤◌, ◌⊎◌, List, [], ◌∷◌, ◌++◌, length, IsSome, IsNone, Result, Ok, Err}
+use Rattle.std.specs.Prelude.{◌≡◌, ℕ, ◌^◌, ◌<◌, ◌≤◌, ◌⊎◌, [], ◌∷◌, ◌++◌, length, IsSome, IsNone, Result, Ok, Err}
 use Rattle.rad_packet.specs.Packet.{identifier_of, authenticator_of}
 use Rattle.rad_realms.specs.Checking.{Request}
 use Rattle.rad_tables.specs.declared.duplicates.Key.{Key}

@@ -61,8 +61,8 @@ impl<Q: Fifo<Record>> Lane<Q> {
     /// waits for its answer is only told; and for a repeat of one that was answered less than a span ago the
     /// response is put into the datagram.
     ///
-    /// It takes time logarithmic in the size of the book. Where a list of the book has to grow for a new request, that
-    /// list may be moved, which takes time linear in its length.
+    /// It takes time logarithmic in the size of the book. Where a list of the book has to grow for a new
+    /// request, that list may be moved, which takes time linear in its length.
     ///
     /// # Errors
     ///
@@ -106,7 +106,9 @@ impl<Q: Fifo<Record>> Lane<Q> {
         if self.drain.is_some() {
             return Err(Refusal::Draining);
         }
-        if self.accepted.as_slice().len() >= limits.book as usize || self.next_number() >= NUMBER_LIMIT {
+        if self.accepted.as_slice().len() >= limits.book as usize
+            || self.next_number() >= NUMBER_LIMIT
+        {
             return Err(Refusal::BookFull);
         }
         if self.queued.len() >= limits.queue as usize {
@@ -119,7 +121,12 @@ impl<Q: Fifo<Record>> Lane<Q> {
     }
 
     /// Accepts a request, and tells its number. All room is made before anything changes.
-    fn accept_new(&mut self, alloc: Global, request: &Checked<'_>, now: Moment) -> Result<u64, AllocError>
+    fn accept_new(
+        &mut self,
+        alloc: Global,
+        request: &Checked<'_>,
+        now: Moment,
+    ) -> Result<u64, AllocError>
         requires taken { IsTaken self.old request.now }
         requires new { repeats self.old (request_key request.now) now ≡ fresh }
         requires free { IsRefused self.old request.now Refusal.OutOfMemory }

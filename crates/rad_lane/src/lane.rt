@@ -15,12 +15,16 @@ use std::marker::Model;
 /// It has no socket and no clock: its calls are handed the moment, and answer what is to be done. A moment
 /// earlier than the last one counts as the last one.
 ///
-/// [`Lane::new`] makes it. A request comes in by [`Lane::accept`], which wants a request that [`Lane::takes`].
-/// [`Lane::step`] does one thing at a time: call it after each request and each reply, and at the moment that
-/// it tells, again and again until it is idle, and send what it puts into the datagram each time. [`Lane::hear`]
-/// takes what comes from the home server. [`Lane::drain`] ends the taking of requests; go on with the other calls
-/// until [`Lane::is_done`], and then [`Lane::close`] gives what the book holds. The calls that only look, as
-/// [`Lane::counts`], may come at any time.
+/// Its calls are of four kinds:
+///
+/// - What comes in: [`Lane::accept`] takes a request, where the lane [`Lane::takes`] it, and [`Lane::hear`] a
+///   datagram from the home server.
+/// - What goes out: [`Lane::step`] does the next thing, and puts what is to be sent into the datagram. Call it
+///   after each request and each reply, and at the moment that it tells, again and again until it is idle.
+/// - What ends it: [`Lane::drain`] is the end of taking requests. Go on with the other calls until
+///   [`Lane::is_done`]; then [`Lane::close`] gives what the book holds.
+/// - What it has, at any time: [`Lane::counts`], [`Lane::is_draining`], and the parts of the book,
+///   [`Lane::accepted`], [`Lane::sent`] and [`Lane::answered`].
 #[derive(Drop)]
 pub struct Lane<Q: Fifo<Record>> {
     /// Whose lane it is, with its home server's secret and limits.

@@ -1,14 +1,16 @@
-//! The lane of one home server (own): what it accepted, sent and was answered, as a book that a biller can rely on.
+//! The lane of one home server (own): what it accepted, sent and was answered, as a book that a biller can
+//! rely on.
 //!
-//! A lane is a value without a socket, a clock or a thread. [`Lane::accept`] takes requests, [`Lane::step`] says
-//! what is to be sent, and [`Lane::hear`] takes replies and answers with the responses. Each call's contract is
-//! a relation between the book before it and the book after it, and whatever the calls were, the book is
-//! lawful: each request accepted stands in it once, in order, and is answered by a verified reply alone.
+//! A lane is a value without a socket, a clock or a thread. [`Lane::accept`] takes requests, [`Lane::step`]
+//! says what is to be sent, and [`Lane::hear`] takes replies and answers with the responses. Each call's
+//! contract is a relation between the book before it and the book after it, and whatever the calls were, the
+//! book is lawful: each request accepted stands in it once, in order, and is answered by a verified reply
+//! alone.
 //!
-//! The definitions that the contracts cite stand in specs: `Book` is what a lane is seen as and `Lawful` what holds of
-//! it at any time; `Accepts`, `Steps`, `Hears` and `Drains` are the calls, over `Repeat`, `Dues` and `Watch`;
-//! `Runs` is a sequence of calls; `Setup` is what a lane is set up with, `Counting` what it tells, and `Closes` what is left of
-//! it. `Stamp`, `Outstanding` and `Entries` are what the book holds.
+//! The definitions that the contracts cite stand in specs: `Book` is what a lane is seen as and `Lawful` what
+//! holds of it at any time; `Accepts`, `Steps`, `Hears` and `Drains` are the calls, over `Repeat`, `Dues` and
+//! `Watch`; `Runs` is a sequence of calls; `Setup` is what a lane is set up with, `Counting` what it tells,
+//! and `Closes` what is left of it. `Stamp`, `Outstanding` and `Entries` are what the book holds.
 #![tactic(auto)]
 
 mod accepting;

@@ -70,8 +70,7 @@ impl Record {
         ensures value { result ≡ self.now.recorded.text }
         ensures is_record { IsRecord self.now.recorded }
     {
-        let _ = &self.text;
-        PacketRef::over(self.text())
+        PacketRef::over(self.text.as_slice())
     }
 
     /// Fills the buffer that it has for the octets that go out, and gives it away.

@@ -21,8 +21,8 @@ pub struct Sending {
     sendings: u32,
     /// When it is to be sent again, in milliseconds.
     due: u64,
-    /// The home server's secret. Each sending keeps its own, so that its type can promise that its octets are signed
-    /// with it, and so that it can be told by itself once the lane is closed.
+    /// The home server's secret. Each sending keeps its own, so that its type can promise that its octets are
+    /// signed with it, and so that it can be told by itself once the lane is closed.
     home: Secret,
     /// How many sendings a round has. Each sending keeps its own, since the slots look for what is spent and
     /// know the entries alone.
@@ -125,8 +125,7 @@ impl Sending {
     pub(crate) fn packet(&self) -> PacketRef<'_>
         ensures { result ≡ self.now.octets }
     {
-        let _ = &self.octets;
-        PacketRef::over(self.octets())
+        PacketRef::over(self.octets.as_slice())
     }
 
     /// The answer to its request, where the packet is a right reply to it, and the response on its way to the

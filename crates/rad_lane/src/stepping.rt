@@ -187,8 +187,8 @@ impl<Q: Fifo<Record>> Lane<Q> {
     }
 }
 
-/// The pair for what goes out next: the first free one. There always is one, as there are more pairs than the window
-/// is wide.
+/// The pair for what goes out next: the first free one. There always is one, as there are more pairs than the
+/// window is wide.
 pub(crate) fn free_slot(slots: &Slots<Entry>, setup: &Setup) -> Slot
     requires fits { map.len slots.now.entries ≤ setup.now.limits.window }
     requires pairs { slots.now.ports ≡ setup.now.ports }

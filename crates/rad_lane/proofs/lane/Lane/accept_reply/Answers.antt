@@ -1,7 +1,7 @@
 use Rattle.std.proofs.Common.{◌∙◌, refl, ap, sym, arith}
 use Rattle.rad_lane.specs.declared.stamp.Stamp.{Stamp}
 use Rattle.rad_lane.specs.Book.{Book}
-use Rattle.rad_lane.proofs.LawfulAfterAnswer.{keeps_here, has_passed, number_since, number_within, stands_answered, one_less, identifier_is, there_by, refused_for_memory, kept_seen}
+use Rattle.rad_lane.proofs.LawfulAfterAnswer.{keeps_here, refused_here, has_passed, number_since, number_within, stands_answered, one_less, identifier_is, there_by, refused_for_memory, kept_seen}
 use Rattle.rad_lane.proofs.lane.Lane.accept_reply.Goals as goal
 
 pub answer-requires-clause-since : goal.answer-requires-clause-since
@@ -21,6 +21,11 @@ pub returns-in_default-reserve_one-clause-err : goal.returns-in_default-reserve_
 returns-in_default-reserve_one-clause-err g c =
     let there = there_by _ _ _ c.in-Some-Sending.ensures.value c.in-Some-Sending.field-0-is in
     (refused_for_memory _ _ c.self.view_is c.args.slot c.in-Some-Sending.sending there _ _ _ (keeps_here _ _ _ _ _ _ c.self.invariant c.args.slot c.in-Some-Sending.sending there _ _ _ _ c.in_ok-answer-in-Some-Sending.ensures.kept), rw c.reserve_one.ensures.items c.self.view_is)
+
+pub returns-in_err-answer-in-Some-Sending-clause-err : goal.returns-in_err-answer-in-Some-Sending-clause-err
+returns-in_err-answer-in-Some-Sending-clause-err g c =
+    let there = there_by _ _ _ c.in-Some-Sending.ensures.value c.in-Some-Sending.field-0-is in
+    refused_here _ _ c.self.view_is _ _ _ _ _ c.self.invariant c.args.slot c.in-Some-Sending.sending there _ _ c.from_residual.result c.in_err-answer-in-Some-Sending.ensures.err c.from_residual.ensures
 
 pub overflow_sub-place : goal.overflow_sub-place
 overflow_sub-place g c =
