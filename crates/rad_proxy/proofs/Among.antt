@@ -8,7 +8,8 @@ use Rattle.rad_realms.specs.Checking.{Request}
 use Rattle.rad_lane.specs.declared.accepting.Taken.{Taken}
 use Rattle.rad_lane.specs.declared.accepting.Refusal.{Refusal}
 use Rattle.rad_lane.specs.declared.stepping.Action.{Action}
-use Rattle.rad_lane.specs.Accepts.{Accepts, Datagrams, IsTaken}
+use Rattle.rad_lane.specs.Datagrams.{Datagrams}
+use Rattle.rad_lane.specs.Accepts.{Accepts, IsTaken}
 use Rattle.rad_lane.specs.Book.{Book}
 use Rattle.rad_lane.specs.Empty.{empty_book}
 use Rattle.rad_lane.specs.Setup.{LaneSetup, IsSetUp}

@@ -2,7 +2,7 @@
 use Rattle.std.specs.Prelude.{◌≡◌, ◌≤◌, ◌<◌, ◌^◌, ◌-◌, min, sum_by, ℕ, List, length, slice_get, slice_set, Option, Some, None}
 use Rattle.rad_realms.specs.Configuration.{Configuration}
 use Rattle.rad_lane.specs.declared.stepping.Action.{Action}
-use Rattle.rad_lane.specs.Accepts.{Datagrams}
+use Rattle.rad_lane.specs.Datagrams.{Datagrams}
 use Rattle.rad_lane.specs.Book.{Book}
 use Rattle.rad_lane.specs.Empty.{empty_book}
 use Rattle.rad_lane.specs.Setup.{LaneSetup, IsSetUp}

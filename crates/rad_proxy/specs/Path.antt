@@ -9,7 +9,8 @@ use Rattle.rad_realms.specs.Incoming.{Takes}
 use Rattle.rad_realms.specs.declared.checking.Incoming.TheVariants as incoming
 use Rattle.rad_lane.specs.declared.accepting.Taken.{Taken as Acceptance}
 use Rattle.rad_lane.specs.declared.accepting.Refusal.{Refusal}
-use Rattle.rad_lane.specs.Accepts.{Accepts, Datagrams, IsTaken}
+use Rattle.rad_lane.specs.Datagrams.{Datagrams}
+use Rattle.rad_lane.specs.Accepts.{Accepts, IsTaken}
 use Rattle.rad_lane.specs.Book.{Book}
 use Rattle.rad_proxy.specs.declared.path.Arrival.{Arrival}
 use Rattle.rad_proxy.specs.declared.path.Given.{Given}

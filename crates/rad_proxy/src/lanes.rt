@@ -1,10 +1,10 @@
 //! The lanes of the home servers.
 
 ghost use Rattle.std.specs.Prelude.{◌≡◌, IfOk};
-ghost use Rattle.rad_lane.specs.Dues.{outstanding_count};
+ghost use Rattle.rad_lane.specs.Book.{outstanding_count};
 ghost use Rattle.rad_proxy.specs.Lanes.{AreEmpty, StepsAt, all_of, queued_of};
 ghost use Rattle.rad_proxy.specs.Outlets.{waiting_in};
-ghost use Rattle.rad_lane.specs.Accepts.{Datagrams};
+ghost use Rattle.rad_lane.specs.Datagrams.{Datagrams};
 
 use crate::lines::EndLine;
 use crate::outlets::{Outlet, count_waiting};

@@ -1,7 +1,7 @@
 //! The way of a NAS's datagram through the proxy: to the lane of its realm, or to an answer.
 
 ghost use Rattle.std.specs.Prelude.{◌≡◌};
-ghost use Rattle.rad_lane.specs.Accepts.{Datagrams};
+ghost use Rattle.rad_lane.specs.Datagrams.{Datagrams};
 ghost use Rattle.rad_proxy.specs.Path.{TakesIn, AcceptsRequest};
 
 use crate::lanes::HomeLane;

@@ -1,5 +1,5 @@
 use Rattle.std.proofs.Common.{◌≡◌, take}
-use Rattle.rad_lane.specs.Dues.{outstanding_count}
+use Rattle.rad_lane.specs.Book.{outstanding_count}
 use Rattle.rad_proxy.specs.Lanes.{all_of, queued_of}
 use Rattle.rad_proxy.proofs.lanes.left_over.Given as goal
 
