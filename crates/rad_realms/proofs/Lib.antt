@@ -7,3 +7,9 @@ pub mod LastSigns
 pub mod UserNames
 pub mod Ranges
 pub mod Exclusive
+pub mod Steps
+pub mod TableCounts
+pub mod EachTable
+pub mod NewNames
+pub mod WellFormed
+pub mod Lanes

@@ -1,7 +1,7 @@
 -- What is checked of a datagram that comes from a client, and what is then known of it: its sender is a
 -- client, it is an Accounting-Request (RFC 2866 section 4.1) that is right under that client's secret, has no
 -- Message-Authenticator (own) and leads to a lane, or a Status-Server (RFC 5997 section 3) that is right.
-use Rattle.std.specs.Prelude.{◌≡◌, ◌≢◌, ℕ, List, [], Some, None}
+use Rattle.std.specs.Prelude.{◌≡◌, ◌≢◌, ◌<◌, ℕ, List, [], length, Some, None}
 use Rattle.rad_packet.specs.Attribute.{of_kind}
 use Rattle.rad_packet.specs.Packet.{IsPacketText, code_of, packet_attributes}
 use Rattle.rad_packet.specs.Reading.{ReadsAs, Refuses}
@@ -34,6 +34,7 @@ pub record IsChecked (r : Request) : Type 0 where
   pub request : IsRequest r.secret r.text
   pub client : client_of r.config r.client ≡ Some (record { address = r.client; secret = r.secret })
   pub lane : lane_of_packet r.config.realms r.config.default_lane r.text ≡ Some r.lane
+  pub within : r.lane < length r.config.homes
 
 -- A Status-Server that was checked: its text, and the client's secret.
 pub record Status : Type 0 where

@@ -3,6 +3,7 @@ pub mod Spot
 pub mod Address
 pub mod Configuration
 pub mod Realm
+pub mod WellFormed
 pub mod Walk
 pub mod Gives
 pub mod Values

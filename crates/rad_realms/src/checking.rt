@@ -44,7 +44,7 @@ impl<'a> Model for Checked<'a> {
 }
 
 impl<'a> Checked<'a> {
-    ghost use Rattle.std.specs.Prelude.{◌≡◌, option_copied};
+    ghost use Rattle.std.specs.Prelude.{◌≡◌, ◌<◌, length, option_copied};
     ghost use Rattle.rad_realms.specs.Realm.{realm_of_packet};
     ghost use Rattle.rad_realms.specs.Checking.{IsChecked};
 
@@ -84,9 +84,10 @@ impl<'a> Checked<'a> {
         self.realm
     }
 
-    /// The lane that it leads to.
+    /// The lane that it leads to: one of the configuration's home servers.
     pub fn lane(&self) -> u16
-        ensures { result ≡ self.now.lane }
+        ensures value { result ≡ self.now.lane }
+        ensures within { result < length self.now.config.homes }
     {
         self.lane
     }

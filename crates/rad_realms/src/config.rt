@@ -18,15 +18,19 @@ pub struct Config {
 
 impl Model for Config {
     ghost use Rattle.rad_realms.specs.Configuration.{Configuration};
+    ghost use Rattle.rad_realms.specs.WellFormed.{IsWellFormed};
 
     ghost Value = { Configuration };
 
     ghost view = { λ c. record { listen = c.listen; linger = c.linger; clients = c.clients; homes = c.homes; realms = c.realms; default_lane = c.default_lane } };
+
+    ghost invariant = { λ c. IsWellFormed (record { listen = c.listen; linger = c.linger; clients = c.clients; homes = c.homes; realms = c.realms; default_lane = c.default_lane }) };
 }
 
 impl Config {
-    ghost use Rattle.std.specs.Prelude.{◌≡◌, IfSome, option_copied};
+    ghost use Rattle.std.specs.Prelude.{◌≡◌, ◌<◌, ◌≤◌, All, length, IfSome, option_copied};
     ghost use Rattle.rad_realms.specs.Realm.{client_of, lane_in, lane_by, lane_of};
+    ghost use Rattle.rad_realms.specs.WellFormed.{IsWellFormed};
 
     pub(crate) fn new(
         listen: Endpoint,
@@ -36,6 +40,7 @@ impl Config {
         realms: Realms,
         default_lane: Option<u16>,
     ) -> Config
+        requires { IsWellFormed (record { listen = listen; linger = linger; clients = clients; homes = homes; realms = realms; default_lane = default_lane }) }
         ensures { result ≡ record { listen = listen; linger = linger; clients = clients; homes = homes; realms = realms; default_lane = default_lane } }
     {
         Config {
@@ -69,7 +74,8 @@ impl Config {
 
     /// The lane of a realm, or of none.
     pub(crate) fn lane_of_realm(&self, realm: Option<&[u8]>) -> Option<u16>
-        ensures { result ≡ lane_by self.now.realms self.now.default_lane (option_copied realm.entry) }
+        ensures lane { result ≡ lane_by self.now.realms self.now.default_lane (option_copied realm.entry) }
+        ensures within { IfSome result (λ lane. lane < length self.now.homes) }
     {
         match realm {
             None => self.default_lane,
@@ -80,7 +86,8 @@ impl Config {
     /// The lane that a User-Name's value leads to; without a User-Name, or without a realm in it, the
     /// default lane, where there is one. Takes logarithmic time in the number of realms, and no memory.
     pub fn lane_of(&self, user_name: Option<&[u8]>) -> Option<u16>
-        ensures { result ≡ lane_of self.now (option_copied user_name.entry) }
+        ensures lane { result ≡ lane_of self.now (option_copied user_name.entry) }
+        ensures within { IfSome result (λ lane. lane < length self.now.homes) }
     {
         let realm = match user_name {
             Some(name) => realm_of(name),
@@ -91,21 +98,27 @@ impl Config {
 
     /// The clients, in the order of the text.
     pub fn clients(&self) -> &[Client]
-        ensures { result.now ≡ self.now.clients }
+        ensures value { result.now ≡ self.now.clients }
+        ensures least { 1 ≤ length self.now.clients }
+        ensures most { length self.now.clients ≤ 256 }
     {
         self.clients.as_slice()
     }
 
     /// The home servers, in the order of the text: the place of one is its lane.
     pub fn homes(&self) -> &[Home]
-        ensures { result.now ≡ self.now.homes }
+        ensures value { result.now ≡ self.now.homes }
+        ensures least { 1 ≤ length self.now.homes }
+        ensures most { length self.now.homes ≤ 64 }
     {
         self.homes.as_slice()
     }
 
     /// The realms, in the order of the text.
     pub fn realms(&self) -> &[Realm]
-        ensures { result.now ≡ self.now.realms }
+        ensures value { result.now ≡ self.now.realms }
+        ensures most { length self.now.realms ≤ 256 }
+        ensures lanes { All (λ r. r.lane < length self.now.homes) self.now.realms }
     {
         self.realms.as_slice()
     }

@@ -12,6 +12,9 @@ ghost use Rattle.rad_realms.specs.declared.checking.Incoming.{Incoming};
 ghost use Rattle.rad_realms.specs.Configuration.{Configuration};
 ghost use Rattle.rad_realms.specs.Checking.{Drops};
 ghost use Rattle.rad_realms.specs.Incoming.{Takes};
+ghost use Rattle.std.specs.Prelude.{Ok};
+ghost use Rattle.rad_realms.specs.Walk.{configuration_in};
+ghost use Rattle.rad_realms.specs.WellFormed.{IsWellFormed};
 
 /// Numbers have no fault just where each of them is in its range.
 pub fn no_fault_in_range()
@@ -34,4 +37,9 @@ pub fn numbers_have_one_text()
 pub fn taken_or_dropped_once()
     ensures reason { (config : Configuration) (address datagram : List ℕ) (e f : Dropped) → Drops config address datagram e → Drops config address datagram f → e ≡ f }
     ensures taken { (config : Configuration) (address : List ℕ) (port : ℕ) (datagram : List ℕ) (taken : Incoming) (e : Dropped) → Takes config address port datagram taken → Drops config address datagram e → ⊥ }
+{}
+
+/// Each configuration that a text says is well formed: `specs/WellFormed.antt`.
+pub fn configurations_are_well_formed()
+    ensures { (text : List ℕ) (config : Configuration) → configuration_in text ≡ Ok config → IsWellFormed config }
 {}

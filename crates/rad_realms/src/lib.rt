@@ -28,7 +28,8 @@ pub use config::Config;
 pub use faults::{ConfigFault, Dropped, Key, Part, Spot};
 pub use homes::Home;
 pub use laws::{
-    no_fault_in_range, numbers_have_one_text, realm_follows_the_last_sign, taken_or_dropped_once,
+    configurations_are_well_formed, no_fault_in_range, numbers_have_one_text,
+    realm_follows_the_last_sign, taken_or_dropped_once,
 };
 pub use limits::{DEFAULT_LIMITS, LimitFault, LimitNumbers, Limits};
 pub use realms::Realm;

@@ -1,0 +1,10 @@
+use Rattle.std.proofs.Common.{◌≡◌, ◌<◌, length, IfSome, subst}
+use Rattle.rad_realms.specs.Configuration.{Configuration}
+use Rattle.rad_realms.specs.Realm.{lane_in}
+use Rattle.rad_realms.proofs.Lanes.{lane_within}
+use Rattle.rad_realms.proofs.config.Config.lane_of_realm.Goals as goal
+
+pub returns-in-Some-clause-within : goal.returns-in-Some-clause-within
+returns-in-Some-clause-within c =
+    let inside = lane_within (length c.self.inside.homes) c.self.inside.realms c.in-Some.name.now c.self.invariant.lanes in
+    rw c.lane_of_name.ensures (subst (λ (k : Configuration). IfSome (lane_in k.realms c.in-Some.name.now) (λ lane. lane < length k.homes)) c.self.view_is inside)
