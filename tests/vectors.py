@@ -114,7 +114,7 @@ def of_rad_realms():
     }
 
 
-def of_rad_lane():
+def of_lanes():
     client, home, octets = b"nas-secret", b"home-secret", bytes([0xA5] * 16)
     asked = request(7, SESSION + FROM_NAS, client)
     forwarded = request(0, SESSION + FROM_NAS + mark(0, 0), home)
@@ -148,26 +148,58 @@ def of_rad_lane():
     }
 
 
-MADE = {"rad_auth": of_rad_auth(), "rad_realms": of_rad_realms(), "rad_lane": of_rad_lane()}
+def sum_of(packets):
+    """The sum of all octets of packets, in order: Fowler, Noll and Vo's of 64 bits, as FNV-1a."""
+    value = 0xCBF29CE484222325
+    for octet in b"".join(packets):
+        value = (value ^ octet) * 0x100000001B3 % 2**64
+    return value
 
+
+def classes(octets):
+    """Class attributes of so many octets in all: each has 128, but for the last."""
+    whole = max(octets // 128 - 1, 0)
+    rest = octets - 128 * whole
+    return whole * attribute(CLASS, b"A" * 126) + (attribute(CLASS, b"A" * (rest - 2)) if rest else b"")
+
+
+def sums_of_lanes():
+    """Of 5,120 requests, with replies short and long: the sum of what is sent, and that of the responses."""
+    client, home, forwarded, responses = b"nas-secret", b"home-secret", [], []
+    for count in range(80 * 64):
+        attributes = BOB + attribute(ACCT_SESSION_ID, count.to_bytes(2, "big"))
+        asked = request(count % 256, attributes, client)
+        forwarded.append(request(count % 256, attributes + mark(0, count), home))
+        octets = count % 128 if count < 5112 else count - 1055
+        responses.append(answer(asked, count % 256, classes(0 if octets == 1 else octets), client))
+    return {"SENT": sum_of(forwarded), "RESPONSES": sum_of(responses)}
+
+
+MADE = {"rad_auth": of_rad_auth(), "rad_realms": of_rad_realms(), "rad_tests": {**of_lanes(), **sums_of_lanes()}}
+
+SUM = re.compile(r"const (\w+): u64 = 0x([0-9a-f_]+);")
 ARRAY = re.compile(r"const (\w+): \[u8; \d+\] = \[((?:\s*0x[0-9a-f]{2},?)+)\s*\];")
 
 
 def as_written(name, octets):
-    """An array as a test has it, sixteen octets to a line."""
+    """A sum or an array as a test has it, sixteen octets to a line."""
+    if isinstance(octets, int):
+        return f"const {name}: u64 = 0x{octets:_x};"
     lines = [octets[at : at + 16] for at in range(0, len(octets), 16)]
     rows = "".join(f"    {', '.join(f'0x{octet:02x}' for octet in line)},\n" for line in lines)
     return f"const {name}: [u8; {len(octets)}] = [\n{rows}];"
 
 
 def standing():
-    """The arrays of octets in hexadecimal that stand in the tests: the crate and the name, the file, and the octets."""
+    """The arrays and sums in hexadecimal that stand in the tests: the crate and the name, the file, and the value."""
     found = []
-    for crate in sorted((TOP / "crates").iterdir()):
-        for file in sorted([*crate.glob("src/tests.rt"), *crate.glob("src/tests/**/*.rt")]):
-            for name, text in ARRAY.findall(file.read_text(encoding="utf-8")):
-                octets = bytes(int(it, 16) for it in re.findall(r"0x([0-9a-f]{2})", text))
-                found.append(((crate.name, name), file.relative_to(TOP), octets))
+    for file in sorted(TOP.glob("crates/*/src/**/*.rt")):
+        path = file.relative_to(TOP)
+        if "tests" in str(path):
+            text = file.read_text(encoding="utf-8")
+            values = [(name, bytes.fromhex("".join(re.findall(r"0x(..)", array)))) for name, array in ARRAY.findall(text)]
+            values += [(name, int(value, 16)) for name, value in SUM.findall(text)]
+            found += [((path.parts[1], name), path, value) for name, value in values]
     return found
 
 

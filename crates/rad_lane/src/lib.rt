@@ -21,8 +21,6 @@ mod sending;
 mod setup;
 mod stamp;
 mod stepping;
-#[cfg(test)]
-mod tests;
 mod watch;
 
 pub use accepting::{Refusal, Taken};
