@@ -33,8 +33,6 @@ mod series;
 mod setup;
 mod stamp;
 mod stepping;
-#[cfg(test)]
-mod tests;
 mod views;
 mod watch;
 

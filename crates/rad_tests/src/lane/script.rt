@@ -1,0 +1,154 @@
+//! Scripts of a lane's calls, each with what it answers.
+
+use super::leaving::is_same;
+use super::test_lane::{CLIENT, CLIENT_PORT, TestLane};
+use block_queue::PlainQueue;
+use rad_lane::{Action, Counts, HearFault, Leftover, Record, Refusal, Stamp, Taken};
+use rad_tables::{Moment, Slot};
+use std::alloc::Global;
+use std::process::Abort;
+use std::test::Fail;
+
+/// A call of a lane.
+#[derive(Clone, Copy)]
+pub enum Call<'a> {
+    /// A datagram comes from the client.
+    Accept(&'a [u8]),
+    Step,
+    /// A datagram comes from the home server to this source port.
+    Hear(u16, &'a [u8]),
+    Drain,
+    /// Looks at how much there is.
+    Counts,
+    IsDraining,
+    IsDone,
+}
+
+/// What a call answers, without the packets.
+#[derive(Clone, Copy, Debug, PartialEq, Eq)]
+pub enum Gives {
+    Accept(Result<Taken, Refusal>),
+    Step(Action),
+    Hear(Result<Told, HearFault>),
+    Drain(u64),
+    Counts(Counts),
+    Is(bool),
+}
+
+/// What was heard.
+#[derive(Clone, Copy, Debug, PartialEq, Eq)]
+pub enum Told {
+    /// An answer of this serial, which goes to this address and port.
+    Answer(u64, [u8; 4], u16),
+    ProbeAnswered,
+}
+
+impl Gives {
+    pub fn is_refused(&self) -> bool {
+        matches!(self, Gives::Accept(Err(_)) | Gives::Hear(Err(_)))
+    }
+
+    /// Whether memory was refused.
+    pub fn wants_memory(&self) -> bool {
+        *self == refused(Refusal::OutOfMemory) || *self == unheard(HearFault::OutOfMemory)
+    }
+}
+
+/// A call at a moment in milliseconds, with what it answers and the octets that it puts into the datagram, which
+/// are none where it leaves that as it was.
+#[derive(Clone, Copy)]
+pub struct Row<'a> {
+    pub moment: u32,
+    pub call: Call<'a>,
+    pub gives: Gives,
+    pub octets: &'a [u8],
+}
+
+/// A call that leaves the datagram as it was.
+pub fn at<'a>(moment: u32, call: Call<'a>, gives: Gives) -> Row<'a> {
+    puts(moment, call, gives, &[])
+}
+
+/// A call that puts these octets into the datagram.
+pub fn puts<'a>(moment: u32, call: Call<'a>, gives: Gives, octets: &'a [u8]) -> Row<'a> {
+    Row {
+        moment,
+        call,
+        gives,
+        octets,
+    }
+}
+
+/// Plays a script on a new lane, whose home server has these lines more in the configuration. After each call that
+/// is refused the lane has to leave what it leaves without that call, and so it has where a call was refused memory.
+pub fn play(rt: &impl Abort, alloc: Global, more: &str, script: &[Row<'_>]) -> Result<(), Fail> {
+    let whole = leave(rt, alloc, more, script)?;
+    for place in 0..script.len() {
+        if script[place].gives.is_refused() {
+            let before = leave(rt, alloc, more, &script[..place])?;
+            let after = leave(rt, alloc, more, &script[..place + 1])?;
+            assert!(rt; is_same(&after, &before), "changed by call {place}");
+        }
+    }
+    assert!(rt; is_same(&leave(rt, alloc, more, script)?, &whole));
+    Ok(())
+}
+
+/// What a new lane leaves when it is closed after a script.
+fn leave(
+    rt: &impl Abort,
+    alloc: Global,
+    more: &str,
+    script: &[Row<'_>],
+) -> Result<Leftover<PlainQueue<Record>>, Fail> {
+    let mut lane = TestLane::new(alloc, more)?;
+    lane.play(rt, script);
+    Ok(lane.close())
+}
+
+pub fn moment(milliseconds: u32) -> Moment {
+    Moment::new(u64::from(milliseconds)).unwrap()
+}
+
+/// The pair of the first source port and the Identifier that goes round with this count.
+pub fn slot(count: u16) -> Slot {
+    Slot {
+        port: 0,
+        identifier: (count % 256) as u8,
+    }
+}
+
+/// The stamp of a request of this identifier and Authenticator.
+pub fn stamp(number: u64, identifier: u8, authenticator: u128, milliseconds: u32) -> Stamp {
+    Stamp {
+        number,
+        client: CLIENT,
+        port: CLIENT_PORT,
+        identifier,
+        authenticator: authenticator.to_be_bytes(),
+        moment: moment(milliseconds),
+    }
+}
+
+/// A request is taken as new, with this number.
+pub fn taken(number: u64) -> Gives {
+    Gives::Accept(Ok(Taken::New(number)))
+}
+
+pub fn refused(reason: Refusal) -> Gives {
+    Gives::Accept(Err(reason))
+}
+
+/// The first sending of the request of this number, under the Identifier that goes round with it.
+pub fn sent(number: u16) -> Gives {
+    Gives::Step(Action::Sent(u64::from(number), slot(number)))
+}
+
+/// The client's answer of this serial.
+pub fn answer(serial: u64) -> Gives {
+    Gives::Hear(Ok(Told::Answer(serial, CLIENT, CLIENT_PORT)))
+}
+
+pub fn unheard(fault: HearFault) -> Gives {
+    Gives::Hear(Err(fault))
+}

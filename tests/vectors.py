@@ -1,0 +1,236 @@
+#!/usr/bin/env python3
+"""Makes the octets that the tests of the crates expect, by Python's hashlib and hmac alone.
+
+usage: vectors.py                    prints each array, as it stands in a test
+       vectors.py CRATE [NAME ..]    prints those of one crate, or those of these names
+       vectors.py --check            compares the arrays that stand in the tests with those made here
+
+A packet is made from its code, identifier and attributes (RFC 2865 section 3). An Accounting-Request and its answer are
+signed as RFC 2866 section 3 says, a Status-Server as RFC 5997 section 3 does. For an array more, add a line to the
+function of its crate, print it and copy it into the test. The last line of --check is `N passed, M failed`.
+"""
+import hashlib
+import hmac
+import pathlib
+import re
+import sys
+
+TOP = pathlib.Path(__file__).resolve().parent.parent
+
+ACCOUNTING_REQUEST, ACCOUNTING_RESPONSE, STATUS_SERVER = 4, 5, 12
+USER_NAME, NAS_IP_ADDRESS, CLASS, NAS_IDENTIFIER, PROXY_STATE = 1, 4, 25, 32, 33
+ACCT_STATUS_TYPE, ACCT_SESSION_ID, MESSAGE_AUTHENTICATOR = 40, 44, 80
+
+ZEROS = bytes(16)
+
+
+def attribute(kind, value):
+    return bytes([kind, len(value) + 2]) + value
+
+
+def user_name(name):
+    return attribute(USER_NAME, name)
+
+
+def mark(lane, number):
+    """The Proxy-State of the proxy's own: the lane's number and the request's."""
+    return attribute(PROXY_STATE, lane.to_bytes(2, "big") + number.to_bytes(8, "big"))
+
+
+def packet(code, identifier, authenticator, attributes):
+    return bytes([code, identifier]) + (20 + len(attributes)).to_bytes(2, "big") + authenticator + attributes
+
+
+def signed(code, identifier, base, attributes, secret):
+    """A packet whose Authenticator is the MD5 of it, with `base` in that place, and of the secret."""
+    authenticator = hashlib.md5(packet(code, identifier, base, attributes) + secret).digest()
+    return packet(code, identifier, authenticator, attributes)
+
+
+def request(identifier, attributes, secret):
+    return signed(ACCOUNTING_REQUEST, identifier, ZEROS, attributes, secret)
+
+
+def answer(asked, identifier, attributes, secret):
+    """An answer to a packet: its Authenticator is over that of the packet."""
+    return signed(ACCOUNTING_RESPONSE, identifier, asked[4:20], attributes, secret)
+
+
+def status(identifier, authenticator, before, after, secret):
+    """A Status-Server whose Message-Authenticator stands behind and before these attributes."""
+    empty = packet(STATUS_SERVER, identifier, authenticator, before + attribute(MESSAGE_AUTHENTICATOR, ZEROS) + after)
+    digest = hmac.new(secret, empty, hashlib.md5).digest()
+    return packet(STATUS_SERVER, identifier, authenticator, before + attribute(MESSAGE_AUTHENTICATOR, digest) + after)
+
+
+def turned(octets, place):
+    """The same octets with the last bit of one of them turned."""
+    return octets[:place] + bytes([octets[place] ^ 1]) + octets[place + 1 :]
+
+
+# What most requests carry, and a Proxy-State of the NAS's own.
+BOB = user_name(b"bob@example.org")
+SESSION = BOB + attribute(ACCT_STATUS_TYPE, bytes([0, 0, 0, 1])) + attribute(ACCT_SESSION_ID, b"S1")
+FROM_NAS = attribute(PROXY_STATE, b"abc")
+A_CLASS = attribute(CLASS, b"CLS")
+
+
+def of_rad_auth():
+    client, home, its_mark = b"client secret", b"the secret of the home", mark(0x1234, 0x0123456789ABCDEF)
+    asked = request(0x77, SESSION + FROM_NAS, client)
+    forwarded = request(0xA5, SESSION + FROM_NAS + its_mark, home)
+    probe = status(9, bytes(range(0xF0, 0x100)), b"", b"", client)
+    among = attribute(NAS_IP_ADDRESS, bytes([10, 0, 0, 1])), attribute(NAS_IDENTIFIER, b"nas")
+    classes = b"".join(attribute(CLASS, bytes([octet]) * 253) for octet in b"ABCDEFGHIJKLMNO")
+    longest = SESSION + classes + attribute(CLASS, b"Z" * 210)
+    return {
+        "REQUEST": asked,
+        "FORWARDED": forwarded,
+        "REPLY": answer(forwarded, 0xA5, FROM_NAS + its_mark + A_CLASS, home),
+        "RESPONSE": answer(asked, 0x77, FROM_NAS + A_CLASS, client),
+        "STATUS": probe,
+        "STATUS_ANSWER": answer(probe, 9, b"", client),
+        "STATUS_AMONG_OTHERS": status(9, probe[4:20], *among, client),
+        "TWO_MESSAGE_AUTHENTICATORS": status(9, probe[4:20], b"", attribute(MESSAGE_AUTHENTICATOR, ZEROS), client),
+        "LONG_AUTHENTICATOR": request(0xA5, longest + its_mark, home)[4:20],
+    }
+
+
+def of_rad_realms():
+    secret, octets = b"nas-secret", bytes([0xA5] * 16)
+    asked = request(7, SESSION, secret)
+    return {
+        "REQUEST": asked,
+        "SPOILED": turned(asked, 19),
+        "LOUD": request(2, user_name(b"a@b@EXAMPLE.ORG"), secret),
+        "EMPTY_REALM": request(3, user_name(b"bob@"), secret),
+        "BARE": request(1, user_name(b"bob"), secret),
+        "NAMELESS": request(4, b"", secret),
+        "UNLISTED": request(5, user_name(b"a@b."), secret),
+        "SIGNED": request(8, SESSION + attribute(MESSAGE_AUTHENTICATOR, ZEROS), secret),
+        "STATUS": status(9, octets, b"", b"", secret),
+        "TWICE": status(9, octets, b"", attribute(MESSAGE_AUTHENTICATOR, ZEROS), secret),
+        "RESPONSE": signed(ACCOUNTING_RESPONSE, 1, ZEROS, b"", secret),
+    }
+
+
+def of_lanes():
+    client, home, octets = b"nas-secret", b"home-secret", bytes([0xA5] * 16)
+    asked = request(7, SESSION + FROM_NAS, client)
+    forwarded = request(0, SESSION + FROM_NAS + mark(0, 0), home)
+    reply = answer(forwarded, 0, FROM_NAS + mark(0, 0) + A_CLASS, home)
+    wrapped = request(0, SESSION, client)
+    wrapped_forwarded = request(0, SESSION + mark(0, 256), home)
+    probes = [status(identifier, octets, b"", b"", home) for identifier in (1, 2)]
+    probe_answers = [answer(probe, probe[1], b"", home) for probe in probes]
+    empty = attribute(MESSAGE_AUTHENTICATOR, ZEROS)
+    return {
+        "SEVENTH": request(7, SESSION, client),
+        "EIGHTH": request(8, SESSION, client),
+        "REQUEST": asked,
+        "FORWARDED": forwarded,
+        "REPLY": reply,
+        "RESPONSE": answer(asked, 7, FROM_NAS + A_CLASS, client),
+        "SPOILED": turned(reply, 19),
+        "REPLY_OF_3": answer(forwarded, 3, FROM_NAS + mark(0, 0) + A_CLASS, home),
+        "WITH_MESSAGE_AUTHENTICATOR": answer(forwarded, 0, empty + mark(0, 0), home),
+        "WITHOUT_PROXY_STATE": answer(forwarded, 0, A_CLASS, home),
+        "MARK_NOT_LAST": answer(forwarded, 0, mark(0, 0) + FROM_NAS, home),
+        "WRAPPED": wrapped,
+        "WRAPPED_FORWARDED": wrapped_forwarded,
+        "WRAPPED_REPLY": answer(wrapped_forwarded, 0, mark(0, 256), home),
+        "WRAPPED_RESPONSE": answer(wrapped, 0, b"", client),
+        "PROBE": probes[0],
+        "PROBE_ANSWER": probe_answers[0],
+        "SPOILED_PROBE_ANSWER": turned(probe_answers[0], 4),
+        "SECOND_PROBE": probes[1],
+        "SECOND_PROBE_ANSWER": probe_answers[1],
+    }
+
+
+def sum_of(packets):
+    """The sum of all octets of packets, in order: Fowler, Noll and Vo's of 64 bits, as FNV-1a."""
+    value = 0xCBF29CE484222325
+    for octet in b"".join(packets):
+        value = (value ^ octet) * 0x100000001B3 % 2**64
+    return value
+
+
+def classes(octets):
+    """Class attributes of so many octets in all: each has 128, but for the last."""
+    whole = max(octets // 128 - 1, 0)
+    rest = octets - 128 * whole
+    return whole * attribute(CLASS, b"A" * 126) + (attribute(CLASS, b"A" * (rest - 2)) if rest else b"")
+
+
+def sums_of_lanes():
+    """Of 5,120 requests, with replies short and long: the sum of what is sent, and that of the responses."""
+    client, home, forwarded, responses = b"nas-secret", b"home-secret", [], []
+    for count in range(80 * 64):
+        attributes = BOB + attribute(ACCT_SESSION_ID, count.to_bytes(2, "big"))
+        asked = request(count % 256, attributes, client)
+        forwarded.append(request(count % 256, attributes + mark(0, count), home))
+        octets = count % 128 if count < 5112 else count - 1055
+        responses.append(answer(asked, count % 256, classes(0 if octets == 1 else octets), client))
+    return {"SENT": sum_of(forwarded), "RESPONSES": sum_of(responses)}
+
+
+MADE = {"rad_auth": of_rad_auth(), "rad_realms": of_rad_realms(), "rad_tests": {**of_lanes(), **sums_of_lanes()}}
+
+SUM = re.compile(r"const (\w+): u64 = 0x([0-9a-f_]+);")
+ARRAY = re.compile(r"const (\w+): \[u8; \d+\] = \[((?:\s*0x[0-9a-f]{2},?)+)\s*\];")
+
+
+def as_written(name, octets):
+    """A sum or an array as a test has it, sixteen octets to a line."""
+    if isinstance(octets, int):
+        return f"const {name}: u64 = 0x{octets:_x};"
+    lines = [octets[at : at + 16] for at in range(0, len(octets), 16)]
+    rows = "".join(f"    {', '.join(f'0x{octet:02x}' for octet in line)},\n" for line in lines)
+    return f"const {name}: [u8; {len(octets)}] = [\n{rows}];"
+
+
+def standing():
+    """The arrays and sums in hexadecimal that stand in the tests: the crate and the name, the file, and the value."""
+    found = []
+    for file in sorted(TOP.glob("crates/*/src/**/*.rt")):
+        path = file.relative_to(TOP)
+        if "tests" in str(path):
+            text = file.read_text(encoding="utf-8")
+            values = [(name, bytes.fromhex("".join(re.findall(r"0x(..)", array)))) for name, array in ARRAY.findall(text)]
+            values += [(name, int(value, 16)) for name, value in SUM.findall(text)]
+            found += [((path.parts[1], name), path, value) for name, value in values]
+    return found
+
+
+def check():
+    """Compares what stands with what is made, each way, and says where they differ."""
+    made = {(crate, name): octets for crate, arrays in MADE.items() for name, octets in arrays.items()}
+    found = standing()
+    lacking = sorted(made.keys() - {key for key, _, _ in found})
+    wrong = [(file, key) for key, file, octets in found if made.get(key) != octets]
+    for crate, name in lacking:
+        print(f"{crate}: no test has {name}")
+    for file, key in wrong:
+        print(f"{file}: {key[1]} is {'not what is made here' if key in made else 'not made here'}")
+    failed = len(lacking) + len(wrong)
+    print(f"{len(found) - len(wrong)} passed, {failed} failed")
+    return 1 if failed else 0
+
+
+def main(words):
+    if words == ["--check"]:
+        return check()
+    crate, names = (words[0], words[1:]) if words else (None, [])
+    if crate not in [None, *MADE] or any(name not in MADE[crate] for name in names):
+        print(__doc__.strip(), file=sys.stderr)
+        return 2
+    for of, arrays in MADE.items():
+        for name, octets in arrays.items():
+            if crate in (None, of) and (not names or name in names):
+                print(f"// {of}\n{as_written(name, octets)}\n")
+    return 0
+
+
+if __name__ == "__main__":
+    sys.exit(main(sys.argv[1:]))
