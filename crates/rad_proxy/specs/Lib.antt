@@ -1,4 +1,3 @@
-pub mod Answers
 pub mod Hearing
 pub mod Hex
 pub mod Lanes

@@ -11,6 +11,7 @@ mod lanes;
 mod lines;
 mod names;
 mod outlets;
+mod packet_text;
 mod path;
 mod pieces;
 mod replaying;
