@@ -1,3 +1,5 @@
+pub mod Configurations
+pub mod Faults
 pub mod Hearing
 pub mod Hex
 pub mod Lanes
@@ -7,3 +9,5 @@ pub mod Outlets
 pub mod PacketText
 pub mod Path
 pub mod Pieces
+pub mod Sent
+pub mod Totals

@@ -40,6 +40,10 @@ pub struct Script {
 
 impl Script {
     /// A script at moment 0, over empty lanes.
+    ///
+    /// # Errors
+    ///
+    /// Where memory is refused.
     pub fn new(alloc: Global, config: Config) -> Result<Self, AllocError> {
         let lanes = set_up(alloc, &config)?;
         let outlets = set_up_outlets(alloc, &config)?;
@@ -59,6 +63,10 @@ impl Script {
     }
 
     /// Writes the answers of all events, and then what is left.
+    ///
+    /// # Errors
+    ///
+    /// The first event that has no answer, `Memory` or `Output`; the answers before it are written.
     pub fn run<W: Write>(&mut self, events: &[u8], output: &mut W) -> Result<EndLine, Fault> {
         for (index, line) in Pieces::new(events, b'\n').enumerate() {
             if line.is_empty() || line[0] == b'#' {
@@ -217,6 +225,7 @@ impl Script {
     }
 }
 
+/// Writes a line.
 fn print<W: Write, L: Display>(output: &mut W, line: &L) -> Result<(), Halt> {
     match writeln!(output, "{line}") {
         Ok(()) => Ok(()),
