@@ -1,3 +1,4 @@
 pub mod Among
+pub mod HexLemmas
 pub mod LastSent
 pub mod Waiting

@@ -1,5 +1,5 @@
 -- The lanes of a configuration's home servers, in its order, and what one of them does (own).
-use Rattle.std.specs.Prelude.{◌≡◌, ◌≤◌, ◌<◌, ◌^◌, ◌-◌, min, sum_by, ℕ, List, length, slice_get, slice_set, Option, Some, None}
+use Rattle.std.specs.Prelude.{◌≡◌, ◌≤◌, ◌<◌, ℕ, List, length, slice_get, slice_set, Option, Some, None}
 use Rattle.rad_realms.specs.Configuration.{Configuration}
 use Rattle.rad_lane.specs.declared.stepping.Action.{Action}
 use Rattle.rad_lane.specs.Datagrams.{Datagrams}
@@ -34,7 +34,3 @@ StepsAt old lane moment random (Some action) d new = StepsAmong old lane moment 
 
 abbrev pub queued_of : Book → ℕ
 queued_of book = length book.queued
-
--- How many there are in all books, or the greatest number of the machine where there are more.
-abbrev pub all_of : (Book → ℕ) → List Book → ℕ
-all_of count books = min (sum_by count books) (2 ^ 64 - 1)

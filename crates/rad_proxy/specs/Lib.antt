@@ -1,4 +1,5 @@
-pub mod Answers
+pub mod Configurations
+pub mod Faults
 pub mod Hearing
 pub mod Hex
 pub mod Lanes
@@ -8,3 +9,5 @@ pub mod Outlets
 pub mod PacketText
 pub mod Path
 pub mod Pieces
+pub mod Sent
+pub mod Totals

@@ -1,63 +1,66 @@
 -- The lines that are printed, without their line feeds.
-use Rattle.std.specs.Prelude.{ℕ, List, ◌++◌, codes, Some, None}
+use Rattle.std.specs.Prelude.{ℕ, List, ◌++◌, codes, Option, Some, None, Result, Ok, Err}
 use Rattle.std.specs.Fmt.{decimal}
+use Rattle.rad_lane.specs.declared.accepting.Taken.TheVariants.{New, Waiting, Again}
+use Rattle.rad_lane.specs.declared.accepting.Refusal.TheVariants as refusal
 use Rattle.rad_lane.specs.declared.counts.Counts.{Counts}
+use Rattle.rad_lane.specs.declared.stepping.Action.{Action}
+use Rattle.rad_lane.specs.declared.stepping.Action.TheVariants.{Sent, Resent, Probed, WentDown, WentUp, Idle}
+use Rattle.rad_lane.specs.declared.outgoing.Outgoing.{Outgoing}
 use Rattle.rad_proxy.specs.Names.{address_text, dropped_name, home_fault_name, refusal_name, watch_name, mode_name}
-use Rattle.rad_proxy.specs.PacketText.{parts_text, attributes_text}
-use Rattle.rad_proxy.specs.declared.lines.HeadLine.{HeadLine}
-use Rattle.rad_proxy.specs.declared.lines.PacketLine.{PacketLine}
-use Rattle.rad_proxy.specs.declared.lines.NasLine.{NasLine}
-use Rattle.rad_proxy.specs.declared.lines.NasLine.TheVariants.{New, Waiting, Again, Status, Dropped, Refused}
-use Rattle.rad_proxy.specs.declared.lines.StepLine.{StepLine}
-use Rattle.rad_proxy.specs.declared.lines.StepLine.TheVariants.{Sent, Resent, Probed, Down, Up, Idle}
-use Rattle.rad_proxy.specs.declared.lines.HomeLine.{HomeLine}
-use Rattle.rad_proxy.specs.declared.lines.HomeLine.TheVariants as home
-use Rattle.rad_proxy.specs.declared.lines.TakeLine.{TakeLine}
-use Rattle.rad_proxy.specs.declared.lines.TakeLine.TheVariants as take
+use Rattle.rad_proxy.specs.PacketText.{head_text, packet_text}
+use Rattle.rad_proxy.specs.declared.hearing.HomeFault.{HomeFault}
+use Rattle.rad_proxy.specs.declared.hearing.Told.{Told}
+use Rattle.rad_proxy.specs.declared.hearing.Told.TheVariants.{Answer, ProbeAnswered}
 use Rattle.rad_proxy.specs.declared.lines.DrainLine.{DrainLine}
 use Rattle.rad_proxy.specs.declared.lines.StateLine.{StateLine}
 use Rattle.rad_proxy.specs.declared.lines.EndLine.{EndLine}
 use Rattle.rad_proxy.specs.declared.lines.CountLine.{CountLine}
-
-abbrev pub head_line : HeadLine → List ℕ
-head_line line = parts_text line.code line.identifier line.length
-
-abbrev pub packet_line : PacketLine → List ℕ
-packet_line line = head_line line.head ++ codes " " ++ attributes_text line.attributes.0.now
+use Rattle.rad_proxy.specs.declared.path.Given.{Given}
+use Rattle.rad_proxy.specs.declared.path.Given.TheVariants.{Taken, Answered}
+use Rattle.rad_proxy.specs.declared.path.PathFault.{PathFault}
+use Rattle.rad_proxy.specs.declared.path.PathFault.TheVariants.{Dropped, WrongLane, Refused}
 
 -- A lane with a number: of a request, or of a response.
 abbrev pub request_text : ℕ → ℕ → List ℕ
 request_text lane number = decimal lane ++ codes " " ++ decimal number
 
-abbrev pub nas_line : NasLine → List ℕ
-nas_line (New lane number) = codes "nas: new " ++ request_text lane number
-nas_line (Waiting lane number) = codes "nas: waiting " ++ request_text lane number
-nas_line (Again lane number answer) = codes "nas: again " ++ request_text lane number ++ codes " " ++ packet_line answer
-nas_line (Status answer) = codes "nas: status " ++ packet_line answer
-nas_line (Dropped dropped) = codes "nas: dropped " ++ dropped_name dropped
-nas_line (Refused refusal) = codes "nas: refused " ++ refusal_name refusal
+-- What became of a NAS's datagram, with the octets of the packet that was written for it.
+abbrev pub nas_line : Result Given PathFault → List ℕ → List ℕ
+nas_line (Ok Answered) written = codes "nas: status " ++ packet_text written
+nas_line (Ok (Taken lane (New number))) written = codes "nas: new " ++ request_text lane number
+nas_line (Ok (Taken lane (Waiting number))) written = codes "nas: waiting " ++ request_text lane number
+nas_line (Ok (Taken lane (Again number))) written =
+    codes "nas: again " ++ request_text lane number ++ codes " " ++ packet_text written
+nas_line (Err (Dropped reason)) written = codes "nas: dropped " ++ dropped_name reason
+nas_line (Err WrongLane) written = codes "nas: refused " ++ refusal_name refusal.WrongLane
+nas_line (Err (Refused reason)) written = codes "nas: refused " ++ refusal_name reason
 
-abbrev pub step_line : StepLine → List ℕ
-step_line (Sent packet) = codes "step: sent " ++ packet_line packet
-step_line (Resent packet) = codes "step: resent " ++ packet_line packet
-step_line (Probed head) = codes "step: probed " ++ head_line head
-step_line Down = codes "step: down"
-step_line Up = codes "step: up"
-step_line (Idle None) = codes "step: idle"
-step_line (Idle (Some next)) = codes "step: idle " ++ decimal next
+-- What a step did, with the octets of the packet that it gave to be sent.
+abbrev pub step_line : Action → List ℕ → List ℕ
+step_line (Sent number slot) sent = codes "step: sent " ++ packet_text sent
+step_line (Resent number slot) sent = codes "step: resent " ++ packet_text sent
+step_line (Probed slot) sent = codes "step: probed " ++ head_text sent
+step_line WentDown sent = codes "step: down"
+step_line WentUp sent = codes "step: up"
+step_line (Idle None) sent = codes "step: idle"
+step_line (Idle (Some next)) sent = codes "step: idle " ++ decimal next
 
-abbrev pub home_line : HomeLine → List ℕ
-home_line (home.Answer lane serial) = codes "home: answer " ++ request_text lane serial
-home_line home.Probe = codes "home: probe"
-home_line (home.Dropped fault) = codes "home: dropped " ++ home_fault_name fault
+-- What became of a datagram of a lane's home server.
+abbrev pub home_line : ℕ → Result Told HomeFault → List ℕ
+home_line lane (Ok (Answer serial)) = codes "home: answer " ++ request_text lane serial
+home_line lane (Ok ProbeAnswered) = codes "home: probe"
+home_line lane (Err fault) = codes "home: dropped " ++ home_fault_name fault
 
 -- To whom a response goes: an address and a port.
 abbrev pub receiver_text : List ℕ → ℕ → List ℕ
 receiver_text address port = address_text address ++ codes " " ++ decimal port
 
-abbrev pub take_line : TakeLine → List ℕ
-take_line (take.Response client port packet) = codes "take: " ++ receiver_text client port ++ codes " " ++ packet_line packet
-take_line take.Nothing = codes "take: none"
+-- What was taken of the responses that wait.
+abbrev pub take_line : Option Outgoing → List ℕ
+take_line None = codes "take: none"
+take_line (Some response) =
+    codes "take: " ++ receiver_text response.client response.port ++ codes " " ++ packet_text response.reply.response
 
 abbrev pub drain_line : DrainLine → List ℕ
 drain_line line = codes "drain: " ++ decimal line.lane ++ codes " " ++ decimal line.count

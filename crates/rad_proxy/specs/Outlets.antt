@@ -1,5 +1,5 @@
 -- The responses of each lane that wait to be taken, the first to be taken first (own).
-use Rattle.std.specs.Prelude.{◌≡◌, ℕ, ◌≤◌, ◌<◌, ◌^◌, ◌-◌, List, [], min, sum_by, length, slice_get, slice_set, Option, Some, None}
+use Rattle.std.specs.Prelude.{◌≡◌, ℕ, ◌≤◌, ◌<◌, List, [], length, slice_get, slice_set, Option, Some, None}
 use Rattle.block_queue.specs.Queue.{TakesOldest}
 use Rattle.rad_realms.specs.Configuration.{Configuration, HomeEntry}
 use Rattle.rad_lane.specs.declared.outgoing.Outgoing.{Outgoing}
@@ -50,7 +50,3 @@ TakesAt old lane (Some taken) new = TakesAmong old lane taken new
 
 abbrev pub response_count : Waiting → ℕ
 response_count outlet = length outlet.responses
-
--- How many wait in all outlets, or the greatest number of the machine where there are more.
-abbrev pub waiting_in : List Waiting → ℕ
-waiting_in outlets = min (sum_by response_count outlets) (2 ^ 64 - 1)

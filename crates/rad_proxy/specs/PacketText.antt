@@ -12,13 +12,11 @@ abbrev pub attributes_text : List ℕ → List ℕ
 attributes_text [] = codes "-"
 attributes_text (octet ∷ octets) = flat_map octet_text (octet ∷ octets)
 
--- Code, Identifier and Length.
-abbrev pub parts_text : ℕ → ℕ → ℕ → List ℕ
-parts_text code identifier len = decimal code ++ codes " " ++ decimal identifier ++ codes " " ++ decimal len
-
--- The same of a packet's octets, and with the attributes.
+-- A packet's Code, Identifier and Length.
 abbrev pub head_text : List ℕ → List ℕ
-head_text octets = parts_text (slice_index octets 0) (slice_index octets 1) (length octets)
+head_text octets =
+    decimal (slice_index octets 0) ++ codes " " ++ decimal (slice_index octets 1) ++ codes " " ++ decimal (length octets)
 
+-- The same with its attributes.
 abbrev pub packet_text : List ℕ → List ℕ
 packet_text octets = head_text octets ++ codes " " ++ attributes_text (drop 20 octets)

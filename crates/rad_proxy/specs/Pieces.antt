@@ -1,26 +1,43 @@
 -- A text that is cut at each separator.
-use Rattle.std.specs.Prelude.{◌≡◌, ◌≤◌, ◌+◌, ◌<◌, ℕ, suc, List, [], Option, None, Some, length, MatchOption}
+use Rattle.std.specs.Prelude.{◌≡◌, ◌≢◌, ℕ, suc, List, [], ◌∷◌, ◌++◌, Option, None, Some, length, take, slice_get, All}
 use Rattle.std.specs.Borrow.{Bor}
 use Rattle.rad_proxy.specs.declared.pieces.Pieces.{Pieces}
 
-abbrev pub left_of : Option (Bor (List ℕ)) → List ℕ
-left_of None = []
-left_of (Some rest) = rest.now
+-- The text that is left to be cut, where one is: the last piece leaves none.
+abbrev pub text_of : Option (Bor (List ℕ)) → Option (List ℕ)
+text_of None = None
+text_of (Some rest) = Some rest.now
 
--- What follows the pieces that were given.
-abbrev pub text_left : Pieces → List ℕ
-text_left pieces = left_of pieces.rest
+abbrev pub text_left : Pieces → Option (List ℕ)
+text_left pieces = text_of pieces.rest
 
-abbrev pub count_left : Option (Bor (List ℕ)) → ℕ
-count_left None = 0
-count_left (Some rest) = suc (length rest.now)
+-- The piece stands before the text's first separator, and what follows that is left; a text without one is one
+-- piece, and leaves none.
+abbrev pub IsCut : ℕ → List ℕ → List ℕ → Option (List ℕ) → Type 0
+IsCut separator text piece None = (text ≡ piece) × All (λ octet. octet ≢ separator) piece
+IsCut separator text piece (Some left) = (text ≡ piece ++ separator ∷ left) × All (λ octet. octet ≢ separator) piece
 
--- At most how many pieces are left.
-abbrev pub pieces_left : Pieces → ℕ
-pieces_left pieces = count_left pieces.rest
+-- The first piece of what is left, where a text is left.
+abbrev pub CutsText : ℕ → Option (List ℕ) → Option (Bor (List ℕ)) → Option (List ℕ) → Type 0
+CutsText separator None None left = left ≡ None
+CutsText separator None (Some piece) left = ⊥
+CutsText separator (Some text) None left = ⊥
+CutsText separator (Some text) (Some piece) left = IsCut separator text piece.now left
 
--- The next piece is what comes before a separator or the end, and what follows it is left.
+-- The next piece is cut off, and the separator stays.
 abbrev pub CutsPiece : Pieces → Option (Bor (List ℕ)) → Pieces → Type 0
 CutsPiece pieces piece after =
-    MatchOption piece (pieces_left after ≡ 0)
-    (λ p. (length p.now + length (text_left after) ≤ length (text_left pieces)) × (pieces_left after < pieces_left pieces))
+    CutsText pieces.separator (text_left pieces) piece (text_left after) × (after.separator ≡ pieces.separator)
+
+-- The octet stands at this place, and not before it.
+pub record IsFirstAt (text : List ℕ) (wanted place : ℕ) : Type 0 where
+  pub there : slice_get text place ≡ Some wanted
+  pub before : All (λ octet. octet ≢ wanted) (take place text)
+
+-- At most how many pieces a text has.
+abbrev pub piece_count : Option (List ℕ) → ℕ
+piece_count None = 0
+piece_count (Some text) = suc (length text)
+
+abbrev pub pieces_left : Pieces → ℕ
+pieces_left pieces = piece_count (text_left pieces)

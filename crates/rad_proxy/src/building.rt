@@ -48,7 +48,11 @@ impl Sender<'_> {
     }
 }
 
-/// The octets of a datagram, in place of what `octets` had. What is made is right for its sender.
+/// Writes the octets of a datagram in place of what `octets` had. What is made is right for its sender.
+///
+/// # Errors
+///
+/// `Memory` where a growth was refused, `Malformed` where more octets are cut than there are.
 pub fn build(packet: &Packet<'_>, sender: Sender<'_>, octets: &mut Vec<u8>) -> Result<(), Halt> {
     octets.clear();
     match packet {
@@ -64,6 +68,7 @@ pub fn build(packet: &Packet<'_>, sender: Sender<'_>, octets: &mut Vec<u8>) -> R
     Ok(())
 }
 
+/// Writes the packet that a template describes.
 fn write_template(
     template: &Template<'_>,
     sender: Sender<'_>,
@@ -77,6 +82,7 @@ fn write_template(
     }
 }
 
+/// Writes a packet with these parts, signed by its sender where it reads as a packet.
 fn write_made(make: &Make<'_>, sender: Sender<'_>, octets: &mut Vec<u8>) -> Result<(), AllocError>
     ensures { OnOk result (20 ≤ vec_len octets.new) }
 {

@@ -1,7 +1,7 @@
 //! The events of a script, one on each line.
 
-ghost use Rattle.std.specs.Prelude.{◌≤◌, IfSome};
-ghost use Rattle.rad_proxy.specs.Hex.{octet_count};
+ghost use Rattle.std.specs.Prelude.{◌≤◌, length, IfSome};
+ghost use Rattle.rad_proxy.specs.Hex.{octets_of};
 
 use crate::hex::Hex;
 use crate::pieces::Pieces;
@@ -41,16 +41,16 @@ pub enum Event<'a> {
 /// How a datagram is made.
 #[derive(Clone, Copy)]
 pub enum Packet<'a> {
-    /// Of these octets.
+    /// These octets.
     Raw(Hex<'a>),
-    /// A packet, and then these changes.
+    /// A packet, with these changes.
     Made(Template<'a>, Changes<'a>),
 }
 
-/// A packet that is written for the script.
+/// A packet that is made for the script.
 #[derive(Clone, Copy)]
 pub enum Template<'a> {
-    /// With the Authenticator that is right for its sender.
+    /// A packet with the Authenticator that is right for its sender.
     Make(Make<'a>),
     /// A Status-Server (RFC 5997 section 3).
     Status { identifier: u8 },
@@ -63,7 +63,7 @@ pub struct Make<'a> {
     pub identifier: u8,
     /// Written as they are, whether they are attributes or not.
     pub attributes: Hex<'a>,
-    ghost short: { octet_count attributes ≤ 4076 },
+    ghost short: { length (octets_of attributes) ≤ 4076 },
 }
 
 /// What is changed in a packet that was made, in this order.
@@ -110,6 +110,7 @@ impl<'a> Event<'a> {
     }
 }
 
+/// Reads the words behind `nas`.
 fn parse_nas<'a>(words: &mut Pieces<'a>) -> Option<Event<'a>> {
     let address = parse_address(words.next()?)?;
     let port = parse_u16(words.next()?)?;
@@ -121,7 +122,7 @@ fn parse_nas<'a>(words: &mut Pieces<'a>) -> Option<Event<'a>> {
     })
 }
 
-/// A home server sends no Status-Server.
+/// Reads the words behind `home`. A home server sends no Status-Server.
 fn parse_home<'a>(words: &mut Pieces<'a>) -> Option<Event<'a>> {
     let lane = parse_u16(words.next()?)?;
     match parse_packet(words)? {
@@ -130,6 +131,7 @@ fn parse_home<'a>(words: &mut Pieces<'a>) -> Option<Event<'a>> {
     }
 }
 
+/// Reads how a datagram is made.
 fn parse_packet<'a>(words: &mut Pieces<'a>) -> Option<Packet<'a>> {
     let mut word = words.next()?;
     if word == b"raw".as_slice() {
@@ -157,6 +159,7 @@ fn parse_packet<'a>(words: &mut Pieces<'a>) -> Option<Packet<'a>> {
     Some(Packet::Made(template, changes))
 }
 
+/// Reads how a packet is made, from this word on.
 fn parse_template<'a>(word: &[u8], words: &mut Pieces<'a>) -> Option<Template<'a>> {
     match word {
         b"make" => {
@@ -177,9 +180,9 @@ fn parse_template<'a>(word: &[u8], words: &mut Pieces<'a>) -> Option<Template<'a
     }
 }
 
-/// The next word's octets, where they are no more than `most`.
+/// Reads the next word as octets, where they are no more than `most`.
 fn parse_hex<'a>(words: &mut Pieces<'a>, most: usize) -> Option<Hex<'a>>
-    ensures { IfSome result (λ octets. octet_count octets ≤ most) }
+    ensures { IfSome result (λ octets. length (octets_of octets) ≤ most) }
 {
     let octets = Hex::parse(words.next()?)?;
     if octets.count() > most {
@@ -188,7 +191,7 @@ fn parse_hex<'a>(words: &mut Pieces<'a>, most: usize) -> Option<Hex<'a>>
     Some(octets)
 }
 
-/// Four numbers of an octet each, joined by dots.
+/// Reads four numbers below 256 that are joined by dots.
 fn parse_address(word: &[u8]) -> Option<[u8; 4]> {
     let mut numbers = Pieces::new(word, b'.');
     let mut address = [0; 4];
@@ -201,15 +204,17 @@ fn parse_address(word: &[u8]) -> Option<[u8; 4]> {
     }
 }
 
+/// Reads a decimal number below 256.
 fn parse_u8(word: &[u8]) -> Option<u8> {
     u8::try_from(parse_usize(word)?).ok()
 }
 
+/// Reads a decimal number below 65536.
 fn parse_u16(word: &[u8]) -> Option<u16> {
     u16::try_from(parse_usize(word)?).ok()
 }
 
-/// A decimal number without a leading zero, where it is below 2^64.
+/// Reads a decimal number below 2^64, which has no leading zero.
 fn parse_usize(word: &[u8]) -> Option<usize> {
     if word.is_empty() || (word.len() > 1 && word[0] == b'0') {
         return None;

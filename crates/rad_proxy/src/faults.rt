@@ -1,3 +1,5 @@
+//! The faults that end the program, and those that end a script.
+
 use rad_realms::ConfigFault;
 use std::alloc::AllocError;
 use thiserror::Error;
@@ -16,7 +18,8 @@ pub enum Fault {
     Configuration(ConfigFault),
     #[error("memory: refused")]
     Memory,
-    /// The line of this number after the separator is malformed, or names a lane or a moment that there is not.
+    /// The line of this number, counted from 1 after the separator, is malformed, or names a lane or a moment
+    /// that there is not.
     #[error("events: line {0}")]
     Events(usize),
     /// Standard output takes nothing more. Nobody is told.
@@ -25,8 +28,13 @@ pub enum Fault {
 }
 
 impl Fault {
+    ghost use Rattle.std.specs.Prelude.{◌≡◌};
+    ghost use Rattle.rad_proxy.specs.Faults.{status_of};
+
     /// The status that the program ends with.
-    pub fn status(&self) -> u8 {
+    pub fn status(&self) -> u8
+        ensures { result ≡ status_of self.now }
+    {
         match self {
             Fault::Usage => 1,
             Fault::Configuration(_) => 2,
@@ -47,8 +55,13 @@ pub enum Halt {
 }
 
 impl Halt {
-    /// The fault that this is at a line.
-    pub fn at_line(self, number: usize) -> Fault {
+    ghost use Rattle.std.specs.Prelude.{◌≡◌};
+    ghost use Rattle.rad_proxy.specs.Faults.{fault_at};
+
+    /// The fault that this is at the event of this line, counted from 1.
+    pub fn at_line(self, number: usize) -> Fault
+        ensures { result ≡ fault_at self number }
+    {
         match self {
             Halt::Malformed => Fault::Events(number),
             Halt::Memory => Fault::Memory,

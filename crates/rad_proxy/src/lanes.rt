@@ -2,9 +2,10 @@
 
 ghost use Rattle.std.specs.Prelude.{◌≡◌, IfOk};
 ghost use Rattle.rad_lane.specs.Book.{outstanding_count};
-ghost use Rattle.rad_proxy.specs.Lanes.{AreEmpty, StepsAt, all_of, queued_of};
-ghost use Rattle.rad_proxy.specs.Outlets.{waiting_in};
 ghost use Rattle.rad_lane.specs.Datagrams.{Datagrams};
+ghost use Rattle.rad_proxy.specs.Lanes.{AreEmpty, StepsAt, queued_of};
+ghost use Rattle.rad_proxy.specs.Outlets.{response_count};
+ghost use Rattle.rad_proxy.specs.Totals.{count_in_all};
 
 use crate::lines::EndLine;
 use crate::outlets::{Outlet, count_waiting};
@@ -59,9 +60,9 @@ pub fn step(
 /// What is left of all lanes: the requests never sent, those sent and not answered, and the responses that
 /// wait to be taken.
 pub fn left_over(lanes: &[HomeLane], outlets: &[Outlet]) -> EndLine
-    ensures queued { result.queued ≡ all_of queued_of lanes.now }
-    ensures outstanding { result.outstanding ≡ all_of outstanding_count lanes.now }
-    ensures untaken { result.untaken ≡ waiting_in outlets.now }
+    ensures queued { result.queued ≡ count_in_all queued_of lanes.now }
+    ensures outstanding { result.outstanding ≡ count_in_all outstanding_count lanes.now }
+    ensures untaken { result.untaken ≡ count_in_all response_count outlets.now }
 {
     let mut queued = 0_usize;
     let mut outstanding = 0_usize;

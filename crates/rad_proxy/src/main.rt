@@ -1,8 +1,10 @@
 //! A RADIUS accounting proxy (RFC 2866 section 2.1).
 #![tactic(auto)]
 
+mod bounded;
 mod building;
-mod checking;
+mod check_command;
+mod configuration;
 mod events;
 mod faults;
 mod hearing;
@@ -11,6 +13,7 @@ mod lanes;
 mod lines;
 mod names;
 mod outlets;
+mod packet_text;
 mod path;
 mod pieces;
 mod replaying;
@@ -20,7 +23,7 @@ mod sent;
 mod tests;
 mod words;
 
-use checking::check_file;
+use check_command::check_file;
 use faults::Fault;
 use replaying::replay;
 use std::env;
@@ -28,7 +31,7 @@ use std::io::{self, ErrorKind};
 use std::process::ExitCode;
 use words::{Task, read_words};
 
-/// The status where something is left over at the end.
+/// The status that a run ends with where something is left over.
 const LEFT_OVER: u8 = 3;
 
 fn main(rt: HostRuntime) -> ExitCode {
@@ -63,7 +66,7 @@ fn run(rt: &HostRuntime) -> Result<u8, Fault> {
     }
 }
 
-/// The words that the program was called with, its name first.
+/// The words that the program was called with, with its own name first.
 fn read_arguments(rt: &HostRuntime) -> Result<Vec<String>, Fault> {
     let arguments = match env::args(rt) {
         Ok(arguments) => arguments,

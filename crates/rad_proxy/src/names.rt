@@ -1,4 +1,7 @@
-//! What the lines write as one word.
+//! What the lines print as words: addresses, states and the reasons of refusals and drops.
+
+ghost use Rattle.std.specs.Prelude.{◌≡◌};
+ghost use Rattle.rad_proxy.specs.Names.{watch_name as the_watch_name, mode_name as the_mode_name, refusal_name as the_refusal_name};
 
 use crate::hearing::HomeFault;
 use rad_lane::{Counts, HearFault, Refusal};
@@ -7,38 +10,52 @@ use rad_realms::Dropped;
 use std::fmt;
 
 /// An IPv4 address in dotted decimal.
-#[derive(Drop)]
+#[derive(Clone, Copy)]
 pub struct AddressText(pub [u8; 4]);
 
-/// Whether a home server is up, by its name.
-#[derive(Drop)]
-pub struct WatchText {
-    pub up: bool,
-}
-
-/// Whether a lane takes requests, or still has some, by its name.
-#[derive(Drop)]
-pub struct ModeText(pub Counts);
-
-/// The reason of a refusal by its name.
-#[derive(Drop)]
-pub struct RefusalText(pub Refusal);
-
-/// The reason of a drop by its name.
-#[derive(Drop)]
+/// Why a NAS's datagram is dropped.
+#[derive(Clone, Copy)]
 pub struct DroppedText(pub Dropped);
 
-/// The reason why a home server's datagram is dropped by its name.
-#[derive(Drop)]
-pub struct HomeFaultText(pub HomeFault);
+/// Why a lane does not hear a datagram.
+#[derive(Clone, Copy)]
+struct HearFaultText(HearFault);
 
-/// The reason why a lane does not hear a datagram by its name.
-#[derive(Drop)]
-pub struct HearFaultText(pub HearFault);
+/// Why a datagram does not read as a packet.
+#[derive(Clone, Copy)]
+struct ReadFaultText(ReadFault);
 
-/// A read fault by its name.
-#[derive(Drop)]
-pub struct ReadFaultText(pub ReadFault);
+/// Whether a home server is up.
+pub fn watch_name(up: bool) -> &'static str
+    ensures { result.now ≡ the_watch_name up }
+{
+    if up { "up" } else { "down" }
+}
+
+/// Whether a lane takes requests, still has some, or is done.
+pub fn mode_name(counts: &Counts) -> &'static str
+    ensures { result.now ≡ the_mode_name counts.now.draining counts.now.queued counts.now.outstanding }
+{
+    match (counts.draining, counts.queued, counts.outstanding) {
+        (false, _, _) => "open",
+        (true, 0, 0) => "done",
+        (true, _, _) => "draining",
+    }
+}
+
+/// Why a lane refuses a request.
+pub fn refusal_name(refusal: Refusal) -> &'static str
+    ensures { result.now ≡ the_refusal_name refusal }
+{
+    match refusal {
+        Refusal::Draining => "Draining",
+        Refusal::BookFull => "BookFull",
+        Refusal::QueueFull => "QueueFull",
+        Refusal::TooLong => "TooLong",
+        Refusal::OutOfMemory => "OutOfMemory",
+        Refusal::WrongLane => "WrongLane",
+    }
+}
 
 impl fmt::Display for AddressText {
     ghost use Rattle.std.specs.Prelude.{Some};
@@ -49,54 +66,6 @@ impl fmt::Display for AddressText {
     fn fmt<W: fmt::Write>(&self, f: &mut fmt::Formatter<W>) -> fmt::Result {
         let [a, b, c, d] = self.0;
         write!(f, "{a}.{b}.{c}.{d}")
-    }
-}
-
-impl fmt::Display for WatchText {
-    ghost use Rattle.std.specs.Prelude.{Some};
-    ghost use Rattle.rad_proxy.specs.Names.{watch_name};
-
-    ghost output = { λ watch. Some (watch_name watch.up) };
-
-    fn fmt<W: fmt::Write>(&self, f: &mut fmt::Formatter<W>) -> fmt::Result {
-        if self.up {
-            write!(f, "up")
-        } else {
-            write!(f, "down")
-        }
-    }
-}
-
-impl fmt::Display for ModeText {
-    ghost use Rattle.std.specs.Prelude.{Some};
-    ghost use Rattle.rad_proxy.specs.Names.{mode_name};
-
-    ghost output = { λ mode. Some (mode_name mode.0.draining mode.0.queued mode.0.outstanding) };
-
-    fn fmt<W: fmt::Write>(&self, f: &mut fmt::Formatter<W>) -> fmt::Result {
-        match (self.0.draining, self.0.queued, self.0.outstanding) {
-            (false, _, _) => write!(f, "open"),
-            (true, 0, 0) => write!(f, "done"),
-            (true, _, _) => write!(f, "draining"),
-        }
-    }
-}
-
-impl fmt::Display for RefusalText {
-    ghost use Rattle.std.specs.Prelude.{Some};
-    ghost use Rattle.rad_proxy.specs.Names.{refusal_name};
-
-    ghost output = { λ refusal. Some (refusal_name refusal.0) };
-
-    fn fmt<W: fmt::Write>(&self, f: &mut fmt::Formatter<W>) -> fmt::Result {
-        match self.0 {
-            Refusal::Draining => write!(f, "Draining"),
-            Refusal::BookFull => write!(f, "BookFull"),
-            Refusal::QueueFull => write!(f, "QueueFull"),
-            Refusal::TooLong => write!(f, "TooLong"),
-            Refusal::OutOfMemory => write!(f, "OutOfMemory"),
-            Refusal::WrongLane => write!(f, "WrongLane"),
-        }
     }
 }
 
@@ -122,14 +91,14 @@ impl fmt::Display for DroppedText {
     }
 }
 
-impl fmt::Display for HomeFaultText {
+impl fmt::Display for HomeFault {
     ghost use Rattle.std.specs.Prelude.{Some};
     ghost use Rattle.rad_proxy.specs.Names.{home_fault_name};
 
-    ghost output = { λ fault. Some (home_fault_name fault.0) };
+    ghost output = { λ fault. Some (home_fault_name fault) };
 
     fn fmt<W: fmt::Write>(&self, f: &mut fmt::Formatter<W>) -> fmt::Result {
-        match self.0 {
+        match *self {
             HomeFault::RingFull => write!(f, "RingFull"),
             HomeFault::Unheard(fault) => {
                 let fault = HearFaultText(fault);

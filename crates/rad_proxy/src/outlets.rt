@@ -1,7 +1,8 @@
 //! The responses that wait to go to the clients, lane by lane.
 
 ghost use Rattle.std.specs.Prelude.{◌≡◌, IfOk};
-ghost use Rattle.rad_proxy.specs.Outlets.{AreEmptyOutlets, TakesAt, waiting_in};
+ghost use Rattle.rad_proxy.specs.Outlets.{AreEmptyOutlets, TakesAt, response_count};
+ghost use Rattle.rad_proxy.specs.Totals.{count_in_all};
 
 use rad_lane::Outgoing;
 use rad_realms::Config;
@@ -34,7 +35,7 @@ impl Outlet {
     ghost use Rattle.block_queue.specs.Queue.{TakesOldest};
     ghost use Rattle.rad_proxy.specs.Outlets.{IsFull, HasPlace};
 
-    /// One in which nothing waits, and `most` may.
+    /// An empty outlet, in which at most `most` responses may wait.
     ///
     /// # Errors
     ///
@@ -47,14 +48,14 @@ impl Outlet {
         Ok(Outlet { waiting, most })
     }
 
-    /// Whether no more may wait.
+    /// Whether as many responses wait as may.
     pub fn is_full(&self) -> bool
         ensures { IsTrue result ↔ IsFull self.now }
     {
         self.waiting.len() >= self.most
     }
 
-    /// How many wait.
+    /// How many responses wait.
     #[allow(clippy::len_without_is_empty)]
     pub fn len(&self) -> usize
         ensures { result ≡ length self.now.responses }
@@ -62,7 +63,7 @@ impl Outlet {
         self.waiting.len()
     }
 
-    /// One more waits, behind the others. It takes no memory.
+    /// Adds a response behind the others. It takes no memory.
     pub fn push(&mut self, response: Outgoing)
         requires { HasPlace self.old }
         ensures responses { self.new.responses ≡ self.old.responses ++ response ∷ [] }
@@ -71,7 +72,7 @@ impl Outlet {
         self.waiting.push_back_reserved(response);
     }
 
-    /// Takes the first one, where one waits.
+    /// Takes the first response out, where one waits.
     pub fn take(&mut self) -> Option<Outgoing>
         ensures taken { TakesOldest self.old.responses result self.new.responses }
         ensures most { self.new.most ≡ self.old.most }
@@ -112,7 +113,7 @@ pub fn take_at(outlets: &mut [Outlet], lane: u16) -> Option<Option<Outgoing>>
 
 /// How many responses wait at all lanes.
 pub fn count_waiting(outlets: &[Outlet]) -> usize
-    ensures { result ≡ waiting_in outlets.now }
+    ensures { result ≡ count_in_all response_count outlets.now }
 {
     let mut count = 0_usize;
     for outlet in outlets {

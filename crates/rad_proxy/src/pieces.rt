@@ -1,17 +1,24 @@
+//! Texts that are cut at each separator: a script into its lines, and a line into its words.
+
+ghost use Rattle.std.specs.Prelude.{◌≢◌, All, MatchOption};
+ghost use Rattle.rad_proxy.specs.Pieces.{IsFirstAt};
+
 /// The pieces of a text round each separator, in order; a text without one is one piece.
 #[derive(Drop)]
 pub struct Pieces<'a> {
+    /// The text that is left, and nothing after the last piece.
     rest: Option<&'a [u8]>,
     separator: u8,
 }
 
 impl<'a> Pieces<'a> {
-    ghost use Rattle.std.specs.Prelude.{◌≡◌};
+    ghost use Rattle.std.specs.Prelude.{◌≡◌, Some};
     ghost use Rattle.rad_proxy.specs.Pieces.{text_left};
 
-    /// The pieces of a text.
+    /// Cuts a text.
     pub fn new(text: &'a [u8], separator: u8) -> Self
-        ensures { text_left result ≡ text.now }
+        ensures text { text_left result ≡ Some text.now }
+        ensures separator { result.separator ≡ separator }
     {
         Pieces {
             rest: Some(text),
@@ -20,10 +27,10 @@ impl<'a> Pieces<'a> {
     }
 
     /// What follows the pieces that were given.
-    pub fn rest(&self) -> &'a [u8]
-        ensures { result.now ≡ text_left self.now }
+    pub fn rest(&self) -> Option<&'a [u8]>
+        ensures { result ≡ self.now.rest }
     {
-        self.rest.unwrap_or(b"")
+        self.rest
     }
 }
 
@@ -39,8 +46,7 @@ impl<'a> Iterator for Pieces<'a> {
 
     fn next(&mut self) -> Option<&'a [u8]> {
         let rest = self.rest?;
-        let separator = self.separator;
-        match rest.iter().position(|octet| *octet == separator) {
+        match find_first(rest, self.separator) {
             Some(end) => {
                 self.rest = Some(&rest[end + 1..]);
                 Some(&rest[..end])
@@ -51,4 +57,11 @@ impl<'a> Iterator for Pieces<'a> {
             }
         }
     }
+}
+
+/// Where an octet stands first in a text.
+fn find_first(text: &[u8], wanted: u8) -> Option<usize>
+    ensures { MatchOption result (All (λ octet. octet ≢ wanted) text.now) (λ place. IsFirstAt text.now wanted place) }
+{
+    text.iter().position(|octet| *octet == wanted)
 }

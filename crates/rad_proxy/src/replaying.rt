@@ -1,6 +1,7 @@
 //! `replay`: a configuration and a script of events go in, and a line for each answer comes out.
 
-use crate::checking::read_octets;
+use crate::bounded::read_at_most;
+use crate::configuration::read_configuration;
 use crate::faults::Fault;
 use crate::lines::EndLine;
 use crate::pieces::Pieces;
@@ -15,7 +16,7 @@ const MOST_INPUT: u64 = 16_777_216;
 /// The line between the configuration and the events.
 const SEPARATOR: &[u8] = b"%%";
 
-/// Reads a configuration and events, and writes the answers. What is left at the end is answered.
+/// Reads a configuration and events, and writes the answers. Returns what is left at the end.
 ///
 /// # Errors
 ///
@@ -30,7 +31,10 @@ pub fn replay<R: Read + Drop, W: Write + Drop>(
     if str::from_utf8(events).is_err() {
         return Err(Fault::Configuration(ConfigFault::Toml));
     }
-    let config = read_octets(alloc, configuration)?;
+    let config = match read_configuration(alloc, configuration) {
+        Ok(config) => config,
+        Err(fault) => return Err(Fault::Configuration(fault)),
+    };
     let mut output = match BufWriter::new(alloc, writer) {
         Ok(output) => output,
         Err(_) => return Err(Fault::Memory),
@@ -46,30 +50,27 @@ pub fn replay<R: Read + Drop, W: Write + Drop>(
     ran
 }
 
-/// The whole input.
+/// Reads the whole input, where it is no longer than the most.
 fn read_input<R: Read + Drop>(alloc: Global, reader: R) -> Result<Vec<u8>, Fault> {
-    let mut input = Vec::new(alloc);
-    if let Err(error) = reader.take(MOST_INPUT + 1).read_to_end(&mut input) {
-        return match error.kind() {
+    match read_at_most(alloc, reader, MOST_INPUT) {
+        Ok(input) => Ok(input),
+        Err(error) => match error.kind() {
             ErrorKind::OutOfMemory => Err(Fault::Memory),
             _ => Err(Fault::Input),
-        };
+        },
     }
-    if input.len() as u64 > MOST_INPUT {
-        return Err(Fault::Input);
-    }
-    Ok(input)
 }
 
-/// The lines before the separator, and those after it.
+/// The lines before the separator, and those after it; without a separator all lines are before it.
 fn split_input(input: &[u8]) -> (&[u8], &[u8]) {
     let mut lines = Pieces::new(input, b'\n');
     let mut before = 0;
     while let Some(line) = lines.next() {
+        let rest = lines.rest().unwrap_or(b"");
         if line == SEPARATOR {
-            return (&input[..before], lines.rest());
+            return (&input[..before], rest);
         }
-        before = input.len() - lines.rest().len();
+        before = input.len() - rest.len();
     }
     (input, b"")
 }

@@ -9,6 +9,7 @@ use crate::hearing::hear_at;
 use crate::lanes::{HomeLane, left_over, set_up, step};
 use crate::lines::{DrainLine, EndLine, HomeLine, NasLine, StateLine, StepLine, TakeLine};
 use crate::outlets::{Outlet, set_up_outlets, take_at};
+use crate::packet_text::PacketText;
 use crate::path::{Arrival, take_in};
 use crate::pieces::Pieces;
 use crate::sent::{LastSent, keep_sent};
@@ -39,6 +40,10 @@ pub struct Script {
 
 impl Script {
     /// A script at moment 0, over empty lanes.
+    ///
+    /// # Errors
+    ///
+    /// Where memory is refused.
     pub fn new(alloc: Global, config: Config) -> Result<Self, AllocError> {
         let lanes = set_up(alloc, &config)?;
         let outlets = set_up_outlets(alloc, &config)?;
@@ -58,6 +63,10 @@ impl Script {
     }
 
     /// Writes the answers of all events, and then what is left.
+    ///
+    /// # Errors
+    ///
+    /// The first event that has no answer, `Memory` or `Output`; the answers before it are written.
     pub fn run<W: Write>(&mut self, events: &[u8], output: &mut W) -> Result<EndLine, Fault> {
         for (index, line) in Pieces::new(events, b'\n').enumerate() {
             if line.is_empty() || line[0] == b'#' {
@@ -132,7 +141,8 @@ impl Script {
             arrival,
             &mut written,
         );
-        print(output, &NasLine::new(outcome, written.bytes()))
+        let written = PacketText::new(written.bytes());
+        print(output, &NasLine { outcome, written })
     }
 
     /// Writes what a lane's step does.
@@ -141,7 +151,8 @@ impl Script {
         match step(&mut self.lanes, lane, self.moment, RANDOM, &mut sent) {
             Some(action) => {
                 keep_sent(&mut self.sent, lane, &action, &sent);
-                print(output, &StepLine::new(action, sent.bytes()))
+                let sent = PacketText::new(sent.bytes());
+                print(output, &StepLine { action, sent })
             }
             None => Err(Halt::Malformed),
         }
@@ -175,7 +186,7 @@ impl Script {
             self.datagram.as_slice(),
         );
         match outcome {
-            Some(outcome) => print(output, &HomeLine::new(lane, outcome)),
+            Some(outcome) => print(output, &HomeLine { lane, outcome }),
             None => Err(Halt::Malformed),
         }
     }
@@ -183,7 +194,7 @@ impl Script {
     /// Takes a lane's first response that waits, and writes it.
     fn take<W: Write>(&mut self, lane: u16, output: &mut W) -> Result<(), Halt> {
         match take_at(&mut self.outlets, lane) {
-            Some(taken) => print(output, &TakeLine::new(taken.as_ref())),
+            Some(taken) => print(output, &TakeLine { taken }),
             None => Err(Halt::Malformed),
         }
     }
@@ -214,6 +225,7 @@ impl Script {
     }
 }
 
+/// Writes a line.
 fn print<W: Write, L: Display>(output: &mut W, line: &L) -> Result<(), Halt> {
     match writeln!(output, "{line}") {
         Ok(()) => Ok(()),

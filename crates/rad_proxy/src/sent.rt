@@ -1,3 +1,8 @@
+//! The packets that each lane sent last, as far as a script needs them.
+
+ghost use Rattle.std.specs.Prelude.{◌≡◌};
+ghost use Rattle.rad_proxy.specs.Sent.{KeepsSent, sends as the_sends};
+
 use rad_lane::Action;
 use rad_packet::Datagram;
 use std::alloc::{AllocError, Global};
@@ -6,8 +11,7 @@ use std::marker::Model;
 /// How many Identifiers there are.
 const IDENTIFIERS: usize = 256;
 
-/// The Authenticators of the packets that a lane sent last, one for each Identifier: zeros where there was
-/// none.
+/// The Authenticators of the packets that a lane sent last, one for each Identifier: zeros where none was sent.
 #[derive(Drop)]
 pub struct LastSent {
     authenticators: Vec<[u8; 16]>,
@@ -24,10 +28,11 @@ impl Model for LastSent {
 }
 
 impl LastSent {
-    ghost use Rattle.std.specs.Prelude.{◌≡◌, ◌<◌, ℕ, Some, IfOk, replicate, slice_get, slice_set};
-    ghost use Rattle.rad_packet.specs.Packet.{IsPacketText, identifier_of, authenticator_of};
+    ghost use Rattle.std.specs.Prelude.{◌≡◌, ◌<◌, ℕ, Some, IfOk, replicate, slice_get};
+    ghost use Rattle.rad_packet.specs.Packet.{IsPacketText};
+    ghost use Rattle.rad_proxy.specs.Sent.{with_sent};
 
-    /// Nothing was sent.
+    /// A lane that has sent nothing.
     ///
     /// # Errors
     ///
@@ -49,10 +54,10 @@ impl LastSent {
         self.authenticators[usize::from(identifier)]
     }
 
-    /// A packet was sent, given as its octets.
+    /// Keeps a packet that was sent, given as its octets.
     pub fn keep(&mut self, packet: &[u8])
         requires { IsPacketText packet.now }
-        ensures { self.new ≡ slice_set self.old (identifier_of packet.now) (authenticator_of packet.now) }
+        ensures { self.new ≡ with_sent self.old packet.now }
     {
         let mut authenticator = [0; 16];
         authenticator.copy_from_slice(&packet[4..20]);
@@ -61,7 +66,9 @@ impl LastSent {
 }
 
 /// Keeps the packet that a lane's step gave to be sent, where it gave one.
-pub fn keep_sent(sent: &mut [LastSent], lane: u16, action: &Action, packet: &Datagram) {
+pub fn keep_sent(sent: &mut [LastSent], lane: u16, action: &Action, packet: &Datagram)
+    ensures { KeepsSent sent.old lane action.now packet.now sent.new }
+{
     let place = usize::from(lane);
     if place < sent.len() && sends(action) {
         let sent = &mut sent[place];
@@ -70,7 +77,9 @@ pub fn keep_sent(sent: &mut [LastSent], lane: u16, action: &Action, packet: &Dat
 }
 
 /// Whether a step gave a packet to be sent.
-fn sends(action: &Action) -> bool {
+fn sends(action: &Action) -> bool
+    ensures { result ≡ the_sends action.now }
+{
     matches!(
         action,
         Action::Sent(..) | Action::Resent(..) | Action::Probed(_)

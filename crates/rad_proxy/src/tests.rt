@@ -1,8 +1,10 @@
 //! What no contract says: the octets that a run writes, whatever reads and writes do.
 
+use crate::check_command::check_text;
 use crate::faults::Fault;
 use crate::lines::EndLine;
 use crate::replaying::replay;
+use crate::words::{Task, read_words};
 use std::alloc::{AllocError, Global};
 use std::io::{Error, ErrorKind, Read, Result, Write};
 use std::test::Fail;
@@ -37,9 +39,16 @@ struct Narrow<'a> {
     room: usize,
 }
 
-/// Gives comments without an end.
+/// Gives a text and then `#` until so many octets are given: a comment that no one has to store.
 #[derive(Drop)]
-struct Endless;
+struct Padded<'a> {
+    text: &'a [u8],
+    count: usize,
+}
+
+/// Fails at once, for want of memory.
+#[derive(Drop)]
+struct Starved;
 
 impl Read for Slow<'_> {
     fn read(&mut self, buf: &mut [u8]) -> Result<usize> {
@@ -54,10 +63,21 @@ impl Read for Slow<'_> {
     }
 }
 
-impl Read for Endless {
+impl Read for Padded<'_> {
     fn read(&mut self, buf: &mut [u8]) -> Result<usize> {
-        buf.fill(b'#');
-        Ok(buf.len())
+        let count = self.count.min(buf.len());
+        let (given, rest) = self.text.split_at(self.text.len().min(count));
+        buf[..count].fill(b'#');
+        buf[..given.len()].copy_from_slice(given);
+        self.text = rest;
+        self.count -= count;
+        Ok(count)
+    }
+}
+
+impl Read for Starved {
+    fn read(&mut self, _buf: &mut [u8]) -> Result<usize> {
+        Err(Error::from(ErrorKind::OutOfMemory))
     }
 }
 
@@ -81,6 +101,16 @@ fn input(alloc: Global, events: &str) -> std::result::Result<String, AllocError>
     let mut text = String::from_str(alloc, HEAD)?;
     text.push_str(events)?;
     Ok(text)
+}
+
+/// A configuration of one client, two home servers and three realms, whose last line takes a comment.
+fn configuration() -> &'static str {
+    "listen = \"127.0.0.1:1813\"\n[[client]]\naddress = \"10.0.0.1\"\nsecret = \"nas-secret\"\n\
+     [[home]]\nname = \"h1\"\naddress = \"127.0.0.1:2813\"\nsecret = \"home-secret\"\n\
+     [[home]]\nname = \"h2\"\naddress = \"127.0.0.1:2814\"\nsecret = \"home-secret\"\n\
+     [[realm]]\nname = \"a.example.org\"\nhome = \"h1\"\n\
+     [[realm]]\nname = \"b.example.org\"\nhome = \"h2\"\n\
+     [[realm]]\nname = \"c.example.org\"\nhome = \"h1\"\n"
 }
 
 fn many_steps(alloc: Global) -> std::result::Result<String, AllocError> {
@@ -164,15 +194,124 @@ fn a_failed_read_ends_the_run(rt: HostRuntime) -> std::result::Result<(), Fail> 
 }
 
 #[test]
-fn too_long_an_input_is_refused(rt: HostRuntime) -> std::result::Result<(), Fail> {
+fn refused_memory_ends_the_run(rt: HostRuntime) -> std::result::Result<(), Fail> {
     let alloc = rt.alloc();
     let mut taken = Vec::new(alloc);
     let narrow = Narrow {
         taken: &mut taken,
         room: 1000,
     };
-    let ran = replay(alloc, Endless, narrow);
-    assert!(rt; matches!(ran, Err(Fault::Input)));
+    assert!(rt; matches!(replay(alloc, Starved, narrow), Err(Fault::Memory)));
     assert!(rt; taken.is_empty());
+    let checked = check_text(alloc, "a file", Starved);
+    assert!(rt; matches!(checked, Err(Fault::Memory)));
+    Ok(())
+}
+
+#[test]
+fn the_longest_input_is_read(rt: HostRuntime) -> std::result::Result<(), Fail> {
+    let alloc = rt.alloc();
+    let mut taken = Vec::new(alloc);
+    let text = input(alloc, EVENTS)?;
+    for (count, is_read) in [(16_777_216, true), (16_777_217, false)] {
+        taken.clear();
+        let padded = Padded {
+            text: text.as_bytes(),
+            count,
+        };
+        let narrow = Narrow {
+            taken: &mut taken,
+            room: 1000,
+        };
+        let ran = replay(alloc, padded, narrow);
+        assert_eq!(rt; ran.is_ok(), is_read, "{count} octets");
+        if is_read {
+            assert_eq!(rt; taken.as_slice(), ANSWERS.as_bytes());
+        } else {
+            assert!(rt; matches!(ran, Err(Fault::Input)));
+            assert!(rt; taken.is_empty());
+        }
+    }
+    Ok(())
+}
+
+#[test]
+fn the_longest_file_is_checked(rt: HostRuntime) -> std::result::Result<(), Fail> {
+    let alloc = rt.alloc();
+    let text = configuration();
+    for (count, is_read) in [(1_048_576, true), (1_048_577, false)] {
+        let padded = Padded {
+            text: text.as_bytes(),
+            count,
+        };
+        match check_text(alloc, "a file", padded) {
+            Ok(counts) => {
+                assert!(rt; is_read, "{count} octets");
+                assert_eq!(rt; counts.clients, 1);
+                assert_eq!(rt; counts.homes, 2);
+                assert_eq!(rt; counts.realms, 3);
+            }
+            Err(Fault::File(path)) => {
+                assert!(rt; !is_read, "{count} octets");
+                assert_eq!(rt; path.as_str(), "a file");
+            }
+            Err(_) => assert!(rt; false, "{count} octets"),
+        }
+    }
+    Ok(())
+}
+
+#[test]
+fn lines_of_a_configuration_end_in_cr_lf_too(rt: HostRuntime) -> std::result::Result<(), Fail> {
+    let alloc = rt.alloc();
+    let mut taken = Vec::new(alloc);
+    let mut text = String::new(alloc);
+    for line in HEAD.trim_end_matches("%%\n").lines() {
+        text.push_str(line)?;
+        text.push_str("\r\n")?;
+    }
+    text.push_str("%%\n")?;
+    text.push_str(EVENTS)?;
+    let reader = Slow {
+        rest: text.as_bytes(),
+        most: 4096,
+        fails: false,
+    };
+    run(alloc, reader, 1000, &mut taken)?;
+    assert_eq!(rt; taken.as_slice(), ANSWERS.as_bytes());
+    Ok(())
+}
+
+/// What `read_words` makes of these words after the program's name, in a letter.
+fn task_of(alloc: Global, words: &[&str]) -> std::result::Result<char, Fail> {
+    let mut called = Vec::new(alloc);
+    called.push(String::from_str(alloc, "rad_proxy")?)?;
+    for word in words {
+        called.push(String::from_str(alloc, word)?)?;
+    }
+    Ok(match read_words(alloc, called.as_slice()) {
+        Ok(Task::Replay) => 'p',
+        Ok(Task::Check(file)) if file.as_str() == "some.toml" => 'c',
+        Ok(Task::Check(_)) => '?',
+        Ok(Task::Run) => 'r',
+        Err(Fault::Usage) => 'u',
+        Err(_) => '!',
+    })
+}
+
+#[test]
+fn each_form_of_words_has_its_task(rt: HostRuntime) -> std::result::Result<(), Fail> {
+    let alloc = rt.alloc();
+    assert_eq!(rt; task_of(alloc, &[])?, 'p');
+    assert_eq!(rt; task_of(alloc, &["replay"])?, 'p');
+    assert_eq!(rt; task_of(alloc, &["check", "some.toml"])?, 'c');
+    assert_eq!(rt; task_of(alloc, &["run", "some.toml"])?, 'r');
+    assert_eq!(rt; task_of(alloc, &["replay", "some.toml"])?, 'u');
+    assert_eq!(rt; task_of(alloc, &["check"])?, 'u');
+    assert_eq!(rt; task_of(alloc, &["check", "some.toml", "other.toml"])?, 'u');
+    assert_eq!(rt; task_of(alloc, &["run"])?, 'u');
+    assert_eq!(rt; task_of(alloc, &["run", "some.toml", "other.toml"])?, 'u');
+    assert_eq!(rt; task_of(alloc, &["some.toml"])?, 'u');
+    assert_eq!(rt; task_of(alloc, &["check", "--help"])?, 'u');
     Ok(())
 }

@@ -12,7 +12,7 @@ pub enum Task {
     Replay,
     /// Checks the configuration in this file.
     Check(String),
-    /// Serves.
+    /// Serves a configuration.
     Run,
 }
 
@@ -49,6 +49,7 @@ pub fn read_words(alloc: Global, words: &[String]) -> Result<Task, Fault> {
     }
 }
 
+/// The words that the program takes.
 fn command<'a>(alloc: Global) -> Result<Command<'a>, AllocError> {
     Command::new(alloc, "rad_proxy")
         .subcommand(Command::new(alloc, "replay"))?
@@ -56,6 +57,7 @@ fn command<'a>(alloc: Global) -> Result<Command<'a>, AllocError> {
         .subcommand(Command::new(alloc, "run").arg(file(alloc))?)
 }
 
+/// The word FILE, which has to be there.
 fn file<'a>(alloc: Global) -> Arg<'a> {
     Arg::new(alloc, "FILE")
         .required(true)
