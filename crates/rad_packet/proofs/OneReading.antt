@@ -1,5 +1,5 @@
 -- What a datagram that reads as a packet tells of it. Proofs of the crates above cite these.
-use Rattle.std.proofs.Common.{◌≡◌, ℕ, ◌<◌, List, [], ◌++◌, length, take, refl, sym, ap, ◌∙◌, arith}
+use Rattle.std.proofs.Common.{◌≡◌, ℕ, ◌<◌, List, [], length, take, refl, sym, ap, ◌∙◌, arith}
 use Rattle.std.proofs.lemmas.List.{append-nil, get_or_append_left, take_at}
 use Rattle.rad_packet.specs.Packet.{IsPacketText, length_of}
 use Rattle.rad_packet.specs.Reading.{ReadsAs}
