@@ -1,14 +1,14 @@
 -- The tables that the values of an array are.
-use Rattle.std.proofs.Common.{◌≡◌, ℕ, suc, Bool, true, false, cond, List, [], ◌∷◌, length, map, Option, Some, None, option_map, IsSome, is_some, unwrap_or, refl, sym, ap, ◌∙◌, inl, inr, ◌==◌, rules, arith, All, IsTrue, MatchBool, ◌↔◌}
+use Rattle.std.proofs.Common.{◌≡◌, suc, Bool, true, false, cond, List, [], ◌∷◌, length, Some, None, option_map, is_some, unwrap_or, refl, ap, ◌∙◌, inl, inr, ◌==◌, arith, All, IsTrue, MatchBool, ◌↔◌}
 use Rattle.std.specs.List.{AllByRecursion}
 use Rattle.std.proofs.lemmas.Bool.{cases_Bool, false≢true}
 use Rattle.std.proofs.lemmas.Bool.Decides.{nat_tests}
 use Rattle.std.proofs.lemmas.List.Elements.{All-from_recursion, recursion_from_All}
-use Rattle.toml.specs.Data.{Data, string, integer, float, boolean, datetime, array, table, Items, no_items, item, Members, no_members, as_table, as_array}
+use Rattle.toml.specs.Data.{Data, string, integer, float, boolean, datetime, array, table, Items, item, no_members, as_table, as_array}
 use Rattle.toml.specs.View.{view, items_view}
 use Rattle.toml.specs.declared.value.Value.{Value}
 use Rattle.rad_realms.specs.Walk.{tables_in, is_empty_array}
-use Rattle.rad_realms.specs.Values.{IsTable, table_of, tables_of_values}
+use Rattle.rad_realms.specs.Values.{IsTable, tables_of_values}
 
 -- one item, and those behind it
 tables_in-item : (d : Data) (rest : Items) → tables_in (item d rest) ≡ cond (is_some (as_table d)) (option_map (λ ts. unwrap_or (as_table d) no_members ∷ ts) (tables_in rest)) None

@@ -1,33 +1,9 @@
 -- What is kept where tables are read one after the other.
-use Rattle.std.proofs.Common.{◌≡◌, ◌≢◌, ℕ, suc, ◌+◌, ◌<◌, ◌≤◌, ◌==◌, Bool, true, false, cond, not, ◌&&◌, nat_le, List, [], ◌∷◌, ◌++◌, length, get_or, map, Option, Some, None, option_map, is_some, Result, Ok, Err, refl, sym, ap, subst, ◌∙◌, arith, inl, inr, All, length-append}
-use Rattle.std.specs.Prelude.{find, position, ok_or, IfSome}
-use Rattle.std.specs.List.{AllByRecursion, AllPairs, list_all}
-use Rattle.std.specs.Str.{bytes_eq}
-use Rattle.std.proofs.lemmas.Bool.{cases_Bool, and_parts, leb-true, false≢true}
-use Rattle.std.proofs.lemmas.Bool.Decides.{nat_tests}
-use Rattle.std.proofs.lemmas.List.Elements.{All-from_recursion, All-append, All-cons, All-nil}
-use Rattle.std.proofs.lemmas.List.Quantifiers.{all_pairs_push, position-Some}
-use Rattle.std.proofs.lemmas.Slice.Eq.{bytes_eq-Decides}
-use Rattle.toml.specs.Data.{Data, string, integer, float, boolean, datetime, array, table, Items, no_items, item, Members, as_array}
-use Rattle.rad_realms.specs.declared.address.Endpoint.{Endpoint}
-use Rattle.rad_realms.specs.declared.limits.LimitNumbers.{LimitNumbers}
-use Rattle.rad_realms.specs.declared.limits.LimitFault.{LimitFault}
-use Rattle.rad_realms.specs.declared.faults.Part.{Part}
-use Rattle.rad_realms.specs.declared.faults.Part.TheVariants as part
-use Rattle.rad_realms.specs.declared.faults.Key.{Key}
-use Rattle.rad_realms.specs.declared.faults.Key.TheVariants.{Listen, DefaultHome, Linger, Client, Home, Realm, Address, Secret, Name}
-use Rattle.rad_realms.specs.declared.faults.Spot.{Spot}
-use Rattle.rad_realms.specs.declared.faults.ConfigFault.{ConfigFault}
-use Rattle.rad_realms.specs.declared.faults.ConfigFault.TheVariants.{Missing, WrongType, TooMany, DoubleName, UnknownHome, OutOfRange, Toml}
-use Rattle.rad_realms.specs.Configuration.{ClientEntry, HomeEntry, RealmEntry, Configuration}
-use Rattle.rad_realms.specs.Limits.{AreInRange, limits_of, first_fault}
-use Rattle.rad_realms.specs.Realm.{same_name}
-use Rattle.rad_realms.specs.WellFormed.{IsRealmName, IsWellFormed}
-use Rattle.rad_realms.specs.Walk.{◌>>=◌, refuse_if, spot, is_empty_array, tables_in, tables_of, some_tables_at, tables_or_none, any_tables_at, each, address_at, secret_at, home_name_at, text_that, text_at, has_length, is_realm_name, realm_name_at, endpoint_at, numbers_at, kept_or_fault, limits_at, client_in, home_in, realm_in_table, lane_named, clients_in, homes_in, realms_in, default_lane_in, optional_text_at, number_at, walk, configuration_in}
-use Rattle.toml.specs.Parse.{parse_document}
-use Rattle.rad_realms.proofs.Ranges.{in_range}
-use Rattle.rad_realms.proofs.Steps.{same_ok, bound, not_refused, known, kept_by}
-use Rattle.rad_realms.proofs.TableCounts.{tables_most, one_more, some_items, some_of_array, tables_least, some_counted, none_or_counted, any_counted, Counted}
+use Rattle.std.proofs.Common.{◌≡◌, ◌+◌, List, [], ◌∷◌, ◌++◌, length, Result, Ok, refl, subst, arith, length-append}
+use Rattle.toml.specs.Data.{Members}
+use Rattle.rad_realms.specs.declared.reading.faults.ConfigFault.{ConfigFault}
+use Rattle.rad_realms.specs.Walk.{each}
+use Rattle.rad_realms.proofs.Steps.{same_ok, bound}
 
 module _ {X : Type 0} (read : List X → Members → Result X ConfigFault) where
   -- what one more entry keeps, all keep

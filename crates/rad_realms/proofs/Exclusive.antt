@@ -1,19 +1,18 @@
 -- No datagram is dropped for two reasons, and none that is taken is dropped.
-use Rattle.std.proofs.Common.{◌≡◌, ◌≢◌, ℕ, List, [], Option, Some, None, refl, sym, ap, subst, ◌∙◌, ◌⊎◌, inl, inr, arith, ◌<◌, length, take}
+use Rattle.std.proofs.Common.{◌≡◌, ℕ, List, Option, Some, None, refl, sym, ap, subst, ◌∙◌, ◌⊎◌, inl, inr, arith, ◌<◌, length, take}
 use Rattle.std.proofs.lemmas.List.{take_at, get_or_append_left}
-use Rattle.rad_packet.specs.Attribute.{of_kind}
-use Rattle.rad_packet.specs.Packet.{code_of, length_of, packet_attributes}
+use Rattle.rad_packet.specs.Packet.{code_of, length_of}
 use Rattle.rad_packet.specs.Reading.{ReadsAs, Refuses}
 use Rattle.rad_packet.specs.declared.faults.ReadFault.{ReadFault}
 use Rattle.rad_packet.proofs.Exclusive.{read_or_refused, one_fault}
-use Rattle.rad_realms.specs.declared.faults.Dropped.{Dropped}
-use Rattle.rad_realms.specs.declared.faults.Dropped.TheVariants.{UnknownClient, Unread, WrongCode, BadAuthenticator, BadMessageAuthenticator, MessageAuthenticatorHere, NoRealm}
+use Rattle.rad_realms.specs.declared.checking.Dropped.{Dropped}
+use Rattle.rad_realms.specs.declared.checking.Dropped.TheVariants.{UnknownClient, Unread, WrongCode, BadAuthenticator, BadMessageAuthenticator, MessageAuthenticatorHere, NoRealm}
 use Rattle.rad_realms.specs.Configuration.{ClientEntry, Configuration}
 use Rattle.rad_auth.specs.Status.{IsRightStatus}
 use Rattle.rad_realms.specs.declared.checking.Incoming.{Incoming}
 use Rattle.rad_realms.specs.declared.checking.Incoming.TheVariants as incoming
 use Rattle.rad_realms.specs.Realm.{client_of, lane_of_packet}
-use Rattle.rad_realms.specs.Checking.{IsRequest, Arrives, DropsPacket, DropsArrived, Drops}
+use Rattle.rad_realms.specs.Checking.{IsRequest, DropsPacket, DropsArrived, Drops}
 use Rattle.rad_realms.specs.Incoming.{TakesPacket, Takes}
 
 -- a datagram that reads as a packet has its Length, and the packet at its front

@@ -1,5 +1,5 @@
 -- The lanes that realms and the default lead to.
-use Rattle.std.proofs.Common.{◌≡◌, ℕ, ◌<◌, ◌==◌, Bool, true, false, cond, List, [], ◌∷◌, length, Option, Some, None, option_map, refl, inl, inr, All}
+use Rattle.std.proofs.Common.{ℕ, ◌<◌, ◌==◌, Bool, List, [], ◌∷◌, length, option_map, inl, inr, All}
 use Rattle.std.specs.Prelude.{find, IfSome}
 use Rattle.std.specs.List.{AllByRecursion}
 use Rattle.std.proofs.lemmas.Bool.{cases_Bool}

@@ -1,4 +1,5 @@
 pub mod Numbers
+pub mod Addresses
 pub mod Places
 pub mod Names
 pub mod ArrayTables

@@ -1,15 +1,14 @@
 -- What `parse` gives for the text of a number.
-use Rattle.std.proofs.Common.{◌≡◌, ℕ, ◌^◌, ◌<◌, ◌≤◌, Bool, true, false, nat_lt, nat_le, le-leb, lt-ltb, eq-eqb, not, ◌+◌, ◌&&◌, ◌==◌, slice_index, get_or, refl, sym, ap, ◌∙◌, List, [], ◌∷◌, length, Option, Some, None, Result, Ok, Err, arith, rules, inl, inr}
+use Rattle.std.proofs.Common.{◌≡◌, ℕ, ◌^◌, ◌<◌, ◌≤◌, Bool, true, false, nat_lt, nat_le, le-leb, lt-ltb, eq-eqb, not, ◌+◌, ◌&&◌, ◌==◌, slice_index, get_or, refl, sym, ap, subst, ◌∙◌, List, [], ◌∷◌, length, Some, None, Result, Ok, Err, arith, rules, inl, inr}
 use Rattle.std.specs.Option.{MatchOption}
 use Rattle.std.specs.Result.{result_ok}
 use Rattle.std.specs.List.{list_all}
 use Rattle.std.specs.Char.{is_ascii_digit}
 use Rattle.std.specs.Str.Parse.{digits_value, ParsesUnsigned}
-use Rattle.std.proofs.lemmas.Bool.{and_parts, cases_lt, cases_Bool, ltb-true, ne_eqb, false≢true}
+use Rattle.std.proofs.lemmas.Bool.{and_parts, cases_lt, cases_Bool, leb-true, ltb-true, ne_eqb, false≢true}
 use Rattle.std.proofs.lemmas.Str.Parse.{IsNumeralModel, IsDigitsTest, numerals_by_value, parse_digits}
 use Rattle.std.specs.Fmt.{decimal}
-use Rattle.std.proofs.lemmas.Fmt.{decimal_nonempty, digits_decimal, digits_value-decimal, decimal-digits_value, decimal_digit, first_decimal, length-decimal-le}
-use Rattle.std.proofs.lemmas.Bool.Decides.{nat_tests}
+use Rattle.std.proofs.lemmas.Fmt.{decimal_nonempty, digits_decimal, digits_value-decimal, decimal-digits_value, decimal_digit, first_decimal}
 use Rattle.rad_realms.specs.Address.{is_number, number_in}
 
 digits_test : IsDigitsTest (λ ds. list_all is_ascii_digit ds ≡ true)
@@ -86,3 +85,26 @@ number_text least most n text e small =
           sym shown ∙ ap decimal value
       | inr other ↦ let h : None ≡ Some n = rw other at e in absurd cc
     ]
+
+-- a number that is read is in its range
+number_range : (least most n : ℕ) (text : List ℕ) → number_in least most text ≡ Some n → (least ≤ n) × (n ≤ most)
+unfolding number_in
+number_range least most n text e =
+    elim (cases_Bool (is_number text && (nat_le least (digits_value 10 text) && nat_le (digits_value 10 text) most))) [
+      | inl good ↦
+          let range = (and_parts (is_number text) (nat_le least (digits_value 10 text) && nat_le (digits_value 10 text) most) good).1 in
+          let ends = and_parts (nat_le least (digits_value 10 text)) (nat_le (digits_value 10 text) most) range in
+          let value : digits_value 10 text ≡ n = same_some _ _ (rw good at e) in
+          subst (λ (k : ℕ). (least ≤ k) × (k ≤ most)) value (leb-true least (digits_value 10 text) ends.0, leb-true (digits_value 10 text) most ends.1)
+      | inr other ↦ let h : None ≡ Some n = rw other at e in absurd cc
+    ]
+
+pub number_least : (least most n : ℕ) (text : List ℕ) → number_in least most text ≡ Some n → least ≤ n
+number_least least most n text e = (number_range least most n text e).0
+
+pub number_most : (least most n : ℕ) (text : List ℕ) → number_in least most text ≡ Some n → n ≤ most
+number_most least most n text e = (number_range least most n text e).1
+
+-- the text of a number has digits alone
+pub digits_of : (n : ℕ) → n < 2 ^ 64 → list_all is_ascii_digit (decimal n) ≡ true
+digits_of n small = digits_decimal own n small

@@ -1,20 +1,16 @@
 -- A list with one more entry at its end, and the look-ups beside it.
-use Rattle.std.proofs.Common.{◌≡◌, ℕ, suc, ◌+◌, ◌<◌, ◌≤◌, Bool, true, false, cond, List, [], ◌∷◌, ◌++◌, length, map, Option, Some, None, option_map, refl, sym, ap, subst, ◌∙◌, arith, inl, inr, Vec, BTreeMap, Global, nat_cmp, is_eq, Bor}
+use Rattle.std.proofs.Common.{◌≡◌, ℕ, suc, Bool, true, false, cond, List, [], ◌∷◌, ◌++◌, length, Option, Some, None, option_map, refl, sym, ap, subst, ◌∙◌, inl, inr, BTreeMap, nat_cmp, is_eq, Bor}
 use Rattle.std.specs.Prelude.{find, option_and_then, option_copied, IfSome}
-use Rattle.std.specs.List.{slice_get, AllByRecursion}
+use Rattle.std.specs.List.{slice_get}
 use Rattle.std.specs.Str.{bytes_eq}
-use Rattle.std.specs.Char.{to_ascii_lowercase}
-use Rattle.std.specs.Cmp.{eq_by_cmp_equiv}
 use Rattle.std.specs.Cmp.Lexicographic.{slice_cmp}
-use Rattle.std.specs.Map.{lookup, KeepsOthers, IsKeyTest, AreApart}
 use Rattle.std.specs.BTreeMap as tree
-use Rattle.std.proofs.lemmas.Bool.{cases_Bool, false≢true}
-use Rattle.std.proofs.lemmas.Cmp.{nat_list_cmp_total}
+use Rattle.std.proofs.lemmas.Bool.{cases_Bool}
 use Rattle.std.proofs.lemmas.Slice.Eq.{bytes_eq-Decides}
 use Rattle.std.proofs.lemmas.Map.Text.{is_eq-slice_cmp}
-use Rattle.rad_realms.specs.Configuration.{ClientEntry, RealmEntry}
+use Rattle.rad_realms.specs.Configuration.{ClientEntry}
 use Rattle.rad_realms.specs.Realm.{or_else}
-use Rattle.rad_realms.specs.Index.{place_of, IndexesClients, IndexesRealms}
+use Rattle.rad_realms.specs.Index.{place_of, IndexesClients}
 
 -- ---- places
 

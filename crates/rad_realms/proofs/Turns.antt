@@ -1,14 +1,14 @@
 -- Reading tables one after the other, as a loop does.
-use Rattle.std.proofs.Common.{◌≡◌, ℕ, ◌+◌, ◌<◌, ◌≤◌, List, [], ◌∷◌, ◌++◌, length, get_or, drop, Result, Ok, Err, refl, sym, ap, ◌∙◌, arith}
+use Rattle.std.proofs.Common.{◌≡◌, ℕ, ◌+◌, ◌<◌, ◌≤◌, List, [], ◌∷◌, ◌++◌, length, get_or, drop, Result, Ok, Err, refl, sym, ◌∙◌}
 use Rattle.std.proofs.lemmas.List.{drop_more}
 use Rattle.std.proofs.Math.ListN.{drop_of_length-le}
 use Rattle.toml.specs.Data.{Members}
 use Rattle.toml.specs.declared.value.Value.{Value}
-use Rattle.rad_realms.specs.declared.faults.ConfigFault.{ConfigFault}
-use Rattle.rad_realms.specs.declared.faults.ConfigFault.TheVariants.{Toml, OutOfMemory, Missing, WrongType, OutOfRange, DoubleName, UnknownHome, BadAddress, TooMany}
-use Rattle.rad_realms.specs.Gives.{Fails, Gives, Adds}
+use Rattle.rad_realms.specs.declared.reading.faults.ConfigFault.{ConfigFault}
+use Rattle.rad_realms.specs.declared.reading.faults.ConfigFault.TheVariants.{Toml, OutOfMemory, Missing, WrongType, OutOfRange, DoubleName, UnknownHome, BadAddress, TooMany}
+use Rattle.rad_realms.specs.Gives.{Fails}
 use Rattle.rad_realms.specs.Values.{table_of, tables_of_values}
-use Rattle.rad_realms.specs.Walk.{◌>>=◌, each}
+use Rattle.rad_realms.specs.Walk.{each}
 
 -- a fault of one reading is one of another that fails where it does
 pub fails_with : {X Y : Type 0} (e : ConfigFault) (r : Result X ConfigFault) (total : Result Y ConfigFault) → ((f : ConfigFault) → r ≡ Err f → total ≡ Err f) → Fails e r → Fails e total

@@ -1,12 +1,13 @@
 -- Numbers, addresses and ports as texts (own).
-use Rattle.std.specs.Prelude.{◌≡◌, ℕ, ◌+◌, List, [], ◌∷◌, length, take, drop, position, Option, Some, None, option_map, option_and_then, Bool, ◌&&◌, not, ◌==◌, nat_lt, nat_le, slice_index, if◌then◌else◌}
+use Rattle.std.specs.Prelude.{◌≡◌, ℕ, ◌+◌, ◌≤◌, List, [], ◌∷◌, ◌++◌, length, All, take, drop, position, Option, Some, None, option_map, option_and_then, Bool, ◌&&◌, not, ◌==◌, nat_lt, nat_le, slice_index, if◌then◌else◌}
 use Rattle.std.specs.List.{list_all}
 use Rattle.std.specs.Char.{is_ascii_digit}
 use Rattle.std.specs.Str.Parse.{digits_value}
-use Rattle.rad_realms.specs.declared.address.Endpoint.{Endpoint}
+use Rattle.std.specs.Fmt.{decimal}
+use Rattle.rad_realms.specs.declared.reading.address.Endpoint.{Endpoint}
 
 infixl 10 ◌>>=◌
-abbrev ◌>>=◌ : {A B : Type 0} → Option A → (A → Option B) → Option B
+abbrev pub ◌>>=◌ : {A B : Type 0} → Option A → (A → Option B) → Option B
 o >>= f = option_and_then f o
 
 -- A decimal number: one digit or more, the first of them no 0 unless it is the only one.
@@ -23,6 +24,20 @@ number_in least most text =
 -- What stands before the first such octet, and after it.
 unfoldable pub around_first : ℕ → List ℕ → Option (List ℕ × List ℕ)
 around_first octet text = option_map (λ i. (take i text, drop (i + 1) text)) (position (λ o. o == octet) text)
+
+-- An address has four octets.
+pub record IsAddress (octets : List ℕ) : Type 0 where
+  pub four : length octets ≡ 4
+  pub octet : All (λ o. o ≤ 255) octets
+
+-- The text of an address: its octets in decimal, joined by `.`
+abbrev pub address_text : List ℕ → List ℕ
+address_text octets =
+    decimal (slice_index octets 0) ++ 46 ∷ (decimal (slice_index octets 1) ++ 46 ∷ (decimal (slice_index octets 2) ++ 46 ∷ decimal (slice_index octets 3)))
+
+-- The text of an address and port: the address, `:`, and the port in decimal.
+abbrev pub endpoint_text : Endpoint → List ℕ
+endpoint_text e = address_text e.address ++ 58 ∷ decimal e.port
 
 -- An address: four numbers from 0 to 255, joined by `.`
 unfoldable pub address_in : List ℕ → Option (List ℕ)

@@ -7,8 +7,8 @@ use Rattle.rad_packet.specs.Packet.{IsPacketText, code_of, packet_attributes}
 use Rattle.rad_packet.specs.Reading.{ReadsAs, Refuses}
 use Rattle.rad_auth.specs.Authenticator.{IsRightRequest}
 use Rattle.rad_auth.specs.Status.{IsRightStatus}
-use Rattle.rad_realms.specs.declared.faults.Dropped.{Dropped}
-use Rattle.rad_realms.specs.declared.faults.Dropped.TheVariants.{UnknownClient, Unread, WrongCode, BadAuthenticator, BadMessageAuthenticator, MessageAuthenticatorHere, NoRealm}
+use Rattle.rad_realms.specs.declared.checking.Dropped.{Dropped}
+use Rattle.rad_realms.specs.declared.checking.Dropped.TheVariants.{UnknownClient, Unread, WrongCode, BadAuthenticator, BadMessageAuthenticator, MessageAuthenticatorHere, NoRealm}
 use Rattle.rad_realms.specs.Configuration.{ClientEntry, Configuration}
 use Rattle.rad_realms.specs.Realm.{client_of, lane_of_packet}
 

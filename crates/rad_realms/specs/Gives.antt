@@ -1,7 +1,7 @@
 -- Want of memory may cut short what is read.
 use Rattle.std.specs.Prelude.{◌≡◌, List, [], ◌∷◌, ◌++◌, Result, Ok, Err}
-use Rattle.rad_realms.specs.declared.faults.ConfigFault.{ConfigFault}
-use Rattle.rad_realms.specs.declared.faults.ConfigFault.TheVariants.{OutOfMemory}
+use Rattle.rad_realms.specs.declared.reading.faults.ConfigFault.{ConfigFault}
+use Rattle.rad_realms.specs.declared.reading.faults.ConfigFault.TheVariants.{OutOfMemory}
 
 -- This fault is the one that reading gives, or memory ran out.
 abbrev pub Fails : {X : Type 0} → ConfigFault → Result X ConfigFault → Type 0

@@ -10,3 +10,4 @@ pub mod Values
 pub mod Index
 pub mod Checking
 pub mod Incoming
+pub mod Printed

@@ -1,13 +1,13 @@
 -- The places of the configuration, and its faults as they are printed (own).
 use Rattle.std.specs.Prelude.{ℕ, List, ◌++◌, codes}
 use Rattle.std.specs.Fmt.{decimal}
-use Rattle.rad_realms.specs.declared.faults.Part.{Part}
-use Rattle.rad_realms.specs.declared.faults.Part.TheVariants as part
-use Rattle.rad_realms.specs.declared.faults.Key.{Key}
-use Rattle.rad_realms.specs.declared.faults.Key.TheVariants.{Listen, DefaultHome, Linger, Client, Home, Realm, Address, Secret, Name, Window, Queue, Book, Tries, FirstWait, ProbeEvery, DownWait, Span, Ring}
-use Rattle.rad_realms.specs.declared.faults.Spot.{Spot}
-use Rattle.rad_realms.specs.declared.faults.ConfigFault.{ConfigFault}
-use Rattle.rad_realms.specs.declared.faults.ConfigFault.TheVariants.{Toml, OutOfMemory, Missing, WrongType, OutOfRange, DoubleName, UnknownHome, BadAddress, TooMany}
+use Rattle.rad_realms.specs.declared.reading.faults.Part.{Part}
+use Rattle.rad_realms.specs.declared.reading.faults.Part.TheVariants as part
+use Rattle.rad_realms.specs.declared.reading.faults.Key.{Key}
+use Rattle.rad_realms.specs.declared.reading.faults.Key.TheVariants.{Listen, DefaultHome, Linger, Client, Home, Realm, Address, Secret, Name, Window, Queue, Book, Tries, FirstWait, ProbeEvery, DownWait, Span, Ring}
+use Rattle.rad_realms.specs.declared.reading.faults.Spot.{Spot}
+use Rattle.rad_realms.specs.declared.reading.faults.ConfigFault.{ConfigFault}
+use Rattle.rad_realms.specs.declared.reading.faults.ConfigFault.TheVariants.{Toml, OutOfMemory, Missing, WrongType, OutOfRange, DoubleName, UnknownHome, BadAddress, TooMany}
 
 abbrev pub part_name : Part → List ℕ
 part_name part.Top = codes "top"

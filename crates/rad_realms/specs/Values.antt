@@ -1,10 +1,10 @@
 -- The document's values as the readers hand them on.
-use Rattle.std.specs.Prelude.{◌≡◌, List, All, map, Option, unwrap_or, Result, Ok, Err, IsSome}
+use Rattle.std.specs.Prelude.{◌≡◌, List, All, map, unwrap_or, Result, Ok, Err, IsSome}
 use Rattle.std.specs.Borrow.{Bor}
 use Rattle.toml.specs.Data.{Members, no_members, as_table}
 use Rattle.toml.specs.View.{view}
 use Rattle.toml.specs.declared.value.Value.{Value}
-use Rattle.rad_realms.specs.declared.faults.ConfigFault.{ConfigFault}
+use Rattle.rad_realms.specs.declared.reading.faults.ConfigFault.{ConfigFault}
 
 abbrev pub IsTable : Value → Type 0
 IsTable value = IsSome (as_table (view value))

@@ -2,21 +2,21 @@
 -- For one key a fault is Missing, then WrongType, then that the form is not met.
 use Rattle.std.specs.Prelude.{ℕ, ℤ, pos, negsuc, List, [], ◌∷◌, ◌++◌, length, Option, Some, None, option_map, ok_or, Result, Ok, Err, Bool, true, false, not, ◌&&◌, ◌||◌, ◌==◌, nat_le, position, find, is_some, if◌then◌else◌}
 use Rattle.std.specs.List.{list_all}
-use Rattle.std.specs.Char.{is_ascii_digit, is_ascii_alphanumeric}
+use Rattle.std.specs.Char.{is_ascii_alphanumeric}
 use Rattle.std.specs.Str.{bytes_eq}
 use Rattle.toml.specs.Data.{Data, array, table, Items, no_items, item, Members, get_member, as_str, as_integer, as_array}
 use Rattle.toml.specs.Parse.{parse_document}
-use Rattle.rad_realms.specs.declared.address.Endpoint.{Endpoint}
+use Rattle.rad_realms.specs.declared.reading.address.Endpoint.{Endpoint}
 use Rattle.rad_realms.specs.declared.limits.LimitNumbers.{LimitNumbers}
 use Rattle.rad_realms.specs.declared.limits.LimitFault.{LimitFault}
 use Rattle.rad_realms.specs.declared.limits.LimitFault.TheVariants as limit
-use Rattle.rad_realms.specs.declared.faults.Part.{Part}
-use Rattle.rad_realms.specs.declared.faults.Part.TheVariants as part
-use Rattle.rad_realms.specs.declared.faults.Key.{Key}
-use Rattle.rad_realms.specs.declared.faults.Key.TheVariants.{Listen, DefaultHome, Linger, Client, Home, Realm, Address, Secret, Name, Window, Queue, Book, Tries, FirstWait, ProbeEvery, DownWait, Span, Ring}
-use Rattle.rad_realms.specs.declared.faults.Spot.{Spot}
-use Rattle.rad_realms.specs.declared.faults.ConfigFault.{ConfigFault}
-use Rattle.rad_realms.specs.declared.faults.ConfigFault.TheVariants.{Toml, Missing, WrongType, OutOfRange, DoubleName, UnknownHome, BadAddress, TooMany}
+use Rattle.rad_realms.specs.declared.reading.faults.Part.{Part}
+use Rattle.rad_realms.specs.declared.reading.faults.Part.TheVariants as part
+use Rattle.rad_realms.specs.declared.reading.faults.Key.{Key}
+use Rattle.rad_realms.specs.declared.reading.faults.Key.TheVariants.{Listen, DefaultHome, Linger, Client, Home, Realm, Address, Secret, Name, Window, Queue, Book, Tries, FirstWait, ProbeEvery, DownWait, Span, Ring}
+use Rattle.rad_realms.specs.declared.reading.faults.Spot.{Spot}
+use Rattle.rad_realms.specs.declared.reading.faults.ConfigFault.{ConfigFault}
+use Rattle.rad_realms.specs.declared.reading.faults.ConfigFault.TheVariants.{Toml, Missing, WrongType, OutOfRange, DoubleName, UnknownHome, BadAddress, TooMany}
 use Rattle.rad_realms.specs.Address.{address_in, endpoint_in}
 use Rattle.rad_realms.specs.Limits.{limits_of, first_fault}
 use Rattle.rad_realms.specs.Spot.{key_name}

@@ -1,5 +1,5 @@
 -- What holds of each configuration that is read (own).
-use Rattle.std.specs.Prelude.{◌≡◌, ◌≢◌, ℕ, ◌<◌, ◌≤◌, List, length, All, IfSome, Bool, false}
+use Rattle.std.specs.Prelude.{◌≡◌, ◌≢◌, ℕ, ◌<◌, ◌≤◌, List, length, All, IfSome, false}
 use Rattle.std.specs.List.{AllPairs}
 use Rattle.rad_realms.specs.Limits.{AreInRange}
 use Rattle.rad_realms.specs.Configuration.{Configuration}

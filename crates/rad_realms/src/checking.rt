@@ -1,26 +1,37 @@
-ghost use Rattle.std.specs.Prelude.{◌≡◌, ◌≢◌, ◌↔◌, [], Some, IsTrue, option_copied, MatchBool, MatchResult};
-ghost use Rattle.rad_auth.specs.Authenticator.{IsRightRequest};
+//! What is checked of a datagram that comes from a client, and what it is then known to be.
+
+ghost use Rattle.std.specs.Prelude.{◌≡◌, ◌≢◌, [], Some, option_copied, MatchBool, MatchResult};
 ghost use Rattle.rad_packet.specs.Attribute.{of_kind};
 ghost use Rattle.rad_packet.specs.Packet.{IsPacketText, code_of, packet_attributes};
-ghost use Rattle.rad_realms.specs.Realm.{client_of, user_name, realm_of_packet};
+ghost use Rattle.rad_realms.specs.Realm.{client_of, user_name, realm_of_packet as the_realm};
 ghost use Rattle.rad_realms.specs.Checking.{DropsPacket, Drops};
 ghost use Rattle.rad_realms.specs.Incoming.{TakesPacket, Takes};
 
 use crate::clients::Client;
 use crate::config::Config;
-use crate::faults::Dropped;
 use crate::realms::realm_of;
 use rad_auth::{
     ACCOUNTING_REQUEST, MESSAGE_AUTHENTICATOR, STATUS_SERVER, Secret, check_request, check_status,
 };
-use rad_packet::{PacketRef, read};
+use rad_packet::{PacketRef, ReadFault, read};
+use std::fmt;
 use std::marker::Model;
 
 /// The Type of a User-Name (RFC 2865 section 5.1).
 const USER_NAME: u8 = 1;
 
+/// What a datagram that is not dropped is taken as.
+#[derive(Drop)]
+pub enum Incoming<'a> {
+    /// An Accounting-Request (RFC 2866 section 4.1).
+    Request(Checked<'a>),
+    /// A Status-Server (RFC 5997 section 3).
+    Status(CheckedStatus<'a>),
+}
+
 /// An Accounting-Request that was checked: it comes from a client, is right under that client's secret, has
-/// no Message-Authenticator, and leads to a lane. It borrows the datagram and the configuration.
+/// no Message-Authenticator, and leads to the lane of a home server. It borrows the datagram and the
+/// configuration.
 #[derive(Drop)]
 pub struct Checked<'a> {
     packet: PacketRef<'a>,
@@ -98,7 +109,7 @@ impl<'a> Checked<'a> {
 #[derive(Drop)]
 pub struct CheckedStatus<'a> {
     packet: PacketRef<'a>,
-    client: &'a Client,
+    secret: &'a Secret,
 }
 
 impl<'a> Model for CheckedStatus<'a> {
@@ -106,9 +117,9 @@ impl<'a> Model for CheckedStatus<'a> {
 
     ghost Value = { Status };
 
-    ghost view = { λ c. record { text = c.packet; secret = c.client.now.secret } };
+    ghost view = { λ c. record { text = c.packet; secret = c.secret.now } };
 
-    ghost invariant = { λ c. IsCheckedStatus (record { text = c.packet; secret = c.client.now.secret }) };
+    ghost invariant = { λ c. IsCheckedStatus (record { text = c.packet; secret = c.secret.now }) };
 }
 
 impl<'a> CheckedStatus<'a> {
@@ -127,130 +138,63 @@ impl<'a> CheckedStatus<'a> {
     pub fn secret(&self) -> &Secret
         ensures { result.now ≡ self.now.secret }
     {
-        self.client.secret()
+        self.secret
     }
 }
 
-/// A datagram that is not dropped.
-#[derive(Drop)]
-pub enum Incoming<'a> {
-    /// An Accounting-Request (RFC 2866 section 4.1).
-    Request(Checked<'a>),
-    /// A Status-Server (RFC 5997 section 3).
-    Status(CheckedStatus<'a>),
+/// Why a datagram from the side of the clients is dropped, with no answer to its sender. The first reason in
+/// this order is told. It is printed as its name, with the name of the read fault behind `Unread`.
+#[derive(Clone, Copy, Debug, PartialEq, Eq)]
+pub enum Dropped {
+    /// No client has the sender's address.
+    UnknownClient,
+    /// The datagram is no RADIUS packet, for the reason that is told.
+    Unread(ReadFault),
+    /// The packet's Code is neither Accounting-Request nor Status-Server.
+    WrongCode,
+    /// The Request Authenticator of an Accounting-Request is wrong under the client's secret, as where the two
+    /// do not share one.
+    BadAuthenticator,
+    /// A Status-Server has none or several Message-Authenticators, or a wrong one.
+    BadMessageAuthenticator,
+    /// An Accounting-Request has a Message-Authenticator, which this proxy does not forward.
+    MessageAuthenticatorHere,
+    /// An Accounting-Request leads to no lane: its realm is empty or not in the table, or it has none and there
+    /// is no default.
+    NoRealm,
 }
 
-/// The User-Name of a packet, where it has one. Looks at each attribute up to it once.
-fn user_name_of<'a>(packet: &PacketRef<'a>) -> Option<&'a [u8]>
-    ensures name { option_copied result ≡ user_name packet.now }
-    ensures packet { IsPacketText packet.now }
-{
-    for attribute in packet.attributes() {
-        if attribute.kind == USER_NAME {
-            return Some(attribute.value);
+impl fmt::Display for Dropped {
+    ghost use Rattle.std.specs.Prelude.{Some};
+    ghost use Rattle.rad_realms.specs.Printed.{dropped_text};
+
+    ghost output = { λ reason. Some (dropped_text reason) };
+
+    fn fmt<W: fmt::Write>(&self, f: &mut fmt::Formatter<W>) -> fmt::Result {
+        match self {
+            Dropped::UnknownClient => f.write_str("UnknownClient"),
+            Dropped::Unread(ReadFault::Short) => f.write_str("Unread Short"),
+            Dropped::Unread(ReadFault::BadLength) => f.write_str("Unread BadLength"),
+            Dropped::Unread(ReadFault::Truncated) => f.write_str("Unread Truncated"),
+            Dropped::Unread(ReadFault::BadAttribute(place)) => {
+                write!(f, "Unread BadAttribute {place}")
+            }
+            Dropped::WrongCode => f.write_str("WrongCode"),
+            Dropped::BadAuthenticator => f.write_str("BadAuthenticator"),
+            Dropped::BadMessageAuthenticator => f.write_str("BadMessageAuthenticator"),
+            Dropped::MessageAuthenticatorHere => f.write_str("MessageAuthenticatorHere"),
+            Dropped::NoRealm => f.write_str("NoRealm"),
         }
-    }
-    None
-}
-
-/// The realm of a packet, where it has one.
-#[tactic(auto, unfolding(crate::specs::Realm::realm_of_packet))]
-fn realm_of_its_name<'a>(packet: &PacketRef<'a>) -> Option<&'a [u8]>
-    ensures realm { option_copied result ≡ realm_of_packet packet.now }
-    ensures packet { IsPacketText packet.now }
-{
-    let name = user_name_of(packet)?;
-    realm_of(name)
-}
-
-/// Whether a packet is right by its Request Authenticator under a client's secret.
-fn is_right(client: &Client, packet: &PacketRef<'_>) -> bool
-    ensures { IsTrue result ↔ IsRightRequest client.now.secret packet.now }
-{
-    check_request(packet, client.secret())
-}
-
-/// Whether a packet has a Message-Authenticator.
-#[tactic(auto, using(crate::proofs::UserNames::none_counted))]
-fn has_message_authenticator(packet: &PacketRef<'_>) -> bool
-    ensures { MatchBool result (of_kind 80 (packet_attributes packet.now) ≢ []) (of_kind 80 (packet_attributes packet.now) ≡ []) }
-{
-    packet.count_of(MESSAGE_AUTHENTICATOR) != 0
-}
-
-/// Checks an Accounting-Request of a client.
-#[tactic(auto, unfolding(crate::specs::Realm::lane_of_packet))]
-fn check_accounting<'a>(
-    config: &'a Config,
-    client: &'a Client,
-    port: u16,
-    packet: PacketRef<'a>,
-) -> Result<Incoming<'a>, Dropped>
-    requires client { client_of config.now client.now.address ≡ Some client.now }
-    requires code { code_of packet ≡ 4 }
-    ensures { MatchResult result (λ incoming. TakesPacket config.now client.now port packet.entry incoming) (λ reason. DropsPacket config.now client.now.secret packet.entry reason) }
-{
-    if !is_right(client, &packet) {
-        return Err(Dropped::BadAuthenticator);
-    }
-    if has_message_authenticator(&packet) {
-        return Err(Dropped::MessageAuthenticatorHere);
-    }
-    let realm = realm_of_its_name(&packet);
-    match config.lane_of_realm(realm) {
-        Some(lane) => Ok(Incoming::Request(Checked {
-            packet,
-            config,
-            client,
-            port,
-            realm,
-            lane,
-        })),
-        None => Err(Dropped::NoRealm),
-    }
-}
-
-/// Checks a Status-Server of a client.
-fn check_watch<'a>(
-    config: &'a Config,
-    client: &'a Client,
-    port: u16,
-    packet: PacketRef<'a>,
-) -> Result<Incoming<'a>, Dropped>
-    requires { code_of packet ≡ 12 }
-    ensures { MatchResult result (λ incoming. TakesPacket config.now client.now port packet.entry incoming) (λ reason. DropsPacket config.now client.now.secret packet.entry reason) }
-{
-    if check_status(&packet, client.secret()) {
-        Ok(Incoming::Status(CheckedStatus { packet, client }))
-    } else {
-        Err(Dropped::BadMessageAuthenticator)
-    }
-}
-
-/// Checks a packet of a client.
-fn check_packet<'a>(
-    config: &'a Config,
-    client: &'a Client,
-    port: u16,
-    packet: PacketRef<'a>,
-) -> Result<Incoming<'a>, Dropped>
-    requires { client_of config.now client.now.address ≡ Some client.now }
-    ensures { MatchResult result (λ incoming. TakesPacket config.now client.now port packet.entry incoming) (λ reason. DropsPacket config.now client.now.secret packet.entry reason) }
-{
-    match packet.code() {
-        ACCOUNTING_REQUEST => check_accounting(config, client, port, packet),
-        STATUS_SERVER => check_watch(config, client, port, packet),
-        _ => Err(Dropped::WrongCode),
     }
 }
 
 /// Checks a datagram from the side of the clients: from which IPv4 address and UDP port it came, and its
-/// octets. Takes no memory, and hashes the packet once at most. Beside that it takes time that is logarithmic
-/// in the numbers of clients and realms, and looks at each attribute three times at most.
+/// octets. It takes no memory, and hashes the packet once at most. Beside that it takes time that is
+/// logarithmic in the numbers of clients and realms, and looks at each attribute three times at most.
 ///
 /// # Errors
 ///
-/// The first reason to drop it.
+/// The first reason to drop it, in the order of [`Dropped`].
 pub fn check_in<'a>(
     config: &'a Config,
     address: [u8; 4],
@@ -266,4 +210,102 @@ pub fn check_in<'a>(
         Ok(packet) => check_packet(config, client, port, packet),
         Err(fault) => Err(Dropped::Unread(fault)),
     }
+}
+
+/// Checks a packet of a client.
+fn check_packet<'a>(
+    config: &'a Config,
+    client: &'a Client,
+    port: u16,
+    packet: PacketRef<'a>,
+) -> Result<Incoming<'a>, Dropped>
+    requires { client_of config.now client.now.address ≡ Some client.now }
+    ensures { MatchResult result (λ incoming. TakesPacket config.now client.now port packet.entry incoming) (λ reason. DropsPacket config.now client.now.secret packet.entry reason) }
+{
+    match packet.code() {
+        ACCOUNTING_REQUEST => check_accounting(config, client, port, packet),
+        STATUS_SERVER => check_status_server(config, client, port, packet),
+        _ => Err(Dropped::WrongCode),
+    }
+}
+
+/// Checks an Accounting-Request of a client.
+#[tactic(auto, unfolding(crate::specs::Realm::lane_of_packet))]
+fn check_accounting<'a>(
+    config: &'a Config,
+    client: &'a Client,
+    port: u16,
+    packet: PacketRef<'a>,
+) -> Result<Incoming<'a>, Dropped>
+    requires client { client_of config.now client.now.address ≡ Some client.now }
+    requires code { code_of packet ≡ 4 }
+    ensures { MatchResult result (λ incoming. TakesPacket config.now client.now port packet.entry incoming) (λ reason. DropsPacket config.now client.now.secret packet.entry reason) }
+{
+    if !check_request(&packet, client.secret()) {
+        return Err(Dropped::BadAuthenticator);
+    }
+    if has_message_authenticator(&packet) {
+        return Err(Dropped::MessageAuthenticatorHere);
+    }
+    let realm = realm_of_packet(&packet);
+    match config.lane_of_realm(realm) {
+        Some(lane) => Ok(Incoming::Request(Checked {
+            packet,
+            config,
+            client,
+            port,
+            realm,
+            lane,
+        })),
+        None => Err(Dropped::NoRealm),
+    }
+}
+
+/// Checks a Status-Server of a client.
+fn check_status_server<'a>(
+    config: &'a Config,
+    client: &'a Client,
+    port: u16,
+    packet: PacketRef<'a>,
+) -> Result<Incoming<'a>, Dropped>
+    requires { code_of packet ≡ 12 }
+    ensures { MatchResult result (λ incoming. TakesPacket config.now client.now port packet.entry incoming) (λ reason. DropsPacket config.now client.now.secret packet.entry reason) }
+{
+    let secret = client.secret();
+    if check_status(&packet, secret) {
+        Ok(Incoming::Status(CheckedStatus { packet, secret }))
+    } else {
+        Err(Dropped::BadMessageAuthenticator)
+    }
+}
+
+/// Whether a packet has a Message-Authenticator.
+#[tactic(auto, using(crate::proofs::UserNames::none_counted))]
+fn has_message_authenticator(packet: &PacketRef<'_>) -> bool
+    ensures { MatchBool result (of_kind 80 (packet_attributes packet.now) ≢ []) (of_kind 80 (packet_attributes packet.now) ≡ []) }
+{
+    packet.count_of(MESSAGE_AUTHENTICATOR) != 0
+}
+
+/// The realm of a packet, where it has one.
+#[tactic(auto, unfolding(crate::specs::Realm::realm_of_packet))]
+fn realm_of_packet<'a>(packet: &PacketRef<'a>) -> Option<&'a [u8]>
+    ensures realm { option_copied result ≡ the_realm packet.now }
+    ensures packet { IsPacketText packet.now }
+{
+    let name = user_name_of(packet)?;
+    realm_of(name)
+}
+
+/// The User-Name of a packet, where it has one. It looks at each attribute up to it once.
+fn user_name_of<'a>(packet: &PacketRef<'a>) -> Option<&'a [u8]>
+    ensures name { option_copied result ≡ user_name packet.now }
+    ensures packet { IsPacketText packet.now }
+{
+    for attribute in packet.attributes() {
+        if attribute.kind == USER_NAME {
+            return Some(attribute.value);
+        }
+    }
+    None
 }

@@ -1,6 +1,8 @@
-use crate::address::Endpoint;
+//! A configuration, and whom and which lane it finds.
+
 use crate::clients::{Client, Clients};
 use crate::homes::{Home, Homes};
+use crate::reading::Endpoint;
 use crate::realms::{Realm, Realms, realm_of};
 use std::marker::Model;
 

@@ -1,6 +1,8 @@
-use crate::address::Endpoint;
+//! Home servers, each of which is a lane.
+
 use crate::limits::Limits;
 use crate::name::Name;
+use crate::reading::Endpoint;
 use rad_auth::Secret;
 use std::alloc::{AllocError, Global};
 use std::marker::Model;

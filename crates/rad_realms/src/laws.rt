@@ -1,13 +1,14 @@
-//! Laws of the definitions.
+//! Laws of the definitions: each function is proved, does nothing, and says in its contract what is true.
 
 ghost use Rattle.std.specs.Prelude.{◌≡◌, ◌<◌, ◌≤◌, ◌^◌, true, ◌↔◌, ◌==◌, ◌++◌, ◌∷◌, [], List, ℕ, Some, None, not};
 ghost use Rattle.std.specs.List.{list_all};
 ghost use Rattle.std.specs.Fmt.{decimal};
 ghost use Rattle.rad_realms.specs.declared.limits.LimitNumbers.{LimitNumbers};
 ghost use Rattle.rad_realms.specs.Limits.{AreInRange, limits_of, first_fault};
-ghost use Rattle.rad_realms.specs.Address.{number_in};
+ghost use Rattle.rad_realms.specs.declared.reading.address.Endpoint.{Endpoint};
+ghost use Rattle.rad_realms.specs.Address.{number_in, address_in, address_text, endpoint_in, endpoint_text, IsAddress};
 ghost use Rattle.rad_realms.specs.Realm.{realm_in};
-ghost use Rattle.rad_realms.specs.declared.faults.Dropped.{Dropped};
+ghost use Rattle.rad_realms.specs.declared.checking.Dropped.{Dropped};
 ghost use Rattle.rad_realms.specs.declared.checking.Incoming.{Incoming};
 ghost use Rattle.rad_realms.specs.Configuration.{Configuration};
 ghost use Rattle.rad_realms.specs.Checking.{Drops};
@@ -31,6 +32,18 @@ pub fn realm_follows_the_last_sign()
 pub fn numbers_have_one_text()
     ensures read { (least most n : ℕ) → n < 2 ^ 64 → least ≤ n → n ≤ most → number_in least most (decimal n) ≡ Some n }
     ensures only { (least most n : ℕ) (text : List ℕ) → number_in least most text ≡ Some n → n < 2 ^ 64 → text ≡ decimal n }
+{}
+
+/// An address is read from its own text, and from no other.
+pub fn addresses_have_one_text()
+    ensures read { (address : List ℕ) → IsAddress address → address_in (address_text address) ≡ Some address }
+    ensures only { (address text : List ℕ) → address_in text ≡ Some address → (text ≡ address_text address) × IsAddress address }
+{}
+
+/// An address and port is read from its own text, and from no other.
+pub fn endpoints_have_one_text()
+    ensures read { (e : Endpoint) → IsAddress e.address → 1 ≤ e.port → e.port ≤ 65535 → endpoint_in (endpoint_text e) ≡ Some e }
+    ensures only { (e : Endpoint) (text : List ℕ) → endpoint_in text ≡ Some e → (text ≡ endpoint_text e) × IsAddress e.address × (1 ≤ e.port) × (e.port ≤ 65535) }
 {}
 
 /// No datagram is dropped for two reasons, and none that is taken is dropped.

@@ -1,6 +1,22 @@
+//! The limits of a lane: its numbers, each of them in a range.
+
 ghost use Rattle.std.specs.Prelude.{◌≡◌, ◌&&◌, nat_le, if◌then◌else◌, Ok, Err};
 
+use std::fmt;
 use std::marker::Model;
+
+/// The numbers where the configuration has none.
+pub const DEFAULT_LIMITS: LimitNumbers = LimitNumbers {
+    window: 64,
+    queue: 4096,
+    book: 100_000,
+    tries: 3,
+    first_wait: 2000,
+    probe_every: 10_000,
+    down_wait: 60_000,
+    span: 30_000,
+    ring: 256,
+};
 
 /// The numbers of a lane, as a home server's table in the configuration has them. Times are in
 /// milliseconds.
@@ -26,20 +42,7 @@ pub struct LimitNumbers {
     pub ring: u32,
 }
 
-/// The numbers where the configuration has none.
-pub const DEFAULT_LIMITS: LimitNumbers = LimitNumbers {
-    window: 64,
-    queue: 4096,
-    book: 100_000,
-    tries: 3,
-    first_wait: 2000,
-    probe_every: 10_000,
-    down_wait: 60_000,
-    span: 30_000,
-    ring: 256,
-};
-
-/// Which number is out of its range. The first one in this order is told.
+/// Which number is out of its range. The first one in this order is told, and printed as its name here.
 #[derive(Clone, Copy, Debug, PartialEq, Eq)]
 pub enum LimitFault {
     /// `window`.
@@ -60,6 +63,27 @@ pub enum LimitFault {
     Span,
     /// `ring`.
     Ring,
+}
+
+impl fmt::Display for LimitFault {
+    ghost use Rattle.std.specs.Prelude.{Some};
+    ghost use Rattle.rad_realms.specs.Printed.{limit_text};
+
+    ghost output = { λ fault. Some (limit_text fault) };
+
+    fn fmt<W: fmt::Write>(&self, f: &mut fmt::Formatter<W>) -> fmt::Result {
+        f.write_str(match self {
+            LimitFault::Window => "Window",
+            LimitFault::Queue => "Queue",
+            LimitFault::Book => "Book",
+            LimitFault::Tries => "Tries",
+            LimitFault::FirstWait => "FirstWait",
+            LimitFault::ProbeEvery => "ProbeEvery",
+            LimitFault::DownWait => "DownWait",
+            LimitFault::Span => "Span",
+            LimitFault::Ring => "Ring",
+        })
+    }
 }
 
 /// Numbers of a lane, each of them in its range.
@@ -86,11 +110,11 @@ impl Limits {
     ghost use Rattle.std.specs.Result.{result_err};
     ghost use Rattle.rad_realms.specs.Limits.{AreInRange, limits_of, first_fault};
 
-    /// Takes numbers that are in their ranges.
+    /// Takes numbers where each of them is in its range.
     ///
     /// # Errors
     ///
-    /// The first number that is out of its range.
+    /// The first number that is out of its range, in the order of [`LimitFault`].
     pub fn new(numbers: LimitNumbers) -> Result<Limits, LimitFault>
         ensures kept { IfOk result (λ limits. limits ≡ numbers) }
         ensures fault { result_err result ≡ first_fault (limits_of numbers) }

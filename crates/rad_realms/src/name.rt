@@ -1,3 +1,5 @@
+//! Names of home servers and realms.
+
 use std::alloc::{AllocError, Global};
 use std::marker::Model;
 

@@ -1,3 +1,5 @@
+//! Realms, the lanes that they lead to, and the realm of a User-Name.
+
 ghost use Rattle.std.specs.Prelude.{◌≡◌, ◌≤◌, ◌++◌, length, take, drop, map, IfOk, option_copied};
 ghost use Rattle.std.specs.Char.{to_ascii_lowercase};
 ghost use Rattle.std.specs.Ordering.{nat_cmp};
@@ -5,11 +7,13 @@ ghost use Rattle.std.specs.Cmp.Lexicographic.{slice_cmp};
 ghost use Rattle.std.specs.BTreeMap as tree;
 ghost use Rattle.rad_realms.specs.Realm.{realm_in};
 
-use crate::document::LONGEST_REALM;
 use crate::name::Name;
 use std::alloc::{AllocError, Global};
 use std::collections::BTreeMap;
 use std::marker::Model;
+
+/// The most octets of a realm's name.
+pub(crate) const LONGEST_REALM: usize = 252;
 
 /// A realm (RFC 7542 section 2.2), and the lane that it leads to.
 #[derive(Drop)]
@@ -123,6 +127,22 @@ impl Realms {
     }
 }
 
+/// What follows the last `@` of a User-Name's value (RFC 7542 section 2.2), where it has one. Looks at each
+/// octet behind that `@` once.
+pub(crate) fn realm_of(name: &[u8]) -> Option<&[u8]>
+    ensures { option_copied result ≡ realm_in name.now }
+{
+    let mut place = name.len();
+    while place > 0 {
+        let rest = &name[place..];
+        place -= 1;
+        if name[place] == b'@' {
+            return Some(rest);
+        }
+    }
+    None
+}
+
 /// The lane that is kept for a name in lower case.
 fn lane_kept(lanes: &BTreeMap<Vec<u8>, u16>, name: &[u8]) -> Option<u16>
     ensures { result ≡ tree.get_by (λ k. slice_cmp nat_cmp name.now k.items) lanes.now }
@@ -155,20 +175,4 @@ fn put_lower_case(buffer: &mut [u8], name: &[u8])
     let front = &mut buffer[..name.len()];
     front.copy_from_slice(name);
     front.make_ascii_lowercase();
-}
-
-/// What follows the last `@` of a User-Name's value (RFC 7542 section 2.2), where it has one. Looks at each
-/// octet behind that `@` once.
-pub(crate) fn realm_of(name: &[u8]) -> Option<&[u8]>
-    ensures { option_copied result ≡ realm_in name.now }
-{
-    let mut place = name.len();
-    while place > 0 {
-        let rest = &name[place..];
-        place -= 1;
-        if name[place] == b'@' {
-            return Some(rest);
-        }
-    }
-    None
 }

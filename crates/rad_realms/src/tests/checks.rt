@@ -1,3 +1,5 @@
+//! What becomes of datagrams, and what is told of them.
+
 use super::reading::{configuration, counts_of, lane_of};
 use crate::*;
 use std::process::Abort;

@@ -1,14 +1,16 @@
+//! The fault that each faulty text has.
+
 use super::reading::printed;
 use crate::*;
 use std::alloc::{AllocError, Global};
 use std::process::Abort;
 use std::test::Fail;
 
-const TOP: &str = "listen = \"127.0.0.1:1813\"\n";
+pub(super) const TOP: &str = "listen = \"127.0.0.1:1813\"\n";
 
-const CLIENT: &str = "[[client]]\naddress = \"10.0.0.1\"\nsecret = \"nas-secret\"\n";
+pub(super) const CLIENT: &str = "[[client]]\naddress = \"10.0.0.1\"\nsecret = \"nas-secret\"\n";
 
-const HOME: &str =
+pub(super) const HOME: &str =
     "[[home]]\nname = \"h1\"\naddress = \"127.0.0.1:2813\"\nsecret = \"home-secret\"\n";
 
 const REALM: &str = "[[realm]]\nname = \"example.org\"\nhome = \"h1\"\n";
@@ -47,7 +49,15 @@ fn each_prints(
     Ok(())
 }
 
-const TEXTS: [(&str, &str); 9] = [
+/// A whole configuration whose tables are written inline.
+const INLINE: &str = r#"listen = "127.0.0.1:1"
+client = [{address = "10.0.0.1", secret = "s"}]
+home = [{name = "h", address = "1.2.3.4:5", secret = "s"}]
+realm = [{name = "r", home = "h"}]
+"#;
+
+const TEXTS: [(&str, &str); 10] = [
+    (INLINE, "read"),
     ("", "Missing at top listen"),
     ("listen = ", "Toml"),
     ("listen = 1813", "WrongType at top listen"),

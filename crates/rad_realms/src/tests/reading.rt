@@ -1,3 +1,5 @@
+//! How a test reads a configuration.
+
 use crate::*;
 use std::alloc::{AllocError, Global};
 use std::test::Fail;

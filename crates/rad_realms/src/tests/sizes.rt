@@ -1,3 +1,5 @@
+//! The largest configuration, and one more of each.
+
 use super::reading::{configuration, counts_of, lane_of, printed};
 use crate::*;
 use std::alloc::{AllocError, Global};
@@ -92,15 +94,50 @@ fn the_largest_configuration_is_read(rt: HostRuntime) -> Result<(), Fail> {
     Ok(())
 }
 
+/// How many clients, home servers and realms a text has, what stands behind them, and what is printed.
+const SIZES: [(u32, u32, u32, &str, &str); 6] = [
+    (257, 64, 256, "", "TooMany at top client"),
+    (256, 65, 256, "", "TooMany at top home"),
+    (256, 64, 257, "", "TooMany at top realm"),
+    (
+        255,
+        1,
+        0,
+        "[[client]]\naddress = \"10.0.0.0\"",
+        "DoubleName at client 255 address",
+    ),
+    (
+        1,
+        63,
+        0,
+        "[[home]]\nname = \"h0\"",
+        "DoubleName at home 63 name",
+    ),
+    (
+        1,
+        64,
+        255,
+        "[[realm]]\nname = \"r0\"",
+        "DoubleName at realm 255 name",
+    ),
+];
+
 #[test]
-fn one_more_of_each_is_too_many(rt: HostRuntime) -> Result<(), Fail> {
-    for (clients, homes, realms, wanted) in [
-        (257, 64, 256, "TooMany at top client"),
-        (256, 65, 256, "TooMany at top home"),
-        (256, 64, 257, "TooMany at top realm"),
-    ] {
-        let text = text_of(rt.alloc(), clients, homes, realms)?;
+fn faults_of_the_last_and_of_one_too_many(rt: HostRuntime) -> Result<(), Fail> {
+    for (clients, homes, realms, more, wanted) in SIZES {
+        let mut text = text_of(rt.alloc(), clients, homes, realms)?;
+        text.push_str(more)?;
         assert_eq!(rt; printed(rt.alloc(), text.as_str())?.as_str(), wanted);
     }
+    Ok(())
+}
+
+#[test]
+fn a_long_text_is_read(rt: HostRuntime) -> Result<(), Fail> {
+    let mut text = text_of(rt.alloc(), 1, 1, 1)?;
+    for _ in 0..2048 {
+        text.push_str("# sixty-four octets of a comment, so that the text becomes long.\n")?;
+    }
+    assert_eq!(rt; printed(rt.alloc(), text.as_str())?.as_str(), "read");
     Ok(())
 }

@@ -1,4 +1,4 @@
-use Rattle.std.proofs.Common.{◌≡◌, ◌==◌, get_or, ◌-◌, true, false, arith, rules}
+use Rattle.std.proofs.Common.{◌≡◌, ◌==◌, get_or, ◌-◌, true, false, arith}
 use Rattle.std.proofs.lemmas.Bool.Decides.{nat_tests}
 use Rattle.rad_realms.proofs.LastSigns.{no_realm_at_end, no_realm_more, realm_found}
 use Rattle.rad_realms.proofs.realms.realm_of.Goals as goal

@@ -1,4 +1,4 @@
-use Rattle.std.proofs.Common.{◌≡◌, refl}
+use Rattle.std.proofs.Common.{refl}
 use Rattle.rad_realms.proofs.Places.{client_found, client_has_address}
 use Rattle.rad_realms.proofs.clients.Clients.find.Goals as goal
 

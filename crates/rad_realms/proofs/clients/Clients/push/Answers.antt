@@ -1,4 +1,4 @@
-use Rattle.std.proofs.Common.{◌≡◌, ◌∙◌, sym, ◌++◌, ◌∷◌, [], length, rules, arith}
+use Rattle.std.proofs.Common.{◌≡◌, ◌++◌, ◌∷◌, [], length, rules, arith}
 use Rattle.rad_realms.proofs.Places.{client_pushed_as}
 use Rattle.rad_realms.proofs.clients.Clients.push.Goals as goal
 

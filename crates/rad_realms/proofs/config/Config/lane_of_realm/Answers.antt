@@ -1,4 +1,4 @@
-use Rattle.std.proofs.Common.{◌≡◌, ◌<◌, length, IfSome, subst}
+use Rattle.std.proofs.Common.{◌<◌, length, IfSome, subst}
 use Rattle.rad_realms.specs.Configuration.{Configuration}
 use Rattle.rad_realms.specs.Realm.{lane_in}
 use Rattle.rad_realms.proofs.Lanes.{lane_within}

@@ -1,4 +1,4 @@
-use Rattle.std.proofs.Common.{◌≡◌, ℕ, ◌++◌, ◌∙◌, sym, ap, refl, arith, map, length, take, drop, replicate}
+use Rattle.std.proofs.Common.{◌≡◌, ◌∙◌, ap, refl, map, length, take}
 use Rattle.std.specs.Char.{to_ascii_lowercase}
 use Rattle.std.proofs.lemmas.List.{length-map, take_at}
 use Rattle.rad_realms.proofs.Names.{too_long}

@@ -1,4 +1,4 @@
-use Rattle.std.proofs.Common.{◌≡◌, ◌∙◌, sym, ap, ◌++◌, ◌∷◌, [], length, map, rules, arith}
+use Rattle.std.proofs.Common.{◌≡◌, ◌∙◌, ap, ◌++◌, ◌∷◌, [], map, arith}
 use Rattle.std.specs.Char.{to_ascii_lowercase}
 use Rattle.rad_realms.proofs.Names.{realm_pushed}
 use Rattle.rad_realms.proofs.realms.Realms.push.Goals as goal

@@ -1,7 +1,0 @@
-use Rattle.std.proofs.Common.{◌≡◌, [], drop, length}
-use Rattle.rad_realms.specs.Values.{tables_of_values}
-use Rattle.rad_realms.specs.Walk.{client_in, home_in, realm_in_table, each}
-use Rattle.rad_realms.proofs.sections.realms_of.Given as goal
-
-abbrev pub invariant-loop-value : goal.invariant-loop-value
-invariant-loop-value l = each (realm_in_table l.homes) l.realms (tables_of_values (drop l.value-index l.tables)) ≡ each (realm_in_table l.homes) [] (tables_of_values l.tables)
