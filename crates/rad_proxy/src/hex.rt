@@ -70,6 +70,7 @@ impl<'a> Hex<'a> {
         requires { index < length (octets_of self.now) }
         ensures { result ≡ slice_index (octets_of self.now) index }
     {
+        // The length of the text bounds the places of both digits.
         let length = self.digits.len();
         prove!(index < length / 2);
         let high = self.digits[2 * index];

@@ -6,7 +6,7 @@ ghost use Rattle.rad_proxy.specs.Pieces.{IsFirstAt};
 /// The pieces of a text round each separator, in order; a text without one is one piece.
 #[derive(Drop)]
 pub struct Pieces<'a> {
-    /// The text that is left, and nothing after the last piece.
+    /// The text that is left to be cut: none once the last piece was given.
     rest: Option<&'a [u8]>,
     separator: u8,
 }
@@ -26,7 +26,7 @@ impl<'a> Pieces<'a> {
         }
     }
 
-    /// What follows the pieces that were given.
+    /// What follows the pieces that were given, where the last piece was not among them.
     pub fn rest(&self) -> Option<&'a [u8]>
         ensures { result ≡ self.now.rest }
     {
