@@ -4,8 +4,8 @@ use Rattle.std.specs.Str.{IsUtf8}
 use Rattle.rad_realms.specs.Configuration.{Configuration}
 use Rattle.rad_realms.specs.Gives.{Gives}
 use Rattle.rad_realms.specs.Walk.{configuration_in}
-use Rattle.rad_realms.specs.declared.faults.ConfigFault.{ConfigFault}
-use Rattle.rad_realms.specs.declared.faults.ConfigFault.TheVariants.{Toml}
+use Rattle.rad_realms.specs.declared.reading.faults.ConfigFault.{ConfigFault}
+use Rattle.rad_realms.specs.declared.reading.faults.ConfigFault.TheVariants.{Toml}
 use Rattle.rad_proxy.specs.declared.lines.CountLine.{CountLine}
 
 -- Octets are read as the text that they are; those that are no UTF-8 are no TOML either.

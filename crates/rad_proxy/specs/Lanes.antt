@@ -14,9 +14,9 @@ pub record IsEmptyAt (config : Configuration) (books : List Book) (lane : ℕ) :
   pub set_up : IsSetUp config lane setup
   pub empty : slice_get books lane ≡ Some (empty_book setup)
 
--- There is an empty lane for each home server. A configuration has far fewer than 65,535.
+-- There is an empty lane for each home server.
 pub record AreEmpty (config : Configuration) (books : List Book) : Type 0 where
-  pub counted : length config.homes ≤ 65535 → length books ≡ length config.homes
+  pub counted : length books ≡ length config.homes
   pub each : (lane : ℕ) → lane < length books → IsEmptyAt config books lane
 
 -- The lane at a place does this step, and the others stay.

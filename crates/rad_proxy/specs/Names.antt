@@ -3,8 +3,8 @@ use Rattle.std.specs.Prelude.{ℕ, List, ◌++◌, codes, slice_index, suc, zero
 use Rattle.std.specs.Fmt.{decimal}
 use Rattle.rad_packet.specs.declared.faults.ReadFault.{ReadFault}
 use Rattle.rad_packet.specs.declared.faults.ReadFault.TheVariants.{Short, BadLength, Truncated, BadAttribute}
-use Rattle.rad_realms.specs.declared.faults.Dropped.{Dropped}
-use Rattle.rad_realms.specs.declared.faults.Dropped.TheVariants.{UnknownClient, Unread, WrongCode, BadAuthenticator, BadMessageAuthenticator, MessageAuthenticatorHere, NoRealm}
+use Rattle.rad_realms.specs.declared.checking.Dropped.{Dropped}
+use Rattle.rad_realms.specs.declared.checking.Dropped.TheVariants.{UnknownClient, Unread, WrongCode, BadAuthenticator, BadMessageAuthenticator, MessageAuthenticatorHere, NoRealm}
 use Rattle.rad_lane.specs.declared.accepting.Refusal.{Refusal}
 use Rattle.rad_lane.specs.declared.accepting.Refusal.TheVariants.{Draining, BookFull, QueueFull, TooLong, OutOfMemory, WrongLane}
 use Rattle.rad_lane.specs.declared.hearing.HearFault.{HearFault}

@@ -27,7 +27,7 @@ pub type HomeLane = Lane<PlainQueue<Record>>;
 pub fn set_up(alloc: Global, config: &Config) -> Result<Vec<HomeLane>, AllocError>
     ensures { IfOk result (λ lanes. AreEmpty config.now lanes.items) }
 {
-    let count = config.homes().len().min(usize::from(u16::MAX)) as u16;
+    let count = config.homes().len() as u16;
     let mut lanes = Vec::with_capacity(alloc, usize::from(count))?;
     for lane in 0..count {
         let setup = Setup::of(alloc, config, lane)?;

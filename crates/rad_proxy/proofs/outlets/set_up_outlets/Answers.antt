@@ -9,7 +9,7 @@ pub loop-home-preserved : goal.loop-home-preserved
 loop-home-preserved c =
     let within : c.loop-home.home-index < length c.homes-home-items.result.now = omega (arith, c.loop-home-test.true) in
     let there : slice_get c.args.config.now.homes c.loop-home.home-index ≡ Some c.home-item.result =
-    subst (λ homes. slice_get homes c.loop-home.home-index ≡ Some c.home-item.result) c.homes-home-items.ensures
+    subst (λ homes. slice_get homes c.loop-home.home-index ≡ Some c.home-item.result) c.homes-home-items.ensures.value
     (slice_get_read c.homes-home-items.result.now _ c.loop-home.home-index c.home-item.result refl within c.home-item.is) in
     let most : c.in_ok-outlet.outlet.most ≡ c.home-item.result.limits.ring =
     c.in_ok-outlet.ensures.most ∙ ap (λ (n : LimitNumbers). n.ring) (c.numbers-most.ensures.value ∙ c.limits.ensures) in

@@ -6,7 +6,7 @@ use Rattle.rad_proxy.proofs.path.accept_request.Goals as goal
 
 pub returns-then-not-takes : goal.returns-then-not-takes
 returns-then-not-takes c =
-    let at : c.from-place.result ≡ c.args.request.now.lane = omega (arith, c.from-place.ensures, c.lane.ensures) in
+    let at : c.from-place.result ≡ c.args.request.now.lane = omega (arith, c.from-place.ensures, c.lane.ensures.value) in
     let within : c.from-place.result < length c.args.lanes.now = omega (arith, c.if-place-lanes.false) in (
       of_no_lane c.args.lanes.now c.args.request.now c.from-place.result c.index-lanes-place.result at within
           (iff_false c.takes.ensures c.if-not-takes.true),
@@ -18,7 +18,7 @@ returns-then-not-takes c =
 
 pub returns-in-Ok : goal.returns-in-Ok
 returns-in-Ok c =
-    let at : c.from-place.result ≡ c.args.request.now.lane = omega (arith, c.from-place.ensures, c.lane.ensures) in
+    let at : c.from-place.result ≡ c.args.request.now.lane = omega (arith, c.from-place.ensures, c.lane.ensures.value) in
     let within : c.from-place.result < length c.args.lanes.now = omega (arith, c.if-place-lanes.false) in (
       c.lane-in-Ok.ensures,
       accepts_among c.args.lanes.now c.args.request.now c.args.moment _ _ c.from-place.result c.index-lanes-place.result c.accept.new.self
@@ -27,7 +27,7 @@ returns-in-Ok c =
 
 pub returns-in-Err : goal.returns-in-Err
 returns-in-Err c =
-    let at : c.from-place.result ≡ c.args.request.now.lane = omega (arith, c.from-place.ensures, c.lane.ensures) in
+    let at : c.from-place.result ≡ c.args.request.now.lane = omega (arith, c.from-place.ensures, c.lane.ensures.value) in
     let within : c.from-place.result < length c.args.lanes.now = omega (arith, c.if-place-lanes.false) in
     accepts_among c.args.lanes.now c.args.request.now c.args.moment _ _ c.from-place.result c.index-lanes-place.result c.accept.new.self
     at within (c.takes.ensures.0 c.if-not-takes.false) c.in-Err.ensures
