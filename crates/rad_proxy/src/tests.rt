@@ -289,19 +289,23 @@ fn task_of(alloc: Global, words: &str) -> std::result::Result<char, Fail> {
     for word in words.split_whitespace() {
         called.push(String::from_str(alloc, word)?)?;
     }
-    Ok(match read_words(alloc, called.as_slice()) {
-        Ok(Task::Replay) => 'p',
-        Ok(Task::Check(file)) => {
-            if file.as_str() == "some.toml" {
-                'c'
-            } else {
-                '?'
-            }
-        }
-        Ok(Task::Run) => 'r',
-        Err(Fault::Usage) => 'u',
-        Err(_) => '!',
-    })
+    match read_words(alloc, called.as_slice()) {
+        Ok(task) => Ok(letter_of(&task)),
+        Err(fault) => Ok(if matches!(fault, Fault::Usage) {
+            'u'
+        } else {
+            '!'
+        }),
+    }
+}
+
+fn letter_of(task: &Task) -> char {
+    match task {
+        Task::Replay => 'p',
+        Task::Check(file) if file.as_str() == "some.toml" => 'c',
+        Task::Check(_) => '?',
+        Task::Run => 'r',
+    }
 }
 
 #[test]
