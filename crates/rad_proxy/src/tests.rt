@@ -283,35 +283,44 @@ fn lines_of_a_configuration_end_in_cr_lf_too(rt: HostRuntime) -> std::result::Re
 }
 
 /// What `read_words` makes of these words after the program's name, in a letter.
-fn task_of(alloc: Global, words: &[&str]) -> std::result::Result<char, Fail> {
+fn task_of(alloc: Global, words: &str) -> std::result::Result<char, Fail> {
     let mut called = Vec::new(alloc);
     called.push(String::from_str(alloc, "rad_proxy")?)?;
-    for word in words {
+    for word in words.split_whitespace() {
         called.push(String::from_str(alloc, word)?)?;
     }
-    Ok(match read_words(alloc, called.as_slice()) {
-        Ok(Task::Replay) => 'p',
-        Ok(Task::Check(file)) if file.as_str() == "some.toml" => 'c',
-        Ok(Task::Check(_)) => '?',
-        Ok(Task::Run) => 'r',
-        Err(Fault::Usage) => 'u',
-        Err(_) => '!',
-    })
+    match read_words(alloc, called.as_slice()) {
+        Ok(task) => Ok(letter_of(&task)),
+        Err(fault) => Ok(if matches!(fault, Fault::Usage) {
+            'u'
+        } else {
+            '!'
+        }),
+    }
+}
+
+fn letter_of(task: &Task) -> char {
+    match task {
+        Task::Replay => 'p',
+        Task::Check(file) if file.as_str() == "some.toml" => 'c',
+        Task::Check(_) => '?',
+        Task::Run => 'r',
+    }
 }
 
 #[test]
 fn each_form_of_words_has_its_task(rt: HostRuntime) -> std::result::Result<(), Fail> {
     let alloc = rt.alloc();
-    assert_eq!(rt; task_of(alloc, &[])?, 'p');
-    assert_eq!(rt; task_of(alloc, &["replay"])?, 'p');
-    assert_eq!(rt; task_of(alloc, &["check", "some.toml"])?, 'c');
-    assert_eq!(rt; task_of(alloc, &["run", "some.toml"])?, 'r');
-    assert_eq!(rt; task_of(alloc, &["replay", "some.toml"])?, 'u');
-    assert_eq!(rt; task_of(alloc, &["check"])?, 'u');
-    assert_eq!(rt; task_of(alloc, &["check", "some.toml", "other.toml"])?, 'u');
-    assert_eq!(rt; task_of(alloc, &["run"])?, 'u');
-    assert_eq!(rt; task_of(alloc, &["run", "some.toml", "other.toml"])?, 'u');
-    assert_eq!(rt; task_of(alloc, &["some.toml"])?, 'u');
-    assert_eq!(rt; task_of(alloc, &["check", "--help"])?, 'u');
+    assert_eq!(rt; task_of(alloc, "")?, 'p');
+    assert_eq!(rt; task_of(alloc, "replay")?, 'p');
+    assert_eq!(rt; task_of(alloc, "check some.toml")?, 'c');
+    assert_eq!(rt; task_of(alloc, "run some.toml")?, 'r');
+    assert_eq!(rt; task_of(alloc, "replay some.toml")?, 'u');
+    assert_eq!(rt; task_of(alloc, "check")?, 'u');
+    assert_eq!(rt; task_of(alloc, "check some.toml other.toml")?, 'u');
+    assert_eq!(rt; task_of(alloc, "run")?, 'u');
+    assert_eq!(rt; task_of(alloc, "run some.toml other.toml")?, 'u');
+    assert_eq!(rt; task_of(alloc, "some.toml")?, 'u');
+    assert_eq!(rt; task_of(alloc, "check --help")?, 'u');
     Ok(())
 }
