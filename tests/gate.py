@@ -1,11 +1,12 @@
 #!/usr/bin/env python3
-"""The whole gate: what `rt ci` proves, refuses and runs, and then the rows over the program that it built.
+"""The whole gate: what `rt ci` proves, refuses and runs, then the octets that the tests expect, as another
+implementation makes them, and the rows over the program that `rt ci` built.
 
 usage: gate.py PROGRAM
 
-What `rt ci` says goes to out/gate.txt, what the rows say to out/rows.txt, and what each crate took, as a table in
-Markdown, to out/times.md. The last line is `N passed, M failed`, of both together; what ends badly or without such a
-line of its own counts as a failure.
+What `rt ci` says goes to out/gate.txt, what the octets and the rows say to out/vectors.txt and out/rows.txt, and what each
+crate took, as a table in Markdown, to out/times.md. The last line is `N passed, M failed`, of all of it together; what
+ends badly or without such a line of its own counts as a failure.
 """
 import os
 import pathlib
@@ -42,9 +43,9 @@ def counted(status, log):
     return passed, max(failed, 1) if status else failed
 
 
-def rows(program, log):
-    """Runs the rows, shown and kept in a log, and gives their status."""
-    words = [sys.executable, str(TOP / "tests" / "rows" / "run.py"), program]
+def shown(script, word, log):
+    """Runs a script of tests/, shown and kept in a log, and gives its status."""
+    words = [sys.executable, str(TOP / "tests" / script), word]
     how = {"stdout": subprocess.PIPE, "encoding": "utf-8", "errors": "replace"}
     with log.open("w", encoding="utf-8") as kept, subprocess.Popen(words, **how) as ran:
         for line in ran.stdout:
@@ -65,12 +66,16 @@ def taken(watch):
 def main():
     if len(sys.argv) != 2:
         sys.exit(__doc__)
-    gate, told, times = (TOP / "out" / name for name in ("gate.txt", "rows.txt", "times.md"))
+    gate, vectors, rows, times = (TOP / "out" / name for name in ("gate.txt", "vectors.txt", "rows.txt", "times.md"))
     status, watch = progress.run([*RT, "ci"], TOP, gate, list(parts()))
     times.write_text(taken(watch))
     print(f"what each crate took stands in {times}", flush=True)
-    both = counted(status, gate), counted(rows(sys.argv[1], told), told)
-    passed, failed = map(sum, zip(*both))
+    counts = [
+        counted(status, gate),
+        counted(shown("vectors.py", "--check", vectors), vectors),
+        counted(shown("rows/run.py", sys.argv[1], rows), rows),
+    ]
+    passed, failed = map(sum, zip(*counts))
     print(f"{passed} passed, {failed} failed")
     sys.exit(1 if failed else 0)
 
