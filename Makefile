@@ -20,9 +20,8 @@ run: build
 	@echo "--- $(PROGRAM) replay < $(EXAMPLE)"
 	@$(PROGRAM) replay < $(EXAMPLE)
 
-# The whole gate: all proofs from nothing, the edits of must-fail/, the tests, the stored run, and then the octets that the
-# tests expect and the rows over
-# the program that it built. The last line counts all of it.
+# The whole gate: all proofs from nothing, the edits of must-fail/, the tests, the stored run, then the octets that the tests
+# expect, and the rows over the program that was built. The last line counts all of it.
 test:
 	@python3 tests/gate.py $(PROGRAM)
 
