@@ -7,7 +7,8 @@ use Rattle.rad_lane.specs.declared.counts.Counts.{Counts}
 use Rattle.rad_lane.specs.declared.stepping.Action.{Action}
 use Rattle.rad_lane.specs.declared.stepping.Action.TheVariants.{Sent, Resent, Probed, WentDown, WentUp, Idle}
 use Rattle.rad_lane.specs.declared.outgoing.Outgoing.{Outgoing}
-use Rattle.rad_proxy.specs.Names.{address_text, dropped_name, home_fault_name, refusal_name, watch_name, mode_name}
+use Rattle.rad_realms.specs.Printed.{dropped_text}
+use Rattle.rad_proxy.specs.Names.{address_text, home_fault_name, refusal_name, watch_name, mode_name}
 use Rattle.rad_proxy.specs.PacketText.{head_text, packet_text}
 use Rattle.rad_proxy.specs.declared.hearing.HomeFault.{HomeFault}
 use Rattle.rad_proxy.specs.declared.hearing.Told.{Told}
@@ -32,7 +33,7 @@ nas_line (Ok (Taken lane (New number))) written = codes "nas: new " ++ request_t
 nas_line (Ok (Taken lane (Waiting number))) written = codes "nas: waiting " ++ request_text lane number
 nas_line (Ok (Taken lane (Again number))) written =
     codes "nas: again " ++ request_text lane number ++ codes " " ++ packet_text written
-nas_line (Err (Dropped reason)) written = codes "nas: dropped " ++ dropped_name reason
+nas_line (Err (Dropped reason)) written = codes "nas: dropped " ++ dropped_text reason
 nas_line (Err WrongLane) written = codes "nas: refused " ++ refusal_name refusal.WrongLane
 nas_line (Err (Refused reason)) written = codes "nas: refused " ++ refusal_name reason
 

@@ -1,10 +1,7 @@
 -- What is printed as one word: addresses, and the names of the faults.
 use Rattle.std.specs.Prelude.{ℕ, List, ◌++◌, codes, slice_index, suc, zero, Bool, true, false}
 use Rattle.std.specs.Fmt.{decimal}
-use Rattle.rad_packet.specs.declared.faults.ReadFault.{ReadFault}
-use Rattle.rad_packet.specs.declared.faults.ReadFault.TheVariants.{Short, BadLength, Truncated, BadAttribute}
-use Rattle.rad_realms.specs.declared.checking.Dropped.{Dropped}
-use Rattle.rad_realms.specs.declared.checking.Dropped.TheVariants.{UnknownClient, Unread, WrongCode, BadAuthenticator, BadMessageAuthenticator, MessageAuthenticatorHere, NoRealm}
+use Rattle.rad_packet.specs.Faults.{read_fault_text}
 use Rattle.rad_lane.specs.declared.accepting.Refusal.{Refusal}
 use Rattle.rad_lane.specs.declared.accepting.Refusal.TheVariants.{Draining, BookFull, QueueFull, TooLong, OutOfMemory, WrongLane}
 use Rattle.rad_lane.specs.declared.hearing.HearFault.{HearFault}
@@ -18,21 +15,6 @@ address_text octets =
     decimal (slice_index octets 0) ++ codes "." ++ decimal (slice_index octets 1) ++ codes "."
     ++ decimal (slice_index octets 2) ++ codes "." ++ decimal (slice_index octets 3)
 
-abbrev pub read_fault_name : ReadFault → List ℕ
-read_fault_name Short = codes "Short"
-read_fault_name BadLength = codes "BadLength"
-read_fault_name Truncated = codes "Truncated"
-read_fault_name (BadAttribute place) = codes "BadAttribute " ++ decimal place
-
-abbrev pub dropped_name : Dropped → List ℕ
-dropped_name UnknownClient = codes "UnknownClient"
-dropped_name (Unread fault) = codes "Unread " ++ read_fault_name fault
-dropped_name WrongCode = codes "WrongCode"
-dropped_name BadAuthenticator = codes "BadAuthenticator"
-dropped_name BadMessageAuthenticator = codes "BadMessageAuthenticator"
-dropped_name MessageAuthenticatorHere = codes "MessageAuthenticatorHere"
-dropped_name NoRealm = codes "NoRealm"
-
 abbrev pub refusal_name : Refusal → List ℕ
 refusal_name Draining = codes "Draining"
 refusal_name BookFull = codes "BookFull"
@@ -42,7 +24,7 @@ refusal_name OutOfMemory = codes "OutOfMemory"
 refusal_name WrongLane = codes "WrongLane"
 
 abbrev pub hear_fault_name : HearFault → List ℕ
-hear_fault_name (hear.Unread fault) = codes "Unread " ++ read_fault_name fault
+hear_fault_name (hear.Unread fault) = codes "Unread " ++ read_fault_text fault
 hear_fault_name hear.WrongCode = codes "WrongCode"
 hear_fault_name hear.Unknown = codes "Unknown"
 hear_fault_name hear.BadAuthenticator = codes "BadAuthenticator"

@@ -5,6 +5,7 @@ ghost use Rattle.rad_proxy.specs.Hex.{octets_of};
 
 use crate::hex::Hex;
 use crate::pieces::Pieces;
+use rad_realms::read_address;
 
 /// What happens to the proxy.
 #[derive(Clone, Copy)]
@@ -193,15 +194,7 @@ fn parse_hex<'a>(words: &mut Pieces<'a>, most: usize) -> Option<Hex<'a>>
 
 /// Reads four numbers below 256 that are joined by dots.
 fn parse_address(word: &[u8]) -> Option<[u8; 4]> {
-    let mut numbers = Pieces::new(word, b'.');
-    let mut address = [0; 4];
-    for octet in address.iter_mut() {
-        *octet = parse_u8(numbers.next()?)?;
-    }
-    match numbers.next() {
-        Some(_) => None,
-        None => Some(address),
-    }
+    read_address(str::from_utf8(word).ok()?)
 }
 
 /// Reads a decimal number below 256.

@@ -3,7 +3,7 @@
 ghost use Rattle.std.specs.Prelude.{◌≡◌, ◌≤◌, length};
 
 use crate::hearing::{HomeFault, Told};
-use crate::names::{AddressText, DroppedText, mode_name, refusal_name, watch_name};
+use crate::names::{AddressText, mode_name, refusal_name, watch_name};
 use crate::packet_text::PacketText;
 use crate::path::{Given, PathFault};
 use rad_auth::Reply;
@@ -107,10 +107,7 @@ impl fmt::Display for NasLine<'_> {
             Ok(Given::Taken(lane, Taken::Again(number))) => {
                 write!(f, "nas: again {lane} {number} {written}")
             }
-            Err(PathFault::Dropped(dropped)) => {
-                let dropped = DroppedText(dropped);
-                write!(f, "nas: dropped {dropped}")
-            }
+            Err(PathFault::Dropped(dropped)) => write!(f, "nas: dropped {dropped}"),
             Err(PathFault::WrongLane) => write!(f, "nas: refused WrongLane"),
             Err(PathFault::Refused(refusal)) => {
                 let refusal = refusal_name(refusal);

@@ -5,25 +5,15 @@ ghost use Rattle.rad_proxy.specs.Names.{watch_name as the_watch_name, mode_name 
 
 use crate::hearing::HomeFault;
 use rad_lane::{Counts, HearFault, Refusal};
-use rad_packet::ReadFault;
-use rad_realms::Dropped;
 use std::fmt;
 
 /// An IPv4 address in dotted decimal.
 #[derive(Clone, Copy)]
 pub struct AddressText(pub [u8; 4]);
 
-/// Why a NAS's datagram is dropped.
-#[derive(Clone, Copy)]
-pub struct DroppedText(pub Dropped);
-
 /// Why a lane does not hear a datagram.
 #[derive(Clone, Copy)]
 struct HearFaultText(HearFault);
-
-/// Why a datagram does not read as a packet.
-#[derive(Clone, Copy)]
-struct ReadFaultText(ReadFault);
 
 /// Whether a home server is up.
 pub fn watch_name(up: bool) -> &'static str
@@ -69,28 +59,6 @@ impl fmt::Display for AddressText {
     }
 }
 
-impl fmt::Display for DroppedText {
-    ghost use Rattle.std.specs.Prelude.{Some};
-    ghost use Rattle.rad_proxy.specs.Names.{dropped_name};
-
-    ghost output = { λ dropped. Some (dropped_name dropped.0) };
-
-    fn fmt<W: fmt::Write>(&self, f: &mut fmt::Formatter<W>) -> fmt::Result {
-        match self.0 {
-            Dropped::UnknownClient => write!(f, "UnknownClient"),
-            Dropped::Unread(fault) => {
-                let fault = ReadFaultText(fault);
-                write!(f, "Unread {fault}")
-            }
-            Dropped::WrongCode => write!(f, "WrongCode"),
-            Dropped::BadAuthenticator => write!(f, "BadAuthenticator"),
-            Dropped::BadMessageAuthenticator => write!(f, "BadMessageAuthenticator"),
-            Dropped::MessageAuthenticatorHere => write!(f, "MessageAuthenticatorHere"),
-            Dropped::NoRealm => write!(f, "NoRealm"),
-        }
-    }
-}
-
 impl fmt::Display for HomeFault {
     ghost use Rattle.std.specs.Prelude.{Some};
     ghost use Rattle.rad_proxy.specs.Names.{home_fault_name};
@@ -116,32 +84,13 @@ impl fmt::Display for HearFaultText {
 
     fn fmt<W: fmt::Write>(&self, f: &mut fmt::Formatter<W>) -> fmt::Result {
         match self.0 {
-            HearFault::Unread(fault) => {
-                let fault = ReadFaultText(fault);
-                write!(f, "Unread {fault}")
-            }
+            HearFault::Unread(fault) => write!(f, "Unread {fault}"),
             HearFault::WrongCode => write!(f, "WrongCode"),
             HearFault::Unknown => write!(f, "Unknown"),
             HearFault::BadAuthenticator => write!(f, "BadAuthenticator"),
             HearFault::MessageAuthenticatorHere => write!(f, "MessageAuthenticatorHere"),
             HearFault::NoProxyState => write!(f, "NoProxyState"),
             HearFault::OutOfMemory => write!(f, "OutOfMemory"),
-        }
-    }
-}
-
-impl fmt::Display for ReadFaultText {
-    ghost use Rattle.std.specs.Prelude.{Some};
-    ghost use Rattle.rad_proxy.specs.Names.{read_fault_name};
-
-    ghost output = { λ fault. Some (read_fault_name fault.0) };
-
-    fn fmt<W: fmt::Write>(&self, f: &mut fmt::Formatter<W>) -> fmt::Result {
-        match self.0 {
-            ReadFault::Short => write!(f, "Short"),
-            ReadFault::BadLength => write!(f, "BadLength"),
-            ReadFault::Truncated => write!(f, "Truncated"),
-            ReadFault::BadAttribute(place) => write!(f, "BadAttribute {place}"),
         }
     }
 }

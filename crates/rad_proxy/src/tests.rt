@@ -289,22 +289,18 @@ fn task_of(alloc: Global, words: &str) -> std::result::Result<char, Fail> {
     for word in words.split_whitespace() {
         called.push(String::from_str(alloc, word)?)?;
     }
-    match read_words(alloc, called.as_slice()) {
-        Ok(task) => Ok(letter_of(&task)),
-        Err(fault) => Ok(if matches!(fault, Fault::Usage) {
-            'u'
-        } else {
-            '!'
-        }),
-    }
+    let made = read_words(alloc, called.as_slice());
+    Ok(letter_of(&made))
 }
 
-fn letter_of(task: &Task) -> char {
-    match task {
-        Task::Replay => 'p',
-        Task::Check(file) if file.as_str() == "some.toml" => 'c',
-        Task::Check(_) => '?',
-        Task::Run => 'r',
+fn letter_of(made: &std::result::Result<Task, Fault>) -> char {
+    match made {
+        Ok(Task::Replay) => 'p',
+        Ok(Task::Check(file)) if file.as_str() == "some.toml" => 'c',
+        Ok(Task::Check(_)) => '?',
+        Ok(Task::Run) => 'r',
+        Err(Fault::Usage) => 'u',
+        Err(_) => '!',
     }
 }
 

@@ -1,18 +1,10 @@
 -- The reasons to drop a datagram and the faults of limits, as they are printed.
 use Rattle.std.specs.Prelude.{ℕ, List, ◌++◌, codes}
-use Rattle.std.specs.Fmt.{decimal}
-use Rattle.rad_packet.specs.declared.faults.ReadFault.{ReadFault}
-use Rattle.rad_packet.specs.declared.faults.ReadFault.TheVariants.{Short, BadLength, Truncated, BadAttribute}
+use Rattle.rad_packet.specs.Faults.{read_fault_text}
 use Rattle.rad_realms.specs.declared.checking.Dropped.{Dropped}
 use Rattle.rad_realms.specs.declared.checking.Dropped.TheVariants.{UnknownClient, Unread, WrongCode, BadAuthenticator, BadMessageAuthenticator, MessageAuthenticatorHere, NoRealm}
 use Rattle.rad_realms.specs.declared.limits.LimitFault.{LimitFault}
 use Rattle.rad_realms.specs.declared.limits.LimitFault.TheVariants.{Window, Queue, Book, Tries, FirstWait, ProbeEvery, DownWait, Span, Ring}
-
-abbrev pub read_fault_text : ReadFault → List ℕ
-read_fault_text Short = codes "Short"
-read_fault_text BadLength = codes "BadLength"
-read_fault_text Truncated = codes "Truncated"
-read_fault_text (BadAttribute place) = codes "BadAttribute " ++ decimal place
 
 abbrev pub dropped_text : Dropped → List ℕ
 dropped_text UnknownClient = codes "UnknownClient"

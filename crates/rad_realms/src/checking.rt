@@ -173,12 +173,7 @@ impl fmt::Display for Dropped {
     fn fmt<W: fmt::Write>(&self, f: &mut fmt::Formatter<W>) -> fmt::Result {
         match self {
             Dropped::UnknownClient => f.write_str("UnknownClient"),
-            Dropped::Unread(ReadFault::Short) => f.write_str("Unread Short"),
-            Dropped::Unread(ReadFault::BadLength) => f.write_str("Unread BadLength"),
-            Dropped::Unread(ReadFault::Truncated) => f.write_str("Unread Truncated"),
-            Dropped::Unread(ReadFault::BadAttribute(place)) => {
-                write!(f, "Unread BadAttribute {place}")
-            }
+            Dropped::Unread(fault) => write!(f, "Unread {fault}"),
             Dropped::WrongCode => f.write_str("WrongCode"),
             Dropped::BadAuthenticator => f.write_str("BadAuthenticator"),
             Dropped::BadMessageAuthenticator => f.write_str("BadMessageAuthenticator"),

@@ -20,7 +20,7 @@ pub returns-in-Ok : goal.returns-in-Ok
 returns-in-Ok c =
     let at : c.from-place.result ≡ c.args.request.now.lane = omega (arith, c.from-place.ensures, c.lane.ensures.value) in
     let within : c.from-place.result < length c.args.lanes.now = omega (arith, c.if-place-lanes.false) in (
-      c.lane-in-Ok.ensures,
+      c.lane-in-Ok.ensures.value,
       accepts_among c.args.lanes.now c.args.request.now c.args.moment _ _ c.from-place.result c.index-lanes-place.result c.accept.new.self
           at within (c.takes.ensures.0 c.if-not-takes.false) c.in-Ok.ensures,
     )
