@@ -1,0 +1,53 @@
+-- What goes onto a wire (own): whatever lane it comes from, no datagram goes out but one of these.
+use Rattle.std.specs.Prelude.{◌≡◌, ⊤, ℕ, List, length, Result, Ok, Err}
+use Rattle.rad_auth.specs.declared.reply.RequestHead.{RequestHead}
+use Rattle.rad_auth.specs.Answers.{Answers}
+use Rattle.rad_auth.specs.Forwarding.{forwarded}
+use Rattle.rad_auth.specs.Status.{status_server}
+use Rattle.rad_lane.specs.declared.accepting.Taken.{Taken}
+use Rattle.rad_lane.specs.declared.accepting.Taken.TheVariants.{New, Waiting, Again}
+use Rattle.rad_lane.specs.declared.accepting.Refusal.{Refusal}
+use Rattle.rad_lane.specs.declared.stepping.Action.{Action}
+use Rattle.rad_lane.specs.declared.stepping.Action.TheVariants.{Sent, Resent, Probed, WentDown, WentUp, Idle}
+use Rattle.rad_lane.specs.Stamp.{Recorded, IsRecord}
+
+-- The forwarded packet of a right record, with the mark of a lane, under a secret.
+pub record ForwardsARecord (octets : List ℕ) : Type 0 where
+  pub recorded : Recorded
+  pub is_record : IsRecord recorded
+  pub lane : ℕ
+  pub identifier : ℕ
+  pub secret : List ℕ
+  pub forwards : octets ≡ forwarded recorded.text (record { lane = lane; number = recorded.stamp.number }) identifier secret
+
+-- A Status-Server, under a secret.
+pub record IsStatusServer (octets : List ℕ) : Type 0 where
+  pub identifier : ℕ
+  pub authenticator : List ℕ
+  pub secret : List ℕ
+  pub asks : octets ≡ status_server identifier authenticator secret
+
+-- What a step leaves in the datagram to be sent to the home server.
+abbrev pub Departs : Action → List ℕ → Type 0
+Departs (Sent number slot) octets = ForwardsARecord octets
+Departs (Resent number slot) octets = ForwardsARecord octets
+Departs (Probed slot) octets = IsStatusServer octets
+Departs WentDown octets = ⊤
+Departs WentUp octets = ⊤
+Departs (Idle moment) octets = ⊤
+
+-- A response that answers a request, after a verified reply to what was sent for it.
+pub record IsVerifiedResponse (octets : List ℕ) : Type 0 where
+  pub head : RequestHead
+  pub sending : List ℕ
+  pub reply : List ℕ
+  pub client : List ℕ
+  pub home : List ℕ
+  pub answers : Answers head sending reply client home octets
+
+-- What taking a request leaves in the datagram to be sent to the client.
+abbrev pub Returns : Result Taken Refusal → List ℕ → Type 0
+Returns (Ok (Again number)) octets = IsVerifiedResponse octets
+Returns (Ok (New number)) octets = ⊤
+Returns (Ok (Waiting number)) octets = ⊤
+Returns (Err refusal) octets = ⊤

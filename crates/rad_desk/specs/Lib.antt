@@ -1,0 +1,5 @@
+pub mod Outlet
+pub mod Desk
+pub mod Inlet
+pub mod Tells
+pub mod Departures
