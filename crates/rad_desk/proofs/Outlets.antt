@@ -14,7 +14,7 @@ use Rattle.rad_lane.specs.Hears.{HearsReply, GoesOut}
 use Rattle.rad_desk.specs.Outlet.{InOrder, Agrees, AgreesAtItsSerial, IsOutlet}
 use Rattle.rad_desk.proofs.Answers.{answers_of, one_more_by_reply}
 
-range_more : (from count : ℕ) → range_with_len from (count + 1) ≡ range_with_len from count ++ (from + count) ∷ []
+pub range_more : (from count : ℕ) → range_with_len from (count + 1) ≡ range_with_len from count ++ (from + count) ∷ []
 range_more from zero = rw add-zero refl
 range_more from (suc count) =
     let next : from + 1 + count ≡ from + suc count = omega arith in

@@ -29,33 +29,33 @@ forwards_first old lawful r rest is =
     let Right : Recorded → Type 0 = λ r. IsRecord r × IsOfItsRealms old.setup r.text in
     (All-head Right r rest (subst (All Right) is lawful.of_its_realms)).0
 
-departs_up : (old new : Book) (now : ℕ) (action : Action) (d : Datagrams) → IsLawful old → StepsUp old now action d new → Departs action d.after
+departs_up : (old new : Book) (now : ℕ) (action : Action) (d : Datagrams) → IsLawful old → StepsUp old now action d new → Departs action d
 departs_up old new now (Resent number slot) d lawful s =
     let forwards = lawful.forwards_its_record slot s.0 s.1.there in
     record { recorded = s.0.request; is_record = forwards.is_record; lane = old.setup.lane; identifier = slot.identifier; secret = old.setup.home_secret; forwards = s.3 ∙ forwards.octets }
 departs_up old new now (Sent number slot) d lawful s =
     record { recorded = s.3; is_record = forwards_first old lawful s.3 s.4 s.5; lane = old.setup.lane; identifier = slot.identifier; secret = old.setup.home_secret; forwards = s.8 }
-departs_up old new now WentDown d lawful s = tt
-departs_up old new now (Idle None) d lawful s = tt
-departs_up old new now (Idle (Some next)) d lawful s = tt
+departs_up old new now WentDown d lawful s = s.2
+departs_up old new now (Idle None) d lawful s = s.2
+departs_up old new now (Idle (Some next)) d lawful s = s.6
 departs_up old new now (Probed slot) d lawful s = absurd s
 departs_up old new now WentUp d lawful s = absurd s
 
-departs_down : (old new : Book) (now : ℕ) (random : List ℕ) (until next : ℕ) (out : Option Slot) (action : Action) (d : Datagrams) → StepsDown old now random until next out action d new → Departs action d.after
+departs_down : (old new : Book) (now : ℕ) (random : List ℕ) (until next : ℕ) (out : Option Slot) (action : Action) (d : Datagrams) → StepsDown old now random until next out action d new → Departs action d
 departs_down old new now random until next out (Probed slot) d s =
     record { identifier = slot.identifier; authenticator = random; secret = old.setup.home_secret; asks = s.2.1 }
-departs_down old new now random until next out WentUp d s = tt
-departs_down old new now random until next out (Idle (Some later)) d s = tt
+departs_down old new now random until next out WentUp d s = s.1
+departs_down old new now random until next out (Idle (Some later)) d s = s.3
 departs_down old new now random until next out (Idle None) d s = absurd s
 departs_down old new now random until next out (Sent number slot) d s = absurd s
 departs_down old new now random until next out (Resent number slot) d s = absurd s
-departs_down old new now random until next out WentDown d s = tt
+departs_down old new now random until next out WentDown d s = absurd s
 
-departs_by : (watch : Watch) (old new : Book) (now : ℕ) (random : List ℕ) (action : Action) (d : Datagrams) → IsLawful old → StepsBy watch old now random action d new → Departs action d.after
+departs_by : (watch : Watch) (old new : Book) (now : ℕ) (random : List ℕ) (action : Action) (d : Datagrams) → IsLawful old → StepsBy watch old now random action d new → Departs action d
 departs_by up old new now random action d lawful s = departs_up old new now action d lawful s
 departs_by (down until next out) old new now random action d lawful s = departs_down old new now random until next out action d s
 
-pub departs : (old new : Book) (moment : ℕ) (random : List ℕ) (action : Action) (d : Datagrams) → IsLawful old → Steps old moment random action d new → Departs action d.after
+pub departs : (old new : Book) (moment : ℕ) (random : List ℕ) (action : Action) (d : Datagrams) → IsLawful old → Steps old moment random action d new → Departs action d
 departs old new moment random action d lawful s = departs_by old.watch old new (moment_in old moment) random action d lawful s
 
 -- What a repeat of an answered request finds.
@@ -97,8 +97,8 @@ has_response book lawful = λ k d within.
     let verified = lawful.answers_verified k d within in
     record { head = _; sending = _; reply = _; client = _; home = _; answers = verified.answers }
 
-pub returns : (old new : Book) (request : Request) (moment : ℕ) (result : Result Taken Refusal) (d : Datagrams) → IsLawful old → Accepts old request moment result d new → Returns result d.after
-returns old new request moment (Ok (New number)) d lawful a = tt
-returns old new request moment (Ok (Waiting number)) d lawful a = tt
+pub returns : (old new : Book) (request : Request) (moment : ℕ) (result : Result Taken Refusal) (d : Datagrams) → IsLawful old → Accepts old request moment result d new → Returns result d
+returns old new request moment (Ok (New number)) d lawful a = a.4
+returns old new request moment (Ok (Waiting number)) d lawful a = a.2
 returns old new request moment (Ok (Again number)) d lawful a = subst IsAgain a.0 (is_again old _ _ (has_response old lawful))
-returns old new request moment (Err refusal) d lawful a = tt
+returns old new request moment (Err refusal) d lawful a = a.3

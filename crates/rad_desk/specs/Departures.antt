@@ -1,5 +1,5 @@
--- What goes onto a wire (own): whatever lane it comes from, no datagram goes out but one of these.
-use Rattle.std.specs.Prelude.{◌≡◌, ⊤, ℕ, List, length, Result, Ok, Err}
+-- What goes onto a wire (own): whatever the lane, nothing is given to be sent but one of these.
+use Rattle.std.specs.Prelude.{◌≡◌, ℕ, List, Result, Ok, Err}
 use Rattle.rad_auth.specs.declared.reply.RequestHead.{RequestHead}
 use Rattle.rad_auth.specs.Answers.{Answers}
 use Rattle.rad_auth.specs.Forwarding.{forwarded}
@@ -10,6 +10,7 @@ use Rattle.rad_lane.specs.declared.accepting.Refusal.{Refusal}
 use Rattle.rad_lane.specs.declared.stepping.Action.{Action}
 use Rattle.rad_lane.specs.declared.stepping.Action.TheVariants.{Sent, Resent, Probed, WentDown, WentUp, Idle}
 use Rattle.rad_lane.specs.Stamp.{Recorded, IsRecord}
+use Rattle.rad_lane.specs.Accepts.{Datagrams}
 
 -- The forwarded packet of a right record, with the mark of a lane, under a secret.
 pub record ForwardsARecord (octets : List ℕ) : Type 0 where
@@ -27,14 +28,14 @@ pub record IsStatusServer (octets : List ℕ) : Type 0 where
   pub secret : List ℕ
   pub asks : octets ≡ status_server identifier authenticator secret
 
--- What a step leaves in the datagram to be sent to the home server.
-abbrev pub Departs : Action → List ℕ → Type 0
-Departs (Sent number slot) octets = ForwardsARecord octets
-Departs (Resent number slot) octets = ForwardsARecord octets
-Departs (Probed slot) octets = IsStatusServer octets
-Departs WentDown octets = ⊤
-Departs WentUp octets = ⊤
-Departs (Idle moment) octets = ⊤
+-- What a step leaves in the datagram: what is to be sent to the home server, or what was there.
+abbrev pub Departs : Action → Datagrams → Type 0
+Departs (Sent number slot) d = ForwardsARecord d.after
+Departs (Resent number slot) d = ForwardsARecord d.after
+Departs (Probed slot) d = IsStatusServer d.after
+Departs WentDown d = d.after ≡ d.before
+Departs WentUp d = d.after ≡ d.before
+Departs (Idle moment) d = d.after ≡ d.before
 
 -- A response that answers a request, after a verified reply to what was sent for it.
 pub record IsVerifiedResponse (octets : List ℕ) : Type 0 where
@@ -45,9 +46,9 @@ pub record IsVerifiedResponse (octets : List ℕ) : Type 0 where
   pub home : List ℕ
   pub answers : Answers head sending reply client home octets
 
--- What taking a request leaves in the datagram to be sent to the client.
-abbrev pub Returns : Result Taken Refusal → List ℕ → Type 0
-Returns (Ok (Again number)) octets = IsVerifiedResponse octets
-Returns (Ok (New number)) octets = ⊤
-Returns (Ok (Waiting number)) octets = ⊤
-Returns (Err refusal) octets = ⊤
+-- What taking a request leaves in the datagram: what is to be sent to the client, or what was there.
+abbrev pub Returns : Result Taken Refusal → Datagrams → Type 0
+Returns (Ok (Again number)) d = IsVerifiedResponse d.after
+Returns (Ok (New number)) d = d.after ≡ d.before
+Returns (Ok (Waiting number)) d = d.after ≡ d.before
+Returns (Err refusal) d = d.after ≡ d.before

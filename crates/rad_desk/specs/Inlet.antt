@@ -1,6 +1,6 @@
 -- What a contract sees of an inlet (own).
-use Rattle.std.specs.Prelude.{◌≡◌, ℕ, List, ◌++◌, length}
-use Rattle.rtrb.specs.Ring.{received, IsPair, SameConsumer}
+use Rattle.std.specs.Prelude.{◌≡◌, List}
+use Rattle.rtrb.specs.Ring.{received, known_items, IsPair, SameConsumer}
 use Rattle.rad_lane.specs.declared.outgoing.Outgoing.{Outgoing}
 use Rattle.rad_desk.specs.declared.desk.Desk.{Desk}
 use Rattle.rad_desk.specs.declared.inlet.Inlet.{Inlet}
@@ -8,6 +8,10 @@ use Rattle.rad_desk.specs.declared.inlet.Inlet.{Inlet}
 -- all responses that it took, in order
 abbrev pub taken : Inlet → List Outgoing
 taken inlet = received inlet.taker
+
+-- the responses that it has seen in the ring: it takes these next
+abbrev pub seen : Inlet → List Outgoing
+seen inlet = known_items inlet.taker
 
 -- It is the inlet of the same ring and lane.
 pub record SameInlet (old new : Inlet) : Type 0 where
@@ -17,8 +21,3 @@ pub record SameInlet (old new : Inlet) : Type 0 where
 -- What the inlet takes is what the desk gives.
 abbrev pub AreOfOneRing : Desk → Inlet → Type 0
 AreOfOneRing desk inlet = IsPair desk.giver inlet.taker
-
--- So many responses wait in the ring: what was taken, followed by these, is what was given.
-abbrev pub Wait : ℕ → List Outgoing → List Outgoing → Type 0
-Wait count taken_so_far given_so_far =
-    (waiting : List Outgoing) × (length waiting ≡ count) × (taken_so_far ++ waiting ≡ given_so_far)

@@ -3,3 +3,4 @@ pub mod Desk
 pub mod Inlet
 pub mod Tells
 pub mod Departures
+pub mod Lawful

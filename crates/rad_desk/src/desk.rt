@@ -31,10 +31,10 @@ pub struct Desk {
 }
 
 impl Desk {
-    ghost use Rattle.std.specs.Prelude.{◌≡◌, [], length, IfOk};
+    ghost use Rattle.std.specs.Prelude.{◌≡◌, [], ◌++◌, length, IfOk};
     ghost use Rattle.rad_lane.specs.Empty.{empty_book};
     ghost use Rattle.rad_desk.specs.Desk.{book, given, free_places, SameRing};
-    ghost use Rattle.rad_desk.specs.Inlet.{taken, AreOfOneRing, SameInlet, Wait};
+    ghost use Rattle.rad_desk.specs.Inlet.{taken, seen, AreOfOneRing, SameInlet};
 
     /// An empty lane over this setup, with a ring of as many places as its limits say, and the inlet of that ring.
     ///
@@ -60,11 +60,12 @@ impl Desk {
         Ok((Desk { lane, giver }, Inlet::new(number, taker)))
     }
 
-    /// How many responses wait in the ring: what its inlet took, followed by these, is all that the ring was
-    /// given.
+    /// How many responses wait in the ring, for whoever has both its ends: what its inlet took, followed by these,
+    /// is all that the ring was given.
     pub fn waiting(&mut self, inlet: &mut Inlet) -> usize
         requires { AreOfOneRing self.old inlet.old }
-        ensures waiting { Wait result (taken inlet.new) (given self.new) }
+        ensures value { result ≡ length (seen inlet.new) }
+        ensures waiting { taken inlet.new ++ seen inlet.new ≡ given self.new }
         ensures given { given self.new ≡ given self.old }
         ensures taken { taken inlet.new ≡ taken inlet.old }
         ensures book { book self.new ≡ book self.old }

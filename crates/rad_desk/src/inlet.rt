@@ -17,9 +17,10 @@ pub struct Inlet {
 }
 
 impl Inlet {
-    ghost use Rattle.std.specs.Prelude.{◌≡◌, ◌∷◌, ◌++◌, [], length, IfSome, IfNone};
+    ghost use Rattle.std.specs.Prelude.{◌≡◌, ◌<◌, ◌∷◌, ◌++◌, [], length, IsSome, IfSome, IfNone};
+    ghost use mathlib.Core.List.{IsPrefix};
     ghost use Rattle.rad_desk.specs.Outlet.{InOrder};
-    ghost use Rattle.rad_desk.specs.Inlet.{taken, SameInlet};
+    ghost use Rattle.rad_desk.specs.Inlet.{taken, seen, SameInlet};
 
     /// An inlet that took nothing yet.
     pub(crate) fn new(lane: u16, taker: Consumer<Outgoing, Global, Numbered>) -> Inlet
@@ -42,6 +43,8 @@ impl Inlet {
         ensures some { IfSome result (λ response. taken self.new ≡ taken self.old ++ response ∷ []) }
         ensures none { IfNone result (taken self.new ≡ taken self.old) }
         ensures serial { IfSome result (λ response. response.serial ≡ length (taken self.old)) }
+        ensures seen { IfSome result (λ response. IsPrefix (seen self.old) (response ∷ seen self.new)) }
+        ensures succeeds { 0 < length (seen self.old) → IsSome result }
         ensures same { SameInlet self.old self.new }
         ensures in_order { InOrder (taken self.new) }
     {

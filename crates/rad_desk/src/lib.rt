@@ -8,8 +8,12 @@ mod hearing;
 mod inlet;
 pub mod laws;
 mod numbered;
+mod proxy;
+#[cfg(test)]
+mod tests;
 mod working;
 
 pub use desk::OpenFault;
 pub use hearing::{DeskFault, Told};
 pub use inlet::Inlet;
+pub use proxy::{Proxy, open};

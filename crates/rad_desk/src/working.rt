@@ -40,7 +40,7 @@ impl Desk {
         requires { IsTaken (book self.old) request.now }
         ensures accepts { Accepts (book self.old) request.now moment result (record { before = datagram.old; after = datagram.new }) (book self.new) }
         ensures outlet { SameOutlet self.old self.new }
-        ensures returns { Returns result datagram.new }
+        ensures returns { Returns result (record { before = datagram.old; after = datagram.new }) }
     {
         self.keep_law();
         self.lane.accept(alloc, request, moment, datagram)
@@ -50,7 +50,7 @@ impl Desk {
     pub fn step(&mut self, moment: Moment, random: [u8; 16], datagram: &mut Datagram) -> Action
         ensures steps { Steps (book self.old) moment random result (record { before = datagram.old; after = datagram.new }) (book self.new) }
         ensures outlet { SameOutlet self.old self.new }
-        ensures departs { Departs result datagram.new }
+        ensures departs { Departs result (record { before = datagram.old; after = datagram.new }) }
         ensures another { AllotsAnother (book self.old) result }
     {
         self.keep_law();
