@@ -1,6 +1,6 @@
 -- The outlet after each call of its lane, and the order of what was taken.
 use Rattle.std.proofs.Common.{◌≡◌, ℕ, zero, suc, ◌+◌, List, [], ◌∷◌, ◌++◌, length, refl, sym, ap, ◌∙◌, arith, add-zero, add-one, length-append, subst}
-use Rattle.std.specs.Prelude.{map as each, slice_get, slice_index_or, All, MatchOption, Result, Ok, Err, Some, None, IfOk, OnErr}
+use Rattle.std.specs.Prelude.{slice_get, slice_index_or, All, MatchOption, Result, Ok, Err, Some, IfOk, OnErr}
 use Rattle.std.specs.List.{range_with_len}
 use Rattle.std.proofs.lemmas.List.{map-append}
 use Rattle.std.proofs.lemmas.List.Elements.{All-push}

@@ -1,5 +1,5 @@
 -- What goes out is what a lawful book has.
-use Rattle.std.proofs.Common.{◌≡◌, ℕ, ◌+◌, List, [], ◌∷◌, Option, Some, None, Bool, true, false, refl, sym, ap, ◌∙◌, subst}
+use Rattle.std.proofs.Common.{◌≡◌, ℕ, ◌+◌, List, [], ◌∷◌, Option, Some, None, Bool, true, false, ◌∙◌, subst}
 use Rattle.std.specs.Prelude.{⊤, find, All, IfSome, nat_lt, Result, Ok, Err, cond}
 use Rattle.std.proofs.lemmas.List.Elements.{All-head, All-tail}
 use Rattle.rad_realms.specs.Checking.{Request}
@@ -20,8 +20,8 @@ use Rattle.rad_lane.specs.Book.{Book, moment_in}
 use Rattle.rad_lane.specs.Repeat.{Repeats, fresh, waits, again, repeats, repeats_answered, repeats_last, of_key, last_of, answer_to}
 use Rattle.rad_lane.specs.Accepts.{Accepts, Datagrams}
 use Rattle.rad_lane.specs.Steps.{Steps, StepsBy, StepsUp, StepsDown}
-use Rattle.rad_lane.specs.Lawful.{IsLawful, IsVerified}
-use Rattle.rad_desk.specs.Departures.{ForwardsARecord, IsStatusServer, Departs, IsVerifiedResponse, Returns}
+use Rattle.rad_lane.specs.Lawful.{IsLawful}
+use Rattle.rad_desk.specs.Departures.{Departs, IsVerifiedResponse, Returns}
 
 -- A step that sends.
 forwards_first : (old : Book) → IsLawful old → (r : Recorded) (rest : List Recorded) → old.queued ≡ r ∷ rest → IsRecord r

@@ -1,5 +1,5 @@
 -- The outlet of a lane (own): the responses that its ring was given, beside the book of the lane.
-use Rattle.std.specs.Prelude.{◌≡◌, ℕ, List, length, map as each, slice_get, All, MatchOption}
+use Rattle.std.specs.Prelude.{◌≡◌, List, length, map as each, slice_get, All, MatchOption}
 use Rattle.std.specs.List.{range_with_len}
 use Rattle.rad_lane.specs.declared.outgoing.Outgoing.{Outgoing}
 use Rattle.rad_lane.specs.Outstanding.{AnswerKept}

@@ -1,4 +1,4 @@
-use Rattle.std.proofs.Common.{◌≡◌, ◌≤◌, [], length, vec_len, vec_capacity}
+use Rattle.std.proofs.Common.{◌≡◌, [], vec_len, vec_capacity}
 use Rattle.std.specs.Prelude.{map as each, All}
 use Rattle.std.specs.List.{range_with_len}
 use Rattle.rad_desk.specs.Inlet.{taken}
