@@ -34,7 +34,7 @@ impl Desk {
     ghost use Rattle.std.specs.Prelude.{◌≡◌, [], ◌++◌, length, IfOk};
     ghost use Rattle.rad_lane.specs.Empty.{empty_book};
     ghost use Rattle.rad_desk.specs.Desk.{book, given, free_places, SameRing};
-    ghost use Rattle.rad_desk.specs.Inlet.{taken, seen, AreOfOneRing, SameInlet};
+    ghost use Rattle.rad_desk.specs.Inlet.{lane_of, taken, seen, AreOfOneRing, SameInlet};
 
     /// An empty lane over this setup, with a ring of as many places as its limits say, and the inlet of that ring.
     ///
@@ -45,7 +45,7 @@ impl Desk {
         ensures book { IfOk result (λ pair. book pair.0 ≡ empty_book setup) }
         ensures given { IfOk result (λ pair. given pair.0 ≡ []) }
         ensures free { IfOk result (λ pair. free_places pair.0 ≡ setup.limits.ring) }
-        ensures lane { IfOk result (λ pair. pair.1.lane ≡ setup.lane) }
+        ensures lane { IfOk result (λ pair. lane_of pair.1 ≡ setup.lane) }
         ensures taken { IfOk result (λ pair. taken pair.1 ≡ []) }
         ensures ring { IfOk result (λ pair. AreOfOneRing pair.0 pair.1) }
     {

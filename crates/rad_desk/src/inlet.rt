@@ -20,12 +20,12 @@ impl Inlet {
     ghost use Rattle.std.specs.Prelude.{◌≡◌, ◌<◌, ◌∷◌, ◌++◌, [], length, IsSome, IfSome, IfNone};
     ghost use mathlib.Core.List.{IsPrefix};
     ghost use Rattle.rad_desk.specs.Outlet.{InOrder};
-    ghost use Rattle.rad_desk.specs.Inlet.{taken, seen, SameInlet};
+    ghost use Rattle.rad_desk.specs.Inlet.{lane_of, taken, seen, SameInlet};
 
     /// An inlet that took nothing yet.
     pub(crate) fn new(lane: u16, taker: Consumer<Outgoing, Global, Numbered>) -> Inlet
         requires { received taker ≡ [] }
-        ensures lane { result.lane ≡ lane }
+        ensures lane { lane_of result ≡ lane }
         ensures taker { result.taker ≡ taker }
     {
         Inlet { lane, taker }
@@ -33,7 +33,7 @@ impl Inlet {
 
     /// The number of the lane.
     pub fn lane(&self) -> u16
-        ensures { result ≡ self.now.lane }
+        ensures { result ≡ lane_of self.now }
     {
         self.lane
     }

@@ -2,7 +2,7 @@ ghost use Rattle.std.specs.Prelude.{◌≡◌, ◌<◌, ◌≤◌, min, length, 
 ghost use Rattle.std.specs.List.{range_with_len};
 ghost use Rattle.rad_lane.specs.declared.accepting.Refusal.TheVariants.{WrongLane};
 ghost use Rattle.rad_lane.specs.Accepts.{Datagrams};
-ghost use Rattle.rad_desk.specs.Inlet.{taken};
+ghost use Rattle.rad_desk.specs.Inlet.{lane_of, taken};
 ghost use Rattle.rad_desk.specs.Departures.{Departs, Returns};
 ghost use Rattle.rad_desk.specs.Lawful.{AreLawful};
 
@@ -47,7 +47,7 @@ impl Model for Proxy {
 /// Where memory is refused.
 pub fn open(alloc: Global, config: &Config) -> Result<(Proxy, Vec<Inlet>), OpenFault>
     ensures lanes { IfOk result (λ opened. opened.0 ≡ min (length config.now.homes) 65535) }
-    ensures inlets { IfOk result (λ opened. each (λ i. i.lane) opened.1.items ≡ range_with_len 0 opened.0) }
+    ensures inlets { IfOk result (λ opened. each lane_of opened.1.items ≡ range_with_len 0 opened.0) }
     ensures taken { IfOk result (λ opened. All (λ i. taken i ≡ []) opened.1.items) }
 {
     let lanes = config.homes().len().min(usize::from(u16::MAX)) as u16;
