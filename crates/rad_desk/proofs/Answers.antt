@@ -15,7 +15,7 @@ use Rattle.rad_lane.specs.Book.{Book, moment_in}
 use Rattle.rad_lane.specs.Accepts.{Accepts}
 use Rattle.rad_lane.specs.Datagrams.{Datagrams}
 use Rattle.rad_lane.specs.Watch.{GoesUpIfDown}
-use Rattle.rad_lane.specs.Steps.{Steps, StepsBy, StepsUp, StepsDown}
+use Rattle.rad_lane.specs.Steps.{Steps, StepsBy, StepsWhileUp, StepsWhileDown}
 use Rattle.rad_lane.specs.Hears.{HearsReply, HearsProbe}
 
 -- the answers that are kept, and how many there were
@@ -28,7 +28,7 @@ same_by_accept old new request moment (Ok (Waiting number)) d a = ap answers_of 
 same_by_accept old new request moment (Ok (Again number)) d a = ap answers_of a.1
 same_by_accept old new request moment (Err refusal) d a = ap answers_of a.2
 
-same_up : (old new : Book) (now : ℕ) (action : Action) (d : Datagrams) → StepsUp old now action d new → answers_of new ≡ answers_of old
+same_up : (old new : Book) (now : ℕ) (action : Action) (d : Datagrams) → StepsWhileUp old now action d new → answers_of new ≡ answers_of old
 same_up old new now (Resent number slot) d s = ap answers_of s.4
 same_up old new now WentDown d s = ap answers_of s.3
 same_up old new now (Sent number slot) d s = ap answers_of s.9
@@ -37,7 +37,7 @@ same_up old new now (Idle (Some next)) d s = ap answers_of s.7
 same_up old new now (Probed slot) d s = absurd s
 same_up old new now WentUp d s = absurd s
 
-same_down : (old new : Book) (now : ℕ) (random : List ℕ) (until next : ℕ) (out : Option Slot) (action : Action) (d : Datagrams) → StepsDown old now random until next out action d new → answers_of new ≡ answers_of old
+same_down : (old new : Book) (now : ℕ) (random : List ℕ) (until next : ℕ) (out : Option Slot) (action : Action) (d : Datagrams) → StepsWhileDown old now random until next out action d new → answers_of new ≡ answers_of old
 same_down old new now random until next out WentUp d s = ap answers_of s.2.others
 same_down old new now random until next out (Probed slot) d s = ap answers_of s.2.2
 same_down old new now random until next out (Idle (Some later)) d s = ap answers_of s.4

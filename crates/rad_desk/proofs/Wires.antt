@@ -20,7 +20,7 @@ use Rattle.rad_lane.specs.Book.{Book, moment_in}
 use Rattle.rad_lane.specs.Repeat.{Repeats, fresh, waits, again, repeats, repeats_answered, repeats_last, of_key, last_of, answer_to}
 use Rattle.rad_lane.specs.Accepts.{Accepts}
 use Rattle.rad_lane.specs.Datagrams.{Datagrams}
-use Rattle.rad_lane.specs.Steps.{Steps, StepsBy, StepsUp, StepsDown}
+use Rattle.rad_lane.specs.Steps.{Steps, StepsBy, StepsWhileUp, StepsWhileDown}
 use Rattle.rad_lane.specs.Lawful.{IsLawful}
 use Rattle.rad_desk.specs.Departures.{Departs, IsVerifiedResponse, Returns}
 
@@ -30,7 +30,7 @@ forwards_first old lawful r rest is =
     let Right : Recorded → Type 0 = λ r. IsRecord r × IsOfItsRealms old.setup r.text in
     (All-head Right r rest (subst (All Right) is lawful.of_its_realms)).0
 
-departs_up : (old new : Book) (now : ℕ) (action : Action) (d : Datagrams) → IsLawful old → StepsUp old now action d new → Departs action d
+departs_up : (old new : Book) (now : ℕ) (action : Action) (d : Datagrams) → IsLawful old → StepsWhileUp old now action d new → Departs action d
 departs_up old new now (Resent number slot) d lawful s =
     let forwards = lawful.forwards_its_record slot s.0 s.1.there in
     record { recorded = s.0.request; is_record = forwards.is_record; lane = old.setup.lane; identifier = slot.identifier; secret = old.setup.home_secret; forwards = s.3 ∙ forwards.octets }
@@ -42,7 +42,7 @@ departs_up old new now (Idle (Some next)) d lawful s = s.6
 departs_up old new now (Probed slot) d lawful s = absurd s
 departs_up old new now WentUp d lawful s = absurd s
 
-departs_down : (old new : Book) (now : ℕ) (random : List ℕ) (until next : ℕ) (out : Option Slot) (action : Action) (d : Datagrams) → StepsDown old now random until next out action d new → Departs action d
+departs_down : (old new : Book) (now : ℕ) (random : List ℕ) (until next : ℕ) (out : Option Slot) (action : Action) (d : Datagrams) → StepsWhileDown old now random until next out action d new → Departs action d
 departs_down old new now random until next out (Probed slot) d s =
     record { identifier = slot.identifier; authenticator = random; secret = old.setup.home_secret; asks = s.2.1 }
 departs_down old new now random until next out WentUp d s = s.1
@@ -96,7 +96,7 @@ is_again book key now all = again_last book now (last_of (of_key key book.accept
 has_response : (book : Book) → IsLawful book → All HasResponse book.answered
 has_response book lawful = λ k d within.
     let verified = lawful.answers_verified k d within in
-    record { head = _; sending = _; reply = _; client = _; home = _; answers = verified.answers }
+    record { head = _; sending = _; reply = _; client = _; home = _; answers = verified.answered.answers }
 
 pub returns : (old new : Book) (request : Request) (moment : ℕ) (result : Result Taken Refusal) (d : Datagrams) → IsLawful old → Accepts old request moment result d new → Returns result d
 returns old new request moment (Ok (New number)) d lawful a = a.4

@@ -1,3 +1,5 @@
+//! Whether a response is the one that an answer keeps.
+
 ghost use Rattle.std.specs.Prelude.{◌↔◌, IsTrue};
 ghost use Rattle.rad_desk.specs.Outlet.{Agrees};
 

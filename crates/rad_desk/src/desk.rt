@@ -1,3 +1,5 @@
+//! A lane with the giving end of its ring.
+
 ghost use Rattle.std.proofs.Props.{props};
 ghost use Rattle.rtrb.specs.Ring.{sent};
 ghost use Rattle.rad_desk.specs.Outlet.{IsOutlet};

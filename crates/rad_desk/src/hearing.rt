@@ -1,4 +1,4 @@
-//! Hearing the home server, with a place in the ring for what it answers.
+//! Hearing the home server, where the ring has a place for what is answered.
 
 ghost use Rattle.rad_desk.specs.Tells.{Tells};
 

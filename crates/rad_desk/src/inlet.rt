@@ -1,3 +1,5 @@
+//! The end of a ring from which responses are taken.
+
 ghost use Rattle.rtrb.specs.Ring.{received};
 ghost use Rattle.rad_desk.specs.Outlet.{InOrder};
 

@@ -1,3 +1,5 @@
+//! What both ends of a ring know of each response in it.
+
 use rad_lane::Outgoing;
 use rtrb::Protocol;
 

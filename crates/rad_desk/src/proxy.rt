@@ -1,4 +1,6 @@
-ghost use Rattle.std.specs.Prelude.{◌≡◌, ◌<◌, ◌≤◌, min, length, map as each, All, IfOk, [], Err};
+//! The lanes behind their locks.
+
+ghost use Rattle.std.specs.Prelude.{◌≡◌, ◌<◌, ◌≤◌, length, map as each, All, IfOk, [], Err};
 ghost use Rattle.std.specs.List.{range_with_len};
 ghost use Rattle.rad_lane.specs.declared.accepting.Refusal.TheVariants.{WrongLane};
 ghost use Rattle.rad_lane.specs.Datagrams.{Datagrams};
@@ -37,7 +39,7 @@ impl Model for Proxy {
 
     ghost view = { λ p. length p.desks.items };
 
-    ghost invariant = { λ p. length p.desks.items ≤ 65535 };
+    ghost invariant = { λ p. length p.desks.items ≤ 64 };
 }
 
 /// A lane for each home server of the configuration, and the inlets of their rings, in the order of the lanes.
@@ -46,11 +48,11 @@ impl Model for Proxy {
 ///
 /// Where memory is refused.
 pub fn open(alloc: Global, config: &Config) -> Result<(Proxy, Vec<Inlet>), OpenFault>
-    ensures lanes { IfOk result (λ opened. opened.0 ≡ min (length config.now.homes) 65535) }
+    ensures lanes { IfOk result (λ opened. opened.0 ≡ length config.now.homes) }
     ensures inlets { IfOk result (λ opened. each lane_of opened.1.items ≡ range_with_len 0 opened.0) }
     ensures taken { IfOk result (λ opened. All (λ i. taken i ≡ []) opened.1.items) }
 {
-    let lanes = config.homes().len().min(usize::from(u16::MAX)) as u16;
+    let lanes = config.homes().len() as u16;
     let Ok(mut desks) = Vec::with_capacity(alloc, usize::from(lanes)) else {
         return Err(OpenFault::OutOfMemory);
     };

@@ -1,5 +1,5 @@
-//! What no clause says: that a desk takes requests and hears of them where memory is ample, when its ring is full,
-//! and the octets of other implementations.
+//! What no clause says: that a desk takes requests, sends them and hears of them where memory is ample, what it says
+//! when its ring is full, that a call through a lock reaches its own lane, and the octets of another implementation.
 
 mod octets;
 mod test_desk;

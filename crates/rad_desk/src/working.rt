@@ -1,4 +1,4 @@
-//! The calls of a desk's lane. None but hearing changes what the ring was given.
+//! The calls of a desk's lane. Hearing alone, which stands apart, changes what the ring was given.
 
 ghost use Rattle.std.specs.Prelude.{◌≡◌, ◌↔◌, IsTrue, IsSome};
 ghost use Rattle.rad_lane.specs.Accepts.{Accepts, IsTaken};
@@ -73,7 +73,6 @@ impl Desk {
         ensures lawful { IsLawful (book self.now) }
         ensures outlet { IsOutlet (book self.now) (given self.now) }
     {
-        self.keep_law();
         self.lane.counts()
     }
 

@@ -1,5 +1,5 @@
-//! What goes to and fro between a desk, its client and its home server, as Python's hashlib and hmac sign it:
-//! under `nas-secret` with the client, and under `home-secret` with the home server.
+//! The packets that go to and fro between a desk, its client and its home server, as Python's hashlib and hmac sign
+//! them: under `nas-secret` with the client, and under `home-secret` with the home server.
 
 /// A request of identifier 7 with a Proxy-State of the NAS's own.
 pub const REQUEST: [u8; 52] = [

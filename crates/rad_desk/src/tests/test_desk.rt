@@ -1,3 +1,5 @@
+//! A desk with its inlet, and the calls that the tests make of it.
+
 ghost use Rattle.std.specs.Prelude.{IfOk};
 ghost use Rattle.rad_desk.specs.Inlet.{AreOfOneRing};
 

@@ -1,4 +1,4 @@
-//! The same through the lock of a lane, where no clause says what the lane was.
+//! The calls through the lock of a lane, of which no clause says which lane they reached.
 
 use super::octets::{FORWARDED, OTHER_REQUEST, REPLY, REQUEST, RESPONSE};
 use super::test_desk::{CLIENT_PORT, RANDOM, at, config, slot};
