@@ -175,7 +175,31 @@ def sums_of_lanes():
     return {"SENT": sum_of(forwarded), "RESPONSES": sum_of(responses)}
 
 
-MADE = {"rad_auth": of_rad_auth(), "rad_realms": of_rad_realms(), "rad_tests": {**of_lanes(), **sums_of_lanes()}}
+def of_rad_desk():
+    client, home = b"nas-secret", b"home-secret"
+    lanes = of_lanes()
+    second = BOB + attribute(ACCT_STATUS_TYPE, bytes([0, 0, 0, 2])) + attribute(ACCT_SESSION_ID, b"S1")
+    asked = request(8, second, client)
+    forwarded = request(1, second + mark(0, 1), home)
+    other = user_name(b"bob@other.org") + attribute(ACCT_STATUS_TYPE, bytes([0, 0, 0, 1])) + attribute(ACCT_SESSION_ID, b"S2")
+    return {
+        **{name: lanes[name] for name in ["REQUEST", "FORWARDED", "REPLY", "RESPONSE"]},
+        "SECOND_REQUEST": asked,
+        "SECOND_FORWARDED": forwarded,
+        "SECOND_REPLY": answer(forwarded, 1, mark(0, 1), home),
+        "SECOND_RESPONSE": answer(asked, 8, b"", client),
+        "PROBE": lanes["SECOND_PROBE"],
+        "PROBE_ANSWER": lanes["SECOND_PROBE_ANSWER"],
+        "OTHER_REQUEST": request(9, other, client),
+    }
+
+
+MADE = {
+    "rad_auth": of_rad_auth(),
+    "rad_realms": of_rad_realms(),
+    "rad_tests": {**of_lanes(), **sums_of_lanes()},
+    "rad_desk": of_rad_desk(),
+}
 
 SUM = re.compile(r"const (\w+): u64 = 0x([0-9a-f_]+);")
 ARRAY = re.compile(r"const (\w+): \[u8; \d+\] = \[((?:\s*0x[0-9a-f]{2},?)+)\s*\];")

@@ -73,7 +73,7 @@ impl Setup {
         }
     }
 
-    pub(crate) fn lane(&self) -> u16
+    pub fn lane(&self) -> u16
         ensures { result ≡ self.now.lane }
     {
         self.lane
@@ -94,7 +94,7 @@ impl Setup {
         &self.home
     }
 
-    pub(crate) fn limits(&self) -> &Limits
+    pub fn limits(&self) -> &Limits
         ensures value { result.now ≡ self.now.limits }
     {
         &self.limits

@@ -1,0 +1,4 @@
+pub mod Answers
+pub mod Outlets
+pub mod Wires
+pub mod Opening

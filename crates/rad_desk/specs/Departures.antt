@@ -1,0 +1,54 @@
+-- What goes onto a wire (own): whatever the lane, nothing is given to be sent but one of these.
+use Rattle.std.specs.Prelude.{◌≡◌, ℕ, List, Result, Ok, Err}
+use Rattle.rad_auth.specs.declared.reply.RequestHead.{RequestHead}
+use Rattle.rad_auth.specs.Answers.{Answers}
+use Rattle.rad_auth.specs.Forwarding.{forwarded}
+use Rattle.rad_auth.specs.Status.{status_server}
+use Rattle.rad_lane.specs.declared.accepting.Taken.{Taken}
+use Rattle.rad_lane.specs.declared.accepting.Taken.TheVariants.{New, Waiting, Again}
+use Rattle.rad_lane.specs.declared.accepting.Refusal.{Refusal}
+use Rattle.rad_lane.specs.declared.stepping.Action.{Action}
+use Rattle.rad_lane.specs.declared.stepping.Action.TheVariants.{Sent, Resent, Probed, WentDown, WentUp, Idle}
+use Rattle.rad_lane.specs.Stamp.{Recorded, IsRecord}
+use Rattle.rad_lane.specs.Datagrams.{Datagrams}
+
+-- The forwarded packet of a right record, with the mark of a lane, under a secret.
+pub record ForwardsARecord (octets : List ℕ) : Type 0 where
+  pub recorded : Recorded
+  pub is_record : IsRecord recorded
+  pub lane : ℕ
+  pub identifier : ℕ
+  pub secret : List ℕ
+  pub forwards : octets ≡ forwarded recorded.text (record { lane = lane; number = recorded.stamp.number }) identifier secret
+
+-- A Status-Server, under a secret.
+pub record IsStatusServer (octets : List ℕ) : Type 0 where
+  pub identifier : ℕ
+  pub authenticator : List ℕ
+  pub secret : List ℕ
+  pub asks : octets ≡ status_server identifier authenticator secret
+
+-- What a step leaves in the datagram: what is to be sent to the home server, or what was there.
+abbrev pub Departs : Action → Datagrams → Type 0
+Departs (Sent number slot) d = ForwardsARecord d.after
+Departs (Resent number slot) d = ForwardsARecord d.after
+Departs (Probed slot) d = IsStatusServer d.after
+Departs WentDown d = d.after ≡ d.before
+Departs WentUp d = d.after ≡ d.before
+Departs (Idle moment) d = d.after ≡ d.before
+
+-- A response that answers a request, after a verified reply to what was sent for it.
+pub record IsVerifiedResponse (octets : List ℕ) : Type 0 where
+  pub head : RequestHead
+  pub sending : List ℕ
+  pub reply : List ℕ
+  pub client : List ℕ
+  pub home : List ℕ
+  pub answers : Answers head sending reply client home octets
+
+-- What taking a request leaves in the datagram: what is to be sent to the client, or what was there.
+abbrev pub Returns : Result Taken Refusal → Datagrams → Type 0
+Returns (Ok (Again number)) d = IsVerifiedResponse d.after
+Returns (Ok (New number)) d = d.after ≡ d.before
+Returns (Ok (Waiting number)) d = d.after ≡ d.before
+Returns (Err refusal) d = d.after ≡ d.before

@@ -1,0 +1,6 @@
+pub mod Outlet
+pub mod Desk
+pub mod Inlet
+pub mod Tells
+pub mod Departures
+pub mod Lawful

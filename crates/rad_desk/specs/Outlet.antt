@@ -1,0 +1,31 @@
+-- The outlet of a lane (own): the responses that its ring was given, beside the book of the lane.
+use Rattle.std.specs.Prelude.{◌≡◌, List, length, map as each, slice_get, All, MatchOption}
+use Rattle.std.specs.List.{range_with_len}
+use Rattle.rad_lane.specs.declared.outgoing.Outgoing.{Outgoing}
+use Rattle.rad_lane.specs.Outstanding.{AnswerKept}
+use Rattle.rad_lane.specs.Book.{Book}
+
+-- The serials of the responses are 0, 1, 2 and so on.
+abbrev pub InOrder : List Outgoing → Type 0
+InOrder responses = each (λ r. r.serial) responses ≡ range_with_len 0 (length responses)
+
+-- A response agrees with an answer that is kept: it goes to the same client and port, under the identifier of the same
+-- request, and it is the same response, after the same reply to the same sending.
+pub record Agrees (answer : AnswerKept) (outgoing : Outgoing) : Type 0 where
+  pub client : outgoing.client ≡ answer.stamp.client
+  pub port : outgoing.port ≡ answer.stamp.port
+  pub identifier : outgoing.reply.head.identifier ≡ answer.stamp.identifier
+  pub sending : outgoing.reply.sending ≡ answer.reply.sending
+  pub reply : outgoing.reply.reply ≡ answer.reply.reply
+  pub response : outgoing.reply.response ≡ answer.reply.response
+
+-- The response at the place of the answer's serial is there, and agrees with the answer.
+abbrev pub AgreesAtItsSerial : List Outgoing → AnswerKept → Type 0
+AgreesAtItsSerial given answer = MatchOption (slice_get given answer.serial) ⊥ (λ response. Agrees answer response)
+
+pub record IsOutlet (book : Book) (given : List Outgoing) : Type 0 where
+  -- Each answer that was served was given, in order.
+  pub served : length given ≡ book.served
+  pub in_order : InOrder given
+  -- Each answer that is kept is the one that was given.
+  pub agree : All (AgreesAtItsSerial given) book.answered

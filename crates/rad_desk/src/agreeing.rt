@@ -1,0 +1,22 @@
+//! Whether a response is the one that an answer keeps.
+
+ghost use Rattle.std.specs.Prelude.{◌↔◌, IsTrue};
+ghost use Rattle.rad_desk.specs.Outlet.{Agrees};
+
+use rad_lane::{Answered, Outgoing};
+
+/// Whether a response agrees with an answer that is kept: in the client's address and port, the identifier, and
+/// the octets of the sending, the reply and the response. It compares all octets.
+pub fn agrees(answer: &Answered, outgoing: &Outgoing) -> bool
+    ensures { IsTrue result ↔ Agrees answer.now outgoing.now }
+{
+    let stamp = answer.stamp();
+    let kept = answer.reply();
+    let given = &outgoing.reply;
+    outgoing.client == stamp.client
+        && outgoing.port == stamp.port
+        && given.head().identifier == stamp.identifier
+        && given.sending() == kept.sending()
+        && given.reply() == kept.reply()
+        && given.response() == kept.response()
+}

@@ -1,0 +1,79 @@
+//! A lane with the giving end of its ring.
+
+ghost use Rattle.std.proofs.Props.{props};
+ghost use Rattle.rtrb.specs.Ring.{sent};
+ghost use Rattle.rad_desk.specs.Outlet.{IsOutlet};
+
+use crate::inlet::Inlet;
+use crate::numbered::Numbered;
+use block_queue::PlainQueue;
+use rad_lane::{Lane, Outgoing, Record, Setup};
+use rtrb::{Producer, RingBuffer};
+use std::alloc::Global;
+
+/// The queue of a lane behind its lock.
+pub type RecordQueue = PlainQueue<Record>;
+
+/// Why there is no desk.
+#[derive(Clone, Copy, Debug, PartialEq, Eq)]
+pub enum OpenFault {
+    /// Memory was refused.
+    OutOfMemory,
+}
+
+/// A lane and the giving end of its ring.
+///
+/// Its type keeps that the ring was given each response that the lane served, in order of answering, and that
+/// each answer kept is the response that was given under its serial.
+#[derive(Drop)]
+pub struct Desk {
+    pub(crate) lane: Lane<RecordQueue>,
+    pub(crate) giver: Producer<Outgoing, Global, Numbered>,
+    ghost outlet: { IsOutlet lane (sent giver) } by { Prim.hlevel props },
+}
+
+impl Desk {
+    ghost use Rattle.std.specs.Prelude.{◌≡◌, [], ◌++◌, length, IfOk};
+    ghost use Rattle.rad_lane.specs.Empty.{empty_book};
+    ghost use Rattle.rad_desk.specs.Desk.{book, given, free_places, SameRing};
+    ghost use Rattle.rad_desk.specs.Inlet.{lane_of, taken, seen, AreOfOneRing, SameInlet};
+
+    /// An empty lane over this setup, with a ring of as many places as its limits say, and the inlet of that ring.
+    ///
+    /// # Errors
+    ///
+    /// Where memory is refused. The setup is dropped.
+    pub fn pair(alloc: Global, setup: Setup) -> Result<(Desk, Inlet), OpenFault>
+        ensures book { IfOk result (λ pair. book pair.0 ≡ empty_book setup) }
+        ensures given { IfOk result (λ pair. given pair.0 ≡ []) }
+        ensures free { IfOk result (λ pair. free_places pair.0 ≡ setup.limits.ring) }
+        ensures lane { IfOk result (λ pair. lane_of pair.1 ≡ setup.lane) }
+        ensures taken { IfOk result (λ pair. taken pair.1 ≡ []) }
+        ensures ring { IfOk result (λ pair. AreOfOneRing pair.0 pair.1) }
+    {
+        let number = setup.lane();
+        let places = setup.limits().numbers().ring as usize;
+        let Ok(lane) = Lane::new(alloc, setup) else {
+            return Err(OpenFault::OutOfMemory);
+        };
+        let Ok((giver, taker)) = RingBuffer::with_protocol::<Global, Numbered>(alloc, places) else {
+            return Err(OpenFault::OutOfMemory);
+        };
+        Ok((Desk { lane, giver }, Inlet::new(number, taker)))
+    }
+
+    /// How many responses wait in the ring, for whoever has both its ends: what its inlet took, followed by these,
+    /// is all that the ring was given.
+    pub fn waiting(&mut self, inlet: &mut Inlet) -> usize
+        requires { AreOfOneRing self.old inlet.old }
+        ensures value { result ≡ length (seen inlet.new) }
+        ensures waiting { taken inlet.new ++ seen inlet.new ≡ given self.new }
+        ensures given { given self.new ≡ given self.old }
+        ensures taken { taken inlet.new ≡ taken inlet.old }
+        ensures book { book self.new ≡ book self.old }
+        ensures ring { SameRing self.old self.new }
+        ensures inlet { SameInlet inlet.old inlet.new }
+    {
+        inlet.taker.slots_beside(&mut self.giver)
+    }
+}

@@ -1,0 +1,27 @@
+//! The lanes of all home servers, for many threads (own): each stands behind a lock of its own, together with the
+//! giving end of a ring, through which its responses go to the front in order of answering, each once.
+//!
+//! [`open`] makes the [`Proxy`], which holds the lanes, and for each lane an [`Inlet`], from which the front takes
+//! responses without a lock. A contract can't say what a call found behind its lock. What the call does there is the
+//! contract of the same call of [`laws::Desk`], and the calls through the lock say what every lane's type implies.
+//!
+//! The definitions that the contracts cite stand in specs: `Desk` and `Inlet` are what a contract sees of either end
+//! of a ring, `Outlet` is what the ring was given beside the lane's book, `Tells` is hearing the home server, and
+//! `Departures` and `Lawful` are what a call through a lock tells.
+#![tactic(auto)]
+
+mod agreeing;
+mod desk;
+mod hearing;
+mod inlet;
+pub mod laws;
+mod numbered;
+mod proxy;
+#[cfg(test)]
+mod tests;
+mod working;
+
+pub use desk::OpenFault;
+pub use hearing::{DeskFault, Told};
+pub use inlet::Inlet;
+pub use proxy::{Proxy, open};

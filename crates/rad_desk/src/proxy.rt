@@ -1,0 +1,172 @@
+//! The lanes behind their locks.
+
+ghost use Rattle.std.specs.Prelude.{◌≡◌, ◌<◌, ◌≤◌, length, map as each, All, IfOk, [], Err};
+ghost use Rattle.std.specs.List.{range_with_len};
+ghost use Rattle.rad_lane.specs.declared.accepting.Refusal.TheVariants.{WrongLane};
+ghost use Rattle.rad_lane.specs.Datagrams.{Datagrams};
+ghost use Rattle.rad_desk.specs.Inlet.{lane_of, taken};
+ghost use Rattle.rad_desk.specs.Departures.{Departs, Returns};
+ghost use Rattle.rad_desk.specs.Lawful.{AreLawful};
+
+use crate::inlet::Inlet;
+use crate::laws::Desk;
+use crate::{DeskFault, OpenFault, Told};
+use rad_lane::{Action, Counts, Refusal, Setup, Taken};
+use rad_packet::Datagram;
+use rad_realms::{Checked, Config};
+use rad_tables::Moment;
+use std::alloc::Global;
+use std::hint::spin_loop;
+use std::marker::Model;
+use std::sync::{Mutex, MutexGuard, Wait};
+
+/// How often a lock is tried before the thread sleeps for it. A lane is held for about as long as a packet is hashed,
+/// which is less than it takes to sleep and to wake.
+const TRIES: u32 = 2000;
+
+/// The lanes of all home servers, each with the giving end of its ring behind a lock of its own.
+///
+/// A contract sees how many lanes there are.
+#[derive(Drop)]
+pub struct Proxy {
+    desks: Vec<Mutex<Desk>>,
+}
+
+impl Model for Proxy {
+    ghost use Rattle.std.specs.Prelude.{ℕ, ◌≤◌, length};
+
+    ghost Value = { ℕ };
+
+    ghost view = { λ p. length p.desks.items };
+
+    ghost invariant = { λ p. length p.desks.items ≤ 64 };
+}
+
+/// A lane for each home server of the configuration, and the inlets of their rings, in the order of the lanes.
+///
+/// # Errors
+///
+/// Where memory is refused.
+pub fn open(alloc: Global, config: &Config) -> Result<(Proxy, Vec<Inlet>), OpenFault>
+    ensures lanes { IfOk result (λ opened. opened.0 ≡ length config.now.homes) }
+    ensures inlets { IfOk result (λ opened. each lane_of opened.1.items ≡ range_with_len 0 opened.0) }
+    ensures taken { IfOk result (λ opened. All (λ i. taken i ≡ []) opened.1.items) }
+{
+    let lanes = config.homes().len() as u16;
+    let Ok(mut desks) = Vec::with_capacity(alloc, usize::from(lanes)) else {
+        return Err(OpenFault::OutOfMemory);
+    };
+    let Ok(mut inlets) = Vec::with_capacity(alloc, usize::from(lanes)) else {
+        return Err(OpenFault::OutOfMemory);
+    };
+    for lane in 0..lanes {
+        let Ok(setup) = Setup::of(alloc, config, lane) else {
+            return Err(OpenFault::OutOfMemory);
+        };
+        let (desk, inlet) = Desk::pair(alloc, setup)?;
+        desks.push_reserved(Mutex::new(desk));
+        inlets.push_reserved(inlet);
+    }
+    Ok((Proxy { desks }, inlets))
+}
+
+impl Proxy {
+    /// How many lanes there are.
+    pub fn lanes(&self) -> u16
+        ensures { result ≡ self.now }
+    {
+        self.desks.len() as u16
+    }
+
+    /// Takes a request into its lane.
+    ///
+    /// # Errors
+    ///
+    /// `WrongLane`, before all else, where there is no such lane or it does not take the request, which was then
+    /// checked against another configuration. Else why the lane does not take it. The datagram stays.
+    pub fn accept(
+        &self,
+        rt: &impl Wait,
+        alloc: Global,
+        request: &Checked<'_>,
+        moment: Moment,
+        datagram: &mut Datagram,
+    ) -> Result<Taken, Refusal>
+        ensures lane { self.now ≤ request.now.lane → result ≡ Err WrongLane }
+        ensures returns { Returns result (record { before = datagram.old; after = datagram.new }) }
+    {
+        if request.lane() >= self.lanes() {
+            return Err(Refusal::WrongLane);
+        }
+        let mut guard = self.lock(rt, request.lane());
+        let desk = &mut *guard;
+        if !desk.takes(request) {
+            return Err(Refusal::WrongLane);
+        }
+        desk.accept(alloc, request, moment, datagram)
+    }
+
+    /// Does what a lane does by itself at this moment, one thing. The octets are a probe's Authenticator.
+    pub fn step(
+        &self,
+        rt: &impl Wait,
+        lane: u16,
+        moment: Moment,
+        random: [u8; 16],
+        datagram: &mut Datagram,
+    ) -> Action
+        requires { lane < self.now }
+        ensures { Departs result (record { before = datagram.old; after = datagram.new }) }
+    {
+        self.lock(rt, lane).step(moment, random, datagram)
+    }
+
+    /// Hears a datagram that came to a source port of a lane from its home server.
+    ///
+    /// # Errors
+    ///
+    /// Where the lane's ring is full or the lane does not hear the datagram.
+    pub fn hear(
+        &self,
+        rt: &impl Wait,
+        alloc: Global,
+        lane: u16,
+        moment: Moment,
+        port: u16,
+        datagram: &[u8],
+    ) -> Result<Told, DeskFault>
+        requires { lane < self.now }
+    {
+        self.lock(rt, lane).hear(alloc, moment, port, datagram)
+    }
+
+    /// Has a lane take no request from now on. It answers how many it had accepted since the first when it was
+    /// drained.
+    pub fn drain(&self, rt: &impl Wait, lane: u16) -> u64
+        requires { lane < self.now }
+    {
+        self.lock(rt, lane).drain()
+    }
+
+    /// How much a lane has.
+    pub fn counts(&self, rt: &impl Wait, lane: u16) -> Counts
+        requires { lane < self.now }
+        ensures { AreLawful result }
+    {
+        self.lock(rt, lane).counts()
+    }
+
+    /// Holds a lane. It tries for a while before it sleeps.
+    fn lock(&self, rt: &impl Wait, lane: u16) -> MutexGuard<'_, Desk>
+        requires { lane < self.now }
+    {
+        let desk = &self.desks[usize::from(lane)];
+        for _ in 0..TRIES {
+            if let Some(guard) = desk.try_lock() {
+                return guard;
+            }
+            spin_loop();
+        }
+        desk.lock(rt)
+    }
+}

@@ -1,0 +1,99 @@
+//! The calls of a desk's lane. Hearing alone, which stands apart, changes what the ring was given.
+
+ghost use Rattle.std.specs.Prelude.{◌≡◌, ◌↔◌, IsTrue, IsSome};
+ghost use Rattle.rad_lane.specs.Accepts.{Accepts, IsTaken};
+ghost use Rattle.rad_lane.specs.Datagrams.{Datagrams};
+ghost use Rattle.rad_lane.specs.Steps.{Steps, AllotsAnother};
+ghost use Rattle.rad_lane.specs.Drains.{Drains};
+ghost use Rattle.rad_lane.specs.Counting.{counts_of, IsDone};
+ghost use Rattle.rad_lane.specs.Lawful.{IsLawful};
+ghost use Rattle.rad_desk.specs.Outlet.{IsOutlet};
+ghost use Rattle.rad_desk.specs.Desk.{book, given, SameOutlet};
+ghost use Rattle.rad_desk.specs.Departures.{Departs, Returns};
+
+use crate::laws::Desk;
+use rad_lane::{Action, Counts, Refusal, Taken};
+use rad_packet::Datagram;
+use rad_realms::Checked;
+use rad_tables::Moment;
+use std::alloc::Global;
+
+impl Desk {
+    /// Whether a request leads to the lane, by the lane's own realms. It looks at each of these.
+    pub fn takes(&self, request: &Checked<'_>) -> bool
+        ensures { IsTrue result ↔ IsTaken (book self.now) request.now }
+    {
+        self.lane.takes(request)
+    }
+
+    /// Takes a request that is the lane's, as the lane does.
+    ///
+    /// # Errors
+    ///
+    /// Why a new request is not taken. The desk and the datagram stay.
+    pub fn accept(
+        &mut self,
+        alloc: Global,
+        request: &Checked<'_>,
+        moment: Moment,
+        datagram: &mut Datagram,
+    ) -> Result<Taken, Refusal>
+        requires { IsTaken (book self.old) request.now }
+        ensures accepts { Accepts (book self.old) request.now moment result (record { before = datagram.old; after = datagram.new }) (book self.new) }
+        ensures outlet { SameOutlet self.old self.new }
+        ensures returns { Returns result (record { before = datagram.old; after = datagram.new }) }
+    {
+        self.keep_law();
+        self.lane.accept(alloc, request, moment, datagram)
+    }
+
+    /// Does what the lane does by itself at this moment, one thing. The octets are a probe's Authenticator.
+    pub fn step(&mut self, moment: Moment, random: [u8; 16], datagram: &mut Datagram) -> Action
+        ensures steps { Steps (book self.old) moment random result (record { before = datagram.old; after = datagram.new }) (book self.new) }
+        ensures outlet { SameOutlet self.old self.new }
+        ensures departs { Departs result (record { before = datagram.old; after = datagram.new }) }
+        ensures another { AllotsAnother (book self.old) result }
+    {
+        self.keep_law();
+        self.lane.step(moment, random, datagram)
+    }
+
+    /// Takes no request from now on. It answers how many had been accepted since the first when it was drained; a
+    /// second call changes nothing.
+    pub fn drain(&mut self) -> u64
+        ensures drains { Drains (book self.old) result (book self.new) }
+        ensures outlet { SameOutlet self.old self.new }
+    {
+        self.lane.drain()
+    }
+
+    /// How much the lane has.
+    pub fn counts(&self) -> Counts
+        ensures counts { result ≡ counts_of (book self.now) }
+        ensures lawful { IsLawful (book self.now) }
+        ensures outlet { IsOutlet (book self.now) (given self.now) }
+    {
+        self.lane.counts()
+    }
+
+    /// Whether the lane is drained.
+    pub fn is_draining(&self) -> bool
+        ensures { IsTrue result ↔ IsSome (book self.now).drain }
+    {
+        self.lane.is_draining()
+    }
+
+    /// Whether the lane is drained, and nothing waits to be sent or for its answer.
+    pub fn is_done(&self) -> bool
+        ensures { IsTrue result ↔ IsDone (book self.now) }
+    {
+        self.lane.is_done()
+    }
+
+    /// The law that the lane's type keeps, for whoever calls it to use.
+    fn keep_law(&self)
+        ensures { IsLawful (book self.now) }
+    {
+        let _ = self.lane.accepted();
+    }
+}
