@@ -1,0 +1,4 @@
+mod Blocks
+mod Lending
+mod Places
+mod Regions
