@@ -16,7 +16,7 @@ module _ {T : Type 0} where
   pub room_of_none : (bs : List (Queue T)) → (0 < length bs → false ≡ true) → 0 ≡ room_of bs
   unfolding room_of
   room_of_none [] none = refl
-  room_of_none (b ∷ bs) none = absurd (none (omega arith))
+  room_of_none (b ∷ bs) none = let no = none (omega arith) in cc
 
   pub some_with_room : (bs : List (Queue T)) → 1 ≤ room_of bs → 0 < length bs
   unfolding room_of
@@ -107,7 +107,7 @@ module _ {T : Type 0} where
   pub begins_none : (bs : List (Queue T)) → (0 < length bs → false ≡ true) → false ≡ begins_empty bs
   unfolding begins_empty
   begins_none [] none = refl
-  begins_none (b ∷ bs) none = absurd (none (omega arith))
+  begins_none (b ∷ bs) none = let no = none (omega arith) in cc
 
   pub finishes_with : (bs : List (Queue T)) (last : Queue T) (i : ℕ) → i + 1 ≡ length bs → last ≡ get_or bs i last → has_none last.items ≡ finishes_empty bs
   unfolding finishes_empty
@@ -120,7 +120,7 @@ module _ {T : Type 0} where
   pub finishes_none : (bs : List (Queue T)) → (0 < length bs → false ≡ true) → false ≡ finishes_empty bs
   unfolding finishes_empty
   finishes_none [] none = refl
-  finishes_none (b ∷ bs) none = absurd (none (omega arith))
+  finishes_none (b ∷ bs) none = let no = none (omega arith) in cc
 
   pub begins : (bs : List (Queue T)) → begins_empty bs ≡ true → 0 < length bs
   unfolding begins_empty
@@ -151,7 +151,7 @@ module _ {T : Type 0} where
   pub none_oldest : (bs : List (Queue T)) → (0 < length bs → false ≡ true) → None ≡ oldest (items_of bs)
   unfolding items_of
   none_oldest [] none = refl
-  none_oldest (b ∷ bs) none = absurd (none (omega arith))
+  none_oldest (b ∷ bs) none = let no = none (omega arith) in cc
 
   pub chained_rest : (bs : List (Queue T)) → IsChain bs → IsChain (drop 1 bs)
   unfolding IsChain

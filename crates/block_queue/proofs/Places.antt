@@ -21,9 +21,6 @@ module _ {T : Type 0} where
   length-laid zero (item ∷ items) rest = ap suc (length-laid zero items rest) ∙ omega arith
   length-laid (suc start) items rest = ap suc (length-laid start items rest) ∙ omega arith
 
-  pub length-empty : (rest : ℕ) → length (laid {T = T} zero [] rest) ≡ rest
-  length-empty rest = length-laid zero [] rest ∙ omega arith
-
   pub laid-empty : (start rest : ℕ) → laid {T = T} start [] rest ≡ laid zero [] (start + rest)
   unfolding laid
   laid-empty zero rest = ap (λ n. laid zero [] n) (omega arith)
@@ -137,3 +134,10 @@ module _ {T : Type 0} where
 
     pub shown_at : (index : ℕ) → index < length (values places) → get_or places (start + index) None ≡ slice_get (values places) index
     shown_at index lt = ap (λ l. get_or l (start + index) None) block.laid_out ∙ get-laid start (values places) (32 - (start + count)) index (start + index) refl lt
+
+pub length-empty : (T : Type 0) (rest : ℕ) → length (laid {T = T} zero [] rest) ≡ rest
+length-empty T rest = length-laid zero [] rest ∙ omega arith
+
+pub no_items : {T : Type 0} (items : List T) → length items ≡ 0 → items ≡ []
+no_items [] none = refl
+no_items (item ∷ items) none = absurd (omega arith)

@@ -1,5 +1,5 @@
 //! A block: a short queue in a region of its own.
-ghost use Rattle.std.specs.Prelude.{◌≡◌, ◌+◌, ◌-◌, ◌<◌, ◌≤◌, [], ◌∷◌, ◌++◌, Some, IfOk, length, option_copied, slice_get};
+ghost use Rattle.std.specs.Prelude.{◌≡◌, ◌-◌, ◌<◌, ◌≤◌, [], ◌∷◌, ◌++◌, Some, IfOk, length, option_copied, slice_get};
 ghost use Rattle.block_queue.specs.Queue.{oldest};
 ghost use Rattle.block_queue.specs.Blocks.{has_none};
 
@@ -123,7 +123,7 @@ impl<T> Block<T> {
     }
 
     /// The item at an index.
-    pub(crate) fn get(&self, index: usize) -> &T
+    fn get(&self, index: usize) -> &T
         requires { index < length self.now.items }
         ensures { slice_get self.now.items index ≡ Some result.now }
     {
@@ -133,7 +133,7 @@ impl<T> Block<T> {
 
 impl<T: Drop> Drop for Block<T> {
     fn drop(mut self) {
-        for _ in 0..self.count {
+        for _ in 0..self.len() {
             drop(self.pop());
         }
         self.free();

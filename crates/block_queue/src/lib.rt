@@ -12,7 +12,6 @@ mod block;
 mod block_queue;
 mod chain;
 mod fifo;
-mod iter;
 mod plain_queue;
 mod region;
 #[cfg(test)]
@@ -20,5 +19,4 @@ mod tests;
 
 pub use block_queue::BlockQueue;
 pub use fifo::Fifo;
-pub use iter::Iter;
 pub use plain_queue::PlainQueue;

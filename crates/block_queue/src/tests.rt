@@ -53,15 +53,21 @@ fn joined_queues_follow_one_another(rt: HostRuntime) -> Result<(), Fail> {
             queue.append(numbered(&rt, rt.alloc(), first, second)?);
             let both = first.wrapping_add(second);
             assert_eq!(rt; queue.len() as u64, both);
-            let mut expected = 0u64;
-            for number in queue.iter() {
-                assert_eq!(rt; *number, expected);
-                expected = expected.wrapping_add(1);
-            }
-            assert_eq!(rt; expected, both);
             pops_all(&rt, queue, both);
         }
     }
+    Ok(())
+}
+
+/// What may move to another thread.
+fn moved<S: Send>(value: S) -> S {
+    value
+}
+
+#[test]
+fn a_queue_moves_to_another_thread(rt: HostRuntime) -> Result<(), Fail> {
+    let queue = moved(numbered::<BlockQueue<u64>>(&rt, rt.alloc(), 0, 33)?);
+    pops_all(&rt, queue, 33);
     Ok(())
 }
 

@@ -5,7 +5,7 @@ pub pop-requires : goal.pop-requires
 pop-requires g c = first_has c.args.blocks.now c.in-Some.first.now c.requires.shape c.requires.filled c.in-Some.ensures.value
 
 pub unreachable-requires : goal.unreachable-requires
-unreachable-requires g c = absurd (c.in-None.ensures.variant.1 (some_with_items c.args.blocks.now c.requires.filled))
+unreachable-requires g c = let no = c.in-None.ensures.variant.1 (some_with_items c.args.blocks.now c.requires.filled) in cc
 
 pub returns-clause-items : goal.returns-clause-items
 returns-clause-items g c =

@@ -8,7 +8,7 @@ push-requires g c =
     subst (λ n. 1 ≤ n) (room_of_last c.args.blocks.now c.in-Some.last.now _ (omega arith) c.in-Some.ensures.value) c.requires
 
 pub unreachable-requires : goal.unreachable-requires
-unreachable-requires g c = absurd (c.in-None.ensures.variant.1 (some_with_room c.args.blocks.now c.requires))
+unreachable-requires g c = let no = c.in-None.ensures.variant.1 (some_with_room c.args.blocks.now c.requires) in cc
 
 pub returns : goal.returns
 returns g c =

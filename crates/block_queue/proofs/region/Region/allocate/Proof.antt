@@ -29,7 +29,7 @@ use denote.Triple.Call.{calls_at}
 use denote.Triple.Walked.{Stays, stay_dropped, walk_of, Goes-dropped}
 use Rattle.core.specs.contracts.result.Result as RS
 use Rattle.core.specs.contracts.alloc.AllocError as AE
-use Rattle.core.proofs.mem.Param.{El, elτ}
+use Rattle.core.proofs.mem.Param.{El, el_x, elτ}
 use Rattle.core.proofs.alloc.Calls.{Al, Answer-typed, Takes, at_takes, Answered, Takes-goes, Takes-gives, answers}
 use Rattle.core.proofs.slots.Bodies.{after, head, arm_body}
 use Rattle.block_queue.proofs.Regions.{sz}
@@ -84,7 +84,7 @@ allocate_spec 𝓤 𝓛 𝓜 𝓡 wired X U L LU g d dd met _ =
     sets_last ! (agg ! (and_then ! (lit ! tt) (and_then ! (get ! refl) (no_more !)))) refl (tt, all) $
     exec ! 𝓣.C 𝓣.Λ Ev (after 3 fn.body) (at_ret Ev Post) $ sets ! (of_opd ! (get ! refl)) refl (tt, all) $
     as_written ! (ty_array (elτ E) n) b o $ use1 𝓛 (‵ (places_own R b o new.places)) (of_room E 𝓛 b n o) $
-    region_made E Z ! new b o n refl (sym (length-empty n)) small $
+    region_made E Z ! new b o n refl (sym (length-empty (el_x E) n)) small $
     use1 𝓛 (‵ (Out.own_val (Ok new) (r ∷ []))) (ok_of 𝓛 Row AE.the_row new u) $
     use0 𝓛 (raw (fact 𝓤 (Told (Ok new)))) (fact_i 𝓤 (Told (Ok new)) (emp 𝓤) (refl, refl)) $ nothing ! $ nothing ! $ nothing ! $ fjoin3 ! $
     returns ! (look_at ! 0 refl) $ free_all ! refl $ keep ! (3 ∷ 0 ∷ 2 ∷ 1 ∷ []) $ by ! (leaves 𝓛 En hs c y r (Ok new) (tt, (tt, tt)) (tt, (tt, tt))))

@@ -61,7 +61,7 @@ release_spec 𝓤 𝓛 𝓜 𝓡 wired X U L LU g d dd met _ =
     keep ! (2 ∷ 3 ∷ 0 ∷ []) $ learn ! (λ within. drop ! $ learn ! (λ asked. drop ! $ split ! $ split ! $ move ! (2 ∷ []) $ fsplit3 ! $ fsplit ! $ drop ! $
     rewrite ! 0 (λ (k : List (Option (el_x E)) × U.Denot). ‵ (region_owns R (g.dealloc_token k.1) p k.0)) {x = (laid 0 [] n, h)} {y = (r.places, r.heap)} (λ i. (asked.0 i, asked.1 i)) refl $
     in_a_block ! p (λ u. region_owns R (token Z h) u (laid 0 [] n)) (id⊢ 𝓤 (never 𝓤)) (λ b o at. fsplit ! $ flt_l ! (λ fit. fsplit ! $
-    let long : length (laid {T = el_x E} 0 [] n) ≡ n = length-empty n in
+    let long : length (laid {T = el_x E} 0 [] n) ≡ n = length-empty (el_x E) n in
     rewrite ! 1 (λ (k : ℕ). ‵ (token Z h (block_ty E k) (block_ptr b o))) {x = n} long refl $
     -- [the places; the right; the `&` to the allocator; the count; the token; the other tokens]
     move ! (2 ∷ []) $ fsplit ! $ keep ! (2 ∷ 3 ∷ 1 ∷ 5 ∷ 6 ∷ []) $
