@@ -1,8 +1,11 @@
 -- What a chain of blocks is after a step at one of its ends.
 use Rattle.std.proofs.Common.{◌≡◌, ℕ, zero, suc, ◌+◌, ◌-◌, ◌^◌, ◌<◌, ◌≤◌, ◌⊎◌, inl, inr, Bool, true, false, List, [], ◌∷◌, ◌++◌, Some, None, refl, sym, ap, ◌∙◌, subst, arith, length, get_or, set, drop, take, append-nil, append_assoc, length-append}
-use Rattle.std.specs.Prelude.{Result, Ok, Err, OnOk, OnErr}
+use Rattle.std.specs.Prelude.{Result, Ok, Err, OnOk, OnErr, Option, slice_get}
+use Rattle.std.specs.Borrow.{Bor}
+use Rattle.std.specs.Option.{option_copied}
+use Rattle.std.specs.Map.Iter.{TakesFirst, deref}
 use Rattle.block_queue.specs.Queue.{Queue, oldest}
-use Rattle.block_queue.specs.Blocks.{items_of, room_of, pushed, has_none, begins_empty, finishes_empty, AllHaveItems, IsChain, IsQueue}
+use Rattle.block_queue.specs.Blocks.{items_of, left_in, room_of, pushed, has_none, begins_empty, finishes_empty, AllHaveItems, IsChain, IsQueue}
 
 module _ {T : Type 0} where
   pub room_of_last : (bs : List (Queue T)) (last : Queue T) (i : ℕ) → i + 1 ≡ length bs → last ≡ get_or bs i last → room_of bs ≡ last.room
@@ -303,3 +306,53 @@ module _ {T : Type 0} where
       let made = queue_added count bs new q is full few none room added in let left = made.2 in (made.0, made.1, omega arith, omega arith)
   queue_grown (Err e) count bs new q is full few none room added same =
       let left = ap room_of same in (subst (IsQueue count) (sym same) is, ap items_of same, omega arith, tt)
+
+  drop_at : (items : List T) (index : ℕ) (x : T) → Some x ≡ slice_get items index → drop index items ≡ x ∷ drop (index + 1) items
+  drop_at [] index x e = cc
+  drop_at (item ∷ items) zero x e = let same : x ≡ item = cc in ap (λ y. y ∷ items) (sym same)
+  drop_at (item ∷ items) (suc index) x e =
+      let next : suc (index + 1) ≡ suc index + 1 = omega arith in drop_at items index x e ∙ ap (λ n. x ∷ drop n (item ∷ items)) next
+
+  drop_none : (items : List T) (index : ℕ) → None ≡ slice_get items index → drop index items ≡ []
+  drop_none [] zero e = refl
+  drop_none [] (suc index) e = refl
+  drop_none (item ∷ items) zero e = cc
+  drop_none (item ∷ items) (suc index) e = drop_none items index e
+
+  pub taken_here : (block : Option (Bor (Queue T))) (index : ℕ) (x : T) (rest : List T) → Some x ≡ slice_get (left_in block 0) index → left_in block index ++ rest ≡ x ∷ left_in block (index + 1) ++ rest
+  taken_here None index x rest e = cc
+  taken_here (Some b) index x rest e = ap (λ l. l ++ rest) (drop_at b.now.items index x e)
+
+  pub none_here : (block : Option (Bor (Queue T))) (index : ℕ) → None ≡ slice_get (left_in block 0) index → left_in block index ≡ []
+  none_here None index e = refl
+  none_here (Some b) index e = drop_none b.now.items index e
+
+  pub none_left : (block : Option (Bor (Queue T))) (index : ℕ) (bs : List (Queue T)) → None ≡ slice_get (left_in block 0) index → bs ≡ [] → left_in block index ++ items_of bs ≡ []
+  unfolding items_of
+  none_left block index bs e f = ap (λ l. l ++ items_of bs) (none_here block index e) ∙ ap items_of f
+
+  pub next_chained : (bs : List (Queue T)) (b : Queue T) (cs : List (Queue T)) → IsChain bs → bs ≡ b ∷ cs → IsChain cs
+  unfolding IsChain
+  next_chained bs b [] h e = tt
+  next_chained bs b (c ∷ cs) h e = (subst IsChain e h).1
+
+  none_oldest_is : (items : List T) → None ≡ oldest items → items ≡ []
+  none_oldest_is [] e = refl
+  none_oldest_is (item ∷ items) e = cc
+
+  some_oldest_is : (items : List T) (x : T) → Some x ≡ oldest items → items ≡ x ∷ drop 1 items
+  some_oldest_is [] x e = cc
+  some_oldest_is (item ∷ items) x e = let same : item ≡ x = cc in ap (λ y. y ∷ items) same
+
+  last_alone : (b : Queue T) (cs : List (Queue T)) → IsChain (b ∷ cs) → length b.items ≡ 0 → cs ≡ []
+  unfolding IsChain
+  last_alone b [] h none = refl
+  last_alone b (c ∷ cs) h none = let some = h.0 in absurd (omega arith)
+
+  pub next_shown : (bs : List (Queue T)) (b : Bor (Queue T)) (cs : List (Queue T)) (r : Option (Bor T)) → IsChain bs → bs ≡ b.now ∷ cs → option_copied r ≡ oldest b.now.items
+      → TakesFirst deref (items_of bs) r (left_in (Some b) 1 ++ items_of cs)
+  unfolding items_of
+  next_shown bs b cs None h e f =
+      let none = none_oldest_is b.now.items f in let alone = last_alone b.now cs (subst IsChain e h) (ap length none) in
+      (ap items_of e ∙ (λ i. none i ++ items_of (alone i)), (λ i. drop 1 (none i) ++ items_of (alone i)))
+  next_shown bs b cs (Some x) h e f = ap items_of e ∙ ap (λ l. l ++ items_of cs) (some_oldest_is b.now.items x.now f)

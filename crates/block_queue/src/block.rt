@@ -1,5 +1,5 @@
 //! A block: a short queue in a region of its own.
-ghost use Rattle.std.specs.Prelude.{◌≡◌, ◌-◌, ◌<◌, ◌≤◌, [], ◌∷◌, ◌++◌, Some, IfOk, length, option_copied, slice_get};
+ghost use Rattle.std.specs.Prelude.{◌≡◌, ◌-◌, ◌<◌, ◌≤◌, [], ◌∷◌, ◌++◌, Some, IfOk, IsSome, length, option_copied, slice_get};
 ghost use Rattle.block_queue.specs.Queue.{oldest};
 ghost use Rattle.block_queue.specs.Blocks.{has_none};
 
@@ -120,6 +120,17 @@ impl<T> Block<T> {
             Some(_) => false,
             None => true,
         }
+    }
+
+    /// The item at an index, if there is one.
+    pub(crate) fn at(&self, index: usize) -> Option<&T>
+        ensures item { option_copied result ≡ slice_get self.now.items index }
+        ensures within { IsSome result → index < 32 }
+    {
+        if index < self.count {
+            return Some(self.get(index));
+        }
+        None
     }
 
     /// The item at an index.

@@ -1,6 +1,8 @@
 ghost use Rattle.std.specs.Prelude.{◌≡◌, ◌+◌, ◌^◌, ◌<◌, ◌++◌, length};
+ghost use Rattle.std.specs.Map.Iter.{ShowsInOrder, deref};
 
 use crate::block::Block;
+use crate::iter::Iter;
 use crate::{Fifo, chain};
 use std::alloc::{AllocError, Global};
 use std::collections::LinkedList;
@@ -84,6 +86,14 @@ impl<T> Fifo<T> for BlockQueue<T> {
 }
 
 impl<T> BlockQueue<T> {
+    /// The items, the oldest first.
+    pub fn iter(&self) -> Iter<'_, T>
+        ensures rest { result ≡ self.now.items }
+        ensures runs { ShowsInOrder (deref {X = T}) }
+    {
+        Iter::new(self.blocks.iter())
+    }
+
     /// Puts the items of another queue behind these. It takes no memory, and may give one block
     /// back.
     pub fn append(&mut self, other: BlockQueue<T>)

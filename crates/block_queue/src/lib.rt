@@ -12,6 +12,7 @@ mod block;
 mod block_queue;
 mod chain;
 mod fifo;
+mod iter;
 mod plain_queue;
 mod region;
 #[cfg(test)]
@@ -19,4 +20,5 @@ mod tests;
 
 pub use block_queue::BlockQueue;
 pub use fifo::Fifo;
+pub use iter::Iter;
 pub use plain_queue::PlainQueue;

@@ -50,9 +50,18 @@ fn joined_queues_follow_one_another(rt: HostRuntime) -> Result<(), Fail> {
     for first in lengths {
         for second in lengths {
             let mut queue = numbered::<BlockQueue<u64>>(&rt, rt.alloc(), 0, first)?;
-            queue.append(numbered(&rt, rt.alloc(), first, second)?);
+            let other = numbered::<BlockQueue<u64>>(&rt, rt.alloc(), first, second)?;
+            assert!(rt; queue.len() < 100);
+            assert!(rt; other.len() < 100);
+            queue.append(other);
             let both = first.wrapping_add(second);
             assert_eq!(rt; queue.len() as u64, both);
+            let mut expected = 0u64;
+            for number in queue.iter() {
+                assert_eq!(rt; *number, expected);
+                expected = expected.wrapping_add(1);
+            }
+            assert_eq!(rt; expected, both);
             pops_all(&rt, queue, both);
         }
     }
