@@ -2,3 +2,4 @@ mod Blocks
 mod Lending
 mod Places
 mod Regions
+mod Rooms
