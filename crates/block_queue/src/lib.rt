@@ -2,15 +2,23 @@
 //!
 //! A caller first asks for room, which may be refused, and then pushes, which may not.
 //! [`Fifo`] is the contract: a queue is the list of its items, with a number of places to spare.
-//! [`PlainQueue`] meets it over one of std's collections.
+//! [`PlainQueue`] meets it over one of std's collections, and [`BlockQueue`] in a chain of blocks over
+//! raw memory, whose items stay where they are while the queue grows.
 //!
 //! The words that the contracts cite stand in `specs/Queue.antt`.
 #![tactic(auto)]
 
+mod block;
+mod block_queue;
+mod chain;
 mod fifo;
+mod iter;
 mod plain_queue;
+mod region;
 #[cfg(test)]
 mod tests;
 
+pub use block_queue::BlockQueue;
 pub use fifo::Fifo;
+pub use iter::Iter;
 pub use plain_queue::PlainQueue;

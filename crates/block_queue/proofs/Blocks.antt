@@ -1,0 +1,358 @@
+-- What a chain of blocks is after a step at one of its ends.
+use Rattle.std.proofs.Common.{◌≡◌, ℕ, zero, suc, ◌+◌, ◌-◌, ◌^◌, ◌<◌, ◌≤◌, ◌⊎◌, inl, inr, Bool, true, false, List, [], ◌∷◌, ◌++◌, Some, None, refl, sym, ap, ◌∙◌, subst, arith, length, get_or, set, drop, take, append-nil, append_assoc, length-append}
+use Rattle.std.specs.Prelude.{Result, Ok, Err, OnOk, OnErr, Option, slice_get}
+use Rattle.std.specs.Borrow.{Bor}
+use Rattle.std.specs.Option.{option_copied}
+use Rattle.std.specs.Map.Iter.{TakesFirst, deref}
+use Rattle.block_queue.specs.Queue.{Queue, oldest}
+use Rattle.block_queue.specs.Blocks.{items_of, left_in, room_of, pushed, has_none, begins_empty, finishes_empty, AllHaveItems, IsChain, IsQueue}
+
+module _ {T : Type 0} where
+  pub room_of_last : (bs : List (Queue T)) (last : Queue T) (i : ℕ) → i + 1 ≡ length bs → last ≡ get_or bs i last → room_of bs ≡ last.room
+  unfolding room_of
+  room_of_last [] last i e f = absurd (omega arith)
+  room_of_last (b ∷ []) last zero e f = sym (ap (λ q. q.room) f)
+  room_of_last (b ∷ []) last (suc i) e f = absurd (omega arith)
+  room_of_last (b ∷ c ∷ cs) last zero e f = absurd (omega arith)
+  room_of_last (b ∷ c ∷ cs) last (suc i) e f = room_of_last (c ∷ cs) last i (omega arith) f
+
+  pub room_of_none : (bs : List (Queue T)) → (0 < length bs → false ≡ true) → 0 ≡ room_of bs
+  unfolding room_of
+  room_of_none [] none = refl
+  room_of_none (b ∷ bs) none = let no = none (omega arith) in cc
+
+  pub some_with_room : (bs : List (Queue T)) → 1 ≤ room_of bs → 0 < length bs
+  unfolding room_of
+  some_with_room [] room = absurd (omega arith)
+  some_with_room (b ∷ bs) room = omega arith
+
+  pub pushed_last : (bs : List (Queue T)) (last : Queue T) (i : ℕ) (item : T) → i + 1 ≡ length bs → last ≡ get_or bs i last
+      → set bs i (record { items = last.items ++ item ∷ []; room = last.room - 1 }) ≡ pushed bs item
+  unfolding pushed
+  pushed_last [] last i item e f = absurd (omega arith)
+  pushed_last (b ∷ []) last zero item e f = ap (λ (q : Queue T). record { items = q.items ++ item ∷ []; room = q.room - 1 } ∷ []) f
+  pushed_last (b ∷ []) last (suc i) item e f = absurd (omega arith)
+  pushed_last (b ∷ c ∷ cs) last zero item e f = absurd (omega arith)
+  pushed_last (b ∷ c ∷ cs) last (suc i) item e f = ap (λ l. b ∷ l) (pushed_last (c ∷ cs) last i item (omega arith) f)
+
+  pub items_of_pushed : (bs : List (Queue T)) (item : T) → 0 < length bs → items_of (pushed bs item) ≡ items_of bs ++ item ∷ []
+  unfolding items_of pushed
+  items_of_pushed [] item some = absurd (omega arith)
+  items_of_pushed (b ∷ []) item some = append-nil (b.items ++ item ∷ []) ∙ ap (λ l. l ++ item ∷ []) (sym (append-nil b.items))
+  items_of_pushed (b ∷ c ∷ cs) item some = ap (λ l. b.items ++ l) (items_of_pushed (c ∷ cs) item (omega arith)) ∙ sym (append_assoc b.items (items_of (c ∷ cs)) (item ∷ []))
+
+  pub room_of_pushed : (bs : List (Queue T)) (item : T) → room_of (pushed bs item) ≡ room_of bs - 1
+  unfolding room_of pushed
+  room_of_pushed [] item = refl
+  room_of_pushed (b ∷ []) item = refl
+  room_of_pushed (b ∷ c ∷ []) item = refl
+  room_of_pushed (b ∷ c ∷ d ∷ ds) item = room_of_pushed (c ∷ d ∷ ds) item
+
+  pub shape_pushed : (bs : List (Queue T)) (item : T) → IsChain bs → IsChain (pushed bs item)
+  unfolding pushed IsChain
+  shape_pushed [] item h = tt
+  shape_pushed (b ∷ []) item h = inl (omega (arith, length-append b.items (item ∷ [])))
+  shape_pushed (b ∷ c ∷ []) item h = (h.0, inl (omega (arith, length-append c.items (item ∷ []))))
+  shape_pushed (b ∷ c ∷ d ∷ ds) item h = (h.0, shape_pushed (c ∷ d ∷ ds) item h.1)
+
+  pub some_with_items : (bs : List (Queue T)) → 0 < length (items_of bs) → 0 < length bs
+  unfolding items_of
+  some_with_items [] some = absurd (omega arith)
+  some_with_items (b ∷ bs) some = omega arith
+
+  pub first_has : (bs : List (Queue T)) (first : Queue T) → IsChain bs → 0 < length (items_of bs) → first ≡ get_or bs 0 first → 0 < length first.items
+  unfolding items_of IsChain
+  first_has [] first h some f = absurd (omega arith)
+  first_has (b ∷ []) first h some f = subst (λ (q : Queue T). 0 < length q.items) (sym f) (subst (λ l. 0 < length l) (append-nil b.items) some)
+  first_has (b ∷ c ∷ cs) first h some f = subst (λ (q : Queue T). 0 < length q.items) (sym f) h.0
+
+  pub popped_items : (bs : List (Queue T)) (first left : Queue T) (item : T) → 0 < length bs → first ≡ get_or bs 0 first → first.items ≡ item ∷ left.items
+      → items_of bs ≡ item ∷ items_of (set bs 0 left)
+  unfolding items_of
+  popped_items [] first left item some f e = absurd (omega arith)
+  popped_items (b ∷ bs) first left item some f e = ap (λ l. l ++ items_of bs) (ap (λ q. q.items) (sym f) ∙ e)
+
+  pub popped_rest : (bs : List (Queue T)) (left : Queue T) → drop 1 (set bs 0 left) ≡ drop 1 bs
+  popped_rest [] left = refl
+  popped_rest (b ∷ bs) left = refl
+
+  pub popped_room : (bs : List (Queue T)) (first left : Queue T) → 0 < length bs → first ≡ get_or bs 0 first → left.room ≡ first.room → room_of (set bs 0 left) ≡ room_of bs
+  unfolding room_of
+  popped_room [] first left some f e = absurd (omega arith)
+  popped_room (b ∷ []) first left some f e = e ∙ ap (λ q. q.room) f
+  popped_room (b ∷ c ∷ cs) first left some f e = refl
+
+  pub some_at_first : (items : List T) (item : T) → Some item ≡ oldest items → false ≡ has_none items
+  unfolding has_none
+  some_at_first [] item e = cc
+  some_at_first (first ∷ items) item e = refl
+
+  pub none_at_first : (items : List T) → None ≡ oldest items → true ≡ has_none items
+  unfolding has_none
+  none_at_first [] e = refl
+  none_at_first (first ∷ items) e = cc
+
+  none_is : (items : List T) → has_none items ≡ true → items ≡ []
+  unfolding has_none
+  none_is [] e = refl
+  none_is (item ∷ items) e = cc
+
+  some_is : (items : List T) → has_none items ≡ false → 0 < length items
+  unfolding has_none
+  some_is [] e = cc
+  some_is (item ∷ items) e = omega arith
+
+  pub begins_with : (bs : List (Queue T)) (first : Queue T) → 0 < length bs → first ≡ get_or bs 0 first → has_none first.items ≡ begins_empty bs
+  unfolding begins_empty
+  begins_with [] first some f = absurd (omega arith)
+  begins_with (b ∷ bs) first some f = ap (λ q. has_none q.items) f
+
+  pub begins_none : (bs : List (Queue T)) → (0 < length bs → false ≡ true) → false ≡ begins_empty bs
+  unfolding begins_empty
+  begins_none [] none = refl
+  begins_none (b ∷ bs) none = let no = none (omega arith) in cc
+
+  pub finishes_with : (bs : List (Queue T)) (last : Queue T) (i : ℕ) → i + 1 ≡ length bs → last ≡ get_or bs i last → has_none last.items ≡ finishes_empty bs
+  unfolding finishes_empty
+  finishes_with [] last i e f = absurd (omega arith)
+  finishes_with (b ∷ []) last zero e f = ap (λ q. has_none q.items) f
+  finishes_with (b ∷ []) last (suc i) e f = absurd (omega arith)
+  finishes_with (b ∷ c ∷ cs) last zero e f = absurd (omega arith)
+  finishes_with (b ∷ c ∷ cs) last (suc i) e f = finishes_with (c ∷ cs) last i (omega arith) f
+
+  pub finishes_none : (bs : List (Queue T)) → (0 < length bs → false ≡ true) → false ≡ finishes_empty bs
+  unfolding finishes_empty
+  finishes_none [] none = refl
+  finishes_none (b ∷ bs) none = let no = none (omega arith) in cc
+
+  pub begins : (bs : List (Queue T)) → begins_empty bs ≡ true → 0 < length bs
+  unfolding begins_empty
+  begins [] e = cc
+  begins (b ∷ bs) e = omega arith
+
+  pub finishes : (bs : List (Queue T)) → finishes_empty bs ≡ true → 0 < length bs
+  unfolding finishes_empty
+  finishes [] e = cc
+  finishes (b ∷ bs) e = omega arith
+
+  pub empty_first : (bs : List (Queue T)) (first : Queue T) → begins_empty bs ≡ true → first ≡ get_or bs 0 first → first.items ≡ []
+  empty_first bs first e f = none_is first.items (begins_with bs first (begins bs e) f ∙ e)
+
+  pub empty_last : (bs : List (Queue T)) (last : Queue T) (i : ℕ) → finishes_empty bs ≡ true → i + 1 ≡ length bs → last ≡ get_or bs i last → last.items ≡ []
+  empty_last bs last i e l f = none_is last.items (finishes_with bs last i l f ∙ e)
+
+  oldest_append : (items more : List T) → 0 < length items → oldest items ≡ oldest (items ++ more)
+  oldest_append [] more some = absurd (omega arith)
+  oldest_append (item ∷ items) more some = refl
+
+  pub oldest_first : (bs : List (Queue T)) (first : Queue T) → IsChain bs → 0 < length bs → first ≡ get_or bs 0 first → oldest first.items ≡ oldest (items_of bs)
+  unfolding items_of IsChain
+  oldest_first [] first h some f = absurd (omega arith)
+  oldest_first (b ∷ []) first h some f = ap (λ q. oldest q.items) f ∙ ap oldest (sym (append-nil b.items))
+  oldest_first (b ∷ c ∷ cs) first h some f = ap (λ q. oldest q.items) f ∙ oldest_append b.items (items_of (c ∷ cs)) h.0
+
+  pub none_oldest : (bs : List (Queue T)) → (0 < length bs → false ≡ true) → None ≡ oldest (items_of bs)
+  unfolding items_of
+  none_oldest [] none = refl
+  none_oldest (b ∷ bs) none = let no = none (omega arith) in cc
+
+  pub chained_rest : (bs : List (Queue T)) → IsChain bs → IsChain (drop 1 bs)
+  unfolding IsChain
+  chained_rest [] h = tt
+  chained_rest (b ∷ []) h = tt
+  chained_rest (b ∷ c ∷ cs) h = h.1
+
+  all_have : (bs : List (Queue T)) → IsChain bs → room_of bs ≡ 0 → AllHaveItems bs
+  unfolding room_of AllHaveItems IsChain
+  all_have [] h none = tt
+  all_have (b ∷ []) (inl some) none = (some, tt)
+  all_have (b ∷ []) (inr room) none = absurd (omega arith)
+  all_have (b ∷ c ∷ cs) h none = (h.0, all_have (c ∷ cs) h.1 none)
+
+  chained : (bs cs : List (Queue T)) → AllHaveItems bs → IsChain cs → 0 < length cs → IsChain (bs ++ cs)
+  unfolding AllHaveItems IsChain
+  chained [] cs all h some = h
+  chained (b ∷ []) [] all h some = absurd (omega arith)
+  chained (b ∷ []) (c ∷ cs) all h some = (all.0, h)
+  chained (b ∷ b' ∷ bs) cs all h some = (all.0, chained (b' ∷ bs) cs all.1 h some)
+
+  pub items_of_joined : (bs cs : List (Queue T)) → items_of (bs ++ cs) ≡ items_of bs ++ items_of cs
+  unfolding items_of
+  items_of_joined [] cs = refl
+  items_of_joined (b ∷ bs) cs = ap (λ l. b.items ++ l) (items_of_joined bs cs) ∙ sym (append_assoc b.items (items_of bs) (items_of cs))
+
+  room_of_joined : (bs cs : List (Queue T)) → 0 < length cs → room_of (bs ++ cs) ≡ room_of cs
+  unfolding room_of
+  room_of_joined [] cs some = refl
+  room_of_joined (b ∷ []) [] some = absurd (omega arith)
+  room_of_joined (b ∷ []) (c ∷ cs) some = refl
+  room_of_joined (b ∷ b' ∷ bs) cs some = room_of_joined (b' ∷ bs) cs some
+
+  pub no_more_than : (bs : List (Queue T)) → AllHaveItems bs → length bs ≤ length (items_of bs)
+  unfolding items_of AllHaveItems
+  no_more_than [] all = omega arith
+  no_more_than (b ∷ bs) all = omega (arith, length-append b.items (items_of bs), no_more_than bs all.1, all.0)
+
+  pub one_more_than : (bs : List (Queue T)) → IsChain bs → length bs ≤ length (items_of bs) + 1
+  unfolding items_of IsChain
+  one_more_than [] h = omega arith
+  one_more_than (b ∷ []) h = omega arith
+  one_more_than (b ∷ c ∷ cs) h = omega (arith, length-append b.items (items_of (c ∷ cs)), one_more_than (c ∷ cs) h.1, h.0)
+
+  pub queue_new : (bs : List (Queue T)) → bs ≡ [] → IsQueue 0 bs × (items_of bs ≡ [])
+  unfolding items_of room_of IsChain
+  queue_new bs e = subst (λ (l : List (Queue T)). IsQueue 0 l × (items_of l ≡ [])) (sym e) (record { chained = tt; counted = refl; one_block = omega arith; fits = omega arith }, refl)
+
+  last_room : (q : Queue T) → room_of (q ∷ []) ≡ q.room
+  unfolding room_of
+  last_room q = refl
+
+  last_items : (q : Queue T) → q.items ≡ [] → items_of (q ∷ []) ≡ []
+  unfolding items_of
+  last_items q e = append-nil q.items ∙ e
+
+  last_chained : (q : Queue T) → 0 < q.room → IsChain (q ∷ [])
+  unfolding IsChain
+  last_chained q room = inr room
+
+  pub queue_added : (count : ℕ) (bs new : List (Queue T)) (q : Queue T) → IsQueue count bs → room_of bs ≡ 0 → count < 2 ^ 63 → q.items ≡ [] → q.room ≡ 32 → new ≡ bs ++ q ∷ []
+      → IsQueue count new × (items_of new ≡ items_of bs) × (room_of new ≡ 32)
+  queue_added count bs new q is full few none room e =
+      let some : 0 < length (q ∷ []) = omega arith in
+      let items = ap items_of e ∙ items_of_joined bs (q ∷ []) ∙ ap (λ l. items_of bs ++ l) (last_items q none) ∙ append-nil (items_of bs) in
+      let left : room_of new ≡ 32 = ap room_of e ∙ room_of_joined bs (q ∷ []) some ∙ last_room q ∙ room in (
+        record {
+          chained = subst IsChain (sym e) (chained bs (q ∷ []) (all_have bs is.chained full) (last_chained q (omega arith)) some);
+          counted = is.counted ∙ ap length (sym items);
+          one_block = omega arith;
+          fits = omega arith;
+        },
+        items,
+        left,
+      )
+
+  pub queue_pushed : (count : ℕ) (bs new : List (Queue T)) (item : T) → IsQueue count bs → 1 ≤ room_of bs → new ≡ pushed bs item
+      → IsQueue (count + 1) new × (items_of new ≡ items_of bs ++ item ∷ []) × (room_of bs ≡ room_of new + 1)
+  queue_pushed count bs new item is room e =
+      let items = ap items_of e ∙ items_of_pushed bs item (some_with_room bs room) in
+      let less : room_of new ≡ room_of bs - 1 = ap room_of e ∙ room_of_pushed bs item in
+      let n = is.counted in let fits = is.fits in let most = is.one_block in
+      let more : count + 1 ≡ length (items_of new) = (omega (arith, length-append (items_of bs) (item ∷ []))) ∙ ap length (sym items) in
+      (record { chained = subst IsChain (sym e) (shape_pushed bs item is.chained); counted = more; one_block = omega arith; fits = omega arith }, items, omega arith)
+
+  pub queue_popped : (count : ℕ) (bs new : List (Queue T)) (item : T) → IsQueue count bs → items_of bs ≡ item ∷ items_of new → IsChain new
+      → (room_of new ≡ room_of bs) ⊎ ((items_of new ≡ []) × (room_of new ≡ 32)) → IsQueue (count - 1) new × (room_of bs ≤ room_of new)
+  queue_popped count bs new item is e h (inl same) =
+      let n = is.counted ∙ ap length e in let fits = is.fits in let most = is.one_block in
+      (record { chained = h; counted = omega arith; one_block = omega arith; fits = omega arith }, omega arith)
+  queue_popped count bs new item is e h (inr last) =
+      let n = is.counted ∙ ap length e in let none = ap length last.0 in let all = last.1 in let fits = is.fits in let most = is.one_block in
+      (record { chained = h; counted = omega arith; one_block = omega arith; fits = omega arith }, omega arith)
+
+  pub queue_joined : (n m : ℕ) (bs cs new : List (Queue T)) → AllHaveItems bs → n ≡ length (items_of bs) → IsQueue m cs → 0 < m → n + m < 2 ^ 62 → new ≡ bs ++ cs
+      → IsQueue (n + m) new × (items_of new ≡ items_of bs ++ items_of cs)
+  queue_joined n m bs cs new all count is some fit e =
+      let more = is.counted in let most = is.one_block in
+      let there : 0 < length cs = some_with_items cs (omega arith) in
+      let items = ap items_of e ∙ items_of_joined bs cs in
+      let room : room_of new ≡ room_of cs = ap room_of e ∙ room_of_joined bs cs there in
+      let sum : n + m ≡ length (items_of new) = (omega (arith, length-append (items_of bs) (items_of cs))) ∙ ap length (sym items) in
+      (record { chained = subst IsChain (sym e) (chained bs cs all is.chained there); counted = sum; one_block = omega arith; fits = omega arith }, items)
+
+  pub chain_begins : (bs : List (Queue T)) → IsChain (drop 1 bs) → begins_empty bs ≡ false → IsChain bs
+  unfolding IsChain begins_empty
+  chain_begins [] h e = tt
+  chain_begins (b ∷ []) h e = inl (some_is b.items e)
+  chain_begins (b ∷ c ∷ cs) h e = (some_is b.items e, h)
+
+  pub cleared_items : (bs : List (Queue T)) (left : Queue T) → begins_empty bs ≡ true → length bs ≡ 1 → left.items ≡ [] → (items_of (set bs 0 left) ≡ []) × (items_of bs ≡ [])
+  unfolding items_of begins_empty
+  cleared_items [] left e one none = absurd (omega arith)
+  cleared_items (b ∷ []) left e one none = (append-nil left.items ∙ none, append-nil b.items ∙ none_is b.items e)
+  cleared_items (b ∷ c ∷ cs) left e one none = absurd (omega arith)
+
+  pub cleared_chain : (bs : List (Queue T)) (left : Queue T) → length bs ≡ 1 → 0 < left.room → IsChain (set bs 0 left) × (room_of (set bs 0 left) ≡ left.room)
+  unfolding IsChain room_of
+  cleared_chain [] left one room = absurd (omega arith)
+  cleared_chain (b ∷ []) left one room = (inr room, refl)
+  cleared_chain (b ∷ c ∷ cs) left one room = absurd (omega arith)
+
+  pub freed_first : (bs : List (Queue T)) → begins_empty bs ≡ true → 2 ≤ length bs → (items_of (drop 1 bs) ≡ items_of bs) × (room_of (drop 1 bs) ≡ room_of bs)
+  unfolding items_of room_of begins_empty
+  freed_first [] e two = absurd (omega arith)
+  freed_first (b ∷ []) e two = absurd (omega arith)
+  freed_first (b ∷ c ∷ cs) e two = (ap (λ l. l ++ items_of (c ∷ cs)) (sym (none_is b.items e)), refl)
+
+  pub all_finish : (bs : List (Queue T)) → IsChain bs → finishes_empty bs ≡ false → AllHaveItems bs
+  unfolding IsChain AllHaveItems finishes_empty
+  all_finish [] h e = tt
+  all_finish (b ∷ []) h e = (some_is b.items e, tt)
+  all_finish (b ∷ c ∷ cs) h e = (h.0, all_finish (c ∷ cs) h.1 e)
+
+  pub freed_last : (bs : List (Queue T)) (i : ℕ) → i + 1 ≡ length bs → IsChain bs → finishes_empty bs ≡ true → AllHaveItems (take i bs) × (items_of (take i bs) ≡ items_of bs)
+  unfolding IsChain AllHaveItems items_of finishes_empty
+  freed_last [] i l h e = absurd (omega arith)
+  freed_last (b ∷ []) zero l h e = (tt, sym (append-nil b.items ∙ none_is b.items e))
+  freed_last (b ∷ []) (suc i) l h e = absurd (omega arith)
+  freed_last (b ∷ c ∷ cs) zero l h e = absurd (omega arith)
+  freed_last (b ∷ c ∷ cs) (suc i) l h e = let more = freed_last (c ∷ cs) i (omega arith) h.1 e in ((h.0, more.0), ap (λ l. b.items ++ l) more.1)
+
+  pub no_blocks : (bs : List (Queue T)) → AllHaveItems bs → length (items_of bs) ≡ 0 → length bs ≡ 0
+  no_blocks bs all none = let most = no_more_than bs all in omega arith
+
+  pub queue_grown : {A E : Type 0} (r : Result A E) (count : ℕ) (bs new : List (Queue T)) (q : Queue T) → IsQueue count bs → room_of bs ≡ 0 → count < 2 ^ 63 → q.items ≡ [] → q.room ≡ 32
+      → OnOk r (new ≡ bs ++ q ∷ []) → OnErr r (new ≡ bs) → IsQueue count new × (items_of new ≡ items_of bs) × (room_of bs ≤ room_of new) × OnOk r (1 ≤ room_of new)
+  queue_grown (Ok a) count bs new q is full few none room added same =
+      let made = queue_added count bs new q is full few none room added in let left = made.2 in (made.0, made.1, omega arith, omega arith)
+  queue_grown (Err e) count bs new q is full few none room added same =
+      let left = ap room_of same in (subst (IsQueue count) (sym same) is, ap items_of same, omega arith, tt)
+
+  drop_at : (items : List T) (index : ℕ) (x : T) → Some x ≡ slice_get items index → drop index items ≡ x ∷ drop (index + 1) items
+  drop_at [] index x e = cc
+  drop_at (item ∷ items) zero x e = let same : x ≡ item = cc in ap (λ y. y ∷ items) (sym same)
+  drop_at (item ∷ items) (suc index) x e =
+      let next : suc (index + 1) ≡ suc index + 1 = omega arith in drop_at items index x e ∙ ap (λ n. x ∷ drop n (item ∷ items)) next
+
+  drop_none : (items : List T) (index : ℕ) → None ≡ slice_get items index → drop index items ≡ []
+  drop_none [] zero e = refl
+  drop_none [] (suc index) e = refl
+  drop_none (item ∷ items) zero e = cc
+  drop_none (item ∷ items) (suc index) e = drop_none items index e
+
+  pub taken_here : (block : Option (Bor (Queue T))) (index : ℕ) (x : T) (rest : List T) → Some x ≡ slice_get (left_in block 0) index → left_in block index ++ rest ≡ x ∷ left_in block (index + 1) ++ rest
+  taken_here None index x rest e = cc
+  taken_here (Some b) index x rest e = ap (λ l. l ++ rest) (drop_at b.now.items index x e)
+
+  pub none_here : (block : Option (Bor (Queue T))) (index : ℕ) → None ≡ slice_get (left_in block 0) index → left_in block index ≡ []
+  none_here None index e = refl
+  none_here (Some b) index e = drop_none b.now.items index e
+
+  pub none_left : (block : Option (Bor (Queue T))) (index : ℕ) (bs : List (Queue T)) → None ≡ slice_get (left_in block 0) index → bs ≡ [] → left_in block index ++ items_of bs ≡ []
+  unfolding items_of
+  none_left block index bs e f = ap (λ l. l ++ items_of bs) (none_here block index e) ∙ ap items_of f
+
+  pub next_chained : (bs : List (Queue T)) (b : Queue T) (cs : List (Queue T)) → IsChain bs → bs ≡ b ∷ cs → IsChain cs
+  unfolding IsChain
+  next_chained bs b [] h e = tt
+  next_chained bs b (c ∷ cs) h e = (subst IsChain e h).1
+
+  none_oldest_is : (items : List T) → None ≡ oldest items → items ≡ []
+  none_oldest_is [] e = refl
+  none_oldest_is (item ∷ items) e = cc
+
+  some_oldest_is : (items : List T) (x : T) → Some x ≡ oldest items → items ≡ x ∷ drop 1 items
+  some_oldest_is [] x e = cc
+  some_oldest_is (item ∷ items) x e = let same : item ≡ x = cc in ap (λ y. y ∷ items) same
+
+  last_alone : (b : Queue T) (cs : List (Queue T)) → IsChain (b ∷ cs) → length b.items ≡ 0 → cs ≡ []
+  unfolding IsChain
+  last_alone b [] h none = refl
+  last_alone b (c ∷ cs) h none = let some = h.0 in absurd (omega arith)
+
+  pub next_shown : (bs : List (Queue T)) (b : Bor (Queue T)) (cs : List (Queue T)) (r : Option (Bor T)) → IsChain bs → bs ≡ b.now ∷ cs → option_copied r ≡ oldest b.now.items
+      → TakesFirst deref (items_of bs) r (left_in (Some b) 1 ++ items_of cs)
+  unfolding items_of
+  next_shown bs b cs None h e f =
+      let none = none_oldest_is b.now.items f in let alone = last_alone b.now cs (subst IsChain e h) (ap length none) in
+      (ap items_of e ∙ (λ i. none i ++ items_of (alone i)), (λ i. drop 1 (none i) ++ items_of (alone i)))
+  next_shown bs b cs (Some x) h e f = ap items_of e ∙ ap (λ l. l ++ items_of cs) (some_oldest_is b.now.items x.now f)

@@ -1,0 +1,5 @@
+mod Blocks
+mod Lending
+mod Places
+mod Regions
+mod Rooms

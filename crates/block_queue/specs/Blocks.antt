@@ -1,0 +1,61 @@
+-- A chain of blocks, each a queue of its own. Own.
+use Rattle.std.specs.Prelude.{◌≡◌, ℕ, ◌+◌, ◌-◌, ◌^◌, ◌<◌, ◌≤◌, ◌⊎◌, Bool, true, false, List, [], ◌∷◌, ◌++◌, Option, Some, None, drop, length}
+use Rattle.std.specs.Borrow.{Bor}
+use Rattle.block_queue.specs.Queue.{Queue}
+
+module _ {T : Type 0} where
+  -- the items of all blocks, in order
+  unfoldable pub items_of : List (Queue T) → List T
+  items_of [] = []
+  items_of (block ∷ blocks) = block.items ++ items_of blocks
+
+  -- the items of a block from an index on, where there is a block
+  abbrev pub left_in : Option (Bor (Queue T)) → ℕ → List T
+  left_in None index = []
+  left_in (Some block) index = drop index block.now.items
+
+  -- the room that the last block has
+  unfoldable pub room_of : List (Queue T) → ℕ
+  room_of [] = 0
+  room_of (block ∷ []) = block.room
+  room_of (block ∷ next ∷ blocks) = room_of (next ∷ blocks)
+
+  -- the item is put at the end of the last block
+  unfoldable pub pushed : List (Queue T) → T → List (Queue T)
+  pushed [] item = []
+  pushed (block ∷ []) item = record { items = block.items ++ item ∷ []; room = block.room - 1 } ∷ []
+  pushed (block ∷ next ∷ blocks) item = block ∷ pushed (next ∷ blocks) item
+
+  -- there are no items
+  unfoldable pub has_none : List T → Bool
+  has_none [] = true
+  has_none (item ∷ items) = false
+
+  -- the first block has no item
+  unfoldable pub begins_empty : List (Queue T) → Bool
+  begins_empty [] = false
+  begins_empty (block ∷ blocks) = has_none block.items
+
+  -- the last block has no item
+  unfoldable pub finishes_empty : List (Queue T) → Bool
+  finishes_empty [] = false
+  finishes_empty (block ∷ []) = has_none block.items
+  finishes_empty (block ∷ next ∷ blocks) = finishes_empty (next ∷ blocks)
+
+  -- no block is without an item
+  unfoldable pub AllHaveItems : List (Queue T) → Type 0
+  AllHaveItems [] = Unit {0}
+  AllHaveItems (block ∷ blocks) = (0 < length block.items) × AllHaveItems blocks
+
+  -- each block but the last has an item, and the last an item or room
+  unfoldable pub IsChain : List (Queue T) → Type 0
+  IsChain [] = Unit {0}
+  IsChain (block ∷ []) = (0 < length block.items) ⊎ (0 < block.room)
+  IsChain (block ∷ next ∷ blocks) = (0 < length block.items) × IsChain (next ∷ blocks)
+
+  -- the chain of a queue that counts its items
+  pub record IsQueue (count : ℕ) (blocks : List (Queue T)) : Type 0 where
+    pub chained : IsChain blocks
+    pub counted : count ≡ length (items_of blocks)
+    pub one_block : room_of blocks ≤ 32
+    pub fits : count + room_of blocks < 2 ^ 64

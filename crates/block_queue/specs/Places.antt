@@ -1,0 +1,25 @@
+-- Which places of a block hold a value. Own.
+use Rattle.std.specs.Prelude.{◌≡◌, ℕ, zero, suc, ◌+◌, ◌-◌, ◌≤◌, length, List, [], ◌∷◌, Option, Some, None, get_or, replicate}
+
+module _ {T : Type 0} where
+  -- empty places, as many as `start` says, then the items, then `rest` more empty ones
+  unfoldable pub laid : ℕ → List T → ℕ → List (Option T)
+  laid zero [] rest = replicate rest None
+  laid zero (item ∷ items) rest = Some item ∷ laid zero items rest
+  laid (suc start) items rest = None ∷ laid start items rest
+
+  -- the values that the places hold, in order
+  unfoldable pub values : List (Option T) → List T
+  values [] = []
+  values (None ∷ places) = values places
+  values (Some item ∷ places) = item ∷ values places
+
+  -- the place holds a value
+  abbrev pub IsFilled : List (Option T) → ℕ → Type 0
+  IsFilled places index = (item : T) × (get_or places index None ≡ Some item)
+
+  -- the items of a block lie in its 32 places from start on, as many as count says
+  pub record IsBlock (start count : ℕ) (places : List (Option T)) : Type 0 where
+    pub laid_out : places ≡ laid start (values places) (32 - (start + count))
+    pub counted : count ≡ length (values places)
+    pub within : start + count ≤ 32

@@ -1,0 +1,152 @@
+//! A block: a short queue in a region of its own.
+ghost use Rattle.std.specs.Prelude.{◌≡◌, ◌-◌, ◌<◌, ◌≤◌, [], ◌∷◌, ◌++◌, Some, IfOk, IsSome, length, option_copied, slice_get};
+ghost use Rattle.block_queue.specs.Queue.{oldest};
+ghost use Rattle.block_queue.specs.Blocks.{has_none};
+
+use crate::region::{PLACES, Region};
+use std::alloc::{AllocError, Global};
+use std::marker::Model;
+
+/// The items lie in the places from `start` on, one after another.
+pub struct Block<T> {
+    start: usize,
+    count: usize,
+    region: Region<T, Global>,
+    alloc: Global,
+}
+
+impl<T> Model for Block<T> {
+    ghost use Rattle.std.specs.Prelude.{◌+◌, ◌-◌};
+    ghost use Rattle.block_queue.specs.Places.{values, IsBlock};
+    ghost use Rattle.block_queue.specs.Queue.{Queue};
+
+    ghost Value = { Queue T };
+
+    ghost view = { λ b. record {
+      items = values b.region.places;
+      room = 32 - (b.start + b.count);
+    } };
+
+    ghost invariant = { λ b. IsBlock b.start b.count b.region.places };
+}
+
+impl<T> Block<T> {
+    /// A block without items. An error means that memory was refused, or that 32 values have no
+    /// layout.
+    pub(crate) fn new(alloc: Global) -> Result<Block<T>, AllocError>
+        ensures { IfOk result (λ block. block ≡ record { items = []; room = 32 }) }
+    {
+        Ok(Block {
+            start: 0,
+            count: 0,
+            region: Region::new(&alloc)?,
+            alloc,
+        })
+    }
+
+    /// Gives the memory of a block without items back.
+    pub(crate) fn free(self)
+        requires { self.items ≡ [] }
+    {
+        let Block {
+            start: _,
+            count: _,
+            region,
+            alloc,
+        } = self;
+        region.free(&alloc);
+    }
+
+    /// Begins again at the first place, where no item is left.
+    pub(crate) fn clear(&mut self)
+        requires { self.old.items ≡ [] }
+        ensures { self.new ≡ record { items = []; room = 32 } }
+    {
+        self.start = 0;
+    }
+
+    /// How many places there are behind the last item.
+    pub(crate) fn room(&self) -> usize
+        ensures room { result ≡ self.now.room }
+        ensures most { result ≤ 32 }
+    {
+        PLACES - (self.start + self.count)
+    }
+
+    pub(crate) fn len(&self) -> usize
+        ensures { result ≡ length self.now.items }
+    {
+        self.count
+    }
+
+    /// Puts an item behind the others.
+    pub(crate) fn push(&mut self, item: T)
+        requires { 1 ≤ self.old.room }
+        ensures { self.new ≡ record {
+          items = self.old.items ++ item ∷ [];
+          room = self.old.room - 1;
+        } }
+    {
+        self.region.write(self.start + self.count, item);
+        self.count += 1;
+    }
+
+    /// Takes the first item out.
+    pub(crate) fn pop(&mut self) -> T
+        requires { 0 < length self.old.items }
+        ensures items { self.old.items ≡ result ∷ self.new.items }
+        ensures room { self.new.room ≡ self.old.room }
+    {
+        let first = self.start;
+        self.start += 1;
+        self.count -= 1;
+        self.region.read(first)
+    }
+
+    /// The first item.
+    pub(crate) fn first(&self) -> Option<&T>
+        ensures { option_copied result ≡ oldest self.now.items }
+    {
+        if self.count == 0 {
+            return None;
+        }
+        Some(self.get(0))
+    }
+
+    pub(crate) fn is_empty(&self) -> bool
+        ensures { result ≡ has_none self.now.items }
+    {
+        match self.first() {
+            Some(_) => false,
+            None => true,
+        }
+    }
+
+    /// The item at an index, if there is one.
+    pub(crate) fn at(&self, index: usize) -> Option<&T>
+        ensures item { option_copied result ≡ slice_get self.now.items index }
+        ensures within { IsSome result → index < 32 }
+    {
+        if index < self.count {
+            return Some(self.get(index));
+        }
+        None
+    }
+
+    /// The item at an index.
+    fn get(&self, index: usize) -> &T
+        requires { index < length self.now.items }
+        ensures { slice_get self.now.items index ≡ Some result.now }
+    {
+        self.region.get(self.start + index)
+    }
+}
+
+impl<T: Drop> Drop for Block<T> {
+    fn drop(mut self) {
+        for _ in 0..self.len() {
+            drop(self.pop());
+        }
+        self.free();
+    }
+}

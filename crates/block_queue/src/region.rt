@@ -1,0 +1,104 @@
+//! Raw memory for the values of one block.
+ghost use Rattle.std.specs.Prelude.{◌≡◌, ℕ, ◌<◌, [], true, List, Option, Some, None, IfOk, get_or, length, slice_set};
+ghost use Rattle.block_queue.specs.Places.{laid, IsFilled};
+ghost use Rattle.block_queue.specs.Region.{Fits, region_owns, region_lent};
+
+use std::alloc::{AllocError, Allocator};
+use std::marker::{Model, PhantomData, Send};
+use std::mem::{align_of, size_of};
+
+/// How many values a region has places for.
+pub(crate) const PLACES: usize = 32;
+
+/// Memory of its own for 32 values. Each place is empty or holds a value.
+///
+/// It is given back to the allocator by [`Region::free`] alone, once no place holds a value.
+pub(crate) struct Region<T, A: Allocator> {
+    first: *mut T,
+    by: PhantomData<A>,
+    ghost heap: { A },
+    ghost places: { List (Option T) },
+}
+
+impl<T, A: Allocator> Model for Region<T, A> {
+    ghost also_owns = { λ r. region_owns T.row (A.dealloc_token r.heap) r.first r.places };
+
+    ghost also_shares = { λ r _ κ. region_lent T.row r.first r.places κ };
+}
+
+unsafe impl<T: Send, A: Allocator + Send> Send for Region<T, A> {}
+
+/// Whether 32 values have a layout.
+fn has_layout<T>() -> bool
+    ensures { result ≡ true → Fits T.row 32 }
+{
+    size_of::<T>() < 0x0400_0000_0000_0000
+}
+
+impl<T, A: Allocator> Region<T, A> {
+    /// A region with every place empty. An error means that memory was refused, or that 32 values
+    /// have no layout.
+    pub(crate) fn new(alloc: &A) -> Result<Region<T, A>, AllocError>
+        ensures { IfOk result (λ r. (r.places ≡ laid 0 [] 32) × (r.heap ≡ alloc.now)) }
+    {
+        if !has_layout::<T>() {
+            return Err(AllocError);
+        }
+        Region::allocate(alloc, PLACES)
+    }
+
+    fn allocate(alloc: &A, count: usize) -> Result<Region<T, A>, AllocError>
+        requires { Fits T.row count }
+        ensures { IfOk result (λ r. (r.places ≡ laid 0 [] count) × (r.heap ≡ alloc.now)) }
+    {
+        match alloc.allocate(count * size_of::<T>(), align_of::<T>()) {
+            Ok(room) => Ok(Region {
+                first: room as *mut T,
+                by: PhantomData,
+            }),
+            Err(refused) => Err(refused),
+        }
+    }
+
+    /// Gives the memory back.
+    pub(crate) fn free(self, alloc: &A)
+        requires empty { self.places ≡ laid 0 [] 32 }
+        requires heap { self.heap ≡ alloc.now }
+    {
+        self.release(alloc, PLACES);
+    }
+
+    fn release(self, alloc: &A, count: usize)
+        requires { (self.places ≡ laid 0 [] count) × (self.heap ≡ alloc.now) }
+    {
+        let Region { first, by: _ } = self;
+        unsafe {
+            alloc.deallocate(first as *mut u8, count * size_of::<T>(), align_of::<T>());
+        }
+    }
+
+    /// Moves a value into an empty place.
+    pub(crate) fn write(&mut self, index: usize, item: T)
+        requires { (index < length self.old.places) × (get_or self.old.places index None ≡ None) }
+        ensures { (self.new.places ≡ slice_set self.old.places index (Some item)) × (self.new.heap ≡ self.old.heap) }
+    {
+        unsafe { self.first.add(index).write(item) }
+    }
+
+    /// Moves the value of a place out, which leaves the place empty.
+    pub(crate) fn read(&mut self, index: usize) -> T
+        requires { IsFilled self.old.places index }
+        ensures value { get_or self.old.places index None ≡ Some result }
+        ensures places { (self.new.places ≡ slice_set self.old.places index None) × (self.new.heap ≡ self.old.heap) }
+    {
+        unsafe { self.first.add(index).read() }
+    }
+
+    /// The value of a place.
+    pub(crate) fn get(&self, index: usize) -> &T
+        requires { IsFilled self.now.places index }
+        ensures { get_or self.now.places index None ≡ Some result.now }
+    {
+        unsafe { &*self.first.add(index) }
+    }
+}
