@@ -1,3 +1,6 @@
+pub mod SerialFound
+pub mod LawfulAfterCut
+pub mod ListLemmas
 pub mod LawfulAfterAccept
 pub mod LawfulWhenEmpty
 pub mod LawfulAfterDrain

@@ -15,6 +15,7 @@ pub mod Watch
 pub mod Steps
 pub mod Hears
 pub mod AcceptReply
+pub mod Volumes
 pub mod Runs
 pub mod Lawful
 pub mod Counting

@@ -35,6 +35,7 @@ mod stamp;
 mod stepping;
 #[cfg(test)]
 mod tests;
+mod turning;
 mod views;
 mod watch;
 
@@ -44,7 +45,7 @@ pub use counts::Counts;
 pub use entry::{Entry, Probe};
 pub use hearing::{HearFault, Heard};
 pub use lane::{Lane, SetupFault};
-pub use laws::a_lane_takes_what_leads_to_it;
+pub use laws::{a_cut_loses_nothing, a_lane_takes_what_leads_to_it};
 pub use leftover::{Leftover, LeftoverParts};
 pub use outgoing::Outgoing;
 pub use record::Record;
@@ -54,4 +55,5 @@ pub use series::Series;
 pub use setup::Setup;
 pub use stamp::Stamp;
 pub use stepping::Action;
+pub use turning::{TurnFault, Volume};
 pub use watch::Watch;
