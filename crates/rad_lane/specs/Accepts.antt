@@ -1,5 +1,5 @@
 -- What accepting a request may answer, and the book after it (own). The first case that applies is answered;
--- want of memory comes last and is the only free choice. A refusal leaves book and datagram.
+-- lack of memory comes last and is the only free choice. A refusal leaves book and datagram.
 use Rattle.std.specs.Prelude.{◌≡◌, ℕ, ◌^◌, ◌<◌, ◌≤◌, ◌⊎◌, List, [], ◌∷◌, ◌++◌, length, IsSome, IsNone, Result, Ok, Err}
 use Rattle.rad_packet.specs.Packet.{identifier_of, authenticator_of}
 use Rattle.rad_realms.specs.Checking.{Request}
@@ -11,6 +11,7 @@ use Rattle.rad_lane.specs.declared.accepting.Refusal.{Refusal}
 use Rattle.rad_lane.specs.declared.accepting.Refusal.TheVariants.{Draining, BookFull, QueueFull, TooLong, OutOfMemory, WrongLane}
 use Rattle.rad_lane.specs.Stamp.{Recorded}
 use Rattle.rad_lane.specs.Book.{Book, moment_in, next_number}
+use Rattle.rad_lane.specs.Datagrams.{Datagrams}
 use Rattle.rad_lane.specs.Setup.{IsOfItsRealms}
 use Rattle.rad_lane.specs.Repeat.{fresh, waits, again, repeats}
 
@@ -68,11 +69,6 @@ with_request book request now = record book {
   queued = book.queued ++ record_of (next_number book) request now ∷ [];
   last = now;
 }
-
--- The packet in the datagram before and after.
-pub record Datagrams : Type 0 where
-  pub before : List ℕ
-  pub after : List ℕ
 
 abbrev pub Accepts : Book → Request → ℕ → Result Taken Refusal → Datagrams → Book → Type 0
 Accepts old request moment (Ok (New number)) d new =

@@ -2,13 +2,14 @@
 use Rattle.std.specs.Prelude.{◌≡◌, ℕ, ◌+◌, max, List, length, Option, Some}
 use Rattle.std.specs.FinMap as map
 use Rattle.rad_tables.specs.declared.slots.Slot.{Slot}
-use Rattle.rad_tables.specs.Pairs.{slot_cmp}
+use Rattle.rad_tables.specs.Pairs.{Table, slot_cmp}
 use Rattle.rad_lane.specs.declared.stamp.Stamp.{Stamp}
 use Rattle.rad_lane.specs.Stamp.{Recorded}
 use Rattle.rad_lane.specs.Outstanding.{Outstanding, AnswerKept}
 use Rattle.rad_lane.specs.Setup.{LaneSetup}
 use Rattle.rad_lane.specs.declared.entry.Entry.{Entry}
 use Rattle.rad_lane.specs.declared.entry.Entry.TheVariants.{Sending as sending}
+use Rattle.rad_lane.specs.Entries.{sendings_in}
 use Rattle.rad_lane.specs.declared.watch.Watch.{Watch}
 
 pub record Book : Type 0 where
@@ -46,3 +47,14 @@ next_number book = book.opening + length book.accepted
 -- The request that is outstanding under a pair.
 abbrev pub outstanding_at : Book → Slot → Outstanding → Type 0
 outstanding_at book slot entry = map.get book.held slot ≡ Some (sending entry)
+
+-- The requests that are outstanding, and how many they are: what is under the pairs in use, but the probe.
+abbrev pub outstanding_of : Book → List Outstanding
+outstanding_of book = sendings_in book.held
+
+abbrev pub outstanding_count : Book → ℕ
+outstanding_count book = length (outstanding_of book)
+
+-- The table of the pairs, as the allotment sees it.
+abbrev pub table_of : Book → Table Entry
+table_of book = record { ports = book.setup.ports; entries = book.held; allotted = book.allotted }

@@ -1,15 +1,16 @@
 -- What is left of a lane when it is closed (own): the requests and answers that its book still holds, and what is
 -- outstanding, but for a probe that is out. The watch, the drain and the last moment go with the lane.
-use Rattle.std.specs.Prelude.{◌≡◌, ℕ, List, Option, Some, None}
+use Rattle.std.specs.Prelude.{◌≡◌, ℕ, ◌-◌, List, length, take, map as each}
 use Rattle.std.specs.FinMap as map
+use Rattle.std.specs.List.Sorted.{IsPermutation}
 use Rattle.rad_tables.specs.declared.slots.Slot.{Slot}
 use Rattle.rad_tables.specs.Pairs.{Table}
 use Rattle.rad_lane.specs.declared.stamp.Stamp.{Stamp}
 use Rattle.rad_lane.specs.declared.entry.Entry.{Entry}
-use Rattle.rad_lane.specs.declared.entry.Entry.TheVariants.{Sending as sending, Probe as probe}
-use Rattle.rad_lane.specs.Stamp.{Recorded}
+use Rattle.rad_lane.specs.Stamp.{Recorded, Kept}
 use Rattle.rad_lane.specs.Outstanding.{AnswerKept}
-use Rattle.rad_lane.specs.Book.{Book}
+use Rattle.rad_lane.specs.Entries.{but_a_probe, sendings_in}
+use Rattle.rad_lane.specs.Book.{Book, outstanding_of, outstanding_count}
 
 pub record Left : Type 0 where
   pub lane : ℕ
@@ -20,11 +21,17 @@ pub record Left : Type 0 where
   pub answered : List AnswerKept
   pub outstanding : Table Entry
 
--- What stands under a pair, where that is no probe.
-abbrev pub but_a_probe : Option Entry → Option Entry
-but_a_probe None = None
-but_a_probe (Some (sending entry)) = Some (sending entry)
-but_a_probe (Some (probe octets)) = None
+-- What is left of a lane: of those accepted, all but the queued ones were sent.
+abbrev pub left_of : ℕ → ℕ → List Stamp → List Kept → List AnswerKept → Table Entry → Left
+left_of lane opening accepted kept answered outstanding = record {
+  lane = lane;
+  opening = opening;
+  accepted = accepted;
+  sent = take (length accepted - length kept) accepted;
+  queued = each (λ k. k.recorded) kept;
+  answered = answered;
+  outstanding = outstanding;
+}
 
 pub record Leaves (book : Book) (left : Left) : Type 0 where
   pub lane : left.lane ≡ book.setup.lane
@@ -33,6 +40,9 @@ pub record Leaves (book : Book) (left : Left) : Type 0 where
   pub sent : left.sent ≡ book.sent
   pub queued : left.queued ≡ book.queued
   pub answered : left.answered ≡ book.answered
+  -- under each pair, and then in all: so many sendings, of the same requests
   pub outstanding : (slot : Slot) → map.get left.outstanding.entries slot ≡ but_a_probe (map.get book.held slot)
+  pub count : map.len left.outstanding.entries ≡ outstanding_count book
+  pub stamps : IsPermutation (each (λ e. e.request.stamp) (outstanding_of book)) (each (λ e. e.request.stamp) (sendings_in left.outstanding.entries))
   pub ports : left.outstanding.ports ≡ book.setup.ports
   pub allotted : left.outstanding.allotted ≡ book.allotted

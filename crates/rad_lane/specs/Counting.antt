@@ -1,15 +1,8 @@
 -- What a lane's counts are, and when it is done (own).
-use Rattle.std.specs.Prelude.{◌≡◌, [], length, IsSome, is_some, Bool, true, false}
+use Rattle.std.specs.Prelude.{◌≡◌, [], length, IsSome, is_some}
 use Rattle.rad_lane.specs.declared.counts.Counts.{Counts}
-use Rattle.rad_lane.specs.declared.watch.Watch.{Watch}
-use Rattle.rad_lane.specs.declared.watch.Watch.TheVariants.{Up as up, Down as down}
-use Rattle.rad_lane.specs.Book.{Book, next_number}
-use Rattle.rad_lane.specs.Dues.{outstanding_count}
-
--- Whether the home server is taken to be up.
-abbrev pub is_up : Watch → Bool
-is_up up = true
-is_up (down until next out) = false
+use Rattle.rad_lane.specs.Book.{Book, next_number, outstanding_count}
+use Rattle.rad_lane.specs.Watch.{is_up}
 
 -- How much of each there is; those accepted and answered count from the first of all.
 abbrev pub counts_of : Book → Counts

@@ -10,5 +10,3 @@ drained_at book (Some count) = count
 pub record Drains (old : Book) (count : ℕ) (new : Book) : Type 0 where
   pub count_is : count ≡ drained_at old old.drain
   pub book : new ≡ record old { drain = Some count }
-
--- A lane is done when it is draining and nothing is queued or outstanding.

@@ -1,5 +1,5 @@
 -- What hearing a datagram from the home server may answer, and the book after it (own). The first case that
--- applies is answered; want of memory comes last. A refusal leaves the book.
+-- applies is answered; lack of memory comes last. A refusal leaves the book.
 use Rattle.std.specs.Prelude.{◌≡◌, ◌≢◌, ℕ, ◌+◌, List, [], ◌∷◌, ◌++◌, Some, None, Result, Ok, Err}
 use Rattle.std.specs.FinMap as map
 use Rattle.rad_packet.specs.Packet.{code_of, identifier_of, authenticator_of}
@@ -7,6 +7,7 @@ use Rattle.rad_packet.specs.Reading.{ReadsAs, Refuses}
 use Rattle.rad_auth.specs.Authenticator.{IsRightResponse}
 use Rattle.rad_auth.specs.Answers.{Answers}
 use Rattle.rad_auth.specs.Refusing.{RefusesReply}
+use Rattle.rad_auth.specs.declared.responding.ReplyFault.{ReplyFault}
 use Rattle.rad_auth.specs.declared.responding.ReplyFault.TheVariants as reply
 use Rattle.rad_tables.specs.declared.slots.Slot.{Slot}
 use Rattle.rad_lane.specs.declared.hearing.Heard.{Heard}
@@ -18,7 +19,14 @@ use Rattle.rad_lane.specs.Outstanding.{Outstanding, AnswerKept}
 use Rattle.rad_lane.specs.declared.entry.Entry.{Entry}
 use Rattle.rad_lane.specs.declared.entry.Entry.TheVariants.{Sending as sending, Probe as probe}
 use Rattle.rad_lane.specs.Book.{Book, moment_in, outstanding_at}
-use Rattle.rad_lane.specs.Dues.{ComesUp}
+use Rattle.rad_lane.specs.Watch.{GoesUpIfDown}
+
+-- The fault of a lane for a fault of the reply.
+abbrev pub fault_of : ReplyFault → HearFault
+fault_of reply.BadAuthenticator = BadAuthenticator
+fault_of reply.MessageAuthenticatorHere = MessageAuthenticatorHere
+fault_of reply.NoProxyState = NoProxyState
+fault_of reply.OutOfMemory = OutOfMemory
 
 abbrev pub pair : ℕ → List ℕ → Slot
 pair port packet = record { port = port; identifier = identifier_of packet }
@@ -84,7 +92,7 @@ pub record HearsReply (old : Book) (now port : ℕ) (datagram : List ℕ) (answe
   pub entry : Outstanding
   pub there : outstanding_at old (pair port packet) entry
   pub keeps : KeepsAnswer old.setup.home_secret now old.served entry packet answer
-  pub book : ComesUp now (with_answer old now (pair port packet) answer) new old.watch
+  pub book : GoesUpIfDown now (with_answer old now (pair port packet) answer) new old.watch
 
 -- The right answer to a probe takes the lane up.
 pub record HearsProbe (old : Book) (now port : ℕ) (datagram : List ℕ) (new : Book) : Type 0 where
@@ -94,7 +102,7 @@ pub record HearsProbe (old : Book) (now port : ℕ) (datagram : List ℕ) (new :
   pub octets : List ℕ
   pub there : map.get old.held (pair port packet) ≡ Some (probe octets)
   pub right : IsRightAnswer old (probe octets) packet
-  pub book : ComesUp now (record old { last = now }) new old.watch
+  pub book : GoesUpIfDown now (record old { last = now }) new old.watch
 
 -- What goes out to the client is that answer: its serial, whom it goes to, and the reply.
 pub record GoesOut (answer : AnswerKept) (outgoing : Outgoing) : Type 0 where

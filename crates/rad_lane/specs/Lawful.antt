@@ -3,19 +3,19 @@ use Rattle.std.specs.Prelude.{◌≡◌, ℕ, ◌+◌, ◌<◌, ◌≤◌, List,
 use Rattle.std.specs.List.{range_with_len}
 use Rattle.std.specs.List.Sorted.{IsPermutation, IsStrictlyIncreasing}
 use Rattle.std.specs.FinMap as map
-use Rattle.rad_auth.specs.Answers.{Answers}
+use Rattle.rad_auth.specs.Status.{status_server}
 use Rattle.rad_tables.specs.declared.slots.Slot.{Slot}
+use Rattle.rad_tables.specs.Pairs.{slot_cmp, IsInRange}
 use Rattle.rad_lane.specs.declared.stamp.Stamp.{Stamp}
 use Rattle.rad_lane.specs.Stamp.{IsRecord, key_of}
 use Rattle.rad_lane.specs.Setup.{LaneSetup, IsOfItsRealms}
-use Rattle.rad_lane.specs.Outstanding.{Outstanding, AnswerKept, answered_record}
-use Rattle.rad_lane.specs.declared.entry.Entry.TheVariants.{Probe as probe}
+use Rattle.rad_lane.specs.Outstanding.{Outstanding, AnswerKept, IsAnswered, octets_of}
+use Rattle.rad_lane.specs.declared.entry.Entry.{Entry}
+use Rattle.rad_lane.specs.declared.entry.Entry.TheVariants.{Sending as sending, Probe as probe}
 use Rattle.rad_lane.specs.declared.watch.Watch.{Watch}
 use Rattle.rad_lane.specs.declared.watch.Watch.TheVariants.{Up as up, Down as down}
-use Rattle.rad_lane.specs.Book.{Book, next_number, outstanding_at}
+use Rattle.rad_lane.specs.Book.{Book, next_number, outstanding_at, outstanding_of, outstanding_count}
 use Rattle.rad_lane.specs.Repeat.{answer_to}
-use Rattle.rad_lane.specs.Dues.{outstanding_of, outstanding_count}
-use Rattle.rad_lane.specs.Steps.{octets_of}
 
 -- The earlier of two requests of one key was answered, and a span later the later one came, or still later.
 abbrev pub NoRepeatWithinSpan : Book → Stamp → Stamp → Type 0
@@ -28,18 +28,12 @@ pub record ForwardsItsRecord (setup : LaneSetup) (slot : Slot) (entry : Outstand
   pub is_record : IsRecord entry.request
   pub octets : entry.octets ≡ octets_of setup entry.request slot.identifier
 
--- An answer that is kept answers its own request, after a verified reply. It was given before now, and there
--- were more answers than came before it.
+-- An answer that is kept answers its own request, after a verified reply: to the packet that this lane forwarded, by
+-- its home's secret. It was given before now, and there were more answers than came before it.
 pub record IsVerified (setup : LaneSetup) (now served : ℕ) (answer : AnswerKept) : Type 0 where
-  pub head_identifier : answer.reply.head.identifier ≡ answer.stamp.identifier
-  pub head_authenticator : answer.reply.head.authenticator ≡ answer.stamp.authenticator
+  pub answered : IsAnswered answer
+  pub lane : answered.lane ≡ setup.lane
   pub home : answer.reply.home ≡ setup.home_secret
-  pub answers : Answers answer.reply.head answer.reply.sending answer.reply.reply answer.reply.client answer.reply.home answer.reply.response
-  pub text : List ℕ
-  pub is_record : IsRecord (answered_record answer text)
-  pub identifier : ℕ
-  pub sending : answer.reply.sending ≡ octets_of setup (answered_record answer text) identifier
-  pub since : answer.stamp.moment ≤ answer.moment
   pub until : answer.moment ≤ now
   pub before : answer.serial < served
 
@@ -50,6 +44,22 @@ ProbeStands book (down until next None) = (slot : Slot) (octets : List ℕ) → 
 ProbeStands book (down until next (Some out)) =
     ((octets : List ℕ) × (map.get book.held out ≡ Some (probe octets)))
     × ((slot : Slot) (octets : List ℕ) → map.get book.held slot ≡ Some (probe octets) → slot ≡ out)
+
+-- The octets are a Status-Server under the Identifier of its pair and the home's secret, of some sixteen octets as
+-- Authenticator.
+pub record IsProbe (setup : LaneSetup) (slot : Slot) (octets : List ℕ) : Type 0 where
+  pub random : List ℕ
+  pub sixteen : length random ≡ 16
+  pub made : octets ≡ status_server slot.identifier random setup.home_secret
+
+-- A sending has the home's secret and as many sendings a round as the lane has; a probe is a Status-Server of the lane.
+abbrev pub IsTheLanes : LaneSetup → Slot → Entry → Type 0
+IsTheLanes setup slot (sending entry) = (entry.home ≡ setup.home_secret) × (entry.tries ≡ setup.limits.tries)
+IsTheLanes setup slot (probe octets) = IsProbe setup slot octets
+
+-- Each pair in use is one of the source ports, and what stands under it is the lane's.
+abbrev pub HoldsItsOwn : LaneSetup → map.FinMap slot_cmp Entry → Type 0
+HoldsItsOwn setup held = (slot : Slot) (entry : Entry) → map.get held slot ≡ Some entry → IsInRange setup.ports slot × IsTheLanes setup slot entry
 
 pub record IsLawful (book : Book) : Type 0 where
   -- The requests accepted are those sent, followed by those queued, in order.
@@ -73,6 +83,11 @@ pub record IsLawful (book : Book) : Type 0 where
   pub queued_bounded : length book.queued ≤ book.setup.limits.queue
   pub outstanding_bounded : outstanding_count book ≤ book.setup.limits.window
   pub accepted_bounded : length book.accepted ≤ book.setup.limits.book
+  -- What stands under a pair is the lane's, and the pairs are those of its 1 to 4 source ports.
+  pub holds_its_own : HoldsItsOwn book.setup book.held
+  pub allotted_in_range : IfSome book.allotted (IsInRange book.setup.ports)
+  pub ports_least : 1 ≤ book.setup.ports
+  pub ports_most : book.setup.ports ≤ 4
   -- Each response answers its own request, after a verified reply.
   pub answers_verified : All (IsVerified book.setup book.last book.served) book.answered
   pub serials_rise : IsStrictlyIncreasing (each (λ a. a.serial) book.answered)

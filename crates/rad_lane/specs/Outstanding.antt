@@ -1,10 +1,12 @@
 -- What was sent and is not answered, and what was answered (own).
-use Rattle.std.specs.Prelude.{◌≡◌, ℕ, ◌<◌, ◌≤◌, List}
+use Rattle.std.specs.Prelude.{◌≡◌, ℕ, ◌+◌, ◌<◌, ◌≤◌, List, Bool, nat_le}
 use Rattle.rad_auth.specs.Forwarding.{forwarded}
 use Rattle.rad_auth.specs.Answers.{Answers}
 use Rattle.rad_auth.specs.Replied.{Replied}
 use Rattle.rad_lane.specs.declared.stamp.Stamp.{Stamp}
+use Rattle.rad_tables.specs.Waiting.{wait_of}
 use Rattle.rad_lane.specs.Stamp.{Recorded, IsRecord}
+use Rattle.rad_lane.specs.Setup.{LaneSetup}
 
 -- A request that was sent and not answered: its record, the octets that went out, how many sendings of this
 -- round there were, and when the next is due; and the home's secret and the sendings of a round, which are the
@@ -25,8 +27,42 @@ pub record IsForwarded (entry : Outstanding) : Type 0 where
   pub octet : identifier < 256
   pub octets : entry.octets ≡ forwarded entry.request.text (record { lane = lane; number = entry.request.stamp.number }) identifier entry.home
 
--- An answer: to which stamp, when, the how manyth, and the sending, the reply and the response with both
--- secrets.
+-- The octets that go out for a record under an identifier: its request, forwarded with the lane's mark.
+abbrev pub octets_of : LaneSetup → Recorded → ℕ → List ℕ
+octets_of setup r identifier =
+    forwarded r.text (record { lane = setup.lane; number = r.stamp.number }) identifier setup.home_secret
+
+-- The first sending of a record under an identifier.
+abbrev pub first_sending : LaneSetup → ℕ → Recorded → ℕ → Outstanding
+first_sending setup now r identifier = record {
+  request = r;
+  octets = octets_of setup r identifier;
+  sendings = 1;
+  due = now + wait_of setup.limits.first_wait 1;
+  home = setup.home_secret;
+  tries = setup.limits.tries;
+}
+
+-- A sending again, later by twice as much: the entry after it, where the first wait is of so much.
+abbrev pub sent_again : ℕ → ℕ → Outstanding → Outstanding
+sent_again first_wait now entry = record entry {
+  sendings = entry.sendings + 1;
+  due = now + wait_of first_wait (entry.sendings + 1);
+}
+
+-- The sending, once it is due at once and its round begins anew.
+abbrev pub renewed : ℕ → Outstanding → Outstanding
+renewed now entry = record entry { sendings = 0; due = now }
+
+-- A sending is spent when its round has used all its sendings.
+abbrev pub is_spent : Outstanding → Bool
+is_spent entry = nat_le entry.tries entry.sendings
+
+-- By these the sendings come one after the other: by due, and where dues are equal by number.
+abbrev pub due_and_number : Outstanding → ℕ × ℕ
+due_and_number entry = (entry.due, entry.request.stamp.number)
+
+-- An answer: to which stamp, when, its serial number, and the sending, the reply and the response with both secrets.
 pub record AnswerKept : Type 0 where
   pub stamp : Stamp
   pub moment : ℕ

@@ -8,6 +8,8 @@ use Rattle.rad_tables.specs.Keys.{key_cmp}
 use Rattle.rad_lane.specs.declared.stamp.Stamp.{Stamp}
 use Rattle.rad_lane.specs.Stamp.{key_of}
 use Rattle.rad_lane.specs.Outstanding.{AnswerKept}
+use Rattle.rad_lane.specs.declared.repeats.Repeat.{Repeat}
+use Rattle.rad_lane.specs.declared.repeats.Repeat.TheVariants.{Fresh, Waits, Answered}
 use Rattle.rad_lane.specs.Book.{Book}
 
 -- The stamps of a key.
@@ -42,3 +44,9 @@ repeats_last book now (Some stamp) = repeats_answered book now stamp.number (ans
 -- answered less than a span ago.
 unfoldable pub repeats : Book → Key → ℕ → Repeats
 repeats book key now = repeats_last book now (last_of (of_key key book.accepted))
+
+-- What a lane found, which is kept with the whole answer.
+abbrev pub found : Repeat → Repeats
+found Fresh = fresh
+found (Waits number) = waits number
+found (Answered number answer) = again number answer.now.reply.response

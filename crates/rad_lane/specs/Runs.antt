@@ -7,7 +7,8 @@ use Rattle.rad_lane.specs.declared.running.GivenAnswer.{GivenAnswer}
 use Rattle.rad_lane.specs.declared.running.GivenAnswer.TheVariants.{Accept as accepted, Step as stepped, Hear as heard, Drain as drained}
 use Rattle.rad_lane.specs.declared.running.Given.{Given}
 use Rattle.rad_lane.specs.Book.{Book}
-use Rattle.rad_lane.specs.Accepts.{Accepts, Datagrams, IsTaken}
+use Rattle.rad_lane.specs.Datagrams.{Datagrams}
+use Rattle.rad_lane.specs.Accepts.{Accepts, IsTaken}
 use Rattle.rad_lane.specs.Steps.{Steps}
 use Rattle.rad_lane.specs.Hears.{Hears}
 use Rattle.rad_lane.specs.Drains.{Drains}

@@ -5,8 +5,8 @@ use Rattle.rad_realms.specs.declared.limits.LimitNumbers.{LimitNumbers}
 use Rattle.rad_realms.specs.Configuration.{HomeEntry, RealmEntry, Configuration}
 use Rattle.rad_realms.specs.Realm.{realm_of_packet, same_name}
 
--- The lane's number and how many source ports it has, its home server's secret and limits, the realms that lead to it, and whether requests
--- of no realm do.
+-- The lane's number and how many source ports it has, its home server's secret and limits, the realms that lead to
+-- it, and whether requests without a realm lead to it.
 pub record LaneSetup : Type 0 where
   pub lane : ℕ
   pub ports : ℕ

@@ -1,46 +1,21 @@
 -- What a step may do, and the book after it (own): the first case that applies. A step never refuses.
 use Rattle.std.specs.Prelude.{◌≡◌, ◌≢◌, ⊤, ℕ, ◌+◌, ◌<◌, ◌≤◌, ◌⊎◌, min, List, [], ◌∷◌, ◌++◌, Option, Some, None, true, false}
 use Rattle.std.specs.FinMap as map
-use Rattle.rad_auth.specs.Forwarding.{forwarded}
 use Rattle.rad_auth.specs.Status.{status_server}
 use Rattle.rad_tables.specs.declared.slots.Slot.{Slot}
 use Rattle.rad_tables.specs.Pairs.{slot_cmp, IsFirstFree}
-use Rattle.rad_tables.specs.Waiting.{wait_of}
 use Rattle.rad_lane.specs.declared.stepping.Action.{Action}
 use Rattle.rad_lane.specs.declared.stepping.Action.TheVariants.{Sent, Resent, Probed, WentDown, WentUp, Idle}
 use Rattle.rad_lane.specs.Stamp.{Recorded}
-use Rattle.rad_lane.specs.Setup.{LaneSetup}
-use Rattle.rad_lane.specs.Outstanding.{Outstanding}
+use Rattle.rad_lane.specs.Outstanding.{Outstanding, octets_of, first_sending, sent_again}
 use Rattle.rad_lane.specs.declared.entry.Entry.{Entry}
 use Rattle.rad_lane.specs.declared.entry.Entry.TheVariants.{Sending as sending, Probe as probe}
 use Rattle.rad_lane.specs.declared.watch.Watch.{Watch}
 use Rattle.rad_lane.specs.declared.watch.Watch.TheVariants.{Up as up, Down as down}
-use Rattle.rad_lane.specs.Book.{Book, moment_in}
-use Rattle.rad_lane.specs.Accepts.{Datagrams}
-use Rattle.rad_lane.specs.Dues.{table_of, NoneDue, IsNextDue, IsSpentDue, IsLeastOfAll, NoneOutstanding, as_moment, outstanding_count, GoesUp}
-
--- The octets that go out for a record under an identifier: its request, forwarded with the lane's mark.
-abbrev pub octets_of : LaneSetup → Recorded → ℕ → List ℕ
-octets_of setup r identifier =
-    forwarded r.text (record { lane = setup.lane; number = r.stamp.number }) identifier setup.home_secret
-
--- The first sending of a record under an identifier.
-abbrev pub first_sending : LaneSetup → ℕ → Recorded → ℕ → Outstanding
-first_sending setup now r identifier = record {
-  request = r;
-  octets = octets_of setup r identifier;
-  sendings = 1;
-  due = now + wait_of setup.limits.first_wait 1;
-  home = setup.home_secret;
-  tries = setup.limits.tries;
-}
-
--- A sending again, later by twice as much: the entry after it.
-abbrev pub sent_again : Book → ℕ → Outstanding → Outstanding
-sent_again book now entry = record entry {
-  sendings = entry.sendings + 1;
-  due = now + wait_of book.setup.limits.first_wait (entry.sendings + 1);
-}
+use Rattle.rad_lane.specs.Book.{Book, moment_in, outstanding_count, table_of}
+use Rattle.rad_lane.specs.Datagrams.{Datagrams}
+use Rattle.rad_lane.specs.Dues.{NoneDue, IsNextDue, IsSpentDue, IsLeastOfAll, NoneOutstanding, as_moment}
+use Rattle.rad_lane.specs.Watch.{GoesUp}
 
 -- The book after the first sending of the queue's first record, under this pair.
 abbrev pub with_sending : Book → ℕ → Recorded → List Recorded → Slot → Book
@@ -77,45 +52,45 @@ Probes old now random until out slot d new =
     })
 
 -- What a lane that is up does.
-abbrev pub StepsUp : Book → ℕ → Action → Datagrams → Book → Type 0
-StepsUp old now (Resent number slot) d new =
-    (entry : Outstanding) × IsNextDue old now slot entry × (number ≡ entry.request.stamp.number)
+abbrev pub StepsWhileUp : Book → ℕ → Action → Datagrams → Book → Type 0
+StepsWhileUp old now (Resent number slot) d new =
+    (entry : Outstanding) × IsNextDue old now false slot entry × (number ≡ entry.request.stamp.number)
     × (d.after ≡ entry.octets)
-    × (new ≡ record old { held = map.insert old.held slot (sending (sent_again old now entry)); last = now })
-StepsUp old now WentDown d new =
+    × (new ≡ record old { held = map.insert old.held slot (sending (sent_again old.setup.limits.first_wait now entry)); last = now })
+StepsWhileUp old now WentDown d new =
     NoneDue old now false × IsSpentDue old now × (d.after ≡ d.before)
     × (new ≡ record old { watch = down (now + old.setup.limits.down_wait) now None; last = now })
-StepsUp old now (Sent number slot) d new =
+StepsWhileUp old now (Sent number slot) d new =
     NoneDue old now false × NoneDue old now true × (outstanding_count old < old.setup.limits.window)
     × (r : Recorded) × (rest : List Recorded) × (old.queued ≡ r ∷ rest) × (number ≡ r.stamp.number)
     × IsFirstFree (table_of old) slot × (d.after ≡ octets_of old.setup r slot.identifier)
     × (new ≡ with_sending old now r rest slot)
-StepsUp old now (Idle None) d new =
+StepsWhileUp old now (Idle None) d new =
     NothingToSend old × NoneOutstanding old × (d.after ≡ d.before) × (new ≡ record old { last = now })
-StepsUp old now (Idle (Some moment)) d new =
+StepsWhileUp old now (Idle (Some moment)) d new =
     NoneDue old now false × NoneDue old now true × NothingToSend old
     × (due : ℕ) × IsLeastOfAll old due × (moment ≡ as_moment due)
     × (d.after ≡ d.before) × (new ≡ record old { last = now })
-StepsUp old now (Probed slot) d new = ⊥
-StepsUp old now WentUp d new = ⊥
+StepsWhileUp old now (Probed slot) d new = ⊥
+StepsWhileUp old now WentUp d new = ⊥
 
 -- What a lane does that is down until a moment, with the next probe at another and perhaps one out.
-abbrev pub StepsDown : Book → ℕ → List ℕ → ℕ → ℕ → Option Slot → Action → Datagrams → Book → Type 0
-StepsDown old now random until next out WentUp d new =
+abbrev pub StepsWhileDown : Book → ℕ → List ℕ → ℕ → ℕ → Option Slot → Action → Datagrams → Book → Type 0
+StepsWhileDown old now random until next out WentUp d new =
     (until ≤ now) × (d.after ≡ d.before) × GoesUp now (record old { last = now }) new
-StepsDown old now random until next out (Probed slot) d new =
+StepsWhileDown old now random until next out (Probed slot) d new =
     (now < until) × (next ≤ now) × Probes old now random until out slot d new
-StepsDown old now random until next out (Idle (Some moment)) d new =
+StepsWhileDown old now random until next out (Idle (Some moment)) d new =
     (now < until) × (now < next) × (moment ≡ as_moment (min until next))
     × (d.after ≡ d.before) × (new ≡ record old { last = now })
-StepsDown old now random until next out (Idle None) d new = ⊥
-StepsDown old now random until next out (Sent number slot) d new = ⊥
-StepsDown old now random until next out (Resent number slot) d new = ⊥
-StepsDown old now random until next out WentDown d new = ⊥
+StepsWhileDown old now random until next out (Idle None) d new = ⊥
+StepsWhileDown old now random until next out (Sent number slot) d new = ⊥
+StepsWhileDown old now random until next out (Resent number slot) d new = ⊥
+StepsWhileDown old now random until next out WentDown d new = ⊥
 
 abbrev pub StepsBy : Watch → Book → ℕ → List ℕ → Action → Datagrams → Book → Type 0
-StepsBy up old now random action d new = StepsUp old now action d new
-StepsBy (down until next out) old now random action d new = StepsDown old now random until next out action d new
+StepsBy up old now random action d new = StepsWhileUp old now action d new
+StepsBy (down until next out) old now random action d new = StepsWhileDown old now random until next out action d new
 
 abbrev pub Steps : Book → ℕ → List ℕ → Action → Datagrams → Book → Type 0
 Steps old moment random action d new = StepsBy old.watch old (moment_in old moment) random action d new

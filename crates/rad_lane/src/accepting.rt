@@ -3,12 +3,12 @@
 ghost use Rattle.std.specs.Prelude.{◌≡◌, ◌+◌, ◌≤◌, length, IfOk, OnErr, MatchResult, IsTrue, ◌↔◌};
 ghost use Rattle.rad_lane.specs.Book.{next_number};
 ghost use Rattle.rad_lane.specs.Repeat.{repeats, fresh};
-ghost use Rattle.rad_lane.specs.Standing.{HasRoom};
-ghost use Rattle.rad_lane.specs.Accepts.{Accepts, Datagrams, IsTaken, IsRefused, request_key, stamp_of as the_stamp, record_of as the_record, with_request};
+ghost use Rattle.rad_lane.specs.Invariant.{HasRoom};
+ghost use Rattle.rad_lane.specs.Datagrams.{Datagrams};
+ghost use Rattle.rad_lane.specs.Accepts.{Accepts, IsTaken, IsRefused, request_key, stamp_of as the_stamp, record_of as the_record, with_request};
 
-use crate::packets::packet_of;
 use crate::repeats::Repeat;
-use crate::rows::Rows;
+use crate::reserved_list::ReservedList;
 use crate::{Answered, Lane, Record, Stamp};
 use block_queue::Fifo;
 use rad_auth::{Buffer, MARK_LENGTH, Octets};
@@ -46,8 +46,8 @@ pub enum Refusal {
     WrongLane,
 }
 
-/// One more than the greatest number of a request.
-const NUMBERS: u64 = 1 << 62;
+/// One more than the greatest number that a request can have.
+const NUMBER_LIMIT: u64 = 1 << 62;
 
 impl<Q: Fifo<Record>> Lane<Q> {
     /// Whether a request leads to this lane, by the lane's own realms. It looks at each of these.
@@ -59,7 +59,10 @@ impl<Q: Fifo<Record>> Lane<Q> {
 
     /// Takes a request that is this lane's: a new one is accepted and waits to be sent; a repeat of one that
     /// waits for its answer is only told; and for a repeat of one that was answered less than a span ago the
-    /// response is put into the datagram. It costs the logarithm of how much is kept.
+    /// response is put into the datagram.
+    ///
+    /// It takes time logarithmic in the size of the book. Where a list of the book has to grow for a new request, that
+    /// list may be moved, which takes time linear in its length.
     ///
     /// # Errors
     ///
@@ -77,33 +80,33 @@ impl<Q: Fifo<Record>> Lane<Q> {
         let now = self.moment_of(moment);
         match self.find_repeat(&key_of(request), now) {
             Repeat::Fresh => {
-                self.refuse(request)?;
-                match self.keep(alloc, request, now) {
+                self.check_new(request)?;
+                match self.accept_new(alloc, request, now) {
                     Ok(number) => Ok(Taken::New(number)),
                     Err(AllocError) => Err(Refusal::OutOfMemory),
                 }
             }
             Repeat::Waits(number) => {
-                self.pass(now);
+                self.set_last(now);
                 Ok(Taken::Waiting(number))
             }
             Repeat::Answered(number, answer) => {
                 datagram.load(&response_of(answer));
-                self.pass(now);
+                self.set_last(now);
                 Ok(Taken::Again(number))
             }
         }
     }
 
     /// Why a new request is not taken, unless memory is refused.
-    fn refuse(&self, request: &Checked<'_>) -> Result<(), Refusal>
+    fn check_new(&self, request: &Checked<'_>) -> Result<(), Refusal>
         ensures { MatchResult result (λ _. IsRefused self.now request.now Refusal.OutOfMemory) (λ refusal. IsRefused self.now request.now refusal) }
     {
         let limits = self.setup.limits().numbers();
         if self.drain.is_some() {
             return Err(Refusal::Draining);
         }
-        if self.accepted.as_slice().len() >= limits.book as usize || self.next_number() >= NUMBERS {
+        if self.accepted.as_slice().len() >= limits.book as usize || self.next_number() >= NUMBER_LIMIT {
             return Err(Refusal::BookFull);
         }
         if self.queued.len() >= limits.queue as usize {
@@ -116,7 +119,7 @@ impl<Q: Fifo<Record>> Lane<Q> {
     }
 
     /// Accepts a request, and tells its number. All room is made before anything changes.
-    fn keep(&mut self, alloc: Global, request: &Checked<'_>, now: Moment) -> Result<u64, AllocError>
+    fn accept_new(&mut self, alloc: Global, request: &Checked<'_>, now: Moment) -> Result<u64, AllocError>
         requires taken { IsTaken self.old request.now }
         requires new { repeats self.old (request_key request.now) now ≡ fresh }
         requires free { IsRefused self.old request.now Refusal.OutOfMemory }
@@ -180,10 +183,10 @@ fn record_of(
     Ok(Record::new(stamp, text, *request.secret(), spare))
 }
 
-/// Makes a place in each.
+/// Makes room for one more in each.
 fn make_room<Q: Fifo<Record>>(
-    accepted: &mut Rows<Stamp>,
-    places: &mut Rows<Option<usize>>,
+    accepted: &mut ReservedList<Stamp>,
+    places: &mut ReservedList<Option<usize>>,
     queued: &mut Q,
 ) -> Result<(), AllocError>
     ensures accepted { accepted.new.items ≡ accepted.old.items }
@@ -202,5 +205,5 @@ fn make_room<Q: Fifo<Record>>(
 fn response_of(answer: &Answered) -> PacketRef<'_>
     ensures { result ≡ answer.now.reply.response }
 {
-    packet_of(answer.reply().response())
+    PacketRef::over(answer.reply().response())
 }

@@ -4,15 +4,19 @@ use rad_tables::Moment;
 use std::alloc::{AllocError, Global};
 use std::marker::Model;
 
-/// An answer to a request: the request's stamp, when it was answered, the how manyth answer it was, and the
-/// reply with the response.
+/// An answer to a request: the request's stamp, when it was answered, its serial number, and the reply with the
+/// response.
 ///
 /// Its type keeps that the response answers that request, after a verified reply to its forwarded packet.
 #[derive(Drop)]
 pub struct Answered {
+    /// The stamp of the request.
     stamp: Stamp,
+    /// When it was answered.
     moment: Moment,
+    /// How many answers of the lane there were before it.
     serial: u64,
+    /// The home server's reply and the response, with the sending and the secrets that they rest on.
     reply: Reply,
 }
 

@@ -1,5 +1,5 @@
 use crate::Sending;
-use rad_packet::Datagram;
+use rad_packet::{Datagram, authenticator_of};
 use rad_tables::{Moment, Timed};
 use std::marker::Model;
 
@@ -22,7 +22,7 @@ impl Model for Probe {
 
 impl Probe {
     ghost use Rattle.std.specs.Prelude.{◌≡◌, length};
-    ghost use Rattle.rad_packet.specs.Packet.{authenticator_of};
+    ghost use Rattle.rad_packet.specs.Packet.{authenticator_of as the_authenticator};
 
     /// Keeps the Status-Server that the datagram has.
     pub(crate) fn of(datagram: &Datagram) -> Probe
@@ -43,11 +43,9 @@ impl Probe {
 
     /// The Authenticator that was sent.
     pub(crate) fn authenticator(&self) -> [u8; 16]
-        ensures { result ≡ authenticator_of self.now }
+        ensures { result ≡ the_authenticator self.now }
     {
-        let mut authenticator = [0; 16];
-        authenticator.copy_from_slice(&self.octets[4..20]);
-        authenticator
+        authenticator_of(&self.octets)
     }
 }
 
@@ -63,7 +61,8 @@ pub enum Entry {
 impl Entry {
     ghost use Rattle.std.specs.Prelude.{◌≡◌, ◌<◌, ◌≤◌};
     ghost use Rattle.rad_lane.specs.declared.entry.Entry.TheVariants.{Sending as sending};
-    ghost use Rattle.rad_lane.specs.Timing.{IfSending, once_more};
+    ghost use Rattle.rad_lane.specs.Entries.{IfSending};
+    ghost use Rattle.rad_lane.specs.Outstanding.{sent_again};
 
     /// Sends again what was sent, which is not spent: its octets are put into the datagram. It tells the
     /// request's number.
@@ -76,7 +75,7 @@ impl Entry {
         requires first_least { 100 ≤ first_wait }
         requires first_most { first_wait ≤ 60000 }
         requires few { IfSending self.old (λ e. e.sendings < 10) }
-        ensures again { IfSending self.old (λ e. self.new ≡ sending (once_more now first_wait e)) }
+        ensures again { IfSending self.old (λ e. self.new ≡ sending (sent_again first_wait now e)) }
         ensures octets { IfSending self.old (λ e. datagram.new ≡ e.octets) }
         ensures number { IfSending self.old (λ e. result ≡ e.request.stamp.number) }
     {
@@ -93,7 +92,7 @@ impl Entry {
 
 /// A probe is never due: a lane that is up has none, and one that is down sends nothing again.
 impl Timed for Entry {
-    ghost use Rattle.rad_lane.specs.Timing.{due_in, number_in, is_spent_in};
+    ghost use Rattle.rad_lane.specs.Entries.{due_in, number_in, is_spent_in};
 
     ghost due_of = { due_in };
 

@@ -5,7 +5,7 @@ ghost use Rattle.rad_packet.specs.Packet.{code_of, identifier_of};
 ghost use Rattle.rad_lane.specs.Outstanding.{Outstanding};
 ghost use Rattle.rad_lane.specs.Book.{outstanding_at};
 ghost use Rattle.rad_lane.specs.Hears.{Hears};
-ghost use Rattle.rad_lane.specs.Hearing.{AnswerIsKept, AnswerIsRefused};
+ghost use Rattle.rad_lane.specs.AcceptReply.{AnswerIsKept, AnswerIsRefused};
 
 use crate::{Entry, Lane, Outgoing, Record};
 use block_queue::Fifo;
@@ -55,7 +55,7 @@ impl From<ReadFault> for HearFault {
 
 impl From<ReplyFault> for HearFault {
     ghost use Rattle.std.specs.Prelude.{◌≡◌};
-    ghost use Rattle.rad_lane.specs.Hearing.{fault_of};
+    ghost use Rattle.rad_lane.specs.Hears.{fault_of};
 
     ghost from_gives = { λ reply fault. fault ≡ fault_of reply };
 
@@ -75,7 +75,8 @@ impl<Q: Fifo<Record>> Lane<Q> {
     /// Either takes a lane up that is down.
     ///
     /// It finds what was sent by the pair, and hashes the reply once and the response once. Going up changes
-    /// each outstanding sending.
+    /// each outstanding sending. Where the list of answers has to grow, it may be moved, which takes time linear
+    /// in its length.
     ///
     /// # Errors
     ///
@@ -104,12 +105,12 @@ impl<Q: Fifo<Record>> Lane<Q> {
                 if !check_response(&packet, &probe.authenticator(), self.setup.home()) {
                     return Err(HearFault::BadAuthenticator);
                 }
-                self.come_up(now);
+                self.go_up_if_down(now);
                 Ok(Heard::ProbeAnswered)
             }
-            Some(Entry::Sending(_)) => match self.keep_answer(alloc, slot, &packet, now) {
+            Some(Entry::Sending(_)) => match self.accept_reply(alloc, slot, &packet, now) {
                 Ok(outgoing) => {
-                    self.come_up(now);
+                    self.go_up_if_down(now);
                     Ok(Heard::Answer(outgoing))
                 }
                 Err(fault) => Err(fault),
@@ -119,7 +120,7 @@ impl<Q: Fifo<Record>> Lane<Q> {
 
     /// Keeps a reply as the answer to the request whose sending is outstanding under its pair, and tells the
     /// response. All that needs memory is made before anything changes.
-    fn keep_answer(
+    fn accept_reply(
         &mut self,
         alloc: Global,
         slot: Slot,

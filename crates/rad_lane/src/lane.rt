@@ -3,7 +3,7 @@ ghost use Rattle.rad_lane.specs.Book.{moment_in, next_number};
 ghost use Rattle.rad_lane.specs.Drains.{drained_at};
 ghost use Rattle.rad_lane.specs.Empty.{empty_book};
 
-use crate::rows::Rows;
+use crate::reserved_list::ReservedList;
 use crate::{Answered, Entry, Record, Setup, Stamp, Watch};
 use block_queue::Fifo;
 use rad_tables::{Duplicates, Moment, Slots};
@@ -12,28 +12,42 @@ use std::marker::Model;
 
 /// The lane of one home server: the requests that it took, in order, until each is answered.
 ///
-/// It has no socket and no clock. Its calls are handed the moment, and answer what is to be done:
-/// [`Lane::accept`] takes a request in.
+/// It has no socket and no clock: its calls are handed the moment, and answer what is to be done. A moment
+/// earlier than the last one counts as the last one.
+///
+/// [`Lane::new`] makes it. A request comes in by [`Lane::accept`], which wants a request that [`Lane::takes`].
+/// [`Lane::step`] does one thing at a time: call it after each request and each reply, and at the moment that
+/// it tells, again and again until it is idle, and send what it puts into the datagram each time. [`Lane::hear`]
+/// takes what comes from the home server. [`Lane::drain`] ends the taking of requests; go on with the other calls
+/// until [`Lane::is_done`], and then [`Lane::close`] gives what the book holds. The calls that only look, as
+/// [`Lane::counts`], may come at any time.
 #[derive(Drop)]
 pub struct Lane<Q: Fifo<Record>> {
+    /// Whose lane it is, with its home server's secret and limits.
     pub(crate) setup: Setup,
     /// The number of the first request that is kept.
     pub(crate) opening: u64,
     /// The stamps of the requests, in order: first those that were sent, then those that are queued.
-    pub(crate) accepted: Rows<Stamp>,
+    pub(crate) accepted: ReservedList<Stamp>,
+    /// The records of the requests that wait to be sent, in order.
     pub(crate) queued: Q,
-    pub(crate) answered: Rows<Answered>,
+    /// The answers, in the order in which they came.
+    pub(crate) answered: ReservedList<Answered>,
     /// For each of the requests accepted the place of its answer among `answered`.
-    pub(crate) places: Rows<Option<usize>>,
+    pub(crate) places: ReservedList<Option<usize>>,
     /// How many answers there were.
     pub(crate) served: u64,
+    /// What was sent and not answered, each under its pair of source port and identifier, and the probe.
     pub(crate) slots: Slots<Entry>,
     /// How many of the entries are sendings.
     pub(crate) outstanding: usize,
+    /// The number of the last request of each key.
     pub(crate) duplicates: Duplicates,
     /// How many requests had been accepted when it was drained.
     pub(crate) drain: Option<u64>,
+    /// Whether the home server is taken to be up.
     pub(crate) watch: Watch,
+    /// The last moment.
     pub(crate) last: Moment,
 }
 
@@ -48,11 +62,11 @@ impl<Q: Fifo<Record>> Model for Lane<Q> {
 
     ghost coded = { Prim.hlevel (codes, map.code {R = slot_cmp} coded_slot entry.the_row.coded) };
 
-    ghost use Rattle.rad_lane.specs.Standing.{book_of, Stands};
+    ghost use Rattle.rad_lane.specs.Invariant.{book_of, IsConsistent};
 
     ghost view = { λ l. book_of l.setup l.opening l.accepted.items (Q.items l.queued) l.answered.items l.served l.slots l.drain l.watch l.last };
 
-    ghost invariant = { λ l. Stands (book_of l.setup l.opening l.accepted.items (Q.items l.queued) l.answered.items l.served l.slots l.drain l.watch l.last) (Q.items l.queued) l.slots.ports l.duplicates l.places.items l.outstanding };
+    ghost invariant = { λ l. IsConsistent (book_of l.setup l.opening l.accepted.items (Q.items l.queued) l.answered.items l.served l.slots l.drain l.watch l.last) (Q.items l.queued) l.slots.ports l.duplicates l.places.items l.outstanding };
 }
 
 /// Why there is no lane.
@@ -76,10 +90,10 @@ impl<Q: Fifo<Record>> Lane<Q> {
             Ok(slots) => Ok(Lane {
                 setup,
                 opening: 0,
-                accepted: Rows::new(alloc),
+                accepted: ReservedList::new(alloc),
                 queued: Q::new(alloc),
-                answered: Rows::new(alloc),
-                places: Rows::new(alloc),
+                answered: ReservedList::new(alloc),
+                places: ReservedList::new(alloc),
                 served: 0,
                 slots,
                 outstanding: 0,
@@ -121,8 +135,9 @@ impl<Q: Fifo<Record>> Lane<Q> {
         }
     }
 
-    /// Makes this the last moment.
-    pub(crate) fn pass(&mut self, now: Moment)
+    /// Makes this the last moment, where a call changes nothing else. A call that does writes the field itself,
+    /// together with the others, since they agree only once all are written.
+    pub(crate) fn set_last(&mut self, now: Moment)
         requires { self.old.last ≤ now }
         ensures { self.new ≡ record self.old { last = now } }
     {

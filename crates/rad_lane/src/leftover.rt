@@ -1,5 +1,5 @@
-use crate::rows::Rows;
-use crate::{Answered, Entry, Record, Stamp};
+use crate::reserved_list::ReservedList;
+use crate::{Answered, Entry, Record, Series, Stamp};
 use block_queue::Fifo;
 use rad_tables::Slots;
 use std::marker::Model;
@@ -10,10 +10,27 @@ use std::marker::Model;
 pub struct Leftover<Q: Fifo<Record>> {
     lane: u16,
     opening: u64,
-    accepted: Rows<Stamp>,
-    answered: Rows<Answered>,
+    accepted: ReservedList<Stamp>,
+    answered: ReservedList<Answered>,
     outstanding: Slots<Entry>,
     queued: Q,
+}
+
+/// The parts of a [`Leftover`].
+#[derive(Drop)]
+pub struct LeftoverParts<Q: Fifo<Record>> {
+    /// The lane's number.
+    pub lane: u16,
+    /// The number of the first request that is still held.
+    pub opening: u64,
+    /// The stamps of the requests accepted, in order.
+    pub accepted: Series<Stamp>,
+    /// The answers, in order.
+    pub answered: Series<Answered>,
+    /// What was sent and not answered, under its pairs. There is no probe among them.
+    pub outstanding: Slots<Entry>,
+    /// The records that were never sent, in order.
+    pub queued: Q,
 }
 
 impl<Q: Fifo<Record>> Model for Leftover<Q> {
@@ -22,8 +39,7 @@ impl<Q: Fifo<Record>> Model for Leftover<Q> {
     ghost use Rattle.std.specs.FinMap as map;
     ghost use Rattle.rad_tables.specs.Pairs.{slot_cmp, coded_slot};
     ghost use Rattle.rad_lane.specs.contracts.entry.Entry as entry;
-    ghost use Rattle.rad_lane.specs.Closes.{Left};
-    ghost use Rattle.rad_lane.specs.Standing.{left_of};
+    ghost use Rattle.rad_lane.specs.Closes.{Left, left_of};
 
     ghost Value = { Left };
 
@@ -36,14 +52,14 @@ impl<Q: Fifo<Record>> Model for Leftover<Q> {
 
 impl<Q: Fifo<Record>> Leftover<Q> {
     ghost use Rattle.std.specs.Prelude.{◌≡◌, ◌≤◌, length, map as each};
-    ghost use Rattle.rad_lane.specs.Standing.{left_of};
+    ghost use Rattle.rad_lane.specs.Closes.{left_of};
 
     /// What a lane leaves.
     pub(crate) fn new(
         lane: u16,
         opening: u64,
-        accepted: Rows<Stamp>,
-        answered: Rows<Answered>,
+        accepted: ReservedList<Stamp>,
+        answered: ReservedList<Answered>,
         outstanding: Slots<Entry>,
         queued: Q,
     ) -> Leftover<Q>
@@ -108,5 +124,27 @@ impl<Q: Fifo<Record>> Leftover<Q> {
         ensures { each (λ k. k.recorded) (Q.items result.now) ≡ self.now.queued }
     {
         &self.queued
+    }
+
+    /// Takes it apart, without memory.
+    pub fn into_parts(self) -> LeftoverParts<Q>
+        ensures { self ≡ left_of result.lane result.opening result.accepted (Q.items result.queued) result.answered result.outstanding }
+    {
+        let Leftover {
+            lane,
+            opening,
+            accepted,
+            answered,
+            outstanding,
+            queued,
+        } = self;
+        LeftoverParts {
+            lane,
+            opening,
+            accepted: accepted.into_series(),
+            answered: answered.into_series(),
+            outstanding,
+            queued,
+        }
     }
 }

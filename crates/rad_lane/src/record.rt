@@ -1,5 +1,4 @@
 use crate::Stamp;
-use crate::packets::packet_of;
 use rad_auth::{Buffer, Octets, Secret};
 use rad_packet::PacketRef;
 use std::marker::Model;
@@ -72,7 +71,7 @@ impl Record {
         ensures is_record { IsRecord self.now.recorded }
     {
         let _ = &self.text;
-        packet_of(self.text())
+        PacketRef::over(self.text())
     }
 
     /// Fills the buffer that it has for the octets that go out, and gives it away.

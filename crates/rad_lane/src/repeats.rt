@@ -2,9 +2,8 @@
 
 ghost use Rattle.std.specs.Prelude.{◌≡◌, ◌≤◌};
 ghost use Rattle.std.specs.Option.{option_copied};
-ghost use Rattle.rad_lane.specs.Finding.{found};
-ghost use Rattle.rad_lane.specs.Repeat.{answer_to, repeats, repeats_answered};
-ghost use Rattle.rad_lane.specs.Standing.{at_place};
+ghost use Rattle.rad_lane.specs.Repeat.{answer_to, found, repeats, repeats_answered};
+ghost use Rattle.rad_lane.specs.Invariant.{at_place};
 
 use crate::{Answered, Lane, Record};
 use block_queue::Fifo;

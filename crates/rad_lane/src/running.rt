@@ -2,10 +2,9 @@
 
 ghost use Rattle.std.specs.Prelude.{◌≡◌, [], replicate, IfOk, OnErr};
 ghost use Rattle.rad_packet.specs.Packet.{packet_text};
-ghost use Rattle.rad_lane.specs.Accepts.{Datagrams};
+ghost use Rattle.rad_lane.specs.Datagrams.{Datagrams};
 ghost use Rattle.rad_lane.specs.Runs.{Gives, Runs, TakesEvent, TakesEach};
 
-use crate::packets::packet_of;
 use crate::{Action, HearFault, Heard, Lane, Record, Refusal, Taken};
 use block_queue::Fifo;
 use rad_packet::Datagram;
@@ -78,7 +77,7 @@ pub fn run<Q: Fifo<Record>>(
         let answer = give(alloc, lane, event, &mut datagram);
         gives.push_reserved(Given {
             answer,
-            datagram: copy_of(&datagram),
+            datagram: datagram.copy(),
         });
     }
     Ok(gives)
@@ -104,12 +103,4 @@ fn give<Q: Fifo<Record>>(
         }
         Event::Drain => GivenAnswer::Drain(lane.drain()),
     }
-}
-
-fn copy_of(datagram: &Datagram) -> Datagram
-    ensures { result ≡ datagram.now }
-{
-    let mut copy = Datagram::new();
-    copy.load(&packet_of(datagram.bytes()));
-    copy
 }

@@ -1,7 +1,6 @@
 ghost use Rattle.std.specs.Prelude.{◌≡◌, ◌+◌, ◌≤◌};
 ghost use Rattle.rad_tables.specs.Waiting.{wait_of};
 
-use crate::packets::packet_of;
 use crate::{Answered, Outgoing, Record, Setup};
 use rad_auth::{Mark, Octets, ReplyFault, RequestHead, Secret, forward, respond};
 use rad_packet::{Datagram, PacketRef};
@@ -14,11 +13,19 @@ use std::marker::Model;
 /// Its type keeps that what was sent is the forwarded packet of its record.
 #[derive(Drop)]
 pub struct Sending {
+    /// The record of the request.
     request: Record,
+    /// The packet that was sent, and will be again.
     octets: Octets,
+    /// How many sendings of this round there were.
     sendings: u32,
+    /// When it is to be sent again, in milliseconds.
     due: u64,
+    /// The home server's secret. Each sending keeps its own, so that its type can promise that its octets are signed
+    /// with it, and so that it can be told by itself once the lane is closed.
     home: Secret,
+    /// How many sendings a round has. Each sending keeps its own, since the slots look for what is spent and
+    /// know the entries alone.
     tries: u32,
 }
 
@@ -33,14 +40,12 @@ impl Model for Sending {
 }
 
 impl Sending {
-    ghost use Rattle.std.specs.Prelude.{◌≡◌, ◌+◌, ◌<◌, ◌≤◌, nat_le, IfOk, IfErr};
+    ghost use Rattle.std.specs.Prelude.{◌≡◌, ◌<◌, ◌≤◌, IfOk, IfErr};
     ghost use Rattle.rad_packet.specs.Packet.{code_of, identifier_of};
     ghost use Rattle.rad_auth.specs.Refusing.{RefusesReply};
     ghost use Rattle.rad_lane.specs.Hears.{KeepsAnswer, GoesOut};
-    ghost use Rattle.rad_tables.specs.Waiting.{wait_of};
-    ghost use Rattle.rad_lane.specs.Outstanding.{IsForwarded};
-    ghost use Rattle.rad_lane.specs.Standing.{HasRoom};
-    ghost use Rattle.rad_lane.specs.Steps.{octets_of, first_sending};
+    ghost use Rattle.rad_lane.specs.Invariant.{HasRoom};
+    ghost use Rattle.rad_lane.specs.Outstanding.{IsForwarded, is_spent, octets_of, first_sending, renewed, sent_again};
 
     /// The record whose forwarded packet was sent.
     pub fn request(&self) -> &Record
@@ -69,6 +74,20 @@ impl Sending {
         ensures { result ≡ self.now.due }
     {
         self.due
+    }
+
+    /// The secret of the home server that it was sent to.
+    pub fn home(&self) -> &Secret
+        ensures { result.now ≡ self.now.home }
+    {
+        &self.home
+    }
+
+    /// How many sendings a round has.
+    pub fn tries(&self) -> u32
+        ensures { result ≡ self.now.tries }
+    {
+        self.tries
     }
 
     /// Sends a record for the first time: its forwarded packet is written into the datagram, and kept in the
@@ -107,7 +126,7 @@ impl Sending {
         ensures { result ≡ self.now.octets }
     {
         let _ = &self.octets;
-        packet_of(self.octets())
+        PacketRef::over(self.octets())
     }
 
     /// The answer to its request, where the packet is a right reply to it, and the response on its way to the
@@ -148,7 +167,7 @@ impl Sending {
 
     /// Whether its round has used all its sendings.
     pub(crate) fn is_spent(&self) -> bool
-        ensures { result ≡ nat_le self.now.tries self.now.sendings }
+        ensures { result ≡ is_spent self.now }
     {
         self.tries <= self.sendings
     }
@@ -158,10 +177,7 @@ impl Sending {
         requires first_least { 100 ≤ first_wait }
         requires first_most { first_wait ≤ 60000 }
         requires few { self.old.sendings < 10 }
-        ensures { self.new ≡ record self.old {
-          sendings = self.old.sendings + 1;
-          due = now + wait_of first_wait (self.old.sendings + 1);
-        } }
+        ensures { self.new ≡ sent_again first_wait now self.old }
     {
         self.sendings += 1;
         self.due = due_after(now, first_wait, self.sendings);
@@ -169,7 +185,7 @@ impl Sending {
 
     /// Begins its round anew at this moment.
     pub(crate) fn renew(&mut self, now: Moment)
-        ensures { self.new ≡ record self.old { sendings = 0; due = now } }
+        ensures { self.new ≡ renewed now self.old }
     {
         self.sendings = 0;
         self.due = now.get();

@@ -3,22 +3,27 @@ ghost use Rattle.std.specs.List.{list_any};
 ghost use Rattle.rad_realms.specs.Realm.{same_name};
 ghost use Rattle.rad_lane.specs.Setup.{realms_of as the_realms, is_lane};
 
-use crate::rows::Rows;
+use crate::reserved_list::ReservedList;
 use rad_auth::{Octets, Secret};
 use rad_realms::{Config, Limits, Realm};
 use std::alloc::{AllocError, Global};
 use std::marker::Model;
 
 /// What a lane is set up with: the number of its home server, that server's secret and limits, the realms
-/// that lead to it, and whether requests of no realm do.
+/// that lead to it, and whether requests without a realm lead to it.
 #[derive(Drop)]
 pub struct Setup {
+    /// The number of its home server, counted from 0 in the order of the configuration.
     lane: u16,
     /// How many source ports it sends from.
     ports: u16,
+    /// The home server's secret.
     home: Secret,
+    /// What the home server's section of the configuration limits.
     limits: Limits,
-    realms: Rows<Octets>,
+    /// The names of the realms that lead to it.
+    realms: ReservedList<Octets>,
+    /// Whether requests without a realm lead to it.
     is_default: bool,
 }
 
@@ -97,10 +102,10 @@ impl Setup {
 }
 
 /// The names of the realms that lead to a lane.
-fn realms_of(alloc: Global, realms: &[Realm], lane: u16) -> Result<Rows<Octets>, AllocError>
+fn realms_of(alloc: Global, realms: &[Realm], lane: u16) -> Result<ReservedList<Octets>, AllocError>
     ensures { IfOk result (λ names. names.items ≡ the_realms realms.now lane) }
 {
-    let mut names = Rows::new(alloc);
+    let mut names = ReservedList::new(alloc);
     for realm in realms {
         if realm.lane() == lane {
             let name = Octets::copy_of(alloc, realm.name().as_bytes())?;

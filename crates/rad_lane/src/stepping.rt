@@ -5,10 +5,12 @@ ghost use Rattle.std.specs.Bool.{OnTrue, OnFalse};
 ghost use Rattle.std.specs.FinMap as map;
 ghost use Rattle.rad_tables.specs.Pairs.{IsFirstFree, IsInRange};
 ghost use Rattle.rad_lane.specs.declared.watch.Watch.TheVariants.{Up as up, Down as down};
-ghost use Rattle.rad_lane.specs.Accepts.{Datagrams};
-ghost use Rattle.rad_lane.specs.Dues.{NoneDue, as_moment};
-ghost use Rattle.rad_lane.specs.Steps.{AllotsAnother, Steps, StepsUp, NothingToSend};
-ghost use Rattle.rad_lane.specs.Timing.{Turns, IsTheNext, MaySend, due_in, earlier as the_earlier};
+ghost use Rattle.rad_lane.specs.Outstanding.{Outstanding};
+ghost use Rattle.rad_lane.specs.Datagrams.{Datagrams};
+ghost use Rattle.rad_lane.specs.Dues.{IsNextDue, NoneDue, as_moment};
+ghost use Rattle.rad_lane.specs.Steps.{AllotsAnother, Steps, StepsWhileUp, NothingToSend};
+ghost use Rattle.rad_lane.specs.Entries.{due_in};
+ghost use Rattle.rad_lane.specs.NextDue.{FindsNextDue, MaySend, earlier as the_earlier};
 
 use crate::{Entry, Lane, Record, Sending, Setup, Watch};
 use block_queue::Fifo;
@@ -32,9 +34,11 @@ pub enum Action {
     Idle(Option<Moment>),
 }
 
-/// Whether one of the sendings of a kind is due: the next of them, or else the least due of them.
-pub(crate) enum Turn {
+/// What is due next of the sendings of a kind.
+pub(crate) enum NextDue {
+    /// This one is due now, and comes first.
     Now(Slot),
+    /// None is due before this moment in milliseconds, or there is none.
     Later(Option<u64>),
 }
 
@@ -50,7 +54,7 @@ impl<Q: Fifo<Record>> Lane<Q> {
     {
         let now = self.moment_of(moment);
         match self.watch {
-            Watch::Up => self.step_up(now, datagram),
+            Watch::Up => self.step_while_up(now, datagram),
             Watch::Down {
                 until,
                 next_probe,
@@ -62,7 +66,7 @@ impl<Q: Fifo<Record>> Lane<Q> {
                 } else if next_probe <= now.get() {
                     Action::Probed(self.probe(now, until, probe, random, datagram))
                 } else {
-                    self.pass(now);
+                    self.set_last(now);
                     Action::Idle(Some(moment_at(until.min(next_probe))))
                 }
             }
@@ -70,44 +74,60 @@ impl<Q: Fifo<Record>> Lane<Q> {
     }
 
     /// What a lane does that is up.
-    fn step_up(&mut self, now: Moment, datagram: &mut Datagram) -> Action
+    fn step_while_up(&mut self, now: Moment, datagram: &mut Datagram) -> Action
         requires is_up { self.old.watch ≡ up }
         requires later { self.old.last ≤ now }
-        ensures steps { StepsUp self.old now result (record { before = datagram.old; after = datagram.new }) self.new }
+        ensures steps { StepsWhileUp self.old now result (record { before = datagram.old; after = datagram.new }) self.new }
         ensures another { AllotsAnother self.old result }
     {
-        let fresh = match self.turn(false, now) {
-            Turn::Now(slot) => return self.resend(slot, now, datagram),
-            Turn::Later(next) => next,
+        let unspent = match self.next_unspent(now) {
+            NextDue::Now(slot) => return self.resend(slot, now, datagram),
+            NextDue::Later(next) => next,
         };
-        let spent = match self.turn(true, now) {
-            Turn::Now(_) => {
+        let spent = match self.next_spent(now) {
+            NextDue::Now(_) => {
                 self.go_down(now);
                 return Action::WentDown;
             }
-            Turn::Later(next) => next,
+            NextDue::Later(next) => next,
         };
         if self.may_send() {
             return self.send_first(now, datagram);
         }
-        self.pass(now);
-        Action::Idle(earlier(fresh, spent))
+        self.set_last(now);
+        Action::Idle(earlier(unspent, spent))
     }
 
-    /// Whether one of the sendings that are spent, or of those that are not, is due. It looks at each
-    /// outstanding sending once.
-    fn turn(&self, spent: bool, now: Moment) -> Turn
+    /// What is due next of the sendings whose rounds go on. It looks at each outstanding sending once.
+    fn next_unspent(&self, now: Moment) -> NextDue
         requires { self.now.watch ≡ up }
-        ensures { Turns self.now now spent result }
+        ensures { FindsNextDue self.now now false result }
+    {
+        self.next_due(false, now)
+    }
+
+    /// What is due next of the sendings whose rounds have used all their sendings. It looks at each
+    /// outstanding sending once.
+    fn next_spent(&self, now: Moment) -> NextDue
+        requires { self.now.watch ≡ up }
+        ensures { FindsNextDue self.now now true result }
+    {
+        self.next_due(true, now)
+    }
+
+    /// What is due next of the sendings that are spent, or of those that are not.
+    fn next_due(&self, spent: bool, now: Moment) -> NextDue
+        requires { self.now.watch ≡ up }
+        ensures { FindsNextDue self.now now spent result }
     {
         match self.slots.least_due(spent) {
-            None => Turn::Later(None),
+            None => NextDue::Later(None),
             Some(slot) => {
                 let due = self.due_at(slot);
                 if due <= now.get() {
-                    Turn::Now(slot)
+                    NextDue::Now(slot)
                 } else {
-                    Turn::Later(Some(due))
+                    NextDue::Later(Some(due))
                 }
             }
         }
@@ -117,8 +137,8 @@ impl<Q: Fifo<Record>> Lane<Q> {
     fn resend(&mut self, slot: Slot, now: Moment, datagram: &mut Datagram) -> Action
         requires is_up { self.old.watch ≡ up }
         requires later { self.old.last ≤ now }
-        requires next { IsTheNext self.old now false slot }
-        ensures steps { StepsUp self.old now result (record { before = datagram.old; after = datagram.new }) self.new }
+        requires next { (entry : Outstanding) × IsNextDue self.old now false slot entry }
+        ensures steps { StepsWhileUp self.old now result (record { before = datagram.old; after = datagram.new }) self.new }
         ensures another { AllotsAnother self.old result }
     {
         let first_wait = self.setup.limits().numbers().first_wait;
@@ -137,7 +157,7 @@ impl<Q: Fifo<Record>> Lane<Q> {
         requires fresh { NoneDue self.old now false }
         requires spent { NoneDue self.old now true }
         requires may { MaySend self.old }
-        ensures steps { StepsUp self.old now result (record { before = datagram.old; after = datagram.new }) self.new }
+        ensures steps { StepsWhileUp self.old now result (record { before = datagram.old; after = datagram.new }) self.new }
         ensures another { AllotsAnother self.old result }
     {
         let slot = free_slot(&self.slots, &self.setup);
@@ -167,8 +187,8 @@ impl<Q: Fifo<Record>> Lane<Q> {
     }
 }
 
-/// The pair for what goes out next: the first free one. There always is one, as the window is smaller than the
-/// pairs are many.
+/// The pair for what goes out next: the first free one. There always is one, as there are more pairs than the window
+/// is wide.
 pub(crate) fn free_slot(slots: &Slots<Entry>, setup: &Setup) -> Slot
     requires fits { map.len slots.now.entries ≤ setup.now.limits.window }
     requires pairs { slots.now.ports ≡ setup.now.ports }

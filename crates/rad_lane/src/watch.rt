@@ -2,7 +2,7 @@
 
 ghost use Rattle.std.specs.Prelude.{◌≡◌, ◌≢◌, ◌+◌, ◌≤◌, ℕ, None, Some};
 ghost use Rattle.rad_lane.specs.declared.watch.Watch.TheVariants.{Up as up, Down as down};
-ghost use Rattle.rad_lane.specs.Dues.{ComesUp, GoesUp};
+ghost use Rattle.rad_lane.specs.Watch.{GoesUpIfDown, GoesUp};
 ghost use Rattle.rad_lane.specs.Steps.{Probes, freed};
 
 use crate::stepping::free_slot;
@@ -30,7 +30,7 @@ pub enum Watch {
 
 impl Watch {
     ghost use Rattle.std.specs.Prelude.{◌≡◌};
-    ghost use Rattle.rad_lane.specs.Timing.{probe_of};
+    ghost use Rattle.rad_lane.specs.Watch.{probe_of};
 
     /// The pair of the probe that is out.
     pub(crate) fn probe(&self) -> Option<Slot>
@@ -50,9 +50,9 @@ struct Renewal {
 }
 
 impl Change<Entry> for Renewal {
-    ghost use Rattle.rad_lane.specs.Timing.{begun_anew};
+    ghost use Rattle.rad_lane.specs.Entries.{renewed_in};
 
-    ghost changed = { λ r. begun_anew r.now };
+    ghost changed = { λ r. renewed_in r.now };
 
     fn change(&self, entry: &mut Entry) {
         if let Entry::Sending(sending) = entry {
@@ -90,12 +90,12 @@ impl<Q: Fifo<Record>> Lane<Q> {
     }
 
     /// What comes of a right answer from the home server: a lane that is down goes up.
-    pub(crate) fn come_up(&mut self, now: Moment)
+    pub(crate) fn go_up_if_down(&mut self, now: Moment)
         requires later { self.old.last ≤ now }
-        ensures { ComesUp now (record self.old { last = now }) self.new self.old.watch }
+        ensures { GoesUpIfDown now (record self.old { last = now }) self.new self.old.watch }
     {
         match self.watch {
-            Watch::Up => self.pass(now),
+            Watch::Up => self.set_last(now),
             Watch::Down { .. } => self.go_up(now),
         }
     }

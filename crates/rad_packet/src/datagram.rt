@@ -125,6 +125,23 @@ impl Datagram {
         put(&mut self.octets, 4, &authenticator);
     }
 
+    /// A copy, of all 4096 octets that it has room for.
+    pub fn copy(&self) -> Datagram
+        ensures { result ≡ self.now }
+    {
+        Datagram {
+            octets: self.octets,
+            length: self.length,
+        }
+    }
+
+    /// The packet, without reading it again.
+    pub fn packet(&self) -> PacketRef<'_>
+        ensures { result ≡ self.now }
+    {
+        PacketRef::over(self.bytes())
+    }
+
     /// The packet's octets.
     pub fn bytes(&self) -> &[u8]
         ensures value { result.now ≡ self.now }

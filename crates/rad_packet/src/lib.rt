@@ -6,6 +6,7 @@
 #![tactic(auto)]
 
 mod attributes;
+mod authenticator;
 mod datagram;
 mod faults;
 mod laws;
@@ -13,6 +14,7 @@ mod packet_ref;
 mod reading;
 
 pub use attributes::{AttributeRef, Attributes};
+pub use authenticator::authenticator_of;
 pub use datagram::Datagram;
 pub use faults::{ReadFault, WriteFault};
 pub use laws::{attributes_of_joined, one_packet, padding_is_ignored, refused_or_read};

@@ -1,4 +1,5 @@
 use crate::attributes::Attributes;
+use crate::authenticator::authenticator_of;
 use std::marker::Model;
 
 /// A packet, borrowed from the datagram that it was read from: its octets, without padding.
@@ -33,8 +34,9 @@ impl<'a> PacketRef<'a> {
     ghost use Rattle.rad_packet.specs.Attribute.{of_kind};
     ghost use Rattle.rad_packet.specs.Place.{IsFirstAt, IsLastAt};
 
-    /// The packet with these octets.
-    pub(crate) fn over(octets: &'a [u8]) -> Self
+    /// The packet with these octets, which are known to be one. It looks at none of them: for octets that
+    /// come from outside there is [`read`](crate::read).
+    pub fn over(octets: &'a [u8]) -> Self
         requires { IsPacketText octets.now }
         ensures { result ≡ octets.now }
     {
@@ -59,9 +61,7 @@ impl<'a> PacketRef<'a> {
     pub fn authenticator(&self) -> [u8; 16]
         ensures { result ≡ authenticator_of self.now }
     {
-        let mut authenticator = [0; 16];
-        authenticator.copy_from_slice(&self.octets[4..20]);
-        authenticator
+        authenticator_of(self.octets)
     }
 
     /// All octets that Length counts, without padding.

@@ -40,9 +40,13 @@ fn reads_what_is_written(rt: HostRuntime) -> Result<(), Fail> {
     );
     assert_eq!(rt; packet.first_of(2), None);
     assert_eq!(rt; packet.count_of(1), 1);
-    let mut copy = Datagram::new();
-    copy.load(&packet);
+    assert_eq!(rt; authenticator_of(&REQUEST), authenticator);
+    assert_eq!(rt; written.packet().octets(), REQUEST.as_slice());
+    let mut loaded = Datagram::new();
+    loaded.load(&packet);
+    let mut copy = loaded.copy();
     copy.set_identifier(8);
+    assert_eq!(rt; loaded.bytes(), REQUEST.as_slice());
     copy.set_authenticator([9; 16]);
     assert_eq!(rt; copy.push_all(&REQUEST[20..]), Ok(()));
     assert_eq!(rt;

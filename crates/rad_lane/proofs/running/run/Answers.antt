@@ -2,7 +2,7 @@ use Rattle.std.proofs.Common.{[], ◌∙◌, arith}
 use Rattle.std.specs.Prelude.{replicate}
 use Rattle.rad_packet.specs.Packet.{packet_text}
 use Rattle.rad_lane.specs.declared.running.Given.{Given}
-use Rattle.rad_lane.proofs.OneMore.{takes_here, runs_on, came_on, gives_stays}
+use Rattle.rad_lane.proofs.RunsOneMore.{takes_here, runs_on, came_on, gives_stays}
 use Rattle.rad_lane.proofs.running.run.Goals as goal
 
 pub give-answer-requires : goal.give-answer-requires
@@ -12,10 +12,10 @@ give-answer-requires g c =
 
 pub loop-event-preserved : goal.loop-event-preserved
 loop-event-preserved g c =
-    let given : Given = record { answer = c.give-answer.result; datagram = c.copy_of.result } in
+    let given : Given = record { answer = c.give-answer.result; datagram = c.copy.result } in
     record {
-      runs = runs_on _ c.args.events.now c.loop-event.event-index c.event-item.result c.loop-event-test.true c.event-item.is _ _ _ _ _ given c.push_reserved.ensures.items _ c.loop-event.invariant.datagram _ c.copy_of.ensures c.loop-event.invariant.runs c.give-answer.ensures;
-      datagram = came_on _ c.args.events.now c.loop-event.event-index c.event-item.result c.loop-event-test.true c.event-item.is c.args.lane.now c.loop-event.lane c.give-answer.new.lane _ _ given c.push_reserved.ensures.items _ c.loop-event.invariant.datagram _ c.copy_of.ensures;
+      runs = runs_on _ c.args.events.now c.loop-event.event-index c.event-item.result c.loop-event-test.true c.event-item.is _ _ _ _ _ given c.push_reserved.ensures.items _ c.loop-event.invariant.datagram _ c.copy.ensures c.loop-event.invariant.runs c.give-answer.ensures;
+      datagram = came_on _ c.args.events.now c.loop-event.event-index c.event-item.result c.loop-event-test.true c.event-item.is c.args.lane.now c.loop-event.lane c.give-answer.new.lane _ _ given c.push_reserved.ensures.items _ c.loop-event.invariant.datagram _ c.copy.ensures;
       setup = gives_stays _ _ _ _ _ c.give-answer.ensures ∙ c.loop-event.invariant.setup;
       count = grind (arith, c.push_reserved.ensures.len, c.loop-event.invariant.count);
       room = grind (arith, c.push_reserved.ensures.capacity, c.loop-event.invariant.room);

@@ -2,7 +2,7 @@ use Rattle.std.proofs.Common.{◌≡◌, [], length, take, vec_len, vec_capacity
 use Rattle.std.specs.Prelude.{replicate}
 use Rattle.rad_packet.specs.Packet.{packet_text}
 use Rattle.rad_lane.specs.Runs.{Runs}
-use Rattle.rad_lane.proofs.OneMore.{datagram_after}
+use Rattle.rad_lane.proofs.RunsOneMore.{datagram_after}
 use Rattle.rad_lane.proofs.running.run.Given as goal
 
 abbrev pub invariant-loop-event : goal.invariant-loop-event

@@ -1,5 +1,5 @@
 use Rattle.std.proofs.Common.{refl}
-use Rattle.rad_lane.proofs.Watched.{leaves_freed}
+use Rattle.rad_lane.proofs.LawfulAfterWatch.{leaves_freed}
 use Rattle.rad_lane.proofs.lane.Lane.close.Goals as goal
 
 pub returns-clause-leaves : goal.returns-clause-leaves

@@ -1,4 +1,4 @@
-use Rattle.rad_lane.proofs.Drained.{stands_drained_by}
+use Rattle.rad_lane.proofs.LawfulAfterDrain.{stands_drained_by}
 use Rattle.rad_lane.proofs.lane.Lane.drain.Goals as goal
 
 pub invariant_of-self : goal.invariant_of-self

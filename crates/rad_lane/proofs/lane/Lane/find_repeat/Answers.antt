@@ -1,5 +1,5 @@
 use Rattle.std.proofs.Common.{◌∙◌, sym}
-use Rattle.rad_lane.proofs.Repeating.{repeats_none, repeats_some}
+use Rattle.rad_lane.proofs.RepeatFound.{repeats_none, repeats_some}
 use Rattle.rad_lane.proofs.lane.Lane.find_repeat.Goals as goal
 
 pub returns-in-Some : goal.returns-in-Some

@@ -1,4 +1,4 @@
-use Rattle.rad_lane.proofs.Watched.{stands_up, goes_up}
+use Rattle.rad_lane.proofs.LawfulAfterWatch.{stands_up, goes_up}
 use Rattle.rad_lane.proofs.lane.Lane.go_up.Goals as goal
 
 pub invariant_of-self : goal.invariant_of-self

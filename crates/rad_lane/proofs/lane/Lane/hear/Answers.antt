@@ -3,7 +3,7 @@ use Rattle.std.specs.FinMap as map
 use Rattle.rad_tables.specs.declared.slots.Slot.{Slot}
 use Rattle.rad_lane.specs.declared.entry.Entry.{Entry}
 use Rattle.rad_lane.specs.Book.{Book}
-use Rattle.rad_lane.proofs.Refusing.{refused_answer, refused_probe, wrong_by}
+use Rattle.rad_lane.proofs.HearingRefused.{refused_answer, refused_probe, wrong_by}
 use Rattle.rad_lane.proofs.lane.Lane.hear.Goals as goal
 
 pub returns-then-not-check_response : goal.returns-then-not-check_response

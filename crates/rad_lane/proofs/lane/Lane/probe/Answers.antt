@@ -1,4 +1,5 @@
-use Rattle.rad_lane.proofs.Watched.{few_free, stands_probed}
+use Rattle.std.proofs.Common.{◌≡◌, length, arith}
+use Rattle.rad_lane.proofs.LawfulAfterWatch.{few_free, stands_probed, is_probe}
 use Rattle.rad_lane.proofs.lane.Lane.probe.Goals as goal
 
 pub free_slot-slot-requires-clause-fits : goal.free_slot-slot-requires-clause-fits
@@ -8,5 +9,8 @@ free_slot-slot-requires-clause-fits g c =
 pub invariant_of-self : goal.invariant_of-self
 invariant_of-self g c =
     let free = rw c.free.ensures at c.free_slot-slot.ensures.free.free in
+    let in_range = rw c.free.ensures at c.free_slot-slot.ensures.in_range in
+    let sixteen : length c.args.random ≡ 16 = omega arith in
+    let made = is_probe c.self.inside.setup c.free_slot-slot.result _ _ c.args.random _ sixteen c.of.ensures c.make_status.ensures.made c.home.ensures in
     rw (c.put.ensures, c.free.ensures)
-    (stands_probed _ _ _ _ _ _ c.self.inside.slots _ _ _ _ c.self.view_is c.args.now c.requires.later _ _ _ c.self.invariant _ _ c.args.out c.requires.is_down.1 c.free_slot-slot.result _ _ _ free)
+    (stands_probed _ _ _ _ _ _ c.self.inside.slots _ _ _ _ c.self.view_is c.args.now c.requires.later _ _ _ c.self.invariant _ _ c.args.out c.requires.is_down.1 c.free_slot-slot.result _ _ _ free in_range made)

@@ -2,12 +2,12 @@ use Rattle.std.proofs.Common.{◌≡◌, Some, sym, ap, ◌∙◌}
 use Rattle.std.specs.Option.{option_copied_mut}
 use Rattle.std.specs.FinMap as map
 use Rattle.rad_lane.specs.Book.{Book}
-use Rattle.rad_lane.proofs.Watched.{stands_resent, again_is}
+use Rattle.rad_lane.proofs.LawfulAfterWatch.{stands_resent, again_is}
 use Rattle.rad_lane.proofs.lane.Lane.resend.Goals as goal
 
 pub invariant_of-self : goal.invariant_of-self
 invariant_of-self g c =
-    let there = ap (λ (b : Book). map.get b.held c.args.slot) c.self.view_is ∙ c.requires.next.there in
+    let there = ap (λ (b : Book). map.get b.held c.args.slot) c.self.view_is ∙ c.requires.next.1.there in
     let here : Some c.in-Some.entry.now ≡ map.get c.self.inside.slots.entries c.args.slot = ap (λ o. option_copied_mut o) (sym c.in-Some.is) ∙ c.get_mut.follows in
     let again = again_is c.in-Some.entry.now _ _ _ _ (here ∙ there) c.send_again-number.ensures.again in
     stands_resent _ _ _ _ _ _ c.self.inside.slots _ _ _ _ c.self.view_is _ c.requires.later _ _ _ c.self.invariant c.requires.is_up c.args.slot _ there _ _ again

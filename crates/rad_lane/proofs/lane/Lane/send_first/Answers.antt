@@ -2,9 +2,9 @@ use Rattle.std.proofs.Common.{ap, sym, ◌∙◌, arith}
 use Rattle.std.specs.FinMap as map
 use Rattle.std.proofs.lemmas.List.Elements.{All-head}
 use Rattle.rad_lane.specs.Book.{Book}
-use Rattle.rad_lane.specs.Standing.{HasRoom}
-use Rattle.rad_lane.proofs.Watched.{few_up}
-use Rattle.rad_lane.proofs.Sent.{stands_sent, sends}
+use Rattle.rad_lane.specs.Invariant.{HasRoom}
+use Rattle.rad_lane.proofs.LawfulAfterWatch.{few_up}
+use Rattle.rad_lane.proofs.LawfulAfterSend.{stands_sent, sends}
 use Rattle.rad_lane.proofs.lane.Lane.send_first.Goals as goal
 
 pub free_slot-slot-requires-clause-fits : goal.free_slot-slot-requires-clause-fits
@@ -30,7 +30,7 @@ invariant_of-self g c =
     let stands = rw queue at c.self.invariant in
     let free = ap (λ (b : Book). map.get b.held c.free_slot-slot.result) (sym c.self.view_is) ∙ c.free_slot-slot.ensures.free.free in
     rw (c.put.ensures, c.first-sending.ensures.sending)
-    (stands_sent _ _ _ c.unwrap-record.result (g.Q.Fifo.items c.pop_front.new.self) _ _ c.self.inside.slots _ _ _ c.args.now c.free_slot-slot.result _ same c.requires.later c.requires.is_up free c.requires.may.room _ _ _ _ stands)
+    (stands_sent _ _ _ c.unwrap-record.result (g.Q.Fifo.items c.pop_front.new.self) _ _ c.self.inside.slots _ _ _ c.args.now c.free_slot-slot.result _ same c.requires.later c.requires.is_up free c.requires.may.room _ c.free_slot-slot.ensures.in_range _ _ _ stands)
 
 pub returns-clause-steps : goal.returns-clause-steps
 returns-clause-steps g c =

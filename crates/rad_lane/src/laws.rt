@@ -1,0 +1,24 @@
+//! Laws of the definitions.
+
+ghost use Rattle.std.specs.Prelude.{◌≡◌, List, ℕ, Some};
+ghost use Rattle.rad_realms.specs.Checking.{IsChecked, Request};
+ghost use Rattle.rad_realms.specs.Configuration.{Configuration};
+ghost use Rattle.rad_realms.specs.Realm.{lane_of_packet};
+ghost use Rattle.rad_lane.specs.Accepts.{IsTaken};
+ghost use Rattle.rad_lane.specs.Book.{Book};
+ghost use Rattle.rad_lane.specs.Setup.{IsOfItsRealms, IsSetUp, LaneSetup};
+
+/// A packet that a configuration leads to a lane is of the realms of that lane, as the configuration sets it up. So
+/// a request that was checked by a configuration is taken by its lane, where that was set up by the same one.
+pub fn a_lane_takes_what_leads_to_it()
+    ensures realm {
+        (config : Configuration) (lane : ℕ) (setup : LaneSetup) (text : List ℕ)
+        → IsSetUp config lane setup
+        → lane_of_packet config.realms config.default_lane text ≡ Some lane
+        → IsOfItsRealms setup text }
+    ensures taken {
+        (book : Book) (request : Request)
+        → IsChecked request
+        → IsSetUp request.config request.lane book.setup
+        → IsTaken book request }
+{}

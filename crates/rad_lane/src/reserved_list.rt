@@ -1,0 +1,79 @@
+use crate::Series;
+use std::alloc::{AllocError, Global};
+use std::marker::Model;
+
+/// Items in order, whose room is made before it is needed.
+#[derive(Drop)]
+pub(crate) struct ReservedList<T> {
+    items: Vec<T>,
+}
+
+impl<T> Model for ReservedList<T> {
+    ghost use Rattle.std.specs.Prelude.{◌-◌, vec_capacity, vec_len};
+    ghost use Rattle.rad_lane.specs.ReservedList.{ListWithRoom};
+
+    ghost Value = { ListWithRoom T };
+
+    ghost view = { λ r. record { items = r.items.items; room = vec_capacity r.items - vec_len r.items } };
+}
+
+impl<T> ReservedList<T> {
+    ghost use Rattle.std.specs.Prelude.{◌≡◌, ◌<◌, ◌≤◌, [], ◌∷◌, ◌++◌, length, slice_get, slice_set, option_copied, OnOk};
+
+    /// No items. It takes no memory: what it needs later is made with `alloc`.
+    pub(crate) fn new(alloc: Global) -> ReservedList<T>
+        ensures { result.items ≡ [] }
+    {
+        ReservedList {
+            items: Vec::new(alloc),
+        }
+    }
+
+    /// Makes room for one item more, where there is none. An error means that memory was refused.
+    pub(crate) fn reserve_one(&mut self) -> Result<(), AllocError>
+        ensures items { self.new.items ≡ self.old.items }
+        ensures ok { OnOk result (1 ≤ self.new.room) }
+    {
+        self.items.reserve(1)
+    }
+
+    /// Puts an item at the end. It takes no memory.
+    pub(crate) fn push(&mut self, item: T)
+        requires { 1 ≤ self.old.room }
+        ensures { self.new.items ≡ self.old.items ++ item ∷ [] }
+    {
+        self.items.push_reserved(item);
+    }
+
+    /// Puts an item in the place of another.
+    pub(crate) fn set(&mut self, place: usize, item: T)
+    where
+        T: Drop,
+        requires { place < length self.old.items }
+        ensures { self.new.items ≡ slice_set self.old.items place item }
+    {
+        self.items[place] = item;
+    }
+
+    /// The item at a place.
+    pub(crate) fn get(&self, place: usize) -> Option<&T>
+        ensures { option_copied result ≡ slice_get self.now.items place }
+    {
+        self.items.as_slice().get(place)
+    }
+
+    /// The items.
+    pub(crate) fn as_slice(&self) -> &[T]
+        ensures { result.now ≡ self.now.items }
+    {
+        self.items.as_slice()
+    }
+
+    /// The items, which no more are added to. It takes no memory and moves no item.
+    pub(crate) fn into_series(self) -> Series<T>
+        ensures { result ≡ self.items }
+    {
+        let ReservedList { items } = self;
+        Series::from_vec(items)
+    }
+}
