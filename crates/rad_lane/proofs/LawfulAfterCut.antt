@@ -1,5 +1,5 @@
 -- A lane whose book is cut is lawful still, and finds the same repeats.
-use Rattle.std.proofs.Common.{◌≡◌, ℕ, zero, suc, ◌+◌, ◌<◌, ◌≤◌, Bool, true, false, cond, eqb, List, [], ◌∷◌, ◌++◌, length, get_or, take, drop, Option, Some, None, ◌⊎◌, inl, inr, refl, sym, ap, ◌∙◌, subst, arith, length-append}
+use Rattle.std.proofs.Common.{◌≡◌, ℕ, suc, ◌+◌, ◌<◌, ◌≤◌, Bool, true, false, cond, eqb, List, [], ◌∷◌, ◌++◌, length, get_or, take, drop, Option, Some, None, ◌⊎◌, inl, inr, refl, sym, ap, ◌∙◌, subst, arith, length-append}
 use Rattle.std.specs.Prelude.{map as each, All, AllPairs, IfSome, filter, not, nat_lt, ◌==◌}
 use Rattle.std.specs.List.{AllByRecursion, IsDistinct, range_with_len}
 use Rattle.std.specs.List.Sorted.{IsPermutation}
@@ -12,7 +12,6 @@ use Rattle.std.proofs.lemmas.List.Sorted.{IsPermutation-map, length_permutation,
 use Rattle.std.proofs.lemmas.Map.Keys.{IsDistinct-IsPermutation}
 use Rattle.rad_tables.specs.declared.duplicates.Key.{Key}
 use Rattle.rad_lane.specs.declared.stamp.Stamp.{Stamp}
-use Rattle.rad_lane.specs.Stamp.{IsRecord}
 use Rattle.rad_lane.specs.Setup.{IsOfItsRealms}
 use Rattle.rad_lane.specs.Outstanding.{AnswerKept}
 use Rattle.rad_lane.specs.Book.{Book, next_number, outstanding_of}

@@ -16,7 +16,9 @@ pub mod Steps
 pub mod Hears
 pub mod AcceptReply
 pub mod Volumes
+pub mod Cutting
 pub mod Runs
+pub mod LosesNone
 pub mod Lawful
 pub mod Counting
 pub mod Closes

@@ -16,12 +16,13 @@ use std::marker::Model;
 /// It has no socket and no clock: its calls are handed the moment, and answer what is to be done. A moment
 /// earlier than the last one counts as the last one.
 ///
-/// Its calls are of four kinds:
+/// Its calls are of five kinds:
 ///
 /// - What comes in: [`Lane::accept`] takes a request, where the lane [`Lane::takes`] it, and [`Lane::hear`] a
 ///   datagram from the home server.
 /// - What goes out: [`Lane::step`] does the next thing, and puts what is to be sent into the datagram. Call it
 ///   after each request and each reply, and at the moment that it tells, again and again until it is idle.
+/// - What it sheds: [`Lane::turn`] cuts off the first requests, once they are answered and too old to be repeated.
 /// - What ends it: [`Lane::drain`] is the end of taking requests. Go on with the other calls until
 ///   [`Lane::is_done`]; then [`Lane::close`] gives what the book holds.
 /// - What it has, at any time: [`Lane::counts`], [`Lane::is_draining`], and the parts of the book,

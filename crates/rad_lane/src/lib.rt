@@ -8,9 +8,9 @@
 //! alone.
 //!
 //! The definitions that the contracts cite stand in specs: `Book` is what a lane is seen as and `Lawful` what
-//! holds of it at any time; `Accepts`, `Steps`, `Hears` and `Drains` are the calls, over `Repeat`, `Dues` and
-//! `Watch`; `Runs` is a sequence of calls; `Setup` is what a lane is set up with, `Counting` what it tells,
-//! and `Closes` what is left of it. `Stamp`, `Outstanding` and `Entries` are what the book holds.
+//! holds of it at any time; `Accepts`, `Steps`, `Hears`, `Drains` and `Volumes` are the calls, over `Repeat`,
+//! `Dues` and `Watch`; `Runs` is a sequence of calls, and `LosesNone` what it keeps; `Setup` is what a lane
+//! is set up with, `Counting` what it tells, and `Closes` what is left of it. `Stamp`, `Outstanding` and `Entries` are what the book holds.
 #![tactic(auto)]
 
 mod accepting;

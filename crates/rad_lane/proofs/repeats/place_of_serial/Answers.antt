@@ -1,6 +1,5 @@
-use Rattle.std.proofs.Common.{rules, ◌∙◌, ap}
+use Rattle.std.proofs.Common.{rules}
 use Rattle.std.proofs.lemmas.List.Sorted.{answers_always}
-use Rattle.rad_lane.specs.Invariant.{at_place}
 use Rattle.rad_lane.proofs.SerialFound.{searched}
 use Rattle.rad_lane.proofs.repeats.place_of_serial.Goals as goal
 
