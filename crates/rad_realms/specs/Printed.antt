@@ -6,7 +6,7 @@ use Rattle.rad_packet.specs.declared.faults.ReadFault.TheVariants.{Short, BadLen
 use Rattle.rad_realms.specs.declared.checking.Dropped.{Dropped}
 use Rattle.rad_realms.specs.declared.checking.Dropped.TheVariants.{UnknownClient, Unread, WrongCode, BadAuthenticator, BadMessageAuthenticator, MessageAuthenticatorHere, NoRealm}
 use Rattle.rad_realms.specs.declared.limits.LimitFault.{LimitFault}
-use Rattle.rad_realms.specs.declared.limits.LimitFault.TheVariants.{Window, Queue, Book, Tries, FirstWait, ProbeEvery, DownWait, Span, Ring}
+use Rattle.rad_realms.specs.declared.limits.LimitFault.TheVariants.{Window, Queue, Book, Tries, FirstWait, ProbeEvery, DownWait, Span, Ring, Ports}
 
 abbrev pub read_fault_text : ReadFault → List ℕ
 read_fault_text Short = codes "Short"
@@ -33,3 +33,4 @@ limit_text ProbeEvery = codes "ProbeEvery"
 limit_text DownWait = codes "DownWait"
 limit_text Span = codes "Span"
 limit_text Ring = codes "Ring"
+limit_text Ports = codes "Ports"
