@@ -52,14 +52,13 @@ class Arrived:
 class Home:
     """A home server: it answers each right request, and each time with another Class."""
 
-    def __init__(self, loop, network, findings, lane, name, secret, chance):
+    def __init__(self, loop, network, findings, lane, name, secret, window, chance):
         self.network, self.findings, self.chance = network, findings, chance
-        self.lane, self.name, self.secret = lane, name, secret
+        self.lane, self.name, self.secret, self.window = lane, name, secret, window
         self.realm = f"{name}.example"
         self.port = Port(loop, "127.0.0.1", self.arrive)
         self.log, self.sessions = {}, {}
-        self.next_number, self.missing = 0, set()
-        self.may_have_missed, self.lost = False, 0
+        self.next_number, self.excused, self.lost = 0, 0, 0
         self.is_away = False
         self.in_order = array("Q"), array("Q")
 
@@ -68,12 +67,12 @@ class Home:
         self.is_away = True
         if is_closed:
             self.port.close()
-            self.may_have_missed = True
 
     def come_back(self):
         self.is_away = False
         if self.port.socket is None:
             self.port.open()
+            self.excuse()
 
     def arrive(self, octets, sender):
         """What comes from the proxy, before the network behind does what it does."""
@@ -106,16 +105,17 @@ class Home:
     def keep_order(self, number):
         """Sees that first sendings come in the order of acceptance, but for those that this side could not receive."""
         if number < self.next_number:
-            self.missing.discard(number)
             return
-        if number > self.next_number:
-            lost = self.port.lost()
-            if not self.may_have_missed and lost == self.lost:
-                self.findings.fault(f"{self.name}: number {number} came before {self.next_number}")
-            self.lost = lost
-            self.missing.update(range(self.next_number, number))
-        self.may_have_missed = False
+        if number > self.next_number and self.port.lost() > self.lost:
+            self.excuse()
+        first = max(self.next_number, self.excused)
+        if number > first:
+            self.findings.fault(f"{self.name}: number {number} came before {first}")
         self.next_number = number + 1
+
+    def excuse(self):
+        """Of what was sent up to now some may be lost: of the unanswered ones, and those are a window at most."""
+        self.excused, self.lost = self.next_number + self.window, self.port.lost()
 
     def serve(self, octets, sender, is_spoiled):
         """Answers what came through the network, where it is right."""
@@ -260,5 +260,6 @@ class Nas:
         del self.out[octets[1]]
         self.earlier[octets[1]].append(asked)
         self.free.append(octets[1])
-        asked.home.log[asked.session].forget_texts()
+        if asked.session in asked.home.log:
+            asked.home.log[asked.session].forget_texts()
         self.findings.counts["acknowledged"] += 1

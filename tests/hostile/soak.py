@@ -37,11 +37,8 @@ LEFT_OVER = 20
 PATIENCE, AFTERWARDS = 120, 0.3
 SPARE_LINES = 1000
 LINGER = {"calm": 5000, "away": 500, "drain": 60_000}
-LIMITS = [
-    "window = 254\nring = 256",
-    "window = 4\nqueue = 20\nring = 3",
-    "window = 40\nring = 40\ntries = 1",
-]
+WINDOWS = [254, 4, 40]
+LIMITS = ["ring = 256", "queue = 20\nring = 3", "ring = 40\ntries = 1"]
 ROUNDS = "first_wait = 200\nprobe_every = 1000\ndown_wait = 1500\nspan = 60000\nbook = 1000000"
 STATE = re.compile(r"lane (\d+) \S+ (?:up|down) \w+ accepted (\d+) queued (\d+) outstanding (\d+) answered (\d+) opening (\d+)")
 
@@ -114,7 +111,8 @@ class Soak:
         self.made, self.credit, self.is_asking = 0, 0, False
 
     def home(self, lane):
-        return Home(self.loop, self.network, self.findings, lane, f"h{lane}", f"home-{lane}-secret".encode(), self.chance)
+        name, secret, shared = f"h{lane}", f"home-{lane}-secret".encode(), (self.loop, self.network, self.findings)
+        return Home(*shared, lane, name, secret, WINDOWS[lane], self.chance)
 
     def nas(self, number):
         address, secret = f"127.0.0.{11 + number}", f"nas-{number}-secret".encode()
@@ -125,7 +123,7 @@ class Soak:
         parts += [f'[[client]]\naddress = "{nas.port.address[0]}"\nsecret = "{nas.secret.decode()}"' for nas in self.nases]
         parts += [
             f'[[home]]\nname = "{home.name}"\naddress = "127.0.0.1:{home.port.address[1]}"\n'
-            f'secret = "{home.secret.decode()}"\n{LIMITS[home.lane]}\n{ROUNDS}'
+            f'secret = "{home.secret.decode()}"\nwindow = {home.window}\n{LIMITS[home.lane]}\n{ROUNDS}'
             for home in self.homes
         ]
         parts += [f'[[realm]]\nname = "{home.realm}"\nhome = "{home.name}"' for home in self.homes]
