@@ -126,12 +126,8 @@ impl Limits {
         ensures fault { result_err result ≡ first_fault (limits_of numbers) }
     {
         within(numbers.ports, 1, 4, LimitFault::Ports)?;
-        within(
-            numbers.window,
-            1,
-            256 * numbers.ports - 2,
-            LimitFault::Window,
-        )?;
+        let widest = 256 * numbers.ports - 2;
+        within(numbers.window, 1, widest, LimitFault::Window)?;
         within(numbers.queue, 1, 65_536, LimitFault::Queue)?;
         within(numbers.book, 1, 1_000_000, LimitFault::Book)?;
         within(numbers.tries, 1, 10, LimitFault::Tries)?;
