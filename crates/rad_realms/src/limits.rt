@@ -23,7 +23,7 @@ pub const DEFAULT_LIMITS: LimitNumbers = LimitNumbers {
 /// milliseconds.
 #[derive(Clone, Copy, Debug, PartialEq, Eq)]
 pub struct LimitNumbers {
-    /// The most requests that are sent and not answered, 1 to two below 256 for each source port.
+    /// The most requests that are sent and not answered, 1 to `256 * ports - 2`.
     pub window: u32,
     /// The most requests that wait to be sent, 1 to 65,536.
     pub queue: u32,
