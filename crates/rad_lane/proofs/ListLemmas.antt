@@ -3,8 +3,8 @@ use Rattle.std.proofs.Common.{◌≡◌, ℕ, zero, suc, ◌+◌, ◌<◌, Bool,
 use Rattle.std.specs.Prelude.{map as each, All, AllPairs, filter, find, swap}
 use Rattle.std.specs.List.{range_with_len}
 use Rattle.std.specs.List.Sorted.{IsPermutation, IsStrictlyIncreasing}
-use Rattle.std.proofs.lemmas.List.{get_or-append-add, get_or_append_left, get_or-map, length-map, take_at, drop_at}
-use Rattle.std.proofs.lemmas.List.Elements.{All-head, All-tail}
+use Rattle.std.proofs.lemmas.List.{append-nil, get_or-append-add, get_or_append_left, get_or-map, length-map, take_at, drop_at, take-append-drop}
+use Rattle.std.proofs.lemmas.List.Elements.{All-head, All-tail, filter-append, filter_more}
 use Rattle.std.proofs.lemmas.List.Kept.{AllPairs-filter, AllPairs-from_increasing}
 use Rattle.std.proofs.lemmas.List.Sorted.{IsPermutation-refl, IsPermutation-trans, IsPermutation-cons, IsPermutation-middle, IsPermutation-keeps}
 
@@ -60,6 +60,27 @@ module _ {X : Type 0} (p : X → Bool) where
   pub filter_all : (xs : List X) → All (λ x. p x ≡ true) xs → filter p xs ≡ xs
   filter_all [] h = refl
   filter_all (x ∷ xs) h = all_by (p x) x (filter p xs) xs (All-head (λ x. p x ≡ true) x xs h) (filter_all xs (All-tail (λ x. p x ≡ true) x xs h))
+
+  -- a filter of the front of a list that is one item longer, where the item passes or not
+  pub filter_takes : (xs : List X) (i : ℕ) (x : X) → i < length xs → x ≡ get_or xs i x → p x ≡ true → filter p (take (i + 1) xs) ≡ filter p (take i xs) ++ x ∷ []
+  filter_takes xs i x within is passes =
+      filter_more p xs i x within
+      ∙ ap (λ y. filter p (take i xs) ++ cond (p y) (y ∷ []) []) (sym is)
+      ∙ ap (λ b. filter p (take i xs) ++ cond b (x ∷ []) []) passes
+
+  pub filter_skips : (xs : List X) (i : ℕ) (x : X) → i < length xs → x ≡ get_or xs i x → p x ≡ false → filter p (take (i + 1) xs) ≡ filter p (take i xs)
+  filter_skips xs i x within is fails =
+      filter_more p xs i x within
+      ∙ ap (λ y. filter p (take i xs) ++ cond (p y) (y ∷ []) []) (sym is)
+      ∙ ap (λ b. filter p (take i xs) ++ cond b (x ∷ []) []) fails
+      ∙ append-nil (filter p (take i xs))
+
+  -- an item that passes leaves the filter of the front shorter than the whole
+  pub filter_shorter : (xs : List X) (i : ℕ) (x : X) → i < length xs → x ≡ get_or xs i x → p x ≡ true → length (filter p (take i xs)) < length (filter p xs)
+  filter_shorter xs i x within is passes =
+      let more = ap length (filter_takes xs i x within is passes) ∙ length-append (filter p (take i xs)) (x ∷ []) in
+      let all = ap (λ ys. length (filter p ys)) (sym (take-append-drop (i + 1) xs)) ∙ ap length (filter-append p (take (i + 1) xs) (drop (i + 1) xs)) ∙ length-append (filter p (take (i + 1) xs)) (filter p (drop (i + 1) xs)) in
+      omega (arith, more, all)
 
   found_by : (test : X → Bool) (t b : Bool) (x : X) (us xs : List X) → t ≡ test x → (t ≡ true → b ≡ true) → find test us ≡ find test xs → find test (cond b (x ∷ us) us) ≡ cond (test x) (Some x) (find test xs)
   found_by test t true x us xs is passes h = ap (λ o. cond (test x) (Some x) o) h

@@ -1,5 +1,7 @@
-use Rattle.std.proofs.Common.{ap, ◌∙◌, arith}
+use Rattle.std.proofs.Common.{List, ap, ◌∙◌, arith}
+use Rattle.std.specs.FinMap as map
 use Rattle.std.proofs.lemmas.List.{take_all}
+use Rattle.rad_lane.specs.declared.stamp.Stamp.{Stamp}
 use Rattle.rad_lane.specs.Cutting.{unless_of}
 use Rattle.rad_lane.proofs.ForgetsNumbers.{unless_none, forgets_more}
 use Rattle.rad_lane.proofs.turning.forget.Goals as goal
@@ -13,4 +15,6 @@ loop-stamp-preserved c =
     (rw c.key_of.ensures at c.forget_one.ensures.this) (rw c.key_of.ensures at c.forget_one.ensures.other)
 
 pub returns : goal.returns
-returns c = λ key. c.loop-stamp.invariant key ∙ ap (λ stamps. unless_of stamps _) (take_all _ _ (omega arith))
+returns c = λ key.
+    c.loop-stamp.invariant key
+    ∙ ap (λ (stamps : List Stamp). unless_of stamps (map.get c.args.duplicates.now key)) (take_all c.loop-stamp.stamp-index c.args.stamps.now (omega arith))
