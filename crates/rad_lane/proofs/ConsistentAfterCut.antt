@@ -192,6 +192,28 @@ module _ (book : Book) (kept_records : List Kept) (ports : ℕ) (numbers : map.F
           subst (λ (t : Stamp). ¬ IsOver book now t) (sym first) (not_over_here d (omega (arith, left, some))));
     }
 
+-- the same of the book as it is seen
+module _ (book value : Book) (same : book ≡ value) (kept_records : List Kept) (ports : ℕ) (numbers : map.FinMap key_cmp ℕ) (cells : List (Option Receipt)) (count : ℕ) (s : IsConsistent book kept_records ports numbers cells count) where
+  module _ (seen : List (Option Receipt)) (are : seen ≡ cells) (span : ℕ) (is_span : span ≡ book.setup.limits.span) (now n : ℕ) (within : n ≤ length seen) (over : All (IsOverBy span now) (take n seen)) (longest : (d : Option Receipt) → n < length seen → ¬ IsOverBy span now (get_or seen n d)) where
+    pub cut_within : n ≤ length value.accepted
+    cut_within = subst (λ (b : Book). n ≤ length b.accepted) same (let as_many = ap length are in let all = s.cells_are in omega (arith, within, as_many, all))
+
+    pub cut_is : IsCut value now (take n value.accepted) (drop n value.accepted)
+    cut_is =
+        subst (λ (b : Book). IsCut b now (take n b.accepted) (drop n b.accepted)) same
+        (cut_found book kept_records ports numbers cells count s now n
+        (subst (λ xs. n ≤ length xs) are within)
+        (subst (λ xs. All (IsOverBy book.setup.limits.span now) (take n xs)) are (subst (λ m. All (IsOverBy m now) (take n seen)) is_span over))
+        (subst (λ xs. (d : Option Receipt) → n < length xs → ¬ IsOverBy book.setup.limits.span now (get_or xs n d)) are
+        (subst (λ m. (d : Option Receipt) → n < length seen → ¬ IsOverBy m now (get_or seen n d)) is_span longest)))
+
+    pub cut_some : (n ≡ 0 → ⊥) → 1 ≤ length (take n value.accepted)
+    cut_some some = let few = length-take-le n value.accepted cut_within in omega (arith, few, some)
+
+    -- where nothing is cut off
+    pub none_over : n ≡ 0 → BeginsUnended value now value.accepted
+    none_over none = subst (λ m. BeginsUnended value now (drop m value.accepted)) none cut_is.longest
+
 -- the fields of a lane after a cut
 module _ (setup : LaneSetup) (opening : ℕ) (accepted : List Stamp) (kept : List Kept) (answered : List AnswerKept) (served : ℕ) (slots : Table Entry) (drain : Option ℕ) (watch : Watch) (last : ℕ) where
   abbrev before : Book
