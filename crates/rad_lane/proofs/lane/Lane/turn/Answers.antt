@@ -1,8 +1,7 @@
-use Rattle.std.proofs.Common.{ℕ, ◌≤◌, List, take, drop, sym, ap, ◌∙◌, subst}
+use Rattle.std.proofs.Common.{take, drop, refl, ap, ◌∙◌, subst}
 use Rattle.rad_realms.specs.declared.limits.LimitNumbers.{LimitNumbers}
-use Rattle.rad_tables.specs.declared.duplicates.Key.{Key}
-use Rattle.rad_lane.specs.Repeat.{repeats}
-use Rattle.rad_lane.proofs.ConsistentAfterCut.{cut_is, cut_some}
+use Rattle.rad_lane.specs.Volumes.{BeginsUnended}
+use Rattle.rad_lane.proofs.ConsistentAfterCut.{cut_is, cut_some, none_over}
 use Rattle.rad_lane.proofs.VolumeLeaves.{volume_answered, volume_repeats}
 use Rattle.rad_lane.proofs.lane.Lane.turn.Goals as goal
 
@@ -52,4 +51,13 @@ returns-in-Err-clause-turns g c =
       cut_is _ _ c.self.view_is _ _ _ _ _ c.self.invariant _ c.as_slice.ensures _ span c.moment_of-now.result c.count_over-count.result found.within found.over found.longest,
       cut_some _ _ c.self.view_is _ _ _ _ _ c.self.invariant _ c.as_slice.ensures _ span c.moment_of-now.result c.count_over-count.result found.within found.over found.longest c.if-count-eq0.false,
       c.in-Err.ensures.err,
+    )
+
+pub returns-then-count-eq0-clause-turns : goal.returns-then-count-eq0-clause-turns
+returns-then-count-eq0-clause-turns g c =
+    let span = ap (λ (n : LimitNumbers). n.span) (c.numbers-span.ensures.value ∙ c.limits.ensures.value) in
+    let found = c.count_over-count.ensures in (
+      subst (λ m. BeginsUnended c.args.self.now m c.args.self.now.accepted) c.moment_of-now.ensures.value
+          (none_over _ _ c.self.view_is _ _ _ _ _ c.self.invariant _ c.as_slice.ensures _ span c.moment_of-now.result c.count_over-count.result found.within found.over found.longest c.if-count-eq0.true),
+      refl,
     )
