@@ -4,3 +4,4 @@ pub mod Inlet
 pub mod Tells
 pub mod Departures
 pub mod Lawful
+pub mod Traffic

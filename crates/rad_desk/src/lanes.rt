@@ -1,0 +1,116 @@
+//! The worker of a home server.
+
+use crate::gate::{Call, Gate, Note, Worker};
+use crate::hearing::Told;
+use crate::proxy::Proxy;
+use crate::tally::{Shift, Tally};
+use crate::wire::{Received, Wire};
+use rad_lane::Action;
+use rad_packet::Datagram;
+use rad_realms::{Endpoint, Home};
+use rad_tables::Slot;
+use std::alloc::Global;
+use std::sync::Wait;
+
+/// Works for a lane and its home server: so many turns at most, or until the gate stops it. In each turn it receives
+/// once and, where that came from the home server's address and port, has the lane hear it. Then the lane does one
+/// thing that is next, and what that gives is sent to the home server, from the socket of its source port.
+///
+/// A send that fails is a datagram lost, and the sending stands; a receive that fails ends nothing.
+pub fn lane_worker<W: Wire, G: Gate>(
+    rt: &impl Wait,
+    alloc: Global,
+    proxy: &Proxy,
+    lane: u16,
+    home: &Home,
+    wire: &mut W,
+    gate: &G,
+    turns: u64,
+) -> Tally
+    requires { lane < proxy.now }
+{
+    let mut shift = Shift::new(Worker::Lane(lane), gate);
+    let home = Endpoint {
+        address: home.address(),
+        port: home.port(),
+    };
+    let mut octets = [0; 4096];
+    let mut datagram = Datagram::new();
+    for _ in 0..turns {
+        shift.begin_turn();
+        let goes_on = hear(rt, alloc, proxy, lane, home, wire, &mut shift, &mut octets)
+            && step(rt, proxy, lane, home, wire, &mut shift, &mut datagram);
+        if !goes_on {
+            break;
+        }
+    }
+    shift.tally
+}
+
+/// Receives once, and has the lane hear what came from its home server. It answers whether the worker goes on.
+fn hear<W: Wire, G: Gate>(
+    rt: &impl Wait,
+    alloc: Global,
+    proxy: &Proxy,
+    lane: u16,
+    home: Endpoint,
+    wire: &mut W,
+    shift: &mut Shift<'_, G>,
+    octets: &mut [u8; 4096],
+) -> bool
+    requires { lane < proxy.now }
+{
+    let Received::Got {
+        address,
+        port,
+        socket,
+        count,
+    } = shift.receive(wire, octets)
+    else {
+        return true;
+    };
+    let from = Endpoint { address, port };
+    if from != home {
+        shift.note(Note::NotHome(from));
+        return true;
+    }
+    if !shift.may(Call::Hear) {
+        return false;
+    }
+    let told = proxy.hear(rt, alloc, lane, wire.now(), socket, &octets[..count]);
+    shift.made(Call::Hear);
+    match told {
+        Ok(Told::Answer(serial)) => shift.note(Note::Answered(lane, serial)),
+        Ok(Told::ProbeAnswered) => {}
+        Err(fault) => shift.note(Note::Unheard(fault)),
+    }
+    true
+}
+
+/// Has the lane do what is next, and sends what that gives. It answers whether the worker goes on.
+fn step<W: Wire, G: Gate>(
+    rt: &impl Wait,
+    proxy: &Proxy,
+    lane: u16,
+    home: Endpoint,
+    wire: &mut W,
+    shift: &mut Shift<'_, G>,
+    datagram: &mut Datagram,
+) -> bool
+    requires { lane < proxy.now }
+{
+    if !shift.may(Call::Step) {
+        return false;
+    }
+    let action = proxy.step(rt, lane, wire.now(), wire.random(), datagram);
+    shift.made(Call::Step);
+    match action {
+        Action::Sent(_, Slot { port, .. })
+        | Action::Resent(_, Slot { port, .. })
+        | Action::Probed(Slot { port, .. }) => shift.send(wire, port, home, datagram.bytes()),
+        Action::WentDown => shift.note(Note::WentDown),
+        Action::WentUp => shift.note(Note::WentUp),
+        Action::Idle(_) => {}
+    }
+    true
+}
