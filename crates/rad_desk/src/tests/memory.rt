@@ -70,9 +70,10 @@ impl Wire for MemoryWire {
 
     fn receive(&mut self, datagram: &mut [u8; 4096]) -> Received {
         self.receives = self.receives.saturating_add(1);
-        let Some((Endpoint { address, port }, octets)) = self.coming.take() else {
+        let Some((from, octets)) = self.coming.take() else {
             return Received::Nothing;
         };
+        let (address, port) = (from.address, from.port);
         if octets.len() > 4096 {
             return Received::Fault;
         }
