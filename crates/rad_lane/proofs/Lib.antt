@@ -15,3 +15,4 @@ pub mod NextDueFound
 pub mod NoRepeatOfFresh
 pub mod LawfulAfterWatch
 pub mod LeadsToItsLane
+pub mod UnknownPort

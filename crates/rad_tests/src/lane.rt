@@ -6,6 +6,7 @@ mod accepting;
 mod hearing;
 mod leaving;
 mod octets;
+mod ports;
 mod requests;
 mod running;
 mod script;

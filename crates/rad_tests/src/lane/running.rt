@@ -15,9 +15,9 @@ impl TestLane {
         Ok(run(self.alloc, &mut self.lane, &[])?)
     }
 
-    /// Runs the acceptance of REQUEST, and a step.
-    fn run_accept_and_step(&mut self) -> Result<Vec<Given>, Fail> {
-        let request = checked(&self.config, &REQUEST)?;
+    /// Runs the acceptance of a request, and a step.
+    pub fn run_accept_and_step(&mut self, request: &[u8]) -> Result<Vec<Given>, Fail> {
+        let request = checked(&self.config, request)?;
         if !self.lane.takes(&request) {
             return Err(Fail::from("another lane's"));
         }
@@ -73,7 +73,8 @@ fn are_idle_answered_and_drained(gives: &[Given]) -> bool {
     }
 }
 
-fn did(answer: &GivenAnswer, wanted: Action) -> bool {
+/// Whether this was a step that did this.
+pub fn did(answer: &GivenAnswer, wanted: Action) -> bool {
     match answer {
         GivenAnswer::Step(action) => *action == wanted,
         _ => false,
@@ -91,7 +92,7 @@ fn is_response(answer: &GivenAnswer) -> bool {
 
 fn run_each(rt: &impl Abort, lane: &mut TestLane) -> Result<(), Fail> {
     assert!(rt; lane.run_nothing()?.is_empty());
-    let two = lane.run_accept_and_step()?;
+    let two = lane.run_accept_and_step(&REQUEST)?;
     assert!(rt; are_accepted_and_sent(two.as_slice()));
     let three = lane.run_others()?;
     assert!(rt; are_idle_answered_and_drained(three.as_slice()));
