@@ -1,11 +1,11 @@
 -- What the workers send (own): what each datagram that goes onto a wire is, beside all that passed over it before.
-use Rattle.std.specs.Prelude.{◌≡◌, ⊤, ℕ, List, [], ◌∷◌, ◌++◌, ◌⊎◌, slice_get, Some}
+use Rattle.std.specs.Prelude.{◌≡◌, ◌<◌, ⊤, ℕ, List, [], ◌∷◌, ◌++◌, ◌⊎◌, slice_get, Some}
 use Rattle.rad_packet.specs.Packet.{identifier_of, authenticator_of}
 use Rattle.rad_auth.specs.Authenticator.{accounting_response}
 use Rattle.rad_realms.specs.declared.reading.address.Endpoint.{Endpoint}
 use Rattle.rad_realms.specs.declared.checking.Incoming.{Incoming}
 use Rattle.rad_realms.specs.declared.checking.Incoming.TheVariants.{Request, Status}
-use Rattle.rad_realms.specs.Configuration.{Configuration}
+use Rattle.rad_realms.specs.Configuration.{Configuration, HomeEntry}
 use Rattle.rad_realms.specs.Incoming.{Takes}
 use Rattle.rad_lane.specs.declared.outgoing.Outgoing.{Outgoing}
 use Rattle.rad_desk.specs.declared.inlet.Inlet.{Inlet}
@@ -31,10 +31,15 @@ pub record SendsOnly (Right : List Passage → Passage → Type 0) (old new : Li
   pub goes_on : new ≡ old ++ more
   pub right : EachRight Right old more
 
--- What a lane sends: to the home server's address and port, the forwarded packet of a right record or a Status-Server.
-pub record GoesHome (home : Endpoint) (before : List Passage) (p : Passage) : Type 0 where
-  pub peer : p.peer ≡ home
-  pub departs : ForwardsARecord p.octets ⊎ IsStatusServer p.octets
+-- What goes to a home server: the forwarded packet of a right record, or a Status-Server.
+abbrev pub IsDeparture : List ℕ → Type 0
+IsDeparture octets = ForwardsARecord octets ⊎ IsStatusServer octets
+
+-- What a lane sends: it goes to the home server's address and port, from the socket of one of its source ports.
+pub record GoesHome (home : HomeEntry) (before : List Passage) (p : Passage) : Type 0 where
+  pub socket : p.socket < home.limits.ports
+  pub peer : p.peer ≡ home.endpoint
+  pub departs : IsDeparture p.octets
 
 -- An inlet gave it since it was the old one: it is the response of something that the inlet took since then, and goes to
 -- that one's client and port, from the first socket.

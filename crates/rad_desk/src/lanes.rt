@@ -1,7 +1,8 @@
 //! The worker of a home server.
 
 ghost use Rattle.std.specs.Prelude.{◌≡◌, ◌<◌, ◌≤◌};
-ghost use Rattle.rad_desk.specs.Sends.{SendsOnly, GoesHome};
+ghost use Rattle.rad_desk.specs.Sends.{SendsOnly, IsDeparture, GoesHome};
+ghost use Rattle.rad_desk.specs.Sending.{SendsUpToOne};
 
 use crate::gate::{Call, Gate, Note, Worker};
 use crate::hearing::Told;
@@ -11,7 +12,6 @@ use crate::wire::{Received, Wire};
 use rad_lane::Action;
 use rad_packet::Datagram;
 use rad_realms::{Endpoint, Home};
-use rad_tables::Slot;
 use std::alloc::Global;
 use std::sync::Wait;
 
@@ -31,11 +31,10 @@ pub fn lane_worker<W: Wire, G: Gate>(
     turns: u64,
 ) -> Tally
     requires { lane < proxy.now }
-    ensures sends { SendsOnly (GoesHome home.now.endpoint) (W.log wire.old) (W.log wire.new) }
+    ensures sends { SendsOnly (GoesHome home.now) (W.log wire.old) (W.log wire.new) }
     ensures turns { result.turns ≤ turns }
 {
     let mut shift = Shift::new(Worker::Lane(lane), gate);
-    let home = endpoint_of(home);
     let mut octets = [0; 4096];
     let mut datagram = Datagram::new();
     for turn in 0..turns {
@@ -66,13 +65,13 @@ fn hear<W: Wire, G: Gate>(
     alloc: Global,
     proxy: &Proxy,
     lane: u16,
-    home: Endpoint,
+    home: &Home,
     wire: &mut W,
     shift: &mut Shift<'_, G>,
     octets: &mut [u8; 4096],
 ) -> bool
     requires { lane < proxy.now }
-    ensures sends { SendsOnly (GoesHome home) (W.log wire.old) (W.log wire.new) }
+    ensures sends { SendsOnly (GoesHome home.now) (W.log wire.old) (W.log wire.new) }
     ensures turns { shift.new.tally.turns ≡ shift.old.tally.turns }
 {
     let Received::Got {
@@ -85,7 +84,7 @@ fn hear<W: Wire, G: Gate>(
         return true;
     };
     let from = Endpoint { address, port };
-    if from != home {
+    if from != endpoint_of(home) {
         shift.note(Note::NotHome(from));
         return true;
     }
@@ -107,13 +106,13 @@ fn step<W: Wire, G: Gate>(
     rt: &impl Wait,
     proxy: &Proxy,
     lane: u16,
-    home: Endpoint,
+    home: &Home,
     wire: &mut W,
     shift: &mut Shift<'_, G>,
     datagram: &mut Datagram,
 ) -> bool
     requires { lane < proxy.now }
-    ensures sends { SendsOnly (GoesHome home) (W.log wire.old) (W.log wire.new) }
+    ensures sends { SendsOnly (GoesHome home.now) (W.log wire.old) (W.log wire.new) }
     ensures turns { shift.new.tally.turns ≡ shift.old.tally.turns }
 {
     if !shift.may(Call::Step) {
@@ -122,12 +121,33 @@ fn step<W: Wire, G: Gate>(
     let action = proxy.step(rt, lane, wire.now(), wire.random(), datagram);
     shift.made(Call::Step);
     match action {
-        Action::Sent(_, Slot { port, .. })
-        | Action::Resent(_, Slot { port, .. })
-        | Action::Probed(Slot { port, .. }) => shift.send(wire, port, home, datagram.bytes()),
+        Action::Sent(_, slot) | Action::Resent(_, slot) | Action::Probed(slot) => {
+            send_home(home, slot.port, wire, shift, datagram);
+        }
         Action::WentDown => shift.note(Note::WentDown),
         Action::WentUp => shift.note(Note::WentUp),
         Action::Idle(_) => {}
     }
     true
+}
+
+/// Sends a datagram to the home server, from the socket of a source port. One of a port that the home server does not
+/// have, as where it is another lane's, is lost.
+fn send_home<W: Wire, G: Gate>(
+    home: &Home,
+    port: u16,
+    wire: &mut W,
+    shift: &mut Shift<'_, G>,
+    datagram: &Datagram,
+)
+    requires { IsDeparture datagram.now }
+    ensures sends { SendsUpToOne (GoesHome home.now (W.log wire.old)) (W.log wire.old) (W.log wire.new) }
+    ensures turns { shift.new.tally.turns ≡ shift.old.tally.turns }
+{
+    let to = endpoint_of(home);
+    if u32::from(port) < home.limits().numbers().ports {
+        shift.send(wire, port, to, datagram.bytes());
+    } else {
+        shift.lose(to);
+    }
 }

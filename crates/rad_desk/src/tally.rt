@@ -94,10 +94,15 @@ impl<'a, G: Gate> Shift<'a, G> {
     {
         match wire.send(socket, to.address, to.port, octets) {
             Delivery::Sent => self.tally.sent = self.tally.sent.saturating_add(1),
-            Delivery::Fault => {
-                self.tally.faults = self.tally.faults.saturating_add(1);
-                self.note(Note::SendFault(to));
-            }
+            Delivery::Fault => self.lose(to),
         }
+    }
+
+    /// Counts a datagram that could not be sent.
+    pub(crate) fn lose(&mut self, to: Endpoint)
+        ensures { self.new.tally.turns ≡ self.old.tally.turns }
+    {
+        self.tally.faults = self.tally.faults.saturating_add(1);
+        self.note(Note::SendFault(to));
     }
 }

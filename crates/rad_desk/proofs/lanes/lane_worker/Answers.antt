@@ -1,5 +1,4 @@
-use Rattle.std.proofs.Common.{◌∙◌, subst}
-use Rattle.rad_desk.specs.Sends.{SendsOnly, GoesHome}
+use Rattle.std.proofs.Common.{◌∙◌}
 use Rattle.rad_desk.proofs.Sends.{sends_join}
 use Rattle.rad_desk.proofs.lanes.lane_worker.Goals as goal
 
@@ -10,11 +9,8 @@ loop-turn-preserved g c = record {
 }
 
 pub returns-then-not-hear-clause-sends : goal.returns-then-not-hear-clause-sends
-returns-then-not-hear-clause-sends g c =
-    let sends = sends_join _ _ _ _ c.loop-turn.invariant.sends c.hear.ensures.sends in
-    subst (λ home. SendsOnly (GoesHome home) (g.W.Wire.log c.args.wire.now) (g.W.Wire.log c.hear.new.wire)) c.endpoint_of-home.ensures sends
+returns-then-not-hear-clause-sends g c = sends_join _ _ _ _ c.loop-turn.invariant.sends c.hear.ensures.sends
 
 pub returns-then-not-step-clause-sends : goal.returns-then-not-step-clause-sends
 returns-then-not-step-clause-sends g c =
-    let sends = sends_join _ _ _ _ (sends_join _ _ _ _ c.loop-turn.invariant.sends c.hear.ensures.sends) c.step.ensures.sends in
-    subst (λ home. SendsOnly (GoesHome home) (g.W.Wire.log c.args.wire.now) (g.W.Wire.log c.step.new.wire)) c.endpoint_of-home.ensures sends
+    sends_join _ _ _ _ (sends_join _ _ _ _ c.loop-turn.invariant.sends c.hear.ensures.sends) c.step.ensures.sends
