@@ -5,3 +5,6 @@ pub mod Tells
 pub mod Departures
 pub mod Lawful
 pub mod Traffic
+pub mod Sends
+pub mod Continues
+pub mod Sending

@@ -1,5 +1,14 @@
 //! The worker of the clients' side.
 
+ghost use Rattle.std.specs.Prelude.{◌≡◌, ◌≤◌, [], ◌∷◌, ◌++◌};
+ghost use Rattle.rad_packet.specs.Packet.{identifier_of, authenticator_of};
+ghost use Rattle.rad_auth.specs.Authenticator.{accounting_response};
+ghost use Rattle.rad_desk.specs.Departures.{IsVerifiedResponse};
+ghost use Rattle.rad_desk.specs.Traffic.{went};
+ghost use Rattle.rad_desk.specs.Continues.{Continues, AllContinue};
+ghost use Rattle.rad_desk.specs.Sends.{SendsOnly, IsGiven, GoesBack, LeavesTheFront};
+ghost use Rattle.rad_desk.specs.Sending.{SendsUpToOne, IsFrom};
+
 use crate::gate::{Call, Gate, Note, Worker};
 use crate::inlet::Inlet;
 use crate::proxy::Proxy;
@@ -29,24 +38,21 @@ pub fn front_worker<W: Wire, G: Gate>(
     wire: &mut W,
     gate: &G,
     turns: u64,
-) -> Tally {
+) -> Tally
+    ensures sends { SendsOnly (LeavesTheFront config.now inlets.new) (W.log wire.old) (W.log wire.new) }
+    ensures inlets { AllContinue inlets.old inlets.new }
+    ensures turns { result.turns ≤ turns }
+{
     let mut shift = Shift::new(Worker::Front, gate);
     let mut octets = [0; 4096];
     let mut datagram = Datagram::new();
-    for _ in 0..turns {
-        shift.begin_turn();
-        let goes_on = take_in(
-            rt,
-            alloc,
-            proxy,
-            config,
-            wire,
-            &mut shift,
-            &mut octets,
-            &mut datagram,
-        ) && hand_out(inlets, wire, &mut shift);
-        if !goes_on {
-            break;
+    for turn in 0..turns {
+        shift.begin_turn(turn);
+        if !take_in(rt, alloc, proxy, config, wire, &mut shift, &mut octets, &mut datagram) {
+            return shift.tally;
+        }
+        if !hand_out(inlets, wire, &mut shift) {
+            return shift.tally;
         }
     }
     shift.tally
@@ -62,7 +68,10 @@ fn take_in<W: Wire, G: Gate>(
     shift: &mut Shift<'_, G>,
     octets: &mut [u8; 4096],
     datagram: &mut Datagram,
-) -> bool {
+) -> bool
+    ensures sends { SendsOnly (GoesBack config.now) (W.log wire.old) (W.log wire.new) }
+    ensures turns { shift.new.tally.turns ≡ shift.old.tally.turns }
+{
     let Received::Got {
         address,
         port,
@@ -98,7 +107,10 @@ fn accept<W: Wire, G: Gate>(
     shift: &mut Shift<'_, G>,
     socket: u16,
     datagram: &mut Datagram,
-) -> bool {
+) -> bool
+    ensures sends { SendsUpToOne (IsFrom socket (record { address = request.now.client; port = request.now.port }) IsVerifiedResponse) (W.log wire.old) (W.log wire.new) }
+    ensures turns { shift.new.tally.turns ≡ shift.old.tally.turns }
+{
     if !shift.may(Call::Accept) {
         return false;
     }
@@ -125,7 +137,10 @@ fn answer<W: Wire, G: Gate>(
     socket: u16,
     from: Endpoint,
     datagram: &mut Datagram,
-) {
+)
+    ensures sends { W.log wire.new ≡ W.log wire.old ++ went socket from.address from.port (accounting_response (identifier_of status.now.text) (authenticator_of status.now.text) [] status.now.secret) ∷ [] }
+    ensures turns { shift.new.tally.turns ≡ shift.old.tally.turns }
+{
     answer_status(status.packet(), status.secret(), datagram);
     shift.send(wire, socket, from, datagram.bytes());
 }
@@ -135,7 +150,11 @@ fn hand_out<W: Wire, G: Gate>(
     inlets: &mut [Inlet],
     wire: &mut W,
     shift: &mut Shift<'_, G>,
-) -> bool {
+) -> bool
+    ensures sends { SendsOnly (λ before p. IsGiven inlets.new p) (W.log wire.old) (W.log wire.new) }
+    ensures inlets { AllContinue inlets.old inlets.new }
+    ensures turns { shift.new.tally.turns ≡ shift.old.tally.turns }
+{
     for place in 0..inlets.len() {
         if !shift.may(Call::Take) {
             return false;
@@ -146,7 +165,11 @@ fn hand_out<W: Wire, G: Gate>(
 }
 
 /// Takes a response where one is there, and sends it.
-fn take<W: Wire, G: Gate>(inlet: &mut Inlet, wire: &mut W, shift: &mut Shift<'_, G>) {
+fn take<W: Wire, G: Gate>(inlet: &mut Inlet, wire: &mut W, shift: &mut Shift<'_, G>)
+    ensures sends { SendsOnly (λ before p. IsGiven (inlet.new ∷ []) p) (W.log wire.old) (W.log wire.new) }
+    ensures inlet { Continues inlet.old inlet.new }
+    ensures turns { shift.new.tally.turns ≡ shift.old.tally.turns }
+{
     let taken = inlet.take();
     shift.made(Call::Take);
     let Some(outgoing) = taken else {

@@ -1,5 +1,8 @@
 //! The worker of a home server.
 
+ghost use Rattle.std.specs.Prelude.{◌≡◌, ◌<◌, ◌≤◌};
+ghost use Rattle.rad_desk.specs.Sends.{SendsOnly, GoesHome};
+
 use crate::gate::{Call, Gate, Note, Worker};
 use crate::hearing::Told;
 use crate::proxy::Proxy;
@@ -28,23 +31,33 @@ pub fn lane_worker<W: Wire, G: Gate>(
     turns: u64,
 ) -> Tally
     requires { lane < proxy.now }
+    ensures sends { SendsOnly (GoesHome home.now.endpoint) (W.log wire.old) (W.log wire.new) }
+    ensures turns { result.turns ≤ turns }
 {
     let mut shift = Shift::new(Worker::Lane(lane), gate);
-    let home = Endpoint {
-        address: home.address(),
-        port: home.port(),
-    };
+    let home = endpoint_of(home);
     let mut octets = [0; 4096];
     let mut datagram = Datagram::new();
-    for _ in 0..turns {
-        shift.begin_turn();
-        let goes_on = hear(rt, alloc, proxy, lane, home, wire, &mut shift, &mut octets)
-            && step(rt, proxy, lane, home, wire, &mut shift, &mut datagram);
-        if !goes_on {
-            break;
+    for turn in 0..turns {
+        shift.begin_turn(turn);
+        if !hear(rt, alloc, proxy, lane, home, wire, &mut shift, &mut octets) {
+            return shift.tally;
+        }
+        if !step(rt, proxy, lane, home, wire, &mut shift, &mut datagram) {
+            return shift.tally;
         }
     }
     shift.tally
+}
+
+/// Where a home server is.
+fn endpoint_of(home: &Home) -> Endpoint
+    ensures { result ≡ home.now.endpoint }
+{
+    Endpoint {
+        address: home.address(),
+        port: home.port(),
+    }
 }
 
 /// Receives once, and has the lane hear what came from its home server. It answers whether the worker goes on.
@@ -59,6 +72,8 @@ fn hear<W: Wire, G: Gate>(
     octets: &mut [u8; 4096],
 ) -> bool
     requires { lane < proxy.now }
+    ensures sends { SendsOnly (GoesHome home) (W.log wire.old) (W.log wire.new) }
+    ensures turns { shift.new.tally.turns ≡ shift.old.tally.turns }
 {
     let Received::Got {
         address,
@@ -98,6 +113,8 @@ fn step<W: Wire, G: Gate>(
     datagram: &mut Datagram,
 ) -> bool
     requires { lane < proxy.now }
+    ensures sends { SendsOnly (GoesHome home) (W.log wire.old) (W.log wire.new) }
+    ensures turns { shift.new.tally.turns ≡ shift.old.tally.turns }
 {
     if !shift.may(Call::Step) {
         return false;

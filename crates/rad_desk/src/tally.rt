@@ -46,12 +46,12 @@ impl<'a, G: Gate> Shift<'a, G> {
         }
     }
 
-    /// Begins a turn.
-    pub(crate) fn begin_turn(&mut self)
-        requires { self.old.tally.turns + 1 < 2 ^ 64 }
-        ensures { self.new.tally.turns ≡ self.old.tally.turns + 1 }
+    /// Begins a turn, after so many others.
+    pub(crate) fn begin_turn(&mut self, others: u64)
+        requires { others < u64.MAX }
+        ensures { self.new.tally.turns ≡ others + 1 }
     {
-        self.tally.turns += 1;
+        self.tally.turns = others + 1;
     }
 
     /// Whether it goes on to a call.

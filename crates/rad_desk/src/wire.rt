@@ -2,7 +2,7 @@
 
 ghost use Rattle.std.specs.Prelude.{◌≡◌, List, [], ◌∷◌, ◌++◌};
 ghost use Rattle.std.specs.Borrow.{ftrue};
-ghost use Rattle.rad_desk.specs.Traffic.{Passage, came, went, Receives};
+ghost use Rattle.rad_desk.specs.Traffic.{Passage, passage, came, went, Receives};
 
 use rad_realms::Endpoint;
 use rad_tables::Moment;
@@ -85,6 +85,9 @@ pub(crate) struct Passing {
 impl Model for Traffic {
     ghost also_owns = { λ _. ftrue };
 }
+
+// It owns nothing.
+unsafe impl Send for Traffic {}
 
 impl Traffic {
     /// Nothing passed yet.
