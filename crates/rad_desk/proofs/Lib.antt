@@ -3,3 +3,4 @@ pub mod Outlets
 pub mod Wires
 pub mod Opening
 pub mod Sends
+pub mod Returning

@@ -8,7 +8,6 @@ use Rattle.rad_desk.specs.Traffic.{Passage, came}
 use Rattle.rad_desk.specs.Sends.{IfWent, EachRight, SendsOnly}
 use Rattle.rad_desk.specs.Sending.{SendsOne}
 
-
 -- Nothing passed.
 pub sends_none : (Right : List Passage → Passage → Type 0) (old new : List Passage) → new ≡ old → SendsOnly Right old new
 sends_none Right old new same = record { more = []; goes_on = same ∙ sym (append-nil old); right = tt }

@@ -36,18 +36,25 @@ pub record GoesHome (home : Endpoint) (before : List Passage) (p : Passage) : Ty
   pub peer : p.peer ≡ home
   pub departs : ForwardsARecord p.octets ⊎ IsStatusServer p.octets
 
--- One of the inlets gave it: it is the response of something that the inlet took, and goes to that one's client and
--- port, from the first socket.
-pub record IsGiven (inlets : List Inlet) (p : Passage) : Type 0 where
-  pub place : ℕ
-  pub inlet : Inlet
-  pub has_inlet : slice_get inlets place ≡ Some inlet
-  pub serial : ℕ
+-- An inlet gave it since it was the old one: it is the response of something that the inlet took since then, and goes to
+-- that one's client and port, from the first socket.
+pub record Gave (old new : Inlet) (p : Passage) : Type 0 where
+  pub earlier : List Outgoing
   pub outgoing : Outgoing
-  pub has_taken : slice_get (taken inlet) serial ≡ Some outgoing
+  pub later : List Outgoing
+  pub took : taken new ≡ taken old ++ (earlier ++ outgoing ∷ later)
   pub socket : p.socket ≡ 0
   pub peer : p.peer ≡ record { address = outgoing.client; port = outgoing.port }
   pub octets : p.octets ≡ outgoing.reply.response
+
+-- One of the inlets gave it since then.
+pub record OneGave (old new : List Inlet) (p : Passage) : Type 0 where
+  pub place : ℕ
+  pub then : Inlet
+  pub now : Inlet
+  pub was : slice_get old place ≡ Some then
+  pub is : slice_get new place ≡ Some now
+  pub gave : Gave then now p
 
 -- What answers a datagram that was taken: a response that answers a request, after a verified reply, where a request
 -- is answered once more; or the answer to a Status-Server that is right (RFC 5997 section 4.2).
@@ -69,5 +76,5 @@ pub record GoesBack (config : Configuration) (before : List Passage) (p : Passag
   pub answers : IsAnswerTo incoming p.octets
 
 -- What the front sends.
-abbrev pub LeavesTheFront : Configuration → List Inlet → List Passage → Passage → Type 0
-LeavesTheFront config inlets before p = IsGiven inlets p ⊎ GoesBack config before p
+abbrev pub LeavesTheFront : Configuration → List Inlet → List Inlet → List Passage → Passage → Type 0
+LeavesTheFront config old new before p = OneGave old new p ⊎ GoesBack config before p

@@ -6,7 +6,7 @@ ghost use Rattle.rad_auth.specs.Authenticator.{accounting_response};
 ghost use Rattle.rad_desk.specs.Departures.{IsVerifiedResponse};
 ghost use Rattle.rad_desk.specs.Traffic.{went};
 ghost use Rattle.rad_desk.specs.Continues.{Continues, AllContinue};
-ghost use Rattle.rad_desk.specs.Sends.{SendsOnly, IsGiven, GoesBack, LeavesTheFront};
+ghost use Rattle.rad_desk.specs.Sends.{SendsOnly, Gave, OneGave, GoesBack, LeavesTheFront};
 ghost use Rattle.rad_desk.specs.Sending.{SendsUpToOne, IsFrom};
 
 use crate::gate::{Call, Gate, Note, Worker};
@@ -39,7 +39,7 @@ pub fn front_worker<W: Wire, G: Gate>(
     gate: &G,
     turns: u64,
 ) -> Tally
-    ensures sends { SendsOnly (LeavesTheFront config.now inlets.new) (W.log wire.old) (W.log wire.new) }
+    ensures sends { SendsOnly (LeavesTheFront config.now inlets.old inlets.new) (W.log wire.old) (W.log wire.new) }
     ensures inlets { AllContinue inlets.old inlets.new }
     ensures turns { result.turns ≤ turns }
 {
@@ -48,7 +48,16 @@ pub fn front_worker<W: Wire, G: Gate>(
     let mut datagram = Datagram::new();
     for turn in 0..turns {
         shift.begin_turn(turn);
-        if !take_in(rt, alloc, proxy, config, wire, &mut shift, &mut octets, &mut datagram) {
+        if !take_in(
+            rt,
+            alloc,
+            proxy,
+            config,
+            wire,
+            &mut shift,
+            &mut octets,
+            &mut datagram,
+        ) {
             return shift.tally;
         }
         if !hand_out(inlets, wire, &mut shift) {
@@ -146,12 +155,8 @@ fn answer<W: Wire, G: Gate>(
 }
 
 /// Takes from each inlet once at most, and sends what it took. It answers whether the worker goes on.
-fn hand_out<W: Wire, G: Gate>(
-    inlets: &mut [Inlet],
-    wire: &mut W,
-    shift: &mut Shift<'_, G>,
-) -> bool
-    ensures sends { SendsOnly (λ before p. IsGiven inlets.new p) (W.log wire.old) (W.log wire.new) }
+fn hand_out<W: Wire, G: Gate>(inlets: &mut [Inlet], wire: &mut W, shift: &mut Shift<'_, G>) -> bool
+    ensures sends { SendsOnly (λ before p. OneGave inlets.old inlets.new p) (W.log wire.old) (W.log wire.new) }
     ensures inlets { AllContinue inlets.old inlets.new }
     ensures turns { shift.new.tally.turns ≡ shift.old.tally.turns }
 {
@@ -166,7 +171,7 @@ fn hand_out<W: Wire, G: Gate>(
 
 /// Takes a response where one is there, and sends it.
 fn take<W: Wire, G: Gate>(inlet: &mut Inlet, wire: &mut W, shift: &mut Shift<'_, G>)
-    ensures sends { SendsOnly (λ before p. IsGiven (inlet.new ∷ []) p) (W.log wire.old) (W.log wire.new) }
+    ensures sends { SendsOnly (λ before p. Gave inlet.old inlet.new p) (W.log wire.old) (W.log wire.new) }
     ensures inlet { Continues inlet.old inlet.new }
     ensures turns { shift.new.tally.turns ≡ shift.old.tally.turns }
 {
