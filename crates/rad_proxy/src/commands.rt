@@ -1,5 +1,7 @@
 //! The commands that come in by standard input while the proxy serves, one a line.
 
+ghost use Rattle.std.specs.Prelude.{◌≤◌};
+
 use std::io::{ErrorKind, Read, Result};
 
 /// The most octets of a line that may be a command.
@@ -46,11 +48,13 @@ impl Line {
         }
     }
 
-    fn push(&mut self, octet: u8) {
-        if self.count < MOST {
-            self.octets[self.count] = octet;
+    fn push(&mut self, octets: &[u8]) {
+        for octet in octets {
+            if self.count < MOST {
+                self.octets[self.count] = *octet;
+            }
+            self.count = self.count.saturating_add(1);
         }
-        self.count = self.count.saturating_add(1);
     }
 
     fn is_empty(&self) -> bool {
@@ -78,6 +82,8 @@ pub struct Commands<R: Drop> {
     at: usize,
     /// to here.
     end: usize,
+    ghost in_order: { at ≤ end },
+    ghost in_room: { end ≤ 512 },
 }
 
 impl<R: Read + Drop> Commands<R> {
@@ -113,15 +119,19 @@ impl<R: Read + Drop> Commands<R> {
 
     /// The next command whose line ends among the octets that were read.
     fn next_read(&mut self) -> Option<Command> {
-        while self.at < self.end {
-            let octet = self.room[self.at];
-            self.at += 1;
-            if octet == b'\n' {
-                return Some(self.line.end());
+        let unread = &self.room[self.at..self.end];
+        match unread.iter().position(|octet| *octet == b'\n') {
+            Some(count) => {
+                self.line.push(&unread[..count]);
+                self.at += count + 1;
+                Some(self.line.end())
             }
-            self.line.push(octet);
+            None => {
+                self.line.push(unread);
+                self.at = self.end;
+                None
+            }
         }
-        None
     }
 
     /// Reads on. It answers whether the end of input is not yet there.

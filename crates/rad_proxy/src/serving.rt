@@ -143,8 +143,8 @@ where
     I: Read + Drop,
     O: Write,
 {
+    let Wires { front, lanes } = wires;
     thread::scope(thread::scope_env(), service.rt, move |scope| {
-        let Wires { front, lanes } = wires;
         let mut started = scope
             .spawn(move || work_in_front(service, inlets, front))
             .is_ok();
@@ -285,9 +285,13 @@ where
     R: Wait,
     O: Write,
 {
-    for (lane, home) in service.config.homes().iter().enumerate() {
-        let counts = service.proxy.counts(service.rt, lane as u16);
+    for number in 0..service.proxy.lanes() {
+        let lane = usize::from(number);
+        let Some(home) = service.config.homes().get(lane) else {
+            break;
+        };
         let name = home.name();
+        let counts = service.proxy.counts(service.rt, number);
         print(writer, &StateLine { lane, name, counts })?;
     }
     Ok(())

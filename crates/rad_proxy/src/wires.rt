@@ -1,6 +1,6 @@
 //! The sockets of a worker as the wire that it works over.
 
-ghost use Rattle.std.specs.Prelude.{◌≤◌, length};
+ghost use Rattle.rad_proxy.specs.Wires.{FitsRoom};
 
 use crate::waking::Bell;
 use mio::net::UdpSocket;
@@ -35,7 +35,9 @@ struct Ear {
 
 impl Ear {
     /// Receives a datagram, where one waits.
-    fn receive(&mut self, index: u16, room: &mut [u8; 4096]) -> Received {
+    fn receive(&mut self, index: u16, room: &mut [u8; 4096]) -> Received
+        ensures { FitsRoom result }
+    {
         if !self.waiting {
             return Received::Nothing;
         }
@@ -70,8 +72,8 @@ pub struct UdpWire<'a, R> {
     moment: Moment,
     random: StdRng,
     ears: Vec<Ear>,
-    /// The socket that is received from first.
-    first: usize,
+    /// The socket that is received from next.
+    turn: u16,
     poll: Poll,
     events: Events<Global>,
     bell: Arc<Bell>,
@@ -113,7 +115,7 @@ impl<'a, R: Clock> UdpWire<'a, R> {
             moment: Moment::new(0).unwrap(),
             random: make_rng(clock)?,
             ears,
-            first: 0,
+            turn: 0,
             poll,
             events: Events::with_capacity(alloc, EVENTS)?,
             bell: Arc::new(alloc, bell)?,
@@ -131,18 +133,34 @@ impl<'a, R: Clock> UdpWire<'a, R> {
         self.bell.clone()
     }
 
-    /// Receives a datagram of a socket where one waits. Each socket comes first in its turn.
-    fn try_each(&mut self, room: &mut [u8; 4096]) -> Received {
-        let count = self.ears.len();
-        for step in 0..count {
-            let index = (self.first + step) % count;
-            let received = self.ears[index].receive(index as u16, room);
+    /// Receives a datagram of one of the sockets where one waits.
+    fn try_each(&mut self, room: &mut [u8; 4096]) -> Received
+        ensures { FitsRoom result }
+    {
+        for _ in 0..self.ears.len() {
+            let received = self.try_next(room);
             if received != Received::Nothing {
-                self.first = (index + 1) % count;
                 return received;
             }
         }
         Received::Nothing
+    }
+
+    /// Receives a datagram of the socket whose turn it is, where one waits there. Then it is another's turn.
+    fn try_next(&mut self, room: &mut [u8; 4096]) -> Received
+        ensures { FitsRoom result }
+    {
+        let index = self.turn;
+        let next = index.saturating_add(1);
+        self.turn = if usize::from(next) < self.ears.len() {
+            next
+        } else {
+            0
+        };
+        match self.ears.get_mut(usize::from(index)) {
+            Some(ear) => ear.receive(index, room),
+            None => Received::Nothing,
+        }
     }
 
     /// Sleeps until a datagram comes, the bell rings or a while has passed. Where neither socket nor bell ended the
@@ -163,7 +181,9 @@ impl<'a, R: Clock> UdpWire<'a, R> {
     }
 
     /// Receives a datagram, and waits for one where there is nothing else to do.
-    fn wait(&mut self, room: &mut [u8; 4096]) -> Received {
+    fn wait(&mut self, room: &mut [u8; 4096]) -> Received
+        ensures { FitsRoom result }
+    {
         let received = self.try_each(room);
         if received != Received::Nothing || self.has_sent || !self.bell.lie_down() {
             return received;
