@@ -119,7 +119,8 @@ impl<R: Read + Drop> Commands<R> {
 
     /// The next command whose line ends among the octets that were read.
     fn next_read(&mut self) -> Option<Command> {
-        let unread = &self.room[self.at..self.end];
+        let room = self.room;
+        let unread = &room[self.at..self.end];
         match unread.iter().position(|octet| *octet == b'\n') {
             Some(count) => {
                 self.line.push(&unread[..count]);

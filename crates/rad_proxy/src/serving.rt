@@ -97,7 +97,7 @@ pub fn serve<R, W, G, L, I, O>(
     gate: &G,
     log: &L,
     reader: I,
-    mut writer: O,
+    writer: O,
 ) -> Result<EndLine, Fault>
 where
     R: Clock + Threads + Wait + Sync,
@@ -107,7 +107,7 @@ where
     I: Read + Drop,
     O: Write + Drop,
 {
-    let (proxy, mut inlets) = match open(alloc, config) {
+    let (proxy, inlets) = match open(alloc, config) {
         Ok(opened) => opened,
         Err(OpenFault::OutOfMemory) => return Err(Fault::Memory),
     };
@@ -121,33 +121,35 @@ where
         proxy: &proxy,
         attendant: &attendant,
     };
-    work(service, wires, &mut inlets, reader, &mut writer)?;
+    let (inlets, mut writer) = work(service, wires, inlets, reader, writer)?;
     let end = end_of(rt, &proxy, inlets);
     print(&mut writer, &end)?;
     Ok(end)
 }
 
-/// Has a thread work for each wire while the commands are obeyed. All threads have ended when it returns.
+/// Has a thread work for each wire while the commands are obeyed, and gives back the inlets and the writer. All threads
+/// have ended when it returns.
 fn work<R, W, G, L, I, O>(
     service: Service<'_, R, G, L>,
     wires: Wires<W>,
-    inlets: &mut [Inlet],
+    inlets: Vec<Inlet>,
     reader: I,
-    writer: &mut O,
-) -> Result<(), Fault>
+    writer: O,
+) -> Result<(Vec<Inlet>, O), Fault>
 where
     R: Clock + Threads + Wait + Sync,
     W: Wire + Send + Drop,
     G: Gate + Sync,
     L: Log + Sync,
     I: Read + Drop,
-    O: Write,
+    O: Write + Drop,
 {
     let Wires { front, lanes } = wires;
     thread::scope(thread::scope_env(), service.rt, move |scope| {
-        let mut started = scope
-            .spawn(move || work_in_front(service, inlets, front))
-            .is_ok();
+        let Ok(front) = scope.spawn(move || work_in_front(service, inlets, front)) else {
+            return Err(Fault::Threads);
+        };
+        let mut started = true;
         for (lane, wire) in lanes.into_iter().enumerate() {
             started = started
                 && scope
@@ -160,12 +162,20 @@ where
             Err(Fault::Threads)
         };
         service.attendant.stop();
-        outcome
+        let inlets = front.join(service.rt);
+        match outcome {
+            Ok(writer) => Ok((inlets, writer)),
+            Err(fault) => Err(fault),
+        }
     })
 }
 
-/// Works for the clients until the worker is stopped.
-fn work_in_front<R, W, G, L>(service: Service<'_, R, G, L>, inlets: &mut [Inlet], mut wire: W)
+/// Works for the clients until the worker is stopped, and gives back the inlets.
+fn work_in_front<R, W, G, L>(
+    service: Service<'_, R, G, L>,
+    mut inlets: Vec<Inlet>,
+    mut wire: W,
+) -> Vec<Inlet>
 where
     R: Wait,
     W: Wire + Drop,
@@ -184,12 +194,13 @@ where
         alloc,
         proxy,
         config,
-        inlets,
+        inlets.as_mut_slice(),
         &mut wire,
         attendant,
         u64::MAX,
     );
     attendant.ended(Worker::Front);
+    inlets
 }
 
 /// Works for a lane until the worker is stopped.
@@ -227,17 +238,18 @@ where
 }
 
 /// Obeys the commands of a reader to its end, then drains the lanes and waits until they are done or have lingered.
+/// It gives back the writer.
 fn attend<R, G, L, I, O>(
     service: Service<'_, R, G, L>,
     reader: I,
-    writer: &mut O,
-) -> Result<(), Fault>
+    mut writer: O,
+) -> Result<O, Fault>
 where
     R: Clock + Wait,
     G: Gate,
     L: Log,
     I: Read + Drop,
-    O: Write,
+    O: Write + Drop,
 {
     let mut commands = Commands::new(reader);
     for _ in service.rt.forever() {
@@ -250,7 +262,7 @@ where
         if service.attendant.is_stopped() {
             return Err(Fault::Threads);
         }
-        obey(service, command, writer)?;
+        obey(service, command, &mut writer)?;
     }
     for lane in 0..service.proxy.lanes() {
         service.proxy.drain(service.rt, lane);
@@ -259,7 +271,7 @@ where
     if service.attendant.is_stopped() {
         return Err(Fault::Threads);
     }
-    Ok(())
+    Ok(writer)
 }
 
 /// Obeys a command, and writes what it answers.

@@ -22,7 +22,7 @@ const SLEEP: u64 = 20;
 /// The token of a worker's bell; those of its sockets are their indices.
 const BELL: Token = Token(usize::MAX);
 
-/// How many events a wait gives at once: those of a lane's sockets and of its bell.
+/// How many events a sleep gives at once: those of a lane's sockets and of its bell.
 const EVENTS: usize = 8;
 
 /// A socket, and whether datagrams may wait there. The system tells of a socket only once, when datagrams come to one
@@ -60,17 +60,9 @@ impl Ear {
     }
 }
 
-/// The sockets of a worker, its clock and its random octets.
-///
-/// A receive waits at most 20 milliseconds, and not at all in the turn after a send, when there may be more to send.
-/// Whoever has work for the worker rings its bell and so ends the wait.
+/// The sockets of a worker, and how it sleeps where none of them has a datagram.
 #[derive(Drop)]
-pub struct UdpWire<'a, R> {
-    clock: &'a R,
-    start: Instant,
-    /// The moment that was told last.
-    moment: Moment,
-    random: StdRng,
+struct Ears {
     ears: Vec<Ear>,
     /// The socket that is received from next.
     turn: u16,
@@ -79,25 +71,16 @@ pub struct UdpWire<'a, R> {
     bell: Arc<Bell>,
     /// Whether a datagram went out since the last receive.
     has_sent: bool,
-    traffic: Traffic,
 }
 
-impl<'a, R: Clock> UdpWire<'a, R> {
-    /// A wire over these sockets, which do not wait. Its moments count from the start.
+impl Ears {
+    /// These sockets, which do not wait.
     ///
     /// # Errors
     ///
     /// The system's, and `OutOfMemory`.
-    pub fn new(
-        alloc: Global,
-        clock: &'a R,
-        start: Instant,
-        sockets: Vec<net::UdpSocket>,
-    ) -> io::Result<UdpWire<'a, R>>
-    where
-        R: Net + RandomSource,
-    {
-        let poll = Poll::new(clock)?;
+    fn new(net: &impl Net, alloc: Global, sockets: Vec<net::UdpSocket>) -> io::Result<Ears> {
+        let poll = Poll::new(net)?;
         let bell = Bell::new(Waker::new(poll.registry(), BELL)?);
         let mut ears = Vec::with_capacity(alloc, sockets.len())?;
         for (index, socket) in sockets.into_iter().enumerate() {
@@ -109,28 +92,36 @@ impl<'a, R: Clock> UdpWire<'a, R> {
                 waiting: true,
             })?;
         }
-        Ok(UdpWire {
-            clock,
-            start,
-            moment: Moment::new(0).unwrap(),
-            random: make_rng(clock)?,
+        Ok(Ears {
             ears,
             turn: 0,
             poll,
             events: Events::with_capacity(alloc, EVENTS)?,
             bell: Arc::new(alloc, bell)?,
             has_sent: false,
-            traffic: Traffic::new(),
         })
     }
 
-    /// The bell that ends a wait.
-    ///
-    /// # Errors
-    ///
-    /// Where memory is refused.
-    pub fn bell(&self) -> Result<Arc<Bell>, AllocError> {
-        self.bell.clone()
+    /// Receives a datagram, and waits for one where there is nothing else to do. The worker looks for work afterwards.
+    fn receive(&mut self, room: &mut [u8; 4096]) -> Received
+        ensures { FitsRoom result }
+    {
+        let received = self.wait(room);
+        self.bell.rise();
+        self.has_sent = false;
+        received
+    }
+
+    /// Receives a datagram, and waits for one where there is nothing else to do.
+    fn wait(&mut self, room: &mut [u8; 4096]) -> Received
+        ensures { FitsRoom result }
+    {
+        let received = self.try_each(room);
+        if received != Received::Nothing || self.has_sent || !self.bell.lie_down() {
+            return received;
+        }
+        self.sleep();
+        self.try_each(room)
     }
 
     /// Receives a datagram of one of the sockets where one waits.
@@ -166,7 +157,9 @@ impl<'a, R: Clock> UdpWire<'a, R> {
     /// Sleeps until a datagram comes, the bell rings or a while has passed. Where neither socket nor bell ended the
     /// sleep, each socket is looked at again.
     fn sleep(&mut self) {
-        let _ = self.poll.poll(&mut self.events, Some(Duration::from_millis(SLEEP)));
+        let _ = self
+            .poll
+            .poll(&mut self.events, Some(Duration::from_millis(SLEEP)));
         if self.events.is_empty() {
             for ear in &mut self.ears {
                 ear.waiting = true;
@@ -180,16 +173,66 @@ impl<'a, R: Clock> UdpWire<'a, R> {
         }
     }
 
-    /// Receives a datagram, and waits for one where there is nothing else to do.
-    fn wait(&mut self, room: &mut [u8; 4096]) -> Received
-        ensures { FitsRoom result }
-    {
-        let received = self.try_each(room);
-        if received != Received::Nothing || self.has_sent || !self.bell.lie_down() {
-            return received;
+    /// Sends a datagram from a socket.
+    fn send(&mut self, socket: u16, to: SocketAddr, octets: &[u8]) -> Delivery {
+        self.has_sent = true;
+        let Some(ear) = self.ears.get(usize::from(socket)) else {
+            return Delivery::Fault;
+        };
+        match ear.socket.send_to(octets, to) {
+            Ok(_) => Delivery::Sent,
+            Err(_) => Delivery::Fault,
         }
-        self.sleep();
-        self.try_each(room)
+    }
+}
+
+/// The sockets of a worker, its clock and its random octets.
+///
+/// A receive waits at most 20 milliseconds, and not at all in the turn after a send, when there may be more to send.
+/// Whoever has work for the worker rings its bell and so ends the wait.
+#[derive(Drop)]
+pub struct UdpWire<'a, R> {
+    clock: &'a R,
+    start: Instant,
+    /// The moment that was told last.
+    moment: Moment,
+    random: StdRng,
+    ears: Ears,
+    traffic: Traffic,
+}
+
+impl<'a, R: Clock> UdpWire<'a, R> {
+    /// A wire over these sockets, which do not wait. Its moments count from the start.
+    ///
+    /// # Errors
+    ///
+    /// The system's, and `OutOfMemory`.
+    pub fn new(
+        alloc: Global,
+        clock: &'a R,
+        start: Instant,
+        sockets: Vec<net::UdpSocket>,
+    ) -> io::Result<UdpWire<'a, R>>
+    where
+        R: Net + RandomSource,
+    {
+        Ok(UdpWire {
+            clock,
+            start,
+            moment: Moment::new(0).unwrap(),
+            random: make_rng(clock)?,
+            ears: Ears::new(clock, alloc, sockets)?,
+            traffic: Traffic::new(),
+        })
+    }
+
+    /// The bell that ends a wait.
+    ///
+    /// # Errors
+    ///
+    /// Where memory is refused.
+    pub fn bell(&self) -> Result<Arc<Bell>, AllocError> {
+        self.ears.bell.clone()
     }
 }
 
@@ -212,31 +255,30 @@ impl<R: Clock> Wire for UdpWire<'_, R> {
     }
 
     fn receive(&mut self, datagram: &mut [u8; 4096]) -> Received {
-        let received = self.wait(datagram);
-        self.bell.rise();
-        self.has_sent = false;
-        if let Received::Got {
-            address,
-            port,
-            socket,
-            count,
-        } = received
-        {
-            self.traffic.came(socket, address, port, &datagram[..count]);
+        match self.ears.receive(datagram) {
+            Received::Got {
+                address,
+                port,
+                socket,
+                count,
+            } => {
+                self.traffic
+                    .came(socket, address, port, &datagram[..count]);
+                Received::Got {
+                    address,
+                    port,
+                    socket,
+                    count,
+                }
+            }
+            Received::Nothing => Received::Nothing,
+            Received::Fault => Received::Fault,
         }
-        received
     }
 
     fn send(&mut self, socket: u16, address: [u8; 4], port: u16, octets: &[u8]) -> Delivery {
-        self.has_sent = true;
         self.traffic.went(socket, address, port, octets);
-        let Some(ear) = self.ears.get(usize::from(socket)) else {
-            return Delivery::Fault;
-        };
         let to = SocketAddr::V4(SocketAddrV4::new(Ipv4Addr::from(address), port));
-        match ear.socket.send_to(octets, to) {
-            Ok(_) => Delivery::Sent,
-            Err(_) => Delivery::Fault,
-        }
+        self.ears.send(socket, to, octets)
     }
 }
