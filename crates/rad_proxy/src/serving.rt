@@ -1,5 +1,7 @@
 //! `run`: the proxy over UDP, with a thread for the clients and one for each lane.
 
+ghost use denote.Param.Send.{IsSend, IsSync};
+
 use crate::attending::Attendant;
 use crate::commands::{Command, Commands};
 use crate::faults::Fault;
@@ -145,29 +147,35 @@ where
     O: Write + Drop,
 {
     let Wires { front, lanes } = wires;
-    thread::scope(thread::scope_env(), service.rt, move |scope| {
-        let Ok(front) = scope.spawn(move || work_in_front(service, inlets, front)) else {
-            return Err(Fault::Threads);
-        };
-        let mut started = true;
-        for (lane, wire) in lanes.into_iter().enumerate() {
-            started = started
-                && scope
-                    .spawn(move || work_on_lane(service, lane, wire))
-                    .is_ok();
-        }
-        let outcome = if started {
-            attend(service, reader, writer)
-        } else {
-            Err(Fault::Threads)
-        };
-        service.attendant.stop();
-        let inlets = front.join(service.rt);
-        match outcome {
-            Ok(writer) => Ok((inlets, writer)),
-            Err(fault) => Err(fault),
-        }
-    })
+    thread::scope(
+        thread::scope_env(),
+        service.rt,
+        move |scope| -> Result<(Vec<Inlet>, O), Fault>
+            requires { IsSync R.row × IsSend W.row × IsSync G.row × IsSync L.row }
+        {
+            let Ok(front) = scope.spawn(move || work_in_front(service, inlets, front)) else {
+                return Err(Fault::Threads);
+            };
+            let mut started = true;
+            for (lane, wire) in lanes.into_iter().enumerate() {
+                started = started
+                    && scope
+                        .spawn(move || work_on_lane(service, lane, wire))
+                        .is_ok();
+            }
+            let outcome = if started {
+                attend(service, reader, writer)
+            } else {
+                Err(Fault::Threads)
+            };
+            service.attendant.stop();
+            let inlets = front.join(service.rt);
+            match outcome {
+                Ok(writer) => Ok((inlets, writer)),
+                Err(fault) => Err(fault),
+            }
+        },
+    )
 }
 
 /// Works for the clients until the worker is stopped, and gives back the inlets.
