@@ -39,7 +39,8 @@ impl TestLane {
     }
 }
 
-fn checked<'a>(config: &'a Config, request: &'a [u8]) -> Result<Checked<'a>, Fail> {
+/// A request, once it is checked.
+pub fn checked<'a>(config: &'a Config, request: &'a [u8]) -> Result<Checked<'a>, Fail> {
     match check_in(config, CLIENT, CLIENT_PORT, request) {
         Ok(Incoming::Request(checked)) => Ok(checked),
         _ => Err(Fail::from("no request")),
