@@ -39,6 +39,6 @@ edits:
 spoiled:
 	@python3 tests/hostile/mutations.py $(PROGRAM) $(DATAGRAMS) $(SEED)
 
-# The program over UDP and a network that loses, for SECONDS; the gate has three short runs of a fixed count of requests.
+# The program over UDP and a network that loses, for SECONDS; the gate has short runs of a fixed count of requests.
 soak:
 	@python3 tests/hostile/soak.py $(PROGRAM) --seconds $(SECONDS) $(SEED)
