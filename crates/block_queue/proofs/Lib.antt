@@ -3,3 +3,4 @@ mod Lending
 mod Places
 mod Regions
 mod Rooms
+mod Sending

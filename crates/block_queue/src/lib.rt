@@ -13,6 +13,7 @@ mod block_queue;
 mod chain;
 mod fifo;
 mod iter;
+mod nodes;
 mod plain_queue;
 mod region;
 #[cfg(test)]

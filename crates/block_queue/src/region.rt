@@ -14,8 +14,8 @@ pub(crate) const PLACES: usize = 32;
 ///
 /// It is given back to the allocator by [`Region::free`] alone, once no place holds a value.
 pub(crate) struct Region<T, A: Allocator> {
-    first: *mut T,
-    by: PhantomData<A>,
+    pub(crate) first: *mut T,
+    pub(crate) by: PhantomData<A>,
     ghost heap: { A },
     ghost places: { List (Option T) },
 }
