@@ -1,5 +1,6 @@
 mod Blocks
 mod Lending
+mod NodeSteps
 mod Places
 mod Regions
 mod Rooms
