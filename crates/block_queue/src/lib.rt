@@ -10,6 +10,7 @@
 
 mod block;
 mod block_queue;
+mod blocks;
 mod chain;
 mod fifo;
 mod iter;

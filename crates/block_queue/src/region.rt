@@ -1,5 +1,5 @@
 //! Raw memory for the values of one block.
-ghost use Rattle.std.specs.Prelude.{◌≡◌, ℕ, ◌<◌, [], true, List, Option, Some, None, IfOk, get_or, length, slice_set};
+ghost use Rattle.std.specs.Prelude.{◌≡◌, ℕ, ◌<◌, [], ◌∷◌, true, List, Option, Some, None, IfOk, get_or, length, slice_set};
 ghost use Rattle.block_queue.specs.Places.{laid, IsFilled};
 ghost use Rattle.block_queue.specs.Region.{Fits, region_owns, region_lent};
 
@@ -47,6 +47,16 @@ impl<T, A: Allocator> Region<T, A> {
         Region::allocate(alloc, PLACES)
     }
 
+    /// A region of one place, which is empty. An error means what it means of [`Region::new`].
+    pub(crate) fn single(alloc: &A) -> Result<Region<T, A>, AllocError>
+        ensures { IfOk result (λ r. (r.places ≡ None ∷ []) × (r.heap ≡ alloc.now)) }
+    {
+        if !has_layout::<T>() {
+            return Err(AllocError);
+        }
+        Region::allocate(alloc, 1)
+    }
+
     fn allocate(alloc: &A, count: usize) -> Result<Region<T, A>, AllocError>
         requires { Fits T.row count }
         ensures { IfOk result (λ r. (r.places ≡ laid 0 [] count) × (r.heap ≡ alloc.now)) }
@@ -66,6 +76,14 @@ impl<T, A: Allocator> Region<T, A> {
         requires heap { self.heap ≡ alloc.now }
     {
         self.release(alloc, PLACES);
+    }
+
+    /// Gives the memory of a region of one place back.
+    pub(crate) fn free_single(self, alloc: &A)
+        requires empty { self.places ≡ None ∷ [] }
+        requires heap { self.heap ≡ alloc.now }
+    {
+        self.release(alloc, 1);
     }
 
     fn release(self, alloc: &A, count: usize)
