@@ -41,11 +41,11 @@ module _ {E : Type 0} where
     pub within : index ≤ length cells
 
 -- the list, where there is one
-unfoldable pub joined : {X : Type 0} → Option (List X) → List X
+abbrev pub joined : {X : Type 0} → Option (List X) → List X
 joined None = []
 joined (Some list) = list
 
 -- what a `&` points to, where there is one
-unfoldable pub shown : {X : Type 0} → Option (Bor X) → List X
+abbrev pub shown : {X : Type 0} → Option (Bor X) → List X
 shown None = []
 shown (Some x) = x.now ∷ []

@@ -1,9 +1,9 @@
 ghost use Rattle.std.specs.Prelude.{◌≡◌, ◌+◌, ◌^◌, ◌<◌, ◌++◌, length};
 ghost use Rattle.std.specs.Map.Iter.{ShowsInOrder, deref};
 
-use crate::blocks::{Blocks, Load};
+use crate::linking::{Blocks, Load};
 use crate::iter::Iter;
-use crate::{Fifo, blocks};
+use crate::{Fifo, linking};
 use core::mem::replace_with;
 use std::alloc::{AllocError, Global};
 use std::marker::Model;
@@ -56,15 +56,15 @@ impl<T> Fifo<T> for BlockQueue<T> {
         if self.count >= MOST {
             return Err(AllocError);
         }
-        blocks::add(&mut self.blocks, &mut self.kept, self.alloc)
+        linking::add(&mut self.blocks, &mut self.kept, self.alloc)
     }
 
     fn spare(&self) -> usize {
-        blocks::spare(&self.blocks)
+        linking::spare(&self.blocks)
     }
 
     fn push_back(&mut self, item: T) {
-        blocks::push(&mut self.blocks, item);
+        linking::push(&mut self.blocks, item);
         self.count += 1;
     }
 
@@ -73,11 +73,11 @@ impl<T> Fifo<T> for BlockQueue<T> {
             return None;
         }
         self.count -= 1;
-        Some(blocks::pop(&mut self.blocks, &mut self.kept))
+        Some(linking::pop(&mut self.blocks, &mut self.kept))
     }
 
     fn front(&self) -> Option<&T> {
-        blocks::first_item(&self.blocks)
+        linking::first_item(&self.blocks)
     }
 
     fn len(&self) -> usize {
@@ -95,7 +95,7 @@ impl<T> BlockQueue<T> {
         ensures rest { result ≡ self.now.items }
         ensures runs { ShowsInOrder (deref {X = T}) }
     {
-        Iter::new(blocks::walk(&self.blocks))
+        Iter::new(linking::walk(&self.blocks))
     }
 
     /// Puts the items of another queue behind these. It takes no memory, and may give one block
@@ -111,13 +111,13 @@ impl<T> BlockQueue<T> {
             alloc: _,
         } = other;
         let empty = if count == 0 {
-            replace_with(&mut self.blocks, blocks, blocks::linked_in_front)
+            replace_with(&mut self.blocks, blocks, linking::linked_in_front)
         } else {
-            replace_with(&mut self.blocks, blocks, blocks::linked)
+            replace_with(&mut self.blocks, blocks, linking::linked)
         };
-        blocks::keep(&mut self.kept, empty);
-        blocks::keep(&mut self.kept, kept);
-        blocks::keep_one(&self.blocks, &mut self.kept);
+        linking::keep(&mut self.kept, empty);
+        linking::keep(&mut self.kept, kept);
+        linking::keep_one(&self.blocks, &mut self.kept);
         self.count += count;
     }
 }

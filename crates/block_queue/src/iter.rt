@@ -4,7 +4,7 @@ ghost use Rattle.std.specs.Map.Iter.{TakesFirst, deref};
 ghost use Rattle.block_queue.specs.Blocks.{items_of, left_in, IsChain};
 
 use crate::block::Block;
-use crate::blocks::Rest;
+use crate::linking::Rest;
 use std::marker::Model;
 
 /// The items of a queue, the oldest first.

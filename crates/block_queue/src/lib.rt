@@ -10,10 +10,11 @@
 
 mod block;
 mod block_queue;
-mod blocks;
+
 mod chain;
 mod fifo;
 mod iter;
+mod linking;
 mod nodes;
 mod plain_queue;
 mod region;

@@ -1,5 +1,5 @@
 //! The blocks of a queue: the first and the last at hand, and those between them in a chain.
-ghost use Rattle.std.specs.Prelude.{◌≡◌, ◌^◌, ◌<◌, ◌≤◌, ◌⊎◌, true, [], ◌∷◌, ◌++◌, OnOk, OnErr, IfOk, IfSome, drop as without, length, option_copied, slice_set};
+ghost use Rattle.std.specs.Prelude.{◌≡◌, ◌^◌, ◌<◌, ◌≤◌, ◌⊎◌, true, false, [], ◌∷◌, ◌++◌, OnOk, OnErr, IfOk, IfSome, drop as without, length, option_copied, slice_set};
 ghost use Rattle.std.specs.Map.Iter.{TakesFirst, deref};
 ghost use Rattle.block_queue.specs.Queue.{oldest};
 ghost use Rattle.block_queue.specs.Blocks.{items_of, room_of, pushed, begins_empty, finishes_empty, AllHaveItems, IsChain, IsJoined};
@@ -323,17 +323,6 @@ impl<'a, T> Model for Rest<'a, T> {
 }
 
 impl<'a, T> Rest<'a, T> {
-    /// No blocks.
-    pub(crate) fn none() -> Rest<'a, T>
-        ensures { result ≡ [] }
-    {
-        Rest {
-            first: None,
-            middle: None,
-            last: None,
-        }
-    }
-
     /// The next block, if there is one more.
     pub(crate) fn next(&mut self) -> Option<&'a Block<T>>
         ensures { TakesFirst deref self.old result self.new }
@@ -573,7 +562,11 @@ pub(crate) fn walk<T>(blocks: &Option<Blocks<T>>) -> Rest<'_, T>
 {
     match blocks {
         Some(blocks) => blocks.walk(),
-        None => Rest::none(),
+        None => Rest {
+            first: None,
+            middle: None,
+            last: None,
+        },
     }
 }
 
