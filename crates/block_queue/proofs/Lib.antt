@@ -1,4 +1,6 @@
 mod Blocks
+mod Cells
+mod Ends
 mod Lending
 mod NodeSteps
 mod Places

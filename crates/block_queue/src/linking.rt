@@ -177,7 +177,8 @@ impl<T> Blocks<T> {
 
     /// Puts other blocks, if there are any, in front of these.
     fn follow(self, others: Option<Front<T>>) -> Blocks<T>
-        ensures { result ≡ joined others ++ self }
+        ensures blocks { result ≡ joined others ++ self }
+        ensures some { 0 < length self }
     {
         let Blocks { front, last } = self;
         match (others, front) {
@@ -254,7 +255,13 @@ impl<T> Blocks<T> {
         ensures one { result ≡ true → length self.now ≡ 1 }
         ensures more { result ≡ false → 2 ≤ length self.now }
     {
-        self.front.is_none()
+        match &self.front {
+            Some(front) => {
+                let _ = &front.first;
+                false
+            }
+            None => true,
+        }
     }
 
     /// Has the only block begin again.

@@ -98,7 +98,7 @@ impl<T, A: Allocator> Region<T, A> {
     /// Moves a value into an empty place.
     pub(crate) fn write(&mut self, index: usize, item: T)
         requires { (index < length self.old.places) × (get_or self.old.places index None ≡ None) }
-        ensures { (self.new.places ≡ slice_set self.old.places index (Some item)) × (self.new.heap ≡ self.old.heap) }
+        ensures { (self.new.places ≡ slice_set self.old.places index (Some item)) × (self.new.heap ≡ self.old.heap) × (self.new.first ≡ self.old.first) }
     {
         unsafe { self.first.add(index).write(item) }
     }
@@ -107,7 +107,7 @@ impl<T, A: Allocator> Region<T, A> {
     pub(crate) fn read(&mut self, index: usize) -> T
         requires { IsFilled self.old.places index }
         ensures value { get_or self.old.places index None ≡ Some result }
-        ensures places { (self.new.places ≡ slice_set self.old.places index None) × (self.new.heap ≡ self.old.heap) }
+        ensures places { (self.new.places ≡ slice_set self.old.places index None) × (self.new.heap ≡ self.old.heap) × (self.new.first ≡ self.old.first) }
     {
         unsafe { self.first.add(index).read() }
     }
