@@ -193,11 +193,16 @@ module _ {T : Type 0} where
   no_more_than [] all = omega arith
   no_more_than (b ∷ bs) all = omega (arith, length-append b.items (items_of bs), no_more_than bs all.1, all.0)
 
-  pub one_more_than : (bs : List (Queue T)) → IsChain bs → length bs ≤ length (items_of bs) + 1
-  unfolding items_of IsChain
-  one_more_than [] h = omega arith
-  one_more_than (b ∷ []) h = omega arith
-  one_more_than (b ∷ c ∷ cs) h = omega (arith, length-append b.items (items_of (c ∷ cs)), one_more_than (c ∷ cs) h.1, h.0)
+  -- each block has an item or room
+  few_blocks : (bs : List (Queue T)) → IsChain bs → length bs ≤ length (items_of bs) + room_of bs
+  unfolding items_of room_of IsChain
+  few_blocks [] h = omega arith
+  few_blocks (b ∷ []) (inl some) = omega (arith, length-append b.items [])
+  few_blocks (b ∷ []) (inr room) = omega arith
+  few_blocks (b ∷ c ∷ cs) h = omega (arith, length-append b.items (items_of (c ∷ cs)), few_blocks (c ∷ cs) h.1, h.0)
+
+  pub blocks_fit : (count : ℕ) (bs : List (Queue T)) → IsQueue count bs → length bs < 2 ^ 64
+  blocks_fit count bs is = let few = few_blocks bs is.chained in let n = is.counted in let fits = is.fits in omega arith
 
   pub queue_new : (bs : List (Queue T)) → bs ≡ [] → IsQueue 0 bs × (items_of bs ≡ [])
   unfolding items_of room_of IsChain

@@ -29,7 +29,7 @@ impl<'a, T> Model for Iter<'a, T> {
 impl<'a, T> Iter<'a, T> {
     pub(crate) fn new(blocks: Rest<'a, T>) -> Iter<'a, T>
         requires { IsChain blocks }
-        ensures { result ≡ items_of blocks }
+        ensures { result ≡ items_of blocks.entry }
     {
         Iter {
             blocks,

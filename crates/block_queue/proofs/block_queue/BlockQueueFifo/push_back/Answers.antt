@@ -6,7 +6,7 @@ use Rattle.block_queue.proofs.block_queue.BlockQueueFifo.push_back.Goals as goal
 pub invariant_of-self : goal.invariant_of-self
 invariant_of-self g c =
     let q = c.self.inside in let room = subst (λ v. 1 ≤ v.room) (sym c.self.view_is) c.requires in
-    (queue_pushed q.count (joined q.blocks) _ c.args.item c.self.invariant.0 room c.push.ensures).0
+    ((queue_pushed q.count (joined q.blocks) _ c.args.item c.self.invariant.0 room c.push.ensures).0, c.self.invariant.1)
 
 pub returns-clause-items : goal.returns-clause-items
 returns-clause-items g c =

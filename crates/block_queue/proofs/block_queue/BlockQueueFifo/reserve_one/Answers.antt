@@ -7,7 +7,7 @@ use Rattle.block_queue.proofs.block_queue.BlockQueueFifo.reserve_one.Goals as go
 pub invariant_of-self : goal.invariant_of-self
 invariant_of-self g c =
     let q = c.self.inside in let same = ap (λ v. v.room) c.self.view_is in let full : room_of (joined q.blocks) ≡ 0 = omega arith in let few : q.count < 2 ^ 63 = omega arith in
-    (queue_grown c.add.result q.count (joined q.blocks) _ _ c.self.invariant.0 full few refl refl c.add.ensures.ok c.add.ensures.refused).0
+    ((queue_grown c.add.result q.count (joined q.blocks) _ _ c.self.invariant.0 full few refl refl c.add.ensures.ok c.add.ensures.refused).0, c.add.ensures.kept)
 
 pub returns-clause-items : goal.returns-clause-items
 returns-clause-items g c =
