@@ -21,10 +21,75 @@ run: build
 	@$(PROGRAM) replay < $(EXAMPLE)
 
 # The whole gate: all proofs from nothing, the edits of must-fail/, the tests, the stored run, then the octets that the tests
-# expect, and the rows over the program that was built. The last line counts all of it.
+# expect, and the rows and the examples over the program that was built. The last line counts all of it.
 test:
 	@python3 tests/gate.py $(PROGRAM)
 
 # The wrong bodies that the gate leaves out: the prover has to refuse each one.
 edits:
 	@python3 tests/edits.py $(CRATES)
+
+# Where `make install` puts things. DESTDIR stands before each of them.
+VERSION = 0.1.0
+PREFIX ?= /usr/local
+SBINDIR ?= $(PREFIX)/sbin
+LIBEXECDIR ?= $(PREFIX)/libexec
+MANDIR ?= $(PREFIX)/share/man
+DOCDIR ?= $(PREFIX)/share/doc/rad_proxy
+UNITDIR ?= $(PREFIX)/lib/systemd/system
+SYSUSERSDIR ?= $(PREFIX)/lib/sysusers.d
+SYSCONFDIR ?= /etc
+RUNDIR ?= /run
+DESTDIR ?=
+
+# What is made of the sources of packaging/: the folders, and for the unit the configuration's name.
+FOLDERS = -e 's,@sbindir@,$(SBINDIR),g' -e 's,@libexecdir@,$(LIBEXECDIR),g' -e 's,@sysconfdir@,$(SYSCONFDIR),g' \
+	-e 's,@rundir@,$(RUNDIR),g'
+ONE = -e 's,@of@,,' -e 's,@config@,rad_proxy,g' -e 's,@runtime@,rad_proxy,'
+MANY = -e 's,@of@, %i,' -e 's,@config@,%i,g' -e 's,@runtime@,rad_proxy-%i,'
+MADE = out/install
+
+.PHONY: install uninstall manual deb service
+
+# Installs the program that `make build` left, the scripts of the service, the units, the manual and the examples. The
+# configuration is the operator's: $(SYSCONFDIR)/rad_proxy is made, and nothing is put there.
+install:
+	@test -x $(PROGRAM) || { echo "there is no $(PROGRAM): run make build first" >&2; exit 1; }
+	@mkdir -p $(MADE)
+	sed $(FOLDERS) packaging/serve.in > $(MADE)/serve
+	sed $(FOLDERS) packaging/rad_proxyctl.in > $(MADE)/rad_proxyctl
+	sed $(FOLDERS) $(ONE) packaging/rad_proxy.service.in > $(MADE)/rad_proxy.service
+	sed $(FOLDERS) $(MANY) packaging/rad_proxy.service.in > $(MADE)/rad_proxy@.service
+	install -d $(DESTDIR)$(SBINDIR) $(DESTDIR)$(LIBEXECDIR)/rad_proxy $(DESTDIR)$(UNITDIR) $(DESTDIR)$(SYSUSERSDIR)
+	install -d $(DESTDIR)$(MANDIR)/man8 $(DESTDIR)$(MANDIR)/man5 $(DESTDIR)$(DOCDIR) $(DESTDIR)$(SYSCONFDIR)/rad_proxy
+	install -m 755 $(PROGRAM) $(MADE)/rad_proxyctl $(DESTDIR)$(SBINDIR)
+	install -m 755 $(MADE)/serve $(DESTDIR)$(LIBEXECDIR)/rad_proxy
+	install -m 644 $(MADE)/rad_proxy.service $(MADE)/rad_proxy@.service $(DESTDIR)$(UNITDIR)
+	install -m 644 packaging/sysusers.conf $(DESTDIR)$(SYSUSERSDIR)/rad_proxy.conf
+	install -m 644 man/man8/rad_proxy.8 man/man8/rad_proxyctl.8 $(DESTDIR)$(MANDIR)/man8
+	install -m 644 man/man5/rad_proxy.toml.5 $(DESTDIR)$(MANDIR)/man5
+	install -m 644 README.md LICENSE docs/*.md $(DESTDIR)$(DOCDIR)
+	cp -R examples $(DESTDIR)$(DOCDIR)
+	chmod -R u=rwX,go=rX $(DESTDIR)$(DOCDIR)
+
+# Takes away what `make install` put, and leaves the configuration.
+uninstall:
+	rm -f $(DESTDIR)$(SBINDIR)/rad_proxy $(DESTDIR)$(SBINDIR)/rad_proxyctl
+	rm -f $(DESTDIR)$(UNITDIR)/rad_proxy.service $(DESTDIR)$(UNITDIR)/rad_proxy@.service
+	rm -f $(DESTDIR)$(SYSUSERSDIR)/rad_proxy.conf $(DESTDIR)$(MANDIR)/man8/rad_proxy.8
+	rm -f $(DESTDIR)$(MANDIR)/man8/rad_proxyctl.8 $(DESTDIR)$(MANDIR)/man5/rad_proxy.toml.5
+	rm -rf $(DESTDIR)$(LIBEXECDIR)/rad_proxy $(DESTDIR)$(DOCDIR)
+
+# Looks at the manual and at the scripts of packaging/: mandoc and shellcheck have to find nothing.
+manual:
+	MANPATH=man: mandoc -T lint -W style man/man8/rad_proxy.8 man/man8/rad_proxyctl.8 man/man5/rad_proxy.toml.5
+	shellcheck packaging/serve.in packaging/rad_proxyctl.in packaging/deb packaging/try-deb packaging/try-service \
+		packaging/debian/postinst packaging/debian/prerm packaging/debian/postrm
+
+# A Debian package of the program that `make build` left, in out/.
+deb:
+	@VERSION=$(VERSION) packaging/deb
+
+# Tries the installed scripts and the program over UDP on this machine's own address.
+service:
+	@packaging/try-service

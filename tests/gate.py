@@ -1,12 +1,12 @@
 #!/usr/bin/env python3
 """The whole gate: what `rt ci` proves, refuses and runs, then the octets that the tests expect, as another
-implementation makes them, and the rows over the program that `rt ci` built.
+implementation makes them, and the rows and the examples over the program that `rt ci` built.
 
 usage: gate.py PROGRAM
 
-What `rt ci` says goes to out/gate.txt, what the octets and the rows say to out/vectors.txt and out/rows.txt, and what each
-crate took, as a table in Markdown, to out/times.md. The last line is `N passed, M failed`, of all of it together; what
-ends badly or without such a line of its own counts as a failure.
+What `rt ci` says goes to out/gate.txt, what the octets, the rows and the examples say to out/vectors.txt, out/rows.txt
+and out/examples.txt, and what each crate took, as a table in Markdown, to out/times.md. The last line is `N passed, M
+failed`, of all of it together; what ends badly or without such a line of its own counts as a failure.
 """
 import os
 import pathlib
@@ -66,7 +66,8 @@ def taken(watch):
 def main():
     if len(sys.argv) != 2:
         sys.exit(__doc__)
-    gate, vectors, rows, times = (TOP / "out" / name for name in ("gate.txt", "vectors.txt", "rows.txt", "times.md"))
+    names = ("gate.txt", "vectors.txt", "rows.txt", "examples.txt", "times.md")
+    gate, vectors, rows, examples, times = (TOP / "out" / name for name in names)
     status, watch = progress.run([*RT, "ci"], TOP, gate, list(parts()))
     times.write_text(taken(watch))
     print(f"what each crate took stands in {times}", flush=True)
@@ -74,6 +75,7 @@ def main():
         counted(status, gate),
         counted(shown("vectors.py", "--check", vectors), vectors),
         counted(shown("rows/run.py", sys.argv[1], rows), rows),
+        counted(shown("examples.py", sys.argv[1], examples), examples),
     ]
     passed, failed = map(sum, zip(*counts))
     print(f"{passed} passed, {failed} failed")
