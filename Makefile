@@ -61,14 +61,15 @@ install:
 	sed $(FOLDERS) $(ONE) packaging/rad_proxy.service.in > $(MADE)/rad_proxy.service
 	sed $(FOLDERS) $(MANY) packaging/rad_proxy.service.in > $(MADE)/rad_proxy@.service
 	install -d $(DESTDIR)$(SBINDIR) $(DESTDIR)$(LIBEXECDIR)/rad_proxy $(DESTDIR)$(UNITDIR) $(DESTDIR)$(SYSUSERSDIR)
-	install -d $(DESTDIR)$(MANDIR)/man8 $(DESTDIR)$(MANDIR)/man5 $(DESTDIR)$(DOCDIR) $(DESTDIR)$(SYSCONFDIR)/rad_proxy
+	install -d $(DESTDIR)$(MANDIR)/man8 $(DESTDIR)$(MANDIR)/man5 $(DESTDIR)$(DOCDIR)/docs $(DESTDIR)$(SYSCONFDIR)/rad_proxy
 	install -m 755 $(PROGRAM) $(MADE)/rad_proxyctl $(DESTDIR)$(SBINDIR)
 	install -m 755 $(MADE)/serve $(DESTDIR)$(LIBEXECDIR)/rad_proxy
 	install -m 644 $(MADE)/rad_proxy.service $(MADE)/rad_proxy@.service $(DESTDIR)$(UNITDIR)
 	install -m 644 packaging/sysusers.conf $(DESTDIR)$(SYSUSERSDIR)/rad_proxy.conf
 	install -m 644 man/man8/rad_proxy.8 man/man8/rad_proxyctl.8 $(DESTDIR)$(MANDIR)/man8
 	install -m 644 man/man5/rad_proxy.toml.5 $(DESTDIR)$(MANDIR)/man5
-	install -m 644 README.md LICENSE docs/*.md $(DESTDIR)$(DOCDIR)
+	install -m 644 README.md LICENSE $(DESTDIR)$(DOCDIR)
+	install -m 644 docs/*.md $(DESTDIR)$(DOCDIR)/docs
 	cp -R examples $(DESTDIR)$(DOCDIR)
 	chmod -R u=rwX,go=rX $(DESTDIR)$(DOCDIR)
 
@@ -82,7 +83,7 @@ uninstall:
 
 # Looks at the manual and at the scripts of packaging/: mandoc and shellcheck have to find nothing.
 manual:
-	MANPATH=man: mandoc -T lint -W style man/man8/rad_proxy.8 man/man8/rad_proxyctl.8 man/man5/rad_proxy.toml.5
+	mandoc -T lint -W warning man/man8/rad_proxy.8 man/man8/rad_proxyctl.8 man/man5/rad_proxy.toml.5
 	shellcheck packaging/serve.in packaging/rad_proxyctl.in packaging/deb packaging/try-deb packaging/try-service \
 		packaging/debian/postinst packaging/debian/prerm packaging/debian/postrm
 
