@@ -47,7 +47,6 @@ FOLDERS = -e 's,@sbindir@,$(SBINDIR),g' -e 's,@libexecdir@,$(LIBEXECDIR),g' -e '
 	-e 's,@rundir@,$(RUNDIR),g'
 ONE = -e 's,@of@,,' -e 's,@config@,rad_proxy,g' -e 's,@runtime@,rad_proxy,'
 MANY = -e 's,@of@, %i,' -e 's,@config@,%i,g' -e 's,@runtime@,rad_proxy-%i,'
-MADE = out/install
 
 .PHONY: install uninstall manual deb service
 
@@ -55,16 +54,15 @@ MADE = out/install
 # configuration is the operator's: $(SYSCONFDIR)/rad_proxy is made, and nothing is put there.
 install:
 	@test -x $(PROGRAM) || { echo "there is no $(PROGRAM): run make build first" >&2; exit 1; }
-	@mkdir -p $(MADE)
-	sed $(FOLDERS) packaging/serve.in > $(MADE)/serve
-	sed $(FOLDERS) packaging/rad_proxyctl.in > $(MADE)/rad_proxyctl
-	sed $(FOLDERS) $(ONE) packaging/rad_proxy.service.in > $(MADE)/rad_proxy.service
-	sed $(FOLDERS) $(MANY) packaging/rad_proxy.service.in > $(MADE)/rad_proxy@.service
 	install -d $(DESTDIR)$(SBINDIR) $(DESTDIR)$(LIBEXECDIR)/rad_proxy $(DESTDIR)$(UNITDIR) $(DESTDIR)$(SYSUSERSDIR)
 	install -d $(DESTDIR)$(MANDIR)/man8 $(DESTDIR)$(MANDIR)/man5 $(DESTDIR)$(DOCDIR)/docs $(DESTDIR)$(SYSCONFDIR)/rad_proxy
-	install -m 755 $(PROGRAM) $(MADE)/rad_proxyctl $(DESTDIR)$(SBINDIR)
-	install -m 755 $(MADE)/serve $(DESTDIR)$(LIBEXECDIR)/rad_proxy
-	install -m 644 $(MADE)/rad_proxy.service $(MADE)/rad_proxy@.service $(DESTDIR)$(UNITDIR)
+	install -m 755 $(PROGRAM) $(DESTDIR)$(SBINDIR)
+	sed $(FOLDERS) packaging/rad_proxyctl.in > $(DESTDIR)$(SBINDIR)/rad_proxyctl
+	sed $(FOLDERS) packaging/serve.in > $(DESTDIR)$(LIBEXECDIR)/rad_proxy/serve
+	chmod 755 $(DESTDIR)$(SBINDIR)/rad_proxyctl $(DESTDIR)$(LIBEXECDIR)/rad_proxy/serve
+	sed $(FOLDERS) $(ONE) packaging/rad_proxy.service.in > $(DESTDIR)$(UNITDIR)/rad_proxy.service
+	sed $(FOLDERS) $(MANY) packaging/rad_proxy.service.in > $(DESTDIR)$(UNITDIR)/rad_proxy@.service
+	chmod 644 $(DESTDIR)$(UNITDIR)/rad_proxy.service $(DESTDIR)$(UNITDIR)/rad_proxy@.service
 	install -m 644 packaging/sysusers.conf $(DESTDIR)$(SYSUSERSDIR)/rad_proxy.conf
 	install -m 644 man/man8/rad_proxy.8 man/man8/rad_proxyctl.8 $(DESTDIR)$(MANDIR)/man8
 	install -m 644 man/man5/rad_proxy.toml.5 $(DESTDIR)$(MANDIR)/man5
