@@ -4,3 +4,5 @@ pub mod Inlet
 pub mod Tells
 pub mod Departures
 pub mod Lawful
+pub mod Ending
+pub mod Refusing

@@ -11,17 +11,22 @@
 #![tactic(auto)]
 
 mod agreeing;
+mod closing;
 mod desk;
+mod ending;
 mod hearing;
 mod inlet;
 pub mod laws;
 mod numbered;
 mod proxy;
+mod report;
 #[cfg(test)]
 mod tests;
 mod working;
 
+pub use closing::CloseFault;
 pub use desk::OpenFault;
 pub use hearing::{DeskFault, Told};
 pub use inlet::Inlet;
 pub use proxy::{Proxy, open};
+pub use report::{LaneEnd, Report, Rest};
