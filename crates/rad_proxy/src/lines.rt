@@ -2,11 +2,11 @@
 
 ghost use Rattle.std.specs.Prelude.{◌≡◌, ◌≤◌, length};
 
-use crate::hearing::{HomeFault, Told};
-use crate::names::{AddressText, mode_name, refusal_name, watch_name};
+use crate::names::{AddressText, DeskFaultText, mode_name, refusal_name, watch_name};
 use crate::packet_text::PacketText;
 use crate::path::{Given, PathFault};
 use rad_auth::Reply;
+use rad_desk::{DeskFault, Told};
 use rad_lane::{Action, Counts, Outgoing, Taken};
 use std::fmt;
 
@@ -30,7 +30,7 @@ pub struct StepLine<'a> {
 #[derive(Clone, Copy)]
 pub struct HomeLine {
     pub lane: u16,
-    pub outcome: Result<Told, HomeFault>,
+    pub outcome: Result<Told, DeskFault>,
 }
 
 /// The response that was taken of those that wait at a lane, where one waited.
@@ -42,7 +42,7 @@ pub struct TakeLine {
 /// That a lane takes no more requests.
 #[derive(Clone, Copy)]
 pub struct DrainLine {
-    pub lane: usize,
+    pub lane: u16,
     /// How many requests it had accepted.
     pub count: u64,
 }
@@ -50,7 +50,7 @@ pub struct DrainLine {
 /// How a lane stands.
 #[derive(Drop)]
 pub struct StateLine<'a> {
-    pub lane: usize,
+    pub lane: u16,
     /// The home server's name.
     pub name: &'a str,
     pub counts: Counts,
@@ -67,8 +67,8 @@ pub struct EndLine {
     pub queued: usize,
     /// How many requests were sent and not answered.
     pub outstanding: usize,
-    /// How many responses were not taken.
-    pub untaken: usize,
+    /// How many responses were not taken, where that is known.
+    pub untaken: Option<usize>,
 }
 
 /// How many clients, home servers and realms a configuration has.
@@ -80,13 +80,13 @@ pub struct CountLine {
 }
 
 impl EndLine {
-    ghost use Rattle.std.specs.Prelude.{◌≡◌, ◌↔◌, IsTrue};
+    ghost use Rattle.std.specs.Prelude.{◌≡◌, ◌↔◌, IsTrue, Some};
 
-    /// Whether nothing is left.
+    /// Whether it is known that nothing is left.
     pub fn is_clean(&self) -> bool
-        ensures { IsTrue result ↔ ((self.now.queued ≡ 0) × (self.now.outstanding ≡ 0) × (self.now.untaken ≡ 0)) }
+        ensures { IsTrue result ↔ ((self.now.queued ≡ 0) × (self.now.outstanding ≡ 0) × (self.now.untaken ≡ Some 0)) }
     {
-        self.queued == 0 && self.outstanding == 0 && self.untaken == 0
+        self.queued == 0 && self.outstanding == 0 && self.untaken == Some(0)
     }
 }
 
@@ -108,7 +108,6 @@ impl fmt::Display for NasLine<'_> {
                 write!(f, "nas: again {lane} {number} {written}")
             }
             Err(PathFault::Dropped(dropped)) => write!(f, "nas: dropped {dropped}"),
-            Err(PathFault::WrongLane) => write!(f, "nas: refused WrongLane"),
             Err(PathFault::Refused(refusal)) => {
                 let refusal = refusal_name(refusal);
                 write!(f, "nas: refused {refusal}")
@@ -154,7 +153,10 @@ impl fmt::Display for HomeLine {
         match self.outcome {
             Ok(Told::Answer(serial)) => write!(f, "home: answer {lane} {serial}"),
             Ok(Told::ProbeAnswered) => write!(f, "home: probe"),
-            Err(fault) => write!(f, "home: dropped {fault}"),
+            Err(fault) => {
+                let fault = DeskFaultText(fault);
+                write!(f, "home: dropped {fault}")
+            }
         }
     }
 }
@@ -246,11 +248,11 @@ impl fmt::Display for EndLine {
     fn fmt<W: fmt::Write>(&self, f: &mut fmt::Formatter<W>) -> fmt::Result {
         let queued = self.queued;
         let outstanding = self.outstanding;
-        let untaken = self.untaken;
-        write!(
-            f,
-            "end: queued {queued} outstanding {outstanding} untaken {untaken}"
-        )
+        write!(f, "end: queued {queued} outstanding {outstanding} ")?;
+        match self.untaken {
+            Some(untaken) => write!(f, "untaken {untaken}"),
+            None => write!(f, "untaken unknown"),
+        }
     }
 }
 

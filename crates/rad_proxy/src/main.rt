@@ -7,12 +7,10 @@ mod check_command;
 mod configuration;
 mod events;
 mod faults;
-mod hearing;
 mod hex;
-mod lanes;
+mod left_over;
 mod lines;
 mod names;
-mod outlets;
 mod packet_text;
 mod path;
 mod pieces;
@@ -25,17 +23,22 @@ mod words;
 
 use check_command::check_file;
 use faults::Fault;
+use lines::EndLine;
 use replaying::replay;
+use std::alloc::AllocGlobal;
 use std::env;
+use std::env::Env;
 use std::io::{self, ErrorKind};
 use std::process::ExitCode;
+use std::rt::Runtime;
+use std::sync::Wait;
 use words::{Task, read_words};
 
 /// The status that a run ends with where something is left over.
 const LEFT_OVER: u8 = 3;
 
 fn main(rt: HostRuntime) -> ExitCode {
-    let status = match run(&rt) {
+    let status = match obey_words(&rt) {
         Ok(status) => status,
         Err(fault) => {
             if !matches!(fault, Fault::Output) {
@@ -48,15 +51,20 @@ fn main(rt: HostRuntime) -> ExitCode {
 }
 
 /// Does what the words ask for, and gives the status.
-fn run(rt: &HostRuntime) -> Result<u8, Fault> {
+fn obey_words<R>(rt: &R) -> Result<u8, Fault>
+where
+    R: Runtime + AllocGlobal + Wait,
+    R::File: Drop,
+{
+    let alloc = rt.alloc();
     let words = read_arguments(rt)?;
-    match read_words(rt.alloc(), words.as_slice())? {
+    match read_words(alloc, words.as_slice())? {
         Task::Replay => {
-            let end = replay(rt.alloc(), rt.reader(), io::writer(rt))?;
-            Ok(if end.is_clean() { 0 } else { LEFT_OVER })
+            let end = replay(rt, alloc, rt.reader(), io::writer(rt))?;
+            Ok(status_at(&end))
         }
         Task::Check(file) => {
-            let counts = check_file(rt, rt.alloc(), file.as_str())?;
+            let counts = check_file(rt, alloc, file.as_str())?;
             match println!(rt; "{counts}") {
                 Ok(()) => Ok(0),
                 Err(_) => Err(Fault::Output),
@@ -66,8 +74,13 @@ fn run(rt: &HostRuntime) -> Result<u8, Fault> {
     }
 }
 
+/// The status of a run that came to its end.
+fn status_at(end: &EndLine) -> u8 {
+    if end.is_clean() { 0 } else { LEFT_OVER }
+}
+
 /// The words that the program was called with, with its own name first.
-fn read_arguments(rt: &HostRuntime) -> Result<Vec<String>, Fault> {
+fn read_arguments<R: Env + AllocGlobal>(rt: &R) -> Result<Vec<String>, Fault> {
     let arguments = match env::args(rt) {
         Ok(arguments) => arguments,
         Err(error) => {

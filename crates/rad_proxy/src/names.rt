@@ -3,13 +3,17 @@
 ghost use Rattle.std.specs.Prelude.{◌≡◌};
 ghost use Rattle.rad_proxy.specs.Names.{watch_name as the_watch_name, mode_name as the_mode_name, refusal_name as the_refusal_name};
 
-use crate::hearing::HomeFault;
+use rad_desk::DeskFault;
 use rad_lane::{Counts, HearFault, Refusal};
 use std::fmt;
 
 /// An IPv4 address in dotted decimal.
 #[derive(Clone, Copy)]
 pub struct AddressText(pub [u8; 4]);
+
+/// Why a home server's datagram is not heard.
+#[derive(Clone, Copy)]
+pub struct DeskFaultText(pub DeskFault);
 
 /// Why a lane does not hear a datagram.
 #[derive(Clone, Copy)]
@@ -59,16 +63,16 @@ impl fmt::Display for AddressText {
     }
 }
 
-impl fmt::Display for HomeFault {
+impl fmt::Display for DeskFaultText {
     ghost use Rattle.std.specs.Prelude.{Some};
-    ghost use Rattle.rad_proxy.specs.Names.{home_fault_name};
+    ghost use Rattle.rad_proxy.specs.Names.{desk_fault_name};
 
-    ghost output = { λ fault. Some (home_fault_name fault) };
+    ghost output = { λ fault. Some (desk_fault_name fault.0) };
 
     fn fmt<W: fmt::Write>(&self, f: &mut fmt::Formatter<W>) -> fmt::Result {
-        match *self {
-            HomeFault::RingFull => write!(f, "RingFull"),
-            HomeFault::Unheard(fault) => {
+        match self.0 {
+            DeskFault::RingFull => write!(f, "RingFull"),
+            DeskFault::Lane(fault) => {
                 let fault = HearFaultText(fault);
                 write!(f, "{fault}")
             }
