@@ -7,3 +7,5 @@ pub mod Accounting
 pub mod Inlets
 pub mod Endings
 pub mod Untouched
+pub mod Sends
+pub mod Returning

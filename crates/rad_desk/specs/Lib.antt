@@ -6,3 +6,7 @@ pub mod Departures
 pub mod Lawful
 pub mod Ending
 pub mod Refusing
+pub mod Traffic
+pub mod Sends
+pub mod Continues
+pub mod Sending

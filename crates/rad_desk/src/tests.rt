@@ -2,11 +2,13 @@
 //! when its ring is full, that a call through a lock reaches its own lane, and the octets of another implementation.
 
 mod closing;
+mod memory;
 mod octets;
 mod packets;
 mod test_desk;
 mod threads;
 mod through_locks;
+mod workers;
 
 use crate::laws::agrees;
 use crate::{DeskFault, Told};

@@ -9,3 +9,4 @@ pub mod Path
 pub mod Pieces
 pub mod Sent
 pub mod Totals
+pub mod Wires

@@ -1,18 +1,32 @@
 //! What is left at the end, of all lanes.
 
-ghost use Rattle.std.specs.Prelude.{◌≡◌, length, MatchOption, All, sum_by};
-ghost use Rattle.rad_proxy.specs.LeftOver.{outstanding_at, known_at, IsKnownAt};
+ghost use Rattle.std.specs.Prelude.{◌≡◌, IfOk};
+ghost use Rattle.rad_proxy.specs.LeftOver.{outstanding_at, CountsUntaken, Tells, IsLeftOver};
 ghost use Rattle.rad_proxy.specs.Totals.{count_in_all};
 
+use crate::faults::Fault;
 use crate::lines::EndLine;
 use block_queue::Fifo;
-use rad_desk::{LaneEnd, Report, Rest};
+use rad_desk::{CloseFault, Inlet, LaneEnd, Proxy, Report, Rest};
+use std::alloc::Global;
+
+/// Closes a proxy, with its inlets, and tells what is left.
+///
+/// # Errors
+///
+/// `Memory` where a growth was refused.
+pub fn close(alloc: Global, proxy: Proxy, inlets: Vec<Inlet>) -> Result<EndLine, Fault>
+    ensures { IfOk result (λ end. IsLeftOver proxy inlets.items end) }
+{
+    match proxy.close(alloc, inlets) {
+        Ok(report) => Ok(left_over(&report)),
+        Err(CloseFault::OutOfMemory(..)) => Err(Fault::Memory),
+    }
+}
 
 /// What is left: the requests never sent, those sent and not answered, and the responses that nobody took.
-pub fn left_over(report: &Report) -> EndLine
-    ensures queued { result.queued ≡ length report.now.queued.items }
-    ensures outstanding { result.outstanding ≡ count_in_all outstanding_at report.now.ends }
-    ensures untaken { MatchOption result.untaken (¬ All IsKnownAt report.now.ends) (λ n. All IsKnownAt report.now.ends × (n ≡ count_in_all known_at report.now.ends)) }
+fn left_over(report: &Report) -> EndLine
+    ensures { Tells report.now result }
 {
     let ends = report.ends.as_slice();
     EndLine {
@@ -35,7 +49,7 @@ fn count_outstanding(ends: &[LaneEnd]) -> usize
 
 /// How many responses were not taken, where that is known of each lane.
 fn count_untaken(ends: &[LaneEnd]) -> Option<usize>
-    ensures { MatchOption result (¬ All IsKnownAt ends.now) (λ n. All IsKnownAt ends.now × (n ≡ count_in_all known_at ends.now)) }
+    ensures { CountsUntaken ends.now result }
 {
     let mut count = 0_usize;
     for end in ends {

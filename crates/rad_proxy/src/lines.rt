@@ -2,12 +2,13 @@
 
 ghost use Rattle.std.specs.Prelude.{◌≡◌, ◌≤◌, length};
 
-use crate::names::{AddressText, DeskFaultText, mode_name, refusal_name, watch_name};
+use crate::names::{AddressText, DeskFaultText, EndpointText, mode_name, refusal_name, watch_name};
 use crate::packet_text::PacketText;
 use crate::path::{Given, PathFault};
 use rad_auth::Reply;
 use rad_desk::{DeskFault, Told};
 use rad_lane::{Action, Counts, Outgoing, Taken};
+use rad_realms::Endpoint;
 use std::fmt;
 
 /// What became of a NAS's datagram.
@@ -42,7 +43,7 @@ pub struct TakeLine {
 /// That a lane takes no more requests.
 #[derive(Clone, Copy)]
 pub struct DrainLine {
-    pub lane: u16,
+    pub lane: usize,
     /// How many requests it had accepted.
     pub count: u64,
 }
@@ -50,7 +51,7 @@ pub struct DrainLine {
 /// How a lane stands.
 #[derive(Drop)]
 pub struct StateLine<'a> {
-    pub lane: u16,
+    pub lane: usize,
     /// The home server's name.
     pub name: &'a str,
     pub counts: Counts,
@@ -77,6 +78,12 @@ pub struct CountLine {
     pub clients: usize,
     pub homes: usize,
     pub realms: usize,
+}
+
+/// Where the clients' datagrams come in.
+#[derive(Clone, Copy)]
+pub struct ListeningLine {
+    pub endpoint: Endpoint,
 }
 
 impl EndLine {
@@ -267,5 +274,17 @@ impl fmt::Display for CountLine {
         let homes = self.homes;
         let realms = self.realms;
         write!(f, "clients {clients} homes {homes} realms {realms}")
+    }
+}
+
+impl fmt::Display for ListeningLine {
+    ghost use Rattle.std.specs.Prelude.{Some};
+    ghost use Rattle.rad_proxy.specs.Lines.{listening_line};
+
+    ghost output = { λ line. Some (listening_line line) };
+
+    fn fmt<W: fmt::Write>(&self, f: &mut fmt::Formatter<W>) -> fmt::Result {
+        let endpoint = EndpointText(self.endpoint);
+        write!(f, "listening {endpoint}")
     }
 }

@@ -1,15 +1,19 @@
 //! A RADIUS accounting proxy (RFC 2866 section 2.1).
 #![tactic(auto)]
 
+mod attending;
 mod bounded;
 mod building;
 mod check_command;
+mod commands;
 mod configuration;
 mod events;
 mod faults;
 mod hex;
 mod left_over;
 mod lines;
+mod loading;
+mod logging;
 mod names;
 mod packet_text;
 mod path;
@@ -17,21 +21,33 @@ mod pieces;
 mod replaying;
 mod script;
 mod sent;
+mod serving;
+mod sockets;
+mod telling;
 #[cfg(test)]
 mod tests;
+mod waking;
+mod wires;
 mod words;
 
+use attending::Open;
 use check_command::check_file;
 use faults::Fault;
 use lines::EndLine;
+use loading::load;
+use log::{Level, Logged};
+use logging::ErrorLines;
 use replaying::replay;
-use std::alloc::AllocGlobal;
+use std::alloc::{AllocGlobal, Global};
 use std::env;
 use std::env::Env;
 use std::io::{self, ErrorKind};
+use std::net::Net;
 use std::process::ExitCode;
+use std::random::RandomSource;
 use std::rt::Runtime;
 use std::sync::Wait;
+use std::thread::Threads;
 use words::{Task, read_words};
 
 /// The status that a run ends with where something is left over.
@@ -53,7 +69,7 @@ fn main(rt: HostRuntime) -> ExitCode {
 /// Does what the words ask for, and gives the status.
 fn obey_words<R>(rt: &R) -> Result<u8, Fault>
 where
-    R: Runtime + AllocGlobal + Wait,
+    R: Runtime + AllocGlobal + Net + RandomSource + Threads + Wait + Sync,
     R::File: Drop,
 {
     let alloc = rt.alloc();
@@ -70,8 +86,28 @@ where
                 Err(_) => Err(Fault::Output),
             }
         }
-        Task::Run => Err(Fault::Usage),
+        Task::Run(file) => serve_file(rt, alloc, file.as_str()),
     }
+}
+
+/// Serves the configuration in a file until standard input ends, and gives the status.
+fn serve_file<R>(rt: &R, alloc: Global, file: &str) -> Result<u8, Fault>
+where
+    R: Runtime + AllocGlobal + Net + RandomSource + Threads + Wait + Sync,
+    R::File: Drop,
+{
+    let config = load(rt, alloc, file)?;
+    let log = Logged::new((), Level::Info, ErrorLines::new(rt));
+    let end = serving::run(
+        rt,
+        alloc,
+        &config,
+        &Open,
+        &log,
+        rt.reader(),
+        io::writer(rt),
+    )?;
+    Ok(status_at(&end))
 }
 
 /// The status of a run that came to its end.

@@ -3,13 +3,13 @@
 use crate::building::{Sender, build};
 use crate::events::{Event, Packet};
 use crate::faults::{Fault, Halt};
-use crate::left_over::left_over;
+use crate::left_over::close;
 use crate::lines::{DrainLine, EndLine, HomeLine, NasLine, StateLine, StepLine, TakeLine};
 use crate::packet_text::PacketText;
 use crate::path::{Arrival, take_in};
 use crate::pieces::Pieces;
 use crate::sent::{LastSent, keep_sent};
-use rad_desk::{CloseFault, Inlet, OpenFault, Proxy, open};
+use rad_desk::{Inlet, OpenFault, Proxy, open};
 use rad_packet::Datagram;
 use rad_realms::Config;
 use rad_tables::Moment;
@@ -83,18 +83,10 @@ impl Script {
                 return Err(halt.at_line(index + 1));
             }
         }
-        let end = self.end()?;
+        let end = close(self.alloc, self.proxy, self.inlets)?;
         match print(output, &end) {
             Ok(()) => Ok(end),
             Err(_) => Err(Fault::Output),
-        }
-    }
-
-    /// Closes the proxy, and tells what is left.
-    fn end(self) -> Result<EndLine, Fault> {
-        match self.proxy.close(self.alloc, self.inlets) {
-            Ok(report) => Ok(left_over(&report)),
-            Err(CloseFault::OutOfMemory(..)) => Err(Fault::Memory),
         }
     }
 
@@ -226,6 +218,7 @@ impl Script {
     fn drain<R: Wait, W: Write>(&self, rt: &R, output: &mut W) -> Result<(), Halt> {
         for lane in 0..self.proxy.lanes() {
             let count = self.proxy.drain(rt, lane);
+            let lane = usize::from(lane);
             print(output, &DrainLine { lane, count })?;
         }
         Ok(())
@@ -233,14 +226,15 @@ impl Script {
 
     /// Writes how each lane stands.
     fn state<R: Wait, W: Write>(&self, rt: &R, output: &mut W) -> Result<(), Halt> {
-        for lane in 0..self.proxy.lanes() {
-            let Some(home) = self.config.homes().get(usize::from(lane)) else {
+        for number in 0..self.proxy.lanes() {
+            let lane = usize::from(number);
+            let Some(home) = self.config.homes().get(lane) else {
                 return Ok(());
             };
             let line = StateLine {
                 lane,
                 name: home.name(),
-                counts: self.proxy.counts(rt, lane),
+                counts: self.proxy.counts(rt, number),
             };
             print(output, &line)?;
         }
