@@ -3,6 +3,7 @@
 //! implementation.
 
 mod accepting;
+mod cutting;
 mod hearing;
 mod leaving;
 mod octets;

@@ -33,7 +33,8 @@ fn are_same_answers(one: &[Answered], other: &[Answered]) -> bool {
     one.len() == other.len() && one.iter().zip(other).all(|(a, b)| is_same_answer(a, b))
 }
 
-fn is_same_answer(one: &Answered, other: &Answered) -> bool {
+/// Whether two answers are the same, with their octets.
+pub fn is_same_answer(one: &Answered, other: &Answered) -> bool {
     one.stamp() == other.stamp()
         && one.moment() == other.moment()
         && one.serial() == other.serial()

@@ -2,14 +2,14 @@
 
 use super::octets::{FORWARDED, PROBE, PROBE_ANSWER, REPLY, REQUEST, RESPONSE};
 use super::requests::{reply_to, request};
-use super::running::did;
+use super::running::{checked, did};
 use super::script::Call::{Accept, Hear, Step};
 use super::script::Gives::{self, Step as Did};
 use super::script::{Told, answer, at, moment, pair, play, puts, sent, taken, unheard};
-use super::test_lane::TestLane;
+use super::test_lane::{RANDOM, TestLane};
 use super::waiting::accept_each;
-use rad_lane::Action;
 use rad_lane::HearFault::{BadAuthenticator, Unknown};
+use rad_lane::{Action, Event, Given, run};
 use rad_packet::Datagram;
 use std::alloc::Global;
 use std::process::Abort;
@@ -20,11 +20,26 @@ fn sent_under(number: u16, place: u16) -> Action {
     Action::Sent(u64::from(number), pair(place))
 }
 
+impl TestLane {
+    /// Runs the acceptance of the request of this count, and a step.
+    fn run_request(&mut self, count: u16) -> Result<Vec<Given>, Fail> {
+        let octets = request(count)?;
+        let request = checked(&self.config, octets.bytes())?;
+        if !self.lane.takes(&request) {
+            return Err(Fail::from("another lane's"));
+        }
+        let events = [
+            Event::Accept(&request, moment(0)),
+            Event::Step(moment(0), RANDOM),
+        ];
+        Ok(run(self.alloc, &mut self.lane, &events)?)
+    }
+}
+
 /// Runs the acceptance and the first sending of 300 requests, looks at the pairs, and has one more accepted.
 fn fill(rt: &impl Abort, lane: &mut TestLane) -> Result<(), Fail> {
     for count in 0..300 {
-        let request = request(count)?;
-        let gives = lane.run_accept_and_step(request.bytes())?;
+        let gives = lane.run_request(count)?;
         let last = gives.last().ok_or("no answer")?;
         assert!(rt;
             did(&last.answer, sent_under(count, count)),

@@ -15,9 +15,9 @@ impl TestLane {
         Ok(run(self.alloc, &mut self.lane, &[])?)
     }
 
-    /// Runs the acceptance of a request, and a step.
-    pub fn run_accept_and_step(&mut self, request: &[u8]) -> Result<Vec<Given>, Fail> {
-        let request = checked(&self.config, request)?;
+    /// Runs the acceptance of REQUEST, and a step.
+    fn run_accept_and_step(&mut self) -> Result<Vec<Given>, Fail> {
+        let request = checked(&self.config, &REQUEST)?;
         if !self.lane.takes(&request) {
             return Err(Fail::from("another lane's"));
         }
@@ -39,7 +39,8 @@ impl TestLane {
     }
 }
 
-fn checked<'a>(config: &'a Config, request: &'a [u8]) -> Result<Checked<'a>, Fail> {
+/// A request that its client sent and that was checked.
+pub fn checked<'a>(config: &'a Config, request: &'a [u8]) -> Result<Checked<'a>, Fail> {
     match check_in(config, CLIENT, CLIENT_PORT, request) {
         Ok(Incoming::Request(checked)) => Ok(checked),
         _ => Err(Fail::from("no request")),
@@ -92,7 +93,7 @@ fn is_response(answer: &GivenAnswer) -> bool {
 
 fn run_each(rt: &impl Abort, lane: &mut TestLane) -> Result<(), Fail> {
     assert!(rt; lane.run_nothing()?.is_empty());
-    let two = lane.run_accept_and_step(&REQUEST)?;
+    let two = lane.run_accept_and_step()?;
     assert!(rt; are_accepted_and_sent(two.as_slice()));
     let three = lane.run_others()?;
     assert!(rt; are_idle_answered_and_drained(three.as_slice()));
