@@ -4,3 +4,4 @@ pub mod Wires
 pub mod Opening
 pub mod Sends
 pub mod Returning
+pub mod OutletAfterTurn

@@ -8,3 +8,4 @@ pub mod Traffic
 pub mod Sends
 pub mod Continues
 pub mod Sending
+pub mod Turned

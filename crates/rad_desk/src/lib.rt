@@ -23,6 +23,7 @@ mod proxy;
 mod tally;
 #[cfg(test)]
 mod tests;
+mod turning;
 mod wire;
 mod working;
 
