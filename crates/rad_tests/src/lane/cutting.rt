@@ -1,39 +1,188 @@
-//! A run of thousands of events that cuts the book again and again, beside one of the same events without a cut.
+//! Thousands of events on two lanes, of which one is cut again and again and the other is not.
 
-ghost use Rattle.std.specs.Prelude.{IfOk};
+ghost use Rattle.std.specs.Prelude.{◌<◌};
 ghost use Rattle.rad_lane.specs.Runs.{TakesEach};
 
 use super::leaving::is_same_answer;
 use super::requests::{reply_to, request};
-use super::script::Call::{Accept, Hear, Step};
+use super::running::checked;
 use super::script::moment;
-use super::test_lane::{CLIENT, CLIENT_PORT, RANDOM, TestLane};
-use block_queue::PlainQueue;
+use super::test_lane::{RANDOM, TestLane};
 use rad_lane::{
-    Answered, Event, Given, GivenAnswer, Heard, Lane, Record, Stamp, TurnFault, Volume, run,
+    Action, Answered, Event, Given, GivenAnswer, Heard, Stamp, TurnFault, Volume, run,
 };
 use rad_packet::Datagram;
-use rad_realms::{Checked, Config, Incoming, check_in};
+use rad_realms::Config;
 use std::alloc::Global;
 use std::process::Abort;
 use std::test::Fail;
 
-/// How many milliseconds a round comes after the one before. There are 80 rounds, each of 16 new requests.
+/// How many milliseconds a round comes after the one before.
 const APART: u32 = 400;
 
 /// A request is over in the third round after its answer.
 const LIMITS: &str = "span = 1000\n";
 
-/// What comes at a moment, in milliseconds: first requests, each with a step, and then replies.
+/// Two lanes that are given the same events, but that the first is turned as well, and what its volumes have: how many
+/// there are, how often there was nothing to turn, and their stamps in order with how many answers.
 #[derive(Drop)]
-struct Round {
-    moment: u32,
-    requests: Vec<Datagram>,
-    replies: Vec<Datagram>,
+struct Two {
+    alloc: Global,
+    cut: TestLane,
+    whole: TestLane,
+    volumes: usize,
+    refused: usize,
+    stamps: Vec<Stamp>,
+    answers: usize,
 }
 
-/// The requests of a round: new ones, one of the round before, and one of so long ago that it is new again.
-fn requests_of(alloc: Global, round: u16) -> Result<Vec<Datagram>, Fail> {
+impl Two {
+    fn new(alloc: Global) -> Result<Two, Fail> {
+        Ok(Two {
+            alloc,
+            cut: TestLane::new(alloc, LIMITS)?,
+            whole: TestLane::new(alloc, LIMITS)?,
+            volumes: 0,
+            refused: 0,
+            stamps: Vec::new(alloc),
+            answers: 0,
+        })
+    }
+
+    /// Runs these events on both lanes, which give the same.
+    fn run(&mut self, rt: &impl Abort, events: &[Event<'_, '_>]) -> Result<Vec<Given>, Fail>
+        requires cut { TakesEach self.old.cut.lane events.now }
+        requires whole { TakesEach self.old.whole.lane events.now }
+    {
+        let gives = run(self.alloc, &mut self.cut.lane, events)?;
+        let others = run(self.alloc, &mut self.whole.lane, events)?;
+        assert!(rt; are_same(gives.as_slice(), others.as_slice()));
+        Ok(gives)
+    }
+
+    /// Has a request accepted, and steps. Gives the reply, where the request was sent.
+    fn send(
+        &mut self,
+        rt: &impl Abort,
+        config: &Config,
+        request: &Datagram,
+        milliseconds: u32,
+    ) -> Result<Option<Datagram>, Fail> {
+        let request = checked(config, request.bytes())?;
+        if !self.cut.lane.takes(&request) || !self.whole.lane.takes(&request) {
+            return Err(Fail::from("another lane's"));
+        }
+        let events = [
+            Event::Accept(&request, moment(milliseconds)),
+            Event::Step(moment(milliseconds), RANDOM),
+        ];
+        reply_of(self.run(rt, &events)?.as_slice())
+    }
+
+    /// Has a reply heard.
+    fn hear(&mut self, rt: &impl Abort, reply: &Datagram, milliseconds: u32) -> Result<(), Fail> {
+        let events = [Event::Hear(moment(milliseconds), 0, reply.bytes())];
+        self.run(rt, &events)?;
+        Ok(())
+    }
+
+    /// Turns the first lane.
+    fn turn(&mut self, milliseconds: u32) -> Result<(), Fail> {
+        let events = [Event::Turn(moment(milliseconds))];
+        let gives = run(self.alloc, &mut self.cut.lane, &events)?;
+        match gives.first().map(|given| &given.answer) {
+            Some(GivenAnswer::Turn(Ok(volume))) => self.add(volume),
+            Some(GivenAnswer::Turn(Err(TurnFault::NothingToTurn))) => {
+                self.refused = self.refused.saturating_add(1);
+                Ok(())
+            }
+            _ => Err(Fail::from("no answer of a turn")),
+        }
+    }
+
+    /// Adds a volume, which begins where the one before ended and has as many answers as stamps, which are those of the
+    /// lane that is not cut.
+    fn add(&mut self, volume: &Volume) -> Result<(), Fail> {
+        let (stamps, answers) = (volume.stamps.as_slice(), volume.answered.as_slice());
+        if volume.opening != self.stamps.len() as u64 {
+            return Err(Fail::from("a volume of another opening"));
+        }
+        if stamps.len() != answers.len() || !are_among(answers, self.whole.lane.answered()) {
+            return Err(Fail::from("answers of another volume"));
+        }
+        self.volumes = self.volumes.saturating_add(1);
+        self.answers = self.answers.saturating_add(answers.len());
+        self.stamps.extend_from_slice(stamps)?;
+        Ok(())
+    }
+
+    /// A round: requests, each with a step, a turn, and then the replies to them, the last one first. The reply to the
+    /// first one comes a round later, as the last one there.
+    fn round(
+        &mut self,
+        rt: &impl Abort,
+        config: &Config,
+        round: u16,
+        late: Option<Datagram>,
+    ) -> Result<Option<Datagram>, Fail>
+        requires { round < 80 }
+    {
+        let milliseconds = u32::from(round) * APART;
+        let mut replies = Vec::new(self.alloc);
+        for request in requests_of(self.alloc, round)?.iter() {
+            if let Some(reply) = self.send(rt, config, request, milliseconds)? {
+                replies.push(reply)?;
+            }
+        }
+        self.turn(milliseconds)?;
+        replies.reverse();
+        let held = replies.pop();
+        if let Some(reply) = late {
+            replies.push(reply)?;
+        }
+        for reply in replies.iter() {
+            self.hear(rt, reply, milliseconds)?;
+        }
+        self.turn(milliseconds)?;
+        Ok(held)
+    }
+
+    /// Has 80 rounds, and compares what the lanes have then.
+    fn play(&mut self, rt: &impl Abort, config: &Config) -> Result<(), Fail> {
+        let mut late = None;
+        for round in 0..80_u16 {
+            late = self.round(rt, config, round, late)?;
+        }
+        self.compare(rt)
+    }
+
+    /// Compares the volumes and the book that is left with the book that was never cut. The request that a round has first
+    /// is answered last, in the next round; so the first turn of a round cuts the fourth round before, and the second
+    /// nothing.
+    fn compare(&mut self, rt: &impl Abort) -> Result<(), Fail> {
+        assert_eq!(rt; (self.volumes, self.refused), (76, 84));
+        assert_eq!(rt; (self.stamps.len(), self.answers), (1287, 1287));
+        let openings = (
+            self.cut.lane.counts().opening,
+            self.whole.lane.counts().opening,
+        );
+        assert_eq!(rt; openings, (1287, 0));
+        self.stamps.extend_from_slice(self.cut.lane.accepted())?;
+        assert!(rt; self.stamps.as_slice() == self.whole.lane.accepted());
+        let (kept, all) = (self.cut.lane.answered(), self.whole.lane.answered());
+        assert!(rt; are_among(kept, all));
+        assert_eq!(rt; kept.len().saturating_add(1287), all.len());
+        Ok(())
+    }
+
+    fn end(self) {}
+}
+
+/// The requests of a round: 16 new ones, one that was answered in the round before, and one that was answered so long ago
+/// that it is new again.
+fn requests_of(alloc: Global, round: u16) -> Result<Vec<Datagram>, Fail>
+    requires { round < 80 }
+{
     let mut requests = Vec::new(alloc);
     for count in 0..16_u16 {
         requests.push(request(16 * round + count)?)?;
@@ -47,142 +196,27 @@ fn requests_of(alloc: Global, round: u16) -> Result<Vec<Datagram>, Fail> {
     Ok(requests)
 }
 
-/// Has these requests accepted and sent, and gives the replies, the last of them first.
-fn send_each(
-    alloc: Global,
-    lane: &mut TestLane,
-    moment: u32,
-    requests: &[Datagram],
-) -> Result<Vec<Datagram>, Fail> {
-    for request in requests {
-        lane.call(moment, Accept(request.bytes()));
-    }
-    let mut replies = Vec::new(alloc);
-    for _ in requests {
-        lane.call(moment, Step);
-        if !lane.octets().is_empty() {
-            replies.push(reply_to(lane.octets(), 0)?)?;
+/// The reply to what a step sent, if it did, after a request.
+fn reply_of(gives: &[Given]) -> Result<Option<Datagram>, Fail> {
+    match gives {
+        [_, step] if matches!(step.answer, GivenAnswer::Step(Action::Sent(_, _))) => {
+            Ok(Some(reply_to(step.datagram.bytes(), 0)?))
         }
+        _ => Ok(None),
     }
-    replies.reverse();
-    Ok(replies)
 }
 
-/// The rounds, as a lane takes part in them. One reply of each comes a round later, and as the last one there.
-fn rounds(alloc: Global, lane: &mut TestLane) -> Result<Vec<Round>, Fail> {
-    let mut rounds = Vec::new(alloc);
-    let mut late = None;
-    for round in 0..80_u16 {
-        let moment = u32::from(round) * APART;
-        let requests = requests_of(alloc, round)?;
-        let mut replies = send_each(alloc, lane, moment, requests.as_slice())?;
-        let held = replies.pop();
-        if let Some(reply) = late {
-            replies.push(reply)?;
-        }
-        late = held;
-        for reply in replies.iter() {
-            lane.call(moment, Hear(0, reply.bytes()));
-        }
-        rounds.push(Round {
-            moment,
-            requests,
-            replies,
-        })?;
-    }
-    Ok(rounds)
+/// Whether two lanes gave the same.
+fn are_same(gives: &[Given], others: &[Given]) -> bool {
+    gives.len() == others.len() && gives.iter().zip(others).all(|(a, b)| is_same(a, b))
 }
 
-/// The requests of each round, once they are checked.
-fn checked<'a>(
-    alloc: Global,
-    config: &'a Config,
-    rounds: &'a [Round],
-) -> Result<Vec<Vec<Checked<'a>>>, Fail> {
-    let mut all = Vec::new(alloc);
-    for round in rounds {
-        let mut requests = Vec::new(alloc);
-        for request in round.requests.iter() {
-            match check_in(config, CLIENT, CLIENT_PORT, request.bytes()) {
-                Ok(Incoming::Request(request)) => requests.push(request)?,
-                _ => return Err(Fail::from("no request")),
-            }
-        }
-        all.push(requests)?;
-    }
-    Ok(all)
-}
-
-/// Adds that requests come and are sent.
-fn add_requests<'a, 'c>(
-    lane: &Lane<PlainQueue<Record>>,
-    events: &mut Vec<Event<'a, 'c>>,
-    requests: &'a [Checked<'c>],
-    milliseconds: u32,
-) -> Result<(), Fail>
-    requires { TakesEach lane.now events.old.items }
-    ensures { IfOk result (λ done. TakesEach lane.now events.new.items) }
-{
-    for request in requests {
-        if !lane.takes(request) {
-            return Err(Fail::from("another lane's"));
-        }
-        events.push(Event::Accept(request, moment(milliseconds)))?;
-    }
-    for _ in requests {
-        events.push(Event::Step(moment(milliseconds), RANDOM))?;
-    }
-    Ok(())
-}
-
-/// Adds that replies come.
-fn add_replies<'a, 'c>(
-    lane: &Lane<PlainQueue<Record>>,
-    events: &mut Vec<Event<'a, 'c>>,
-    replies: &'a [Datagram],
-    milliseconds: u32,
-) -> Result<(), Fail>
-    requires { TakesEach lane.now events.old.items }
-    ensures { IfOk result (λ done. TakesEach lane.now events.new.items) }
-{
-    for reply in replies {
-        events.push(Event::Hear(moment(milliseconds), 0, reply.bytes()))?;
-    }
-    Ok(())
-}
-
-/// The events of the rounds. Where it turns, it does after the requests of each and at its end.
-fn events<'a, 'c>(
-    alloc: Global,
-    lane: &Lane<PlainQueue<Record>>,
-    rounds: &'a [Round],
-    requests: &'a [Vec<Checked<'c>>],
-    turns: bool,
-) -> Result<Vec<Event<'a, 'c>>, Fail>
-    ensures { IfOk result (λ events. TakesEach lane.now events.items) }
-{
-    let mut events = Vec::new(alloc);
-    for (round, requests) in rounds.iter().zip(requests) {
-        add_requests(lane, &mut events, requests.as_slice(), round.moment)?;
-        if turns {
-            events.push(Event::Turn(moment(round.moment)))?;
-        }
-        add_replies(lane, &mut events, round.replies.as_slice(), round.moment)?;
-        if turns {
-            events.push(Event::Turn(moment(round.moment)))?;
-        }
-    }
-    Ok(events)
-}
-
-/// Whether an event gave the same, but for a turn.
 fn is_same(one: &Given, other: &Given) -> bool {
     one.datagram.bytes() == other.datagram.bytes()
         && match (&one.answer, &other.answer) {
             (GivenAnswer::Accept(one), GivenAnswer::Accept(other)) => one == other,
             (GivenAnswer::Step(one), GivenAnswer::Step(other)) => one == other,
             (GivenAnswer::Hear(Ok(one)), GivenAnswer::Hear(Ok(other))) => is_same_heard(one, other),
-            (GivenAnswer::Hear(Err(one)), GivenAnswer::Hear(Err(other))) => one == other,
             _ => false,
         }
 }
@@ -195,23 +229,8 @@ fn is_same_heard(one: &Heard, other: &Heard) -> bool {
                 && one.port == other.port
                 && one.reply.response() == other.reply.response()
         }
-        (Heard::ProbeAnswered, Heard::ProbeAnswered) => true,
         _ => false,
     }
-}
-
-/// Whether what was given with turns is what was given without them, but for the turns.
-fn are_same_but_turns(with: &[Given], without: &[Given]) -> bool {
-    let mut others = without.iter();
-    for given in with {
-        if !matches!(given.answer, GivenAnswer::Turn(_)) {
-            match others.next() {
-                Some(other) if is_same(given, other) => {}
-                _ => return false,
-            }
-        }
-    }
-    others.next().is_none()
 }
 
 /// Whether each of these is the answer of its serial in a book that was never cut.
@@ -222,105 +241,12 @@ fn are_among(answers: &[Answered], all: &[Answered]) -> bool {
     })
 }
 
-/// What the volumes of a run have: how many there are, how often there was nothing to turn, and their stamps in order
-/// with how many answers.
-#[derive(Drop)]
-struct Volumes {
-    count: usize,
-    refused: usize,
-    stamps: Vec<Stamp>,
-    answers: usize,
-}
-
-/// The volumes of a run, each of which begins where the one before ended, and has as many answers as stamps, which are
-/// those of the book that was never cut.
-fn volumes_of(alloc: Global, gives: &[Given], all: &[Answered]) -> Result<Volumes, Fail> {
-    let mut volumes = Volumes {
-        count: 0,
-        refused: 0,
-        stamps: Vec::new(alloc),
-        answers: 0,
-    };
-    for given in gives {
-        match &given.answer {
-            GivenAnswer::Turn(Ok(volume)) => add_volume(&mut volumes, volume, all)?,
-            GivenAnswer::Turn(Err(TurnFault::NothingToTurn)) => {
-                volumes.refused = volumes.refused.saturating_add(1);
-            }
-            GivenAnswer::Turn(Err(fault)) => return Err(Fail::from(*fault)),
-            _ => {}
-        }
-    }
-    Ok(volumes)
-}
-
-fn add_volume(volumes: &mut Volumes, volume: &Volume, all: &[Answered]) -> Result<(), Fail> {
-    let (stamps, answers) = (volume.stamps.as_slice(), volume.answered.as_slice());
-    if volume.opening != volumes.stamps.len() as u64 {
-        return Err(Fail::from("a volume of another opening"));
-    }
-    if stamps.len() != answers.len() || !are_among(answers, all) {
-        return Err(Fail::from("answers of another volume"));
-    }
-    volumes.count = volumes.count.saturating_add(1);
-    volumes.answers = volumes.answers.saturating_add(answers.len());
-    volumes.stamps.extend_from_slice(stamps)?;
-    Ok(())
-}
-
-/// Runs the rounds with turns on one lane and without them on the other, and compares what both gave and have. A round's
-/// first request is the one that is answered late, so each turn behind the requests cuts one round, the fourth before.
-fn run_both(
-    rt: &impl Abort,
-    alloc: Global,
-    cut: &mut TestLane,
-    whole: &mut TestLane,
-    rounds: &[Round],
-) -> Result<(), Fail> {
-    let config = TestLane::new(alloc, LIMITS)?.config;
-    let requests = checked(alloc, &config, rounds)?;
-    let with = events(alloc, &cut.lane, rounds, requests.as_slice(), true)?;
-    let without = events(alloc, &whole.lane, rounds, requests.as_slice(), false)?;
-    assert_eq!(rt; (with.len(), without.len()), (4382, 4222));
-    let gives = run(alloc, &mut cut.lane, with.as_slice())?;
-    let others = run(alloc, &mut whole.lane, without.as_slice())?;
-    assert!(rt; are_same_but_turns(gives.as_slice(), others.as_slice()));
-    let volumes = volumes_of(alloc, gives.as_slice(), whole.lane.answered())?;
-    compare(rt, volumes, &cut.lane, &whole.lane)
-}
-
-/// Compares the volumes and the book that is left with the book that was never cut.
-fn compare(
-    rt: &impl Abort,
-    volumes: Volumes,
-    cut: &Lane<PlainQueue<Record>>,
-    whole: &Lane<PlainQueue<Record>>,
-) -> Result<(), Fail> {
-    let Volumes {
-        count,
-        refused,
-        mut stamps,
-        answers,
-    } = volumes;
-    assert_eq!(rt; (count, refused, stamps.len(), answers), (76, 84, 1287, 1287));
-    assert_eq!(rt; (cut.counts().opening, whole.counts().opening), (1287, 0));
-    stamps.extend_from_slice(cut.accepted())?;
-    assert!(rt; stamps.as_slice() == whole.accepted());
-    assert!(rt; are_among(cut.answered(), whole.answered()));
-    assert_eq!(rt; cut.answered().len(), whole.answered().len() - 1287);
-    Ok(())
-}
-
 #[test]
 fn volumes_lose_nothing(rt: HostRuntime) -> Result<(), Fail> {
-    let alloc = rt.alloc();
-    let mut lane = TestLane::new(alloc, LIMITS)?;
-    let rounds = rounds(alloc, &mut lane)?;
-    lane.end();
-    let mut cut = TestLane::new(alloc, LIMITS)?;
-    let mut whole = TestLane::new(alloc, LIMITS)?;
-    let ran = run_both(&rt, alloc, &mut cut, &mut whole, rounds.as_slice());
-    cut.end();
-    whole.end();
-    ran
+    let configured = TestLane::new(rt.alloc(), LIMITS)?;
+    let mut two = Two::new(rt.alloc())?;
+    let played = two.play(&rt, &configured.config);
+    two.end();
+    configured.end();
+    played
 }
