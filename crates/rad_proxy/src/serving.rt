@@ -5,6 +5,7 @@ ghost use denote.Param.Send.{IsSend, IsSync};
 use crate::attending::Attendant;
 use crate::commands::{Command, Commands};
 use crate::faults::Fault;
+use crate::left_over::close;
 use crate::lines::{DrainLine, EndLine, ListeningLine, StateLine};
 use crate::names::EndpointText;
 use crate::sockets::Sockets;
@@ -113,7 +114,7 @@ where
         Ok(opened) => opened,
         Err(OpenFault::OutOfMemory) => return Err(Fault::Memory),
     };
-    let Ok(attendant) = Attendant::new(alloc, gate, log, bells, proxy.lanes()) else {
+    let Ok(attendant) = Attendant::new(alloc, config, gate, log, bells) else {
         return Err(Fault::Memory);
     };
     let service = Service {
@@ -124,7 +125,7 @@ where
         attendant: &attendant,
     };
     let (inlets, mut writer) = work(service, wires, inlets, reader, writer)?;
-    let end = end_of(rt, &proxy, inlets);
+    let end = close(alloc, proxy, inlets)?;
     print(&mut writer, &end)?;
     Ok(end)
 }
@@ -371,28 +372,6 @@ where
         }
     }
     true
-}
-
-/// What is left in the lanes and the inlets.
-fn end_of(rt: &impl Wait, proxy: &Proxy, inlets: Vec<Inlet>) -> EndLine {
-    let mut end = EndLine {
-        queued: 0,
-        outstanding: 0,
-        untaken: 0,
-    };
-    for lane in 0..proxy.lanes() {
-        let counts = proxy.counts(rt, lane);
-        end.queued = end.queued.saturating_add(counts.queued);
-        end.outstanding = end.outstanding.saturating_add(counts.outstanding);
-    }
-    for mut inlet in inlets {
-        for _ in 0..4096 {
-            if inlet.take().is_some() {
-                end.untaken = end.untaken.saturating_add(1);
-            }
-        }
-    }
-    end
 }
 
 /// The wires over these sockets, whose moments count from now, and their bells, the front's first.
