@@ -8,7 +8,11 @@ EXAMPLE = examples/one-request-answered.replay
 # The crates whose wrong bodies `make edits` tries; none named: all of them.
 CRATES ?=
 
-.PHONY: build run test edits
+# How many spoiled datagrams `make spoiled` tells the program, and by which chance.
+DATAGRAMS ?= 100000
+SEED ?= 1
+
+.PHONY: build run test edits spoiled
 
 # Proves and builds the program, over what earlier checks kept, and runs it as stored.
 build:
@@ -21,13 +25,18 @@ run: build
 	@$(PROGRAM) replay < $(EXAMPLE)
 
 # The whole gate: all proofs from nothing, the edits of must-fail/, the tests, the stored run, then the octets that the tests
-# expect, and the rows and the examples over the program that was built. The last line counts all of it.
+# expect, and the program that was built: the rows, the examples, growths refused in turn, and spoiled datagrams. The last
+# line counts it all.
 test:
 	@python3 tests/gate.py $(PROGRAM)
 
 # The wrong bodies that the gate leaves out: the prover has to refuse each one.
 edits:
 	@python3 tests/edits.py $(CRATES)
+
+# Spoiled datagrams by chance, over the program that was built; the gate has a shorter run of a fixed chance.
+spoiled:
+	@python3 tests/hostile/mutations.py $(PROGRAM) $(DATAGRAMS) $(SEED)
 
 # Where `make install` puts things. DESTDIR stands before each of them.
 VERSION = 0.1.0

@@ -4,3 +4,7 @@ pub mod Inlet
 pub mod Tells
 pub mod Departures
 pub mod Lawful
+pub mod Traffic
+pub mod Sends
+pub mod Continues
+pub mod Sending

@@ -1,5 +1,5 @@
 -- A lane that accepted a request is lawful still.
-use Rattle.std.proofs.Common.{◌≡◌, ℕ, ◌+◌, ◌-◌, ◌^◌, ◌≤◌, ◌<◌, List, [], ◌∷◌, ◌++◌, length, get_or, take, Bool, true, false, cond, Option, Some, None, inl, inr, refl, sym, ap, ◌∙◌, subst, arith, length-append}
+use Rattle.std.proofs.Common.{◌≡◌, ℕ, ◌+◌, ◌-◌, ◌^◌, ◌≤◌, List, [], ◌∷◌, ◌++◌, length, get_or, take, Bool, true, false, cond, Option, Some, None, inl, inr, refl, sym, ap, ◌∙◌, subst, arith, length-append}
 use Rattle.std.specs.Prelude.{map as each, option_map, IsNone, IfSome}
 use Rattle.std.specs.Ordering.{is_eq, eq_by_cmp}
 use Rattle.std.specs.Cmp.{eq_by_cmp_equiv}
@@ -14,6 +14,7 @@ use Rattle.rad_tables.specs.Keys.{key_cmp}
 use Rattle.rad_tables.specs.Pairs.{Table}
 use Rattle.rad_tables.proofs.KeyLemmas.{keys_total}
 use Rattle.rad_realms.specs.Checking.{Request}
+use Rattle.rad_lane.specs.declared.answered.Receipt.{Receipt}
 use Rattle.rad_lane.specs.declared.stamp.Stamp.{Stamp}
 use Rattle.rad_lane.specs.declared.entry.Entry.{Entry}
 use Rattle.rad_lane.specs.declared.watch.Watch.{Watch}
@@ -25,7 +26,7 @@ use Rattle.rad_lane.specs.Book.{Book, next_number}
 use Rattle.rad_lane.specs.Repeat.{fresh, repeats, of_key, last_of}
 use Rattle.rad_lane.specs.Accepts.{IsTaken, IsRefused, request_key, stamp_of, record_of, with_request}
 use Rattle.rad_lane.specs.Lawful.{IsLawful, NoRepeatWithinSpan}
-use Rattle.rad_lane.specs.Invariant.{IsConsistent, HasRoom, book_of, last_number, at_place}
+use Rattle.rad_lane.specs.Invariant.{IsConsistent, HasRoom, book_of, last_number}
 use Rattle.rad_lane.proofs.NumberLemmas.{numbered_more, front_same, none_more}
 use Rattle.rad_lane.proofs.VerifiedLater.{passed_later, verified_later}
 use Rattle.rad_lane.proofs.NoRepeatOfFresh.{unrepeated}
@@ -101,17 +102,16 @@ module _ (book : Book) (request : Request) (now : ℕ) (later : book.last ≤ no
     drained_count = not_drained book book.drain _ free.0;
   }
 
-  stands_with_request : (kept : List Kept) (k : Kept) (ports : ℕ) (numbers : map.FinMap key_cmp ℕ) (places : List (Option ℕ)) (outstanding : ℕ) → HasRoom k → IsConsistent book kept ports numbers places outstanding → IsConsistent (with_request book request now) (kept ++ k ∷ []) ports (map.insert numbers (request_key request) (next_number book)) (places ++ None ∷ []) outstanding
-  stands_with_request kept k ports numbers places outstanding room s = record {
+  stands_with_request : (kept : List Kept) (k : Kept) (ports : ℕ) (numbers : map.FinMap key_cmp ℕ) (cells : List (Option Receipt)) (outstanding : ℕ) → HasRoom k → IsConsistent book kept ports numbers cells outstanding → IsConsistent (with_request book request now) (kept ++ k ∷ []) ports (map.insert numbers (request_key request) (next_number book)) (cells ++ None ∷ []) outstanding
+  stands_with_request kept k ports numbers cells outstanding room s = record {
     lawful = accepted_lawful s.lawful;
     rooms = All-push HasRoom kept k s.rooms room;
     ports_are = s.ports_are;
     counted = s.counted;
     last_numbers = numbers_more numbers book.accepted (stamp_of (next_number book) request now) s.last_numbers;
     since_opening = since_more numbers book.opening (request_key request) (next_number book) (omega arith) s.since_opening;
-    cells_are = length-append places (None ∷ []) ∙ ap (λ n. n + 1) s.cells_are ∙ sym (length-append book.accepted (stamp_of (next_number book) request now ∷ []));
-    places = λ number h. ap (λ p. at_place book.answered p) (none_more places (number - book.opening)) ∙ s.places number h;
-    placed_within = λ k. subst (λ p. IfSome p (λ place. place < length book.answered)) (sym (none_more places k)) (s.placed_within k);
+    cells_are = length-append cells (None ∷ []) ∙ ap (λ n. n + 1) s.cells_are ∙ sym (length-append book.accepted (stamp_of (next_number book) request now ∷ []));
+    receipts = λ number h. none_more cells (number - book.opening) ∙ s.receipts number h;
     numbers_fit = rw (length-append book.accepted (stamp_of (next_number book) request now ∷ [])) (numbers_below book.opening (length book.accepted) (λ full. free.1 (inr full)));
   }
 
@@ -135,8 +135,8 @@ module _ (setup : LaneSetup) (opening : ℕ) (accepted : List Stamp) (kept : Lis
       ∙ ap (λ (xs : List Recorded). let b : Book = record before { accepted = accepted ++ k.recorded.stamp ∷ []; queued = xs; last = now } in b) queued
       ∙ ap (λ (q : Recorded). let b : Book = record before { accepted = accepted ++ q.stamp ∷ []; queued = each (λ q. q.recorded) kept ++ q ∷ []; last = now } in b) is
 
-  module _ (value : Book) (same : before ≡ value) (ports : ℕ) (numbers : map.FinMap key_cmp ℕ) (places : List (Option ℕ)) (outstanding : ℕ) (request : Request) (now number : ℕ) (k : Kept) where
-    pub stands_accepted : IsConsistent before kept ports numbers places outstanding → value.last ≤ now → IsTaken value request → repeats value (request_key request) now ≡ fresh → IsRefused value request OutOfMemory → number ≡ next_number value → k.recorded ≡ record_of number request now → IsRecord k.recorded → HasRoom k → IsConsistent (book_of setup opening (accepted ++ k.recorded.stamp ∷ []) (kept ++ k ∷ []) answered served slots drain watch now) (kept ++ k ∷ []) ports (map.insert numbers (request_key request) number) (places ++ None ∷ []) outstanding
+  module _ (value : Book) (same : before ≡ value) (ports : ℕ) (numbers : map.FinMap key_cmp ℕ) (cells : List (Option Receipt)) (outstanding : ℕ) (request : Request) (now number : ℕ) (k : Kept) where
+    pub stands_accepted : IsConsistent before kept ports numbers cells outstanding → value.last ≤ now → IsTaken value request → repeats value (request_key request) now ≡ fresh → IsRefused value request OutOfMemory → number ≡ next_number value → k.recorded ≡ record_of number request now → IsRecord k.recorded → HasRoom k → IsConsistent (book_of setup opening (accepted ++ k.recorded.stamp ∷ []) (kept ++ k ∷ []) answered served slots drain watch now) (kept ++ k ∷ []) ports (map.insert numbers (request_key request) number) (cells ++ None ∷ []) outstanding
     stands_accepted s later taken new free count is is_record room =
         let count_here : number ≡ opening + length accepted = count ∙ ap (λ (b : Book). next_number b) (sym same) in
         let is_here : k.recorded ≡ record_of (opening + length accepted) request now = is ∙ ap (λ n. record_of n request now) count_here in
@@ -145,6 +145,6 @@ module _ (setup : LaneSetup) (opening : ℕ) (accepted : List Stamp) (kept : Lis
         let taken_here : IsTaken before request = subst (λ (b : Book). IsTaken b request) (sym same) taken in
         let new_here : repeats before (request_key request) now ≡ fresh = ap (λ (b : Book). repeats b (request_key request) now) same ∙ new in
         let free_here : IsRefused before request OutOfMemory = subst (λ (b : Book). IsRefused b request OutOfMemory) (sym same) free in
-        subst (λ (b : Book). IsConsistent b (kept ++ k ∷ []) ports (map.insert numbers (request_key request) number) (places ++ None ∷ []) outstanding) (sym (as_request request now k s.lawful is_here))
-        (subst (λ n. IsConsistent (with_request before request now) (kept ++ k ∷ []) ports (map.insert numbers (request_key request) n) (places ++ None ∷ []) outstanding) (sym count_here)
-        (stands_with_request before request now later_here taken_here new_here free_here record_here kept k ports numbers places outstanding room s))
+        subst (λ (b : Book). IsConsistent b (kept ++ k ∷ []) ports (map.insert numbers (request_key request) number) (cells ++ None ∷ []) outstanding) (sym (as_request request now k s.lawful is_here))
+        (subst (λ n. IsConsistent (with_request before request now) (kept ++ k ∷ []) ports (map.insert numbers (request_key request) n) (cells ++ None ∷ []) outstanding) (sym count_here)
+        (stands_with_request before request now later_here taken_here new_here free_here record_here kept k ports numbers cells outstanding room s))

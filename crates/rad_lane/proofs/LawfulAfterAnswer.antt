@@ -1,6 +1,6 @@
 -- A lane that keeps an answer is lawful still.
 use Rattle.std.proofs.Common.{◌≡◌, ℕ, zero, suc, ◌+◌, ◌-◌, ◌<◌, ◌≤◌, Bool, true, false, cond, eqb, List, [], ◌∷◌, ◌++◌, length, get_or, set, Option, Some, None, inl, inr, refl, sym, ap, ◌∙◌, subst, arith, append_assoc, length-append}
-use Rattle.std.specs.Prelude.{map as each, All, IfSome, IfErr, IsErr, Result, Ok, Err, ◌==◌, slice_get}
+use Rattle.std.specs.Prelude.{map as each, All, IfErr, IsErr, Result, Ok, Err, ◌==◌, slice_get, option_map}
 use Rattle.std.specs.Result.{IsErrAnd}
 use Rattle.std.specs.Option.{option_flatten, option_or}
 use Rattle.std.specs.List.{AllByRecursion, IsDistinct, range_with_len, Contains}
@@ -20,6 +20,7 @@ use Rattle.rad_tables.specs.declared.slots.Slot.{Slot}
 use Rattle.rad_tables.specs.Keys.{key_cmp}
 use Rattle.rad_tables.specs.Pairs.{slot_cmp}
 use Rattle.rad_tables.proofs.SlotLemmas.{slots_total, tied}
+use Rattle.rad_lane.specs.declared.answered.Receipt.{Receipt}
 use Rattle.rad_lane.specs.declared.stamp.Stamp.{Stamp}
 use Rattle.rad_lane.specs.declared.entry.Entry.{Entry}
 use Rattle.rad_lane.specs.declared.entry.Entry.TheVariants.{Sending as sending, Probe as probe}
@@ -29,7 +30,7 @@ use Rattle.rad_lane.specs.Stamp.{Recorded, Kept, IsRecord}
 use Rattle.rad_lane.specs.Outstanding.{Outstanding, AnswerKept, answered_record, octets_of}
 use Rattle.rad_lane.specs.Setup.{IsOfItsRealms}
 use Rattle.rad_lane.specs.Entries.{sendings_in}
-use Rattle.rad_lane.specs.Book.{Book, outstanding_at}
+use Rattle.rad_lane.specs.Book.{Book, next_number, outstanding_at}
 use Rattle.rad_lane.specs.Repeat.{answer_to}
 use Rattle.rad_lane.specs.declared.outgoing.Outgoing.{Outgoing}
 use Rattle.rad_lane.specs.declared.hearing.HearFault.{HearFault}
@@ -37,7 +38,7 @@ use Rattle.rad_lane.specs.declared.hearing.HearFault.TheVariants.{OutOfMemory}
 use Rattle.rad_lane.specs.Hears.{KeepsAnswer, GoesOut, with_answer, fault_of}
 use Rattle.rad_lane.specs.AcceptReply.{AnswerIsKept, AnswerIsRefused}
 use Rattle.rad_lane.specs.Lawful.{IsLawful, IsVerified, ProbeStands}
-use Rattle.rad_lane.specs.Invariant.{IsConsistent, place_in, at_place}
+use Rattle.rad_lane.specs.Invariant.{IsConsistent, receipt_of, receipt_in, receipt_to}
 use Rattle.rad_packet.specs.Packet.{identifier_of}
 use Rattle.rad_auth.specs.Forwarding.{forwarded}
 use Rattle.rad_auth.specs.Refusing.{RefusesReply}
@@ -47,7 +48,7 @@ use Rattle.rad_auth.proofs.Forwards.{forwarded-identifier}
 use Rattle.rad_lane.proofs.HeldLemmas.{stamps_in, sending_leaves}
 use Rattle.rad_lane.proofs.VerifiedLater.{passed_later, verified_more}
 
-eqb_flips : (a b : ℕ) → eqb a b ≡ eqb b a
+pub eqb_flips : (a b : ℕ) → eqb a b ≡ eqb b a
 eqb_flips a b = elim (eqb_tells a b) [
   | inl same ↦ same.0 ∙ sym (eq-eqb b a (sym same.1))
   | inr apart ↦ apart.0 ∙ sym (ne_eqb b a (λ e. apart.1 (sym e)))
@@ -58,21 +59,12 @@ apart_below : (x b n : ℕ) → x < b → AllByRecursion (λ y. eqb x y ≡ fals
 apart_below x b zero h = tt
 apart_below x b (suc n) h = (ne_eqb x b (λ e. absurd (omega (arith, h, e))), apart_below x (b + 1) n (omega arith))
 
-distinct_range : (a n : ℕ) → IsDistinct eqb (range_with_len a n)
+pub distinct_range : (a n : ℕ) → IsDistinct eqb (range_with_len a n)
 unfolding IsDistinct
 distinct_range a zero = tt
 distinct_range a (suc n) = (apart_below a (a + 1) n (omega arith), distinct_range (a + 1) n)
 
 -- what is found in a list of cells
-get_behind : {X : Type 0} (xs : List X) (x : X) → slice_get (xs ++ x ∷ []) (length xs) ≡ Some x
-get_behind [] x = refl
-get_behind (y ∷ xs) x = get_behind xs x
-
-get_before : {X : Type 0} (xs : List X) (x : X) (i : ℕ) → i < length xs → slice_get (xs ++ x ∷ []) i ≡ slice_get xs i
-get_before [] x i h = absurd (omega arith)
-get_before (y ∷ xs) x zero h = refl
-get_before (y ∷ xs) x (suc i) h = get_before xs x i (omega arith)
-
 get_set_same : {X : Type 0} (xs : List X) (i : ℕ) (x : X) → i < length xs → slice_get (set xs i x) i ≡ Some x
 get_set_same [] i x h = absurd (omega arith)
 get_set_same (y ∷ xs) zero x h = refl
@@ -280,14 +272,17 @@ module _ (book : Book) (l : IsLawful book) (slot : Slot) (entry : Outstanding) (
       drained_count = l.drained_count;
     }
 
-    module _ (cells : List (Option ℕ)) (as_many : length cells ≡ length book.accepted) (places : (number : ℕ) → book.opening ≤ number → at_place book.answered (place_in cells book.opening number) ≡ answer_to number book.answered) (within : (k : ℕ) → IfSome (option_flatten (slice_get cells k)) (λ place. place < length book.answered)) where
-      abbrev marked : List (Option ℕ)
-      marked = set cells (stamp.number - book.opening) (Some (length book.answered))
+    module _ (cells : List (Option Receipt)) (as_many : length cells ≡ length book.accepted) (receipts : (number : ℕ) → book.opening ≤ number → receipt_in cells book.opening number ≡ receipt_to number book.answered) where
+      abbrev receipt : Receipt
+      receipt = record { serial = book.served; moment = now }
 
-      -- the place of an answer that was there is its place still
-      at_still : (o : Option ℕ) → IfSome o (λ place. place < length book.answered) → at_place after.answered o ≡ at_place book.answered o
-      at_still None h = refl
-      at_still (Some place) h = get_before book.answered answer place h
+      abbrev noted : List (Option Receipt)
+      noted = set cells (stamp.number - book.opening) (Some receipt)
+
+      receipt_is : receipt ≡ receipt_of answer
+      receipt_is =
+          ap (λ n. let r : Receipt = record { serial = n; moment = now } in r) (sym keeps.serial)
+          ∙ ap (λ n. let r : Receipt = record { serial = answer.serial; moment = n } in r) (sym keeps.moment)
 
       -- no other request gets this answer
       other_number : (number : ℕ) → (number ≡ stamp.number → ⊥) → answer_to number after.answered ≡ answer_to number book.answered
@@ -306,35 +301,22 @@ module _ (book : Book) (l : IsLawful book) (slot : Slot) (entry : Outstanding) (
           ∙ ap (λ o. option_or o (answer_to stamp.number (answer ∷ []))) not_answered
           ∙ this_by _ (eq-eqb answer.stamp.number stamp.number (ap (λ (s : Stamp). s.number) keeps.stamp))
 
-      places_still : (number : ℕ) → book.opening ≤ number → at_place after.answered (place_in marked book.opening number) ≡ answer_to number after.answered
-      places_still number since = elim (eqb_tells number stamp.number) [
+      receipts_kept : (number : ℕ) → book.opening ≤ number → receipt_in noted book.opening number ≡ receipt_to number after.answered
+      receipts_kept number since = elim (eqb_tells number stamp.number) [
         | inl same ↦
-            let here : slice_get marked (number - book.opening) ≡ Some (Some (length book.answered)) = ap (λ n. slice_get marked (n - book.opening)) same.1 ∙ get_set_same cells (stamp.number - book.opening) (Some (length book.answered)) (omega (arith, as_many, number_within)) in
-            ap (λ o. at_place after.answered (option_flatten o)) here
-            ∙ get_behind book.answered answer
-            ∙ sym this_number ∙ ap (λ n. answer_to n after.answered) (sym same.1)
+            let here : slice_get noted (number - book.opening) ≡ Some (Some receipt) = ap (λ n. slice_get noted (n - book.opening)) same.1 ∙ get_set_same cells (stamp.number - book.opening) (Some receipt) (omega (arith, as_many, number_within)) in
+            ap (λ o. option_flatten o) here
+            ∙ ap (λ (r : Receipt). Some r) receipt_is
+            ∙ ap (λ o. option_map receipt_of o) (sym this_number)
+            ∙ ap (λ n. receipt_to n after.answered) (sym same.1)
         | inr other ↦
             let elsewhere : number - book.opening ≡ stamp.number - book.opening → ⊥ = λ e. other.1 (omega (arith, e, since, number_since)) in
-            let same : place_in marked book.opening number ≡ place_in cells book.opening number = ap (λ o. option_flatten o) (get_set_other cells (stamp.number - book.opening) (number - book.opening) (Some (length book.answered)) elsewhere) in
-            ap (λ o. at_place after.answered o) same
-            ∙ at_still (place_in cells book.opening number) (within (number - book.opening))
-            ∙ places number since ∙ sym (other_number number other.1)
+            ap (λ o. option_flatten o) (get_set_other cells (stamp.number - book.opening) (number - book.opening) (Some receipt) elsewhere)
+            ∙ receipts number since
+            ∙ ap (λ o. option_map receipt_of o) (sym (other_number number other.1))
       ]
 
-      more_by : (o : Option ℕ) → IfSome o (λ place. place < length book.answered) → IfSome o (λ place. place < length after.answered)
-      more_by None h = tt
-      more_by (Some place) h = omega (arith, h, length-append book.answered (answer ∷ []))
-
-      within_still : (k : ℕ) → IfSome (option_flatten (slice_get marked k)) (λ place. place < length after.answered)
-      within_still k = elim (eqb_tells k (stamp.number - book.opening)) [
-        | inl same ↦
-            let here : slice_get marked k ≡ Some (Some (length book.answered)) = ap (slice_get marked) same.1 ∙ get_set_same cells (stamp.number - book.opening) (Some (length book.answered)) (omega (arith, as_many, number_within)) in
-            subst (λ o. IfSome (option_flatten o) (λ place. place < length after.answered)) (sym here) (omega (arith, length-append book.answered (answer ∷ [])))
-        | inr other ↦
-            subst (λ o. IfSome (option_flatten o) (λ place. place < length after.answered)) (sym (get_set_other cells (stamp.number - book.opening) k (Some (length book.answered)) other.1)) (more_by _ (within k))
-      ]
-
-      pub stands_answered : (kept : List Kept) (ports : ℕ) (numbers : map.FinMap key_cmp ℕ) (count : ℕ) → IsConsistent book kept ports numbers cells count → IsConsistent after kept ports numbers marked (count - 1)
+      pub stands_answered : (kept : List Kept) (ports : ℕ) (numbers : map.FinMap key_cmp ℕ) (count : ℕ) → IsConsistent book kept ports numbers cells count → IsConsistent after kept ports numbers noted (count - 1)
       stands_answered kept ports numbers count s = record {
         lawful = answered_lawful;
         rooms = s.rooms;
@@ -342,11 +324,20 @@ module _ (book : Book) (l : IsLawful book) (slot : Slot) (entry : Outstanding) (
         counted = let before = s.counted in omega (arith, one_less, before);
         last_numbers = s.last_numbers;
         since_opening = s.since_opening;
-        cells_are = length-set cells (stamp.number - book.opening) (Some (length book.answered)) ∙ s.cells_are;
-        places = places_still;
-        placed_within = within_still;
+        cells_are = length-set cells (stamp.number - book.opening) (Some receipt) ∙ s.cells_are;
+        receipts = receipts_kept;
         numbers_fit = s.numbers_fit;
       }
+
+-- there are no more answers than requests
+pub served_within : (book : Book) → IsLawful book → book.served ≤ next_number book
+served_within book l =
+    let placed = length_permutation _ _ l.placed_once in
+    let both = length-append (stamps_in book.held) (each (λ a. a.stamp) book.answered) in
+    let answers = length-map book.answered (λ a. a.stamp) in
+    let whole = ap length l.in_order ∙ length-append book.sent (each (λ r. r.stamp) book.queued) in
+    let served = l.served_count in
+    omega (arith, placed, both, answers, whole, served)
 
 -- a reply that was verified may still find no memory
 pub remembers : (secret : List ℕ) (now count : ℕ) (entry : Outstanding) (packet : List ℕ) (answer : AnswerKept) → KeepsAnswer secret now count entry packet answer → RefusesReply entry.octets packet secret reply.OutOfMemory
@@ -367,7 +358,7 @@ refused_for_memory book value same slot entry there now packet answer keeps =
     subst (λ (b : Book). AnswerIsRefused b slot packet OutOfMemory) same
     (record { entry = entry; there = there; reason = reply.OutOfMemory; is = refl; refuses = remembers _ _ _ entry packet answer keeps })
 
-pub refused_here : (book value : Book) (same : book ≡ value) (kept : List Kept) (ports : ℕ) (numbers : map.FinMap key_cmp ℕ) (cells : List (Option ℕ)) (outstanding : ℕ) → IsConsistent book kept ports numbers cells outstanding → (slot : Slot) (entry : Outstanding) → outstanding_at book slot entry → (packet : List ℕ) (reason : ReplyFault) (result : Result (Outgoing) HearFault) → RefusesReply entry.octets packet entry.home reason → IsErr result × IsErrAnd result (λ fault. fault ≡ fault_of reason) → IfErr result (λ fault. AnswerIsRefused value slot packet fault × (value ≡ value))
+pub refused_here : (book value : Book) (same : book ≡ value) (kept : List Kept) (ports : ℕ) (numbers : map.FinMap key_cmp ℕ) (cells : List (Option Receipt)) (outstanding : ℕ) → IsConsistent book kept ports numbers cells outstanding → (slot : Slot) (entry : Outstanding) → outstanding_at book slot entry → (packet : List ℕ) (reason : ReplyFault) (result : Result (Outgoing) HearFault) → RefusesReply entry.octets packet entry.home reason → IsErr result × IsErrAnd result (λ fault. fault ≡ fault_of reason) → IfErr result (λ fault. AnswerIsRefused value slot packet fault × (value ≡ value))
 refused_here book value same kept ports numbers cells outstanding s slot entry there packet reason (Err fault) refuses is =
     let home = (s.lawful.holds_its_own slot (sending entry) there).1.0 in (
       subst (λ (b : Book). AnswerIsRefused b slot packet fault) same
@@ -382,6 +373,6 @@ kept_seen book value new same slot entry there now packet answer outgoing keeps 
     (record { entry = entry; there = there; answer = answer; keeps = keeps; out = out; book = is })
 
 -- an answer by the secret of the sending is one by the lane's
-pub keeps_here : (book : Book) (kept : List Kept) (ports : ℕ) (numbers : map.FinMap key_cmp ℕ) (cells : List (Option ℕ)) (outstanding : ℕ) → IsConsistent book kept ports numbers cells outstanding → (slot : Slot) (entry : Outstanding) → outstanding_at book slot entry → (now count : ℕ) (packet : List ℕ) (answer : AnswerKept) → KeepsAnswer entry.home now count entry packet answer → KeepsAnswer book.setup.home_secret now count entry packet answer
+pub keeps_here : (book : Book) (kept : List Kept) (ports : ℕ) (numbers : map.FinMap key_cmp ℕ) (cells : List (Option Receipt)) (outstanding : ℕ) → IsConsistent book kept ports numbers cells outstanding → (slot : Slot) (entry : Outstanding) → outstanding_at book slot entry → (now count : ℕ) (packet : List ℕ) (answer : AnswerKept) → KeepsAnswer entry.home now count entry packet answer → KeepsAnswer book.setup.home_secret now count entry packet answer
 keeps_here book kept ports numbers cells outstanding s slot entry there now count packet answer keeps =
     subst (λ home. KeepsAnswer home now count entry packet answer) ((s.lawful.holds_its_own slot (sending entry) there).1.0) keeps

@@ -3,6 +3,7 @@ use Rattle.std.proofs.Common.{◌≡◌, ℕ, List, Option, Some, None, refl, sy
 use Rattle.std.specs.Prelude.{IfSome}
 use Rattle.std.specs.FinMap as map
 use Rattle.rad_tables.specs.Keys.{key_cmp}
+use Rattle.rad_lane.specs.declared.answered.Receipt.{Receipt}
 use Rattle.rad_lane.specs.Stamp.{Kept}
 use Rattle.rad_lane.specs.Book.{Book, next_number}
 use Rattle.rad_lane.specs.Drains.{drained_at}
@@ -39,8 +40,8 @@ drained_lawful book l = record {
   drained_count = count_kept book book.drain l.drained_count;
 }
 
-pub stands_drained : (book : Book) (kept : List Kept) (ports : ℕ) (numbers : map.FinMap key_cmp ℕ) (places : List (Option ℕ)) (count : ℕ) → IsConsistent book kept ports numbers places count → IsConsistent (record book { drain = Some (drained_at book book.drain) }) kept ports numbers places count
-stands_drained book kept ports numbers places count s = record {
+pub stands_drained : (book : Book) (kept : List Kept) (ports : ℕ) (numbers : map.FinMap key_cmp ℕ) (cells : List (Option Receipt)) (count : ℕ) → IsConsistent book kept ports numbers cells count → IsConsistent (record book { drain = Some (drained_at book book.drain) }) kept ports numbers cells count
+stands_drained book kept ports numbers cells count s = record {
   lawful = drained_lawful book s.lawful;
   rooms = s.rooms;
   ports_are = s.ports_are;
@@ -48,13 +49,12 @@ stands_drained book kept ports numbers places count s = record {
   last_numbers = s.last_numbers;
   since_opening = s.since_opening;
   cells_are = s.cells_are;
-  places = s.places;
-  placed_within = s.placed_within;
+  receipts = s.receipts;
   numbers_fit = s.numbers_fit;
 }
 
 -- the same where the book is seen as another, and the count is known by an equation
-pub stands_drained_by : (book value : Book) (kept : List Kept) (ports : ℕ) (numbers : map.FinMap key_cmp ℕ) (places : List (Option ℕ)) (outstanding count : ℕ) → book ≡ value → count ≡ drained_at value value.drain → IsConsistent book kept ports numbers places outstanding → IsConsistent (record book { drain = Some count }) kept ports numbers places outstanding
-stands_drained_by book value kept ports numbers places outstanding count same counted s =
+pub stands_drained_by : (book value : Book) (kept : List Kept) (ports : ℕ) (numbers : map.FinMap key_cmp ℕ) (cells : List (Option Receipt)) (outstanding count : ℕ) → book ≡ value → count ≡ drained_at value value.drain → IsConsistent book kept ports numbers cells outstanding → IsConsistent (record book { drain = Some count }) kept ports numbers cells outstanding
+stands_drained_by book value kept ports numbers cells outstanding count same counted s =
     let here : count ≡ drained_at book book.drain = counted ∙ ap (λ (b : Book). drained_at b b.drain) (sym same) in
-    rw here (stands_drained book kept ports numbers places outstanding s)
+    rw here (stands_drained book kept ports numbers cells outstanding s)

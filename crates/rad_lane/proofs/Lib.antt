@@ -1,3 +1,10 @@
+pub mod VolumeLeaves
+pub mod RunsLoseNone
+pub mod ConsistentAfterCut
+pub mod ForgetsNumbers
+pub mod SerialFound
+pub mod LawfulAfterCut
+pub mod ListLemmas
 pub mod LawfulAfterAccept
 pub mod LawfulWhenEmpty
 pub mod LawfulAfterDrain
@@ -15,3 +22,4 @@ pub mod NextDueFound
 pub mod NoRepeatOfFresh
 pub mod LawfulAfterWatch
 pub mod LeadsToItsLane
+pub mod UnknownPort

@@ -1,8 +1,9 @@
 -- Lists of numbers, and of what has them.
-use Rattle.std.proofs.Common.{◌≡◌, ℕ, zero, suc, ◌+◌, ◌-◌, ◌≤◌, List, [], ◌∷◌, ◌++◌, length, take, Option, None, refl, sym, ap, ◌∙◌, arith, add-zero, add-one, length-append}
-use Rattle.std.specs.Prelude.{map as each, slice_get}
+use Rattle.std.proofs.Common.{◌≡◌, ℕ, zero, suc, ◌+◌, ◌-◌, ◌<◌, ◌≤◌, true, false, inl, inr, List, [], ◌∷◌, ◌++◌, length, take, Option, None, refl, sym, ap, ◌∙◌, arith, add-zero, add-one, length-append}
+use Rattle.std.specs.Prelude.{map as each, slice_get, nat_lt}
 use Rattle.std.specs.Option.{option_flatten}
 use Rattle.std.specs.List.{range_with_len}
+use Rattle.std.proofs.lemmas.Bool.Decides.{leb_tells}
 use Rattle.std.proofs.lemmas.List.{map-append, take-append-le}
 
 pub range_more : (from count : ℕ) → range_with_len from (count + 1) ≡ range_with_len from count ++ (from + count) ∷ []
@@ -29,8 +30,15 @@ front_same items item others other fits =
     ap (λ n. take n (items ++ item ∷ [])) count ∙ take-append-le (length items - length others) items (item ∷ []) within
 
 -- an empty cell more changes no look-up
-pub none_more : (cells : List (Option ℕ)) (place : ℕ) → option_flatten (slice_get (cells ++ None ∷ []) place) ≡ option_flatten (slice_get cells place)
+pub none_more : {X : Type 0} (cells : List (Option X)) (place : ℕ) → option_flatten (slice_get (cells ++ None ∷ []) place) ≡ option_flatten (slice_get cells place)
 none_more [] zero = refl
 none_more [] (suc place) = refl
 none_more (cell ∷ cells) zero = refl
 none_more (cell ∷ cells) (suc place) = none_more cells place
+
+-- whether a number is below a bound
+pub test_since : (number bound : ℕ) → bound ≤ number → nat_lt number bound ≡ false
+test_since number bound h = elim (leb_tells (suc number) bound) [ inl below ↦ absurd (omega (arith, below.1, h)) | inr since ↦ since.0 ]
+
+pub test_below : (number bound : ℕ) → number < bound → nat_lt number bound ≡ true
+test_below number bound h = elim (leb_tells (suc number) bound) [ inl below ↦ below.0 | inr since ↦ absurd (omega (arith, since.1, h)) ]

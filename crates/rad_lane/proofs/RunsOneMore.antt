@@ -13,10 +13,13 @@ use Rattle.rad_lane.specs.declared.stepping.Action.TheVariants.{Sent, Resent, Pr
 use Rattle.rad_lane.specs.declared.hearing.Heard.{Heard}
 use Rattle.rad_lane.specs.declared.hearing.Heard.TheVariants.{Answer, ProbeAnswered}
 use Rattle.rad_lane.specs.declared.hearing.HearFault.{HearFault}
+use Rattle.rad_lane.specs.declared.turning.Volume.{Volume}
+use Rattle.rad_lane.specs.declared.turning.TurnFault.{TurnFault}
+use Rattle.rad_lane.specs.declared.turning.TurnFault.TheVariants.{NothingToTurn, OutOfMemory}
 use Rattle.rad_lane.specs.declared.running.Event.{Event}
-use Rattle.rad_lane.specs.declared.running.Event.TheVariants.{Accept as accept, Step as step, Hear as hear, Drain as drain}
+use Rattle.rad_lane.specs.declared.running.Event.TheVariants.{Accept as accept, Step as step, Hear as hear, Drain as drain, Turn as turn}
 use Rattle.rad_lane.specs.declared.running.GivenAnswer.{GivenAnswer}
-use Rattle.rad_lane.specs.declared.running.GivenAnswer.TheVariants.{Accept as accepted, Step as stepped, Hear as heard, Drain as drained}
+use Rattle.rad_lane.specs.declared.running.GivenAnswer.TheVariants.{Accept as accepted, Step as stepped, Hear as heard, Drain as drained, Turn as turned}
 use Rattle.rad_lane.specs.declared.running.Given.{Given}
 use Rattle.rad_lane.specs.declared.watch.Watch.{Watch}
 use Rattle.rad_lane.specs.declared.watch.Watch.TheVariants.{Up as up, Down as down}
@@ -26,6 +29,7 @@ use Rattle.rad_lane.specs.Datagrams.{Datagrams}
 use Rattle.rad_lane.specs.Accepts.{Accepts}
 use Rattle.rad_lane.specs.Watch.{GoesUpIfDown}
 use Rattle.rad_lane.specs.Steps.{StepsBy, StepsWhileUp, StepsWhileDown}
+use Rattle.rad_lane.specs.Volumes.{Turns}
 use Rattle.rad_lane.specs.Hears.{Hears}
 use Rattle.rad_lane.specs.Runs.{Gives, Runs, TakesEvent, TakesEach}
 
@@ -84,11 +88,17 @@ hear_stays old new moment port datagram (Ok (Answer outgoing)) h = comes_stays o
 hear_stays old new moment port datagram (Ok ProbeAnswered) h = comes_stays old.watch (moment_in old moment) _ new h.book
 hear_stays old new moment port datagram (Err fault) h = ap (λ (b : Book). b.setup) h.1
 
+turn_stays : (old new : Book) (moment : ℕ) (result : Result Volume TurnFault) → Turns old moment result new → new.setup ≡ old.setup
+turn_stays old new moment (Ok volume) t = ap (λ (b : Book). b.setup) t.5
+turn_stays old new moment (Err NothingToTurn) t = ap (λ (b : Book). b.setup) t.1
+turn_stays old new moment (Err OutOfMemory) t = ap (λ (b : Book). b.setup) t.4
+
 pub gives_stays : (old new : Book) (event : Event) (answer : GivenAnswer) (d : Datagrams) → Gives old event answer d new → new.setup ≡ old.setup
 gives_stays old new (accept request moment) (accepted result) d g = accept_stays old new request.now moment result d g
 gives_stays old new (step moment random) (stepped action) d g = step_stays old.watch old new (moment_in old moment) random action d g
 gives_stays old new (hear moment port datagram) (heard result) d g = hear_stays old new moment port datagram.now result g.0
 gives_stays old new drain (drained count) d g = ap (λ (b : Book). b.setup) g.0.book
+gives_stays old new (turn moment) (turned result) d g = turn_stays old new moment result g.0
 gives_stays old new (accept request moment) (stepped action) d g = absurd g
 gives_stays old new (accept request moment) (heard result) d g = absurd g
 gives_stays old new (accept request moment) (drained count) d g = absurd g
@@ -101,6 +111,14 @@ gives_stays old new (hear moment port datagram) (drained count) d g = absurd g
 gives_stays old new drain (accepted result) d g = absurd g
 gives_stays old new drain (stepped action) d g = absurd g
 gives_stays old new drain (heard result) d g = absurd g
+gives_stays old new (accept request moment) (turned result) d g = absurd g
+gives_stays old new (step moment random) (turned result) d g = absurd g
+gives_stays old new (hear moment port datagram) (turned result) d g = absurd g
+gives_stays old new drain (turned result) d g = absurd g
+gives_stays old new (turn moment) (accepted result) d g = absurd g
+gives_stays old new (turn moment) (stepped action) d g = absurd g
+gives_stays old new (turn moment) (heard result) d g = absurd g
+gives_stays old new (turn moment) (drained count) d g = absurd g
 
 -- What a lane takes, it takes later too.
 pub still_takes : (book later : Book) (event : Event) → later.setup ≡ book.setup → TakesEvent book event → TakesEvent later event
@@ -111,6 +129,7 @@ still_takes book later (accept request moment) same taken = record {
 still_takes book later (step moment random) same taken = taken
 still_takes book later (hear moment port datagram) same taken = taken
 still_takes book later drain same taken = taken
+still_takes book later (turn moment) same taken = taken
 
 module _ (before : List ℕ) (events : List Event) (place : ℕ) (event : Event) (within : place < length events) (is : event ≡ get_or events place event) where
   pub takes_here : (book later : Book) → later.setup ≡ book.setup → TakesEach book events → TakesEvent later event

@@ -1,5 +1,5 @@
 -- What a lane keeps, and how it is the book (own). No public clause cites this module, but the model of a lane does.
-use Rattle.std.specs.Prelude.{◌≡◌, ℕ, ◌+◌, ◌-◌, ◌^◌, ◌<◌, ◌≤◌, List, length, take, slice_get, map as each, All, Option, Some, IfSome, option_map, option_and_then}
+use Rattle.std.specs.Prelude.{◌≡◌, ℕ, ◌+◌, ◌-◌, ◌^◌, ◌≤◌, List, length, take, slice_get, map as each, All, Option, Some, find, ◌==◌, option_map, option_and_then}
 use Rattle.std.specs.Option.{option_flatten}
 use Rattle.std.specs.FinMap as map
 use Rattle.rad_tables.specs.declared.duplicates.Key.{Key}
@@ -7,6 +7,7 @@ use Rattle.rad_tables.specs.Keys.{key_cmp}
 use Rattle.rad_tables.specs.Pairs.{Table}
 use Rattle.rad_lane.specs.declared.stamp.Stamp.{Stamp}
 use Rattle.rad_lane.specs.declared.entry.Entry.{Entry}
+use Rattle.rad_lane.specs.declared.answered.Receipt.{Receipt}
 use Rattle.rad_lane.specs.declared.watch.Watch.{Watch}
 use Rattle.rad_lane.specs.Stamp.{Kept}
 use Rattle.rad_lane.specs.Outstanding.{AnswerKept}
@@ -32,12 +33,24 @@ book_of setup opening accepted kept answered served slots drain watch last = rec
   last = last;
 }
 
--- The place of the answer to the request of a number, if it is answered: the cells begin at the opening.
-abbrev pub place_in : List (Option ℕ) → ℕ → ℕ → Option ℕ
-place_in cells opening number = option_flatten (slice_get cells (number - opening))
+-- The receipt of an answer: its serial, by which it is found, and when it was given.
+abbrev pub receipt_of : AnswerKept → Receipt
+receipt_of answer = record { serial = answer.serial; moment = answer.moment }
 
+-- The receipt of the request of a number, if it is answered: as it is kept, in cells that begin at the opening, and as
+-- its answer has it.
+abbrev pub receipt_in : List (Option Receipt) → ℕ → ℕ → Option Receipt
+receipt_in cells opening number = option_flatten (slice_get cells (number - opening))
+
+abbrev pub receipt_to : ℕ → List AnswerKept → Option Receipt
+receipt_to number answered = option_map receipt_of (answer_to number answered)
+
+-- The answer at a place, if there is a place; and the answer of a serial.
 abbrev pub at_place : List AnswerKept → Option ℕ → Option AnswerKept
 at_place answered place = option_and_then (λ p. slice_get answered p) place
+
+abbrev pub answer_of : ℕ → List AnswerKept → Option AnswerKept
+answer_of serial answered = find (λ a. a.serial == serial) answered
 
 -- The last number of a key.
 abbrev pub last_number : Key → List Stamp → Option ℕ
@@ -48,9 +61,9 @@ abbrev pub HasRoom : Kept → Type 0
 HasRoom k = length k.recorded.text + 12 ≤ k.room
 
 -- What is kept beside the book is in step with it: each queued record has its room; the slots have the source ports
--- of the setup, and their sendings are counted; and by the last number of each key, and the place of each
+-- of the setup, and their sendings are counted; and by the last number of each key, and the receipt of each
 -- answer, a repeat is found without a look through the book.
-pub record IsConsistent (book : Book) (kept : List Kept) (ports : ℕ) (numbers : map.FinMap key_cmp ℕ) (cells : List (Option ℕ)) (count : ℕ) : Type 0 where
+pub record IsConsistent (book : Book) (kept : List Kept) (ports : ℕ) (numbers : map.FinMap key_cmp ℕ) (cells : List (Option Receipt)) (count : ℕ) : Type 0 where
   pub lawful : IsLawful book
   pub rooms : All HasRoom kept
   pub ports_are : ports ≡ book.setup.ports
@@ -58,6 +71,5 @@ pub record IsConsistent (book : Book) (kept : List Kept) (ports : ℕ) (numbers 
   pub last_numbers : (key : Key) → map.get numbers key ≡ last_number key book.accepted
   pub since_opening : (key : Key) (number : ℕ) → map.get numbers key ≡ Some number → book.opening ≤ number
   pub cells_are : length cells ≡ length book.accepted
-  pub places : (number : ℕ) → book.opening ≤ number → at_place book.answered (place_in cells book.opening number) ≡ answer_to number book.answered
-  pub placed_within : (k : ℕ) → IfSome (option_flatten (slice_get cells k)) (λ place. place < length book.answered)
+  pub receipts : (number : ℕ) → book.opening ≤ number → receipt_in cells book.opening number ≡ receipt_to number book.answered
   pub numbers_fit : next_number book ≤ 2 ^ 62

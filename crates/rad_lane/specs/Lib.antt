@@ -15,7 +15,10 @@ pub mod Watch
 pub mod Steps
 pub mod Hears
 pub mod AcceptReply
+pub mod Volumes
+pub mod Cutting
 pub mod Runs
+pub mod LosesNone
 pub mod Lawful
 pub mod Counting
 pub mod Closes

@@ -2,9 +2,9 @@
 -- left.
 use Rattle.std.specs.Prelude.{◌≡◌, ⊤, ℕ, List, [], ◌∷◌, All}
 use Rattle.rad_lane.specs.declared.running.Event.{Event}
-use Rattle.rad_lane.specs.declared.running.Event.TheVariants.{Accept as accept, Step as step, Hear as hear, Drain as drain}
+use Rattle.rad_lane.specs.declared.running.Event.TheVariants.{Accept as accept, Step as step, Hear as hear, Drain as drain, Turn as turn}
 use Rattle.rad_lane.specs.declared.running.GivenAnswer.{GivenAnswer}
-use Rattle.rad_lane.specs.declared.running.GivenAnswer.TheVariants.{Accept as accepted, Step as stepped, Hear as heard, Drain as drained}
+use Rattle.rad_lane.specs.declared.running.GivenAnswer.TheVariants.{Accept as accepted, Step as stepped, Hear as heard, Drain as drained, Turn as turned}
 use Rattle.rad_lane.specs.declared.running.Given.{Given}
 use Rattle.rad_lane.specs.Book.{Book}
 use Rattle.rad_lane.specs.Datagrams.{Datagrams}
@@ -12,6 +12,7 @@ use Rattle.rad_lane.specs.Accepts.{Accepts, IsTaken}
 use Rattle.rad_lane.specs.Steps.{Steps}
 use Rattle.rad_lane.specs.Hears.{Hears}
 use Rattle.rad_lane.specs.Drains.{Drains}
+use Rattle.rad_lane.specs.Volumes.{Turns}
 
 -- What one event may answer, and the datagram and the book after it.
 abbrev pub Gives : Book → Event → GivenAnswer → Datagrams → Book → Type 0
@@ -19,6 +20,7 @@ Gives old (accept request moment) (accepted result) d new = Accepts old request.
 Gives old (step moment random) (stepped action) d new = Steps old moment random action d new
 Gives old (hear moment port datagram) (heard result) d new = Hears old moment port datagram.now result new × (d.after ≡ d.before)
 Gives old drain (drained count) d new = Drains old count new × (d.after ≡ d.before)
+Gives old (turn moment) (turned result) d new = Turns old moment result new × (d.after ≡ d.before)
 Gives old event answer d new = ⊥
 
 -- There is one answer for each event.
@@ -36,6 +38,7 @@ TakesEvent book (accept request moment) = IsTaken book request.now
 TakesEvent book (step moment random) = ⊤
 TakesEvent book (hear moment port datagram) = ⊤
 TakesEvent book drain = ⊤
+TakesEvent book (turn moment) = ⊤
 
 abbrev pub TakesEach : Book → List Event → Type 0
 TakesEach book events = All (TakesEvent book) events

@@ -7,6 +7,7 @@ ghost use Rattle.rad_lane.specs.Invariant.{HasRoom};
 ghost use Rattle.rad_lane.specs.Datagrams.{Datagrams};
 ghost use Rattle.rad_lane.specs.Accepts.{Accepts, IsTaken, IsRefused, request_key, stamp_of as the_stamp, record_of as the_record, with_request};
 
+use crate::answered::Receipt;
 use crate::repeats::Repeat;
 use crate::reserved_list::ReservedList;
 use crate::{Answered, Lane, Record, Stamp};
@@ -136,10 +137,10 @@ impl<Q: Fifo<Record>> Lane<Q> {
     {
         let number = self.next_number();
         let record = record_of(alloc, request, number, now)?;
-        make_room(&mut self.accepted, &mut self.places, &mut self.queued)?;
+        make_room(&mut self.accepted, &mut self.receipts, &mut self.queued)?;
         self.duplicates.insert(key_of(request), number)?;
         self.accepted.push(record.stamp());
-        self.places.push(None);
+        self.receipts.push(None);
         self.queued.push_back(record);
         self.last = now;
         Ok(number)
@@ -193,18 +194,18 @@ fn record_of(
 /// Makes room for one more in each.
 fn make_room<Q: Fifo<Record>>(
     accepted: &mut ReservedList<Stamp>,
-    places: &mut ReservedList<Option<usize>>,
+    receipts: &mut ReservedList<Option<Receipt>>,
     queued: &mut Q,
 ) -> Result<(), AllocError>
     ensures accepted { accepted.new.items ≡ accepted.old.items }
-    ensures places { places.new.items ≡ places.old.items }
+    ensures receipts { receipts.new.items ≡ receipts.old.items }
     ensures queued { Q.items queued.new ≡ Q.items queued.old }
     ensures accepted_room { IfOk result (λ _. 1 ≤ accepted.new.room) }
-    ensures places_room { IfOk result (λ _. 1 ≤ places.new.room) }
+    ensures receipts_room { IfOk result (λ _. 1 ≤ receipts.new.room) }
     ensures queued_room { IfOk result (λ _. 1 ≤ Q.room queued.new) }
 {
     accepted.reserve_one()?;
-    places.reserve_one()?;
+    receipts.reserve_one()?;
     queued.reserve_one()
 }
 

@@ -20,6 +20,16 @@ pub struct Answered {
     reply: Reply,
 }
 
+/// What a lane notes of an answer beside its request: the answer's serial number, by which it is found, and when it
+/// was given.
+#[derive(Clone, Copy)]
+pub(crate) struct Receipt {
+    /// How many answers of the lane there were before it.
+    pub(crate) serial: u64,
+    /// When it was given.
+    pub(crate) moment: Moment,
+}
+
 impl Model for Answered {
     ghost use Rattle.rad_lane.specs.Outstanding.{AnswerKept, IsAnswered};
 

@@ -7,6 +7,7 @@ ghost use Rattle.rad_lane.specs.Book.{outstanding_at};
 ghost use Rattle.rad_lane.specs.Hears.{Hears};
 ghost use Rattle.rad_lane.specs.AcceptReply.{AnswerIsKept, AnswerIsRefused};
 
+use crate::answered::Receipt;
 use crate::{Entry, Lane, Outgoing, Record};
 use block_queue::Fifo;
 use rad_auth::{ACCOUNTING_RESPONSE, ReplyFault, check_response};
@@ -143,7 +144,13 @@ impl<Q: Fifo<Record>> Lane<Q> {
         };
         let place = (answer.stamp().number - self.opening) as usize;
         self.slots.take(slot);
-        self.places.set(place, Some(self.answered.as_slice().len()));
+        self.receipts.set(
+            place,
+            Some(Receipt {
+                serial: self.served,
+                moment: now,
+            }),
+        );
         self.answered.push(answer);
         self.served += 1;
         self.outstanding -= 1;

@@ -3,6 +3,7 @@ ghost use Rattle.rad_lane.specs.Book.{moment_in, next_number};
 ghost use Rattle.rad_lane.specs.Drains.{drained_at};
 ghost use Rattle.rad_lane.specs.Empty.{empty_book};
 
+use crate::answered::Receipt;
 use crate::reserved_list::ReservedList;
 use crate::{Answered, Entry, Record, Setup, Stamp, Watch};
 use block_queue::Fifo;
@@ -15,12 +16,13 @@ use std::marker::Model;
 /// It has no socket and no clock: its calls are handed the moment, and answer what is to be done. A moment
 /// earlier than the last one counts as the last one.
 ///
-/// Its calls are of four kinds:
+/// Its calls are of five kinds:
 ///
 /// - What comes in: [`Lane::accept`] takes a request, where the lane [`Lane::takes`] it, and [`Lane::hear`] a
 ///   datagram from the home server.
 /// - What goes out: [`Lane::step`] does the next thing, and puts what is to be sent into the datagram. Call it
 ///   after each request and each reply, and at the moment that it tells, again and again until it is idle.
+/// - What it sheds: [`Lane::turn`] cuts off the first requests, once they are answered and too old to be repeated.
 /// - What ends it: [`Lane::drain`] is the end of taking requests. Go on with the other calls until
 ///   [`Lane::is_done`]; then [`Lane::close`] gives what the book holds.
 /// - What it has, at any time: [`Lane::counts`], [`Lane::is_draining`], and the parts of the book,
@@ -37,8 +39,8 @@ pub struct Lane<Q: Fifo<Record>> {
     pub(crate) queued: Q,
     /// The answers, in the order in which they came.
     pub(crate) answered: ReservedList<Answered>,
-    /// For each of the requests accepted the place of its answer among `answered`.
-    pub(crate) places: ReservedList<Option<usize>>,
+    /// For each of the requests accepted the receipt of its answer, where it is answered.
+    pub(crate) receipts: ReservedList<Option<Receipt>>,
     /// How many answers there were.
     pub(crate) served: u64,
     /// What was sent and not answered, each under its pair of source port and identifier, and the probe.
@@ -70,7 +72,7 @@ impl<Q: Fifo<Record>> Model for Lane<Q> {
 
     ghost view = { λ l. book_of l.setup l.opening l.accepted.items (Q.items l.queued) l.answered.items l.served l.slots l.drain l.watch l.last };
 
-    ghost invariant = { λ l. IsConsistent (book_of l.setup l.opening l.accepted.items (Q.items l.queued) l.answered.items l.served l.slots l.drain l.watch l.last) (Q.items l.queued) l.slots.ports l.duplicates l.places.items l.outstanding };
+    ghost invariant = { λ l. IsConsistent (book_of l.setup l.opening l.accepted.items (Q.items l.queued) l.answered.items l.served l.slots l.drain l.watch l.last) (Q.items l.queued) l.slots.ports l.duplicates l.receipts.items l.outstanding };
 }
 
 /// Why there is no lane.
@@ -97,7 +99,7 @@ impl<Q: Fifo<Record>> Lane<Q> {
                 accepted: ReservedList::new(alloc),
                 queued: Q::new(alloc),
                 answered: ReservedList::new(alloc),
-                places: ReservedList::new(alloc),
+                receipts: ReservedList::new(alloc),
                 served: 0,
                 slots,
                 outstanding: 0,

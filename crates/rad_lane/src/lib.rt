@@ -8,9 +8,10 @@
 //! alone.
 //!
 //! The definitions that the contracts cite stand in specs: `Book` is what a lane is seen as and `Lawful` what
-//! holds of it at any time; `Accepts`, `Steps`, `Hears` and `Drains` are the calls, over `Repeat`, `Dues` and
-//! `Watch`; `Runs` is a sequence of calls; `Setup` is what a lane is set up with, `Counting` what it tells,
-//! and `Closes` what is left of it. `Stamp`, `Outstanding` and `Entries` are what the book holds.
+//! holds of it at any time; `Accepts`, `Steps`, `Hears`, `Drains` and `Volumes` are the calls, over `Repeat`,
+//! `Dues` and `Watch`; `Runs` is a sequence of calls, and `LosesNone` what it keeps; `Setup` is what a lane
+//! is set up with, `Counting` what it tells, and `Closes` what is left of it. `Stamp`, `Outstanding` and `Entries`
+//! are what the book holds.
 #![tactic(auto)]
 
 mod accepting;
@@ -33,6 +34,7 @@ mod series;
 mod setup;
 mod stamp;
 mod stepping;
+mod turning;
 mod views;
 mod watch;
 
@@ -42,7 +44,7 @@ pub use counts::Counts;
 pub use entry::{Entry, Probe};
 pub use hearing::{HearFault, Heard};
 pub use lane::{Lane, SetupFault};
-pub use laws::a_lane_takes_what_leads_to_it;
+pub use laws::{a_cut_loses_nothing, a_lane_takes_what_leads_to_it, a_port_that_a_lane_lacks_is_unknown};
 pub use leftover::{Leftover, LeftoverParts};
 pub use outgoing::Outgoing;
 pub use record::Record;
@@ -52,4 +54,5 @@ pub use series::Series;
 pub use setup::Setup;
 pub use stamp::Stamp;
 pub use stepping::Action;
+pub use turning::{TurnFault, Volume};
 pub use watch::Watch;

@@ -1,10 +1,12 @@
 //! Whether a request was seen before (RFC 2866 section 3, Identifier).
 
-ghost use Rattle.std.specs.Prelude.{◌≡◌, ◌≤◌};
+ghost use Rattle.std.specs.Prelude.{◌≡◌, ◌≤◌, map as each};
+ghost use Rattle.std.specs.List.Sorted.{IsStrictlyIncreasing};
 ghost use Rattle.std.specs.Option.{option_copied};
 ghost use Rattle.rad_lane.specs.Repeat.{answer_to, found, repeats, repeats_answered};
-ghost use Rattle.rad_lane.specs.Invariant.{at_place};
+ghost use Rattle.rad_lane.specs.Invariant.{answer_of as the_answer, at_place, receipt_to};
 
+use crate::answered::Receipt;
 use crate::{Answered, Lane, Record};
 use block_queue::Fifo;
 use rad_tables::{Key, Moment};
@@ -59,7 +61,29 @@ impl<Q: Fifo<Record>> Lane<Q> {
         requires { self.now.opening ≤ number }
         ensures { at_place self.now.answered result ≡ answer_to number self.now.answered }
     {
-        let place = (number - self.opening) as usize;
-        self.places.get(place).copied().flatten()
+        match self.receipt_of(number) {
+            Some(receipt) => place_of_serial(self.answered.as_slice(), receipt.serial),
+            None => None,
+        }
     }
+
+    /// The receipt of the answer to the request of a number, if it is answered.
+    fn receipt_of(&self, number: u64) -> Option<Receipt>
+        requires { self.now.opening ≤ number }
+        ensures { result ≡ receipt_to number self.now.answered }
+    {
+        let place = (number - self.opening) as usize;
+        self.receipts.get(place).copied().flatten()
+    }
+}
+
+/// Where the answer of a serial stands. It looks at a number of answers that grows with the logarithm of how many
+/// there are.
+fn place_of_serial(answers: &[Answered], serial: u64) -> Option<usize>
+    requires { IsStrictlyIncreasing (each (λ a. a.serial) answers.now) }
+    ensures { at_place answers.now result ≡ the_answer serial answers.now }
+{
+    answers
+        .binary_search_by_key(&serial, |answer| answer.serial())
+        .ok()
 }

@@ -18,7 +18,7 @@ impl<T> Model for ReservedList<T> {
 }
 
 impl<T> ReservedList<T> {
-    ghost use Rattle.std.specs.Prelude.{◌≡◌, ◌<◌, ◌≤◌, [], ◌∷◌, ◌++◌, length, slice_get, slice_set, option_copied, OnOk};
+    ghost use Rattle.std.specs.Prelude.{◌≡◌, ◌<◌, ◌≤◌, [], ◌∷◌, ◌++◌, drop, length, slice_get, slice_set, option_copied, OnOk};
 
     /// No items. It takes no memory: what it needs later is made with `alloc`.
     pub(crate) fn new(alloc: Global) -> ReservedList<T>
@@ -67,6 +67,23 @@ impl<T> ReservedList<T> {
         ensures { result.now ≡ self.now.items }
     {
         self.items.as_slice()
+    }
+
+    /// The items of a vector, without memory.
+    pub(crate) fn from_vec(items: Vec<T>) -> ReservedList<T>
+        ensures { result.items ≡ items.items }
+    {
+        ReservedList { items }
+    }
+
+    /// Lets go of so many of the first items. It takes no memory, and moves each of the others once.
+    pub(crate) fn drop_front(&mut self, count: usize)
+    where
+        T: Drop,
+        requires { count ≤ length self.old.items }
+        ensures { self.new.items ≡ drop count self.old.items }
+    {
+        drop(self.items.drain(..count));
     }
 
     /// The items, which no more are added to. It takes no memory and moves no item.

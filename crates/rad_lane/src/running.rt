@@ -3,9 +3,10 @@
 ghost use Rattle.std.specs.Prelude.{◌≡◌, [], replicate, IfOk, OnErr};
 ghost use Rattle.rad_packet.specs.Packet.{packet_text};
 ghost use Rattle.rad_lane.specs.Datagrams.{Datagrams};
+ghost use Rattle.rad_lane.specs.LosesNone.{LosesNone};
 ghost use Rattle.rad_lane.specs.Runs.{Gives, Runs, TakesEvent, TakesEach};
 
-use crate::{Action, HearFault, Heard, Lane, Record, Refusal, Taken};
+use crate::{Action, HearFault, Heard, Lane, Record, Refusal, Taken, TurnFault, Volume};
 use block_queue::Fifo;
 use rad_packet::Datagram;
 use rad_realms::Checked;
@@ -23,6 +24,8 @@ pub enum Event<'a, 'c> {
     Hear(Moment, u16, &'a [u8]),
     /// To drain.
     Drain,
+    /// To turn at a moment.
+    Turn(Moment),
 }
 
 /// What a call of a lane answered.
@@ -36,6 +39,8 @@ pub enum GivenAnswer {
     Hear(Result<Heard, HearFault>),
     /// To [`Event::Drain`].
     Drain(u64),
+    /// To [`Event::Turn`].
+    Turn(Result<Volume, TurnFault>),
 }
 
 /// What came of an event: the answer of the call, and the datagram after it.
@@ -67,6 +72,7 @@ pub fn run<Q: Fifo<Record>>(
 ) -> Result<Vec<Given>, RunFault>
     requires { TakesEach lane.old events.now }
     ensures runs { IfOk result (λ gives. Runs lane.old (packet_text 0 0 (replicate 16 0) []) events.now gives.items lane.new) }
+    ensures none_lost { IfOk result (λ gives. LosesNone lane.old events.now gives.items lane.new) }
     ensures stays { OnErr result (lane.new ≡ lane.old) }
 {
     let Ok(mut gives) = Vec::with_capacity(alloc, events.len()) else {
@@ -102,5 +108,6 @@ fn give<Q: Fifo<Record>>(
             GivenAnswer::Hear(lane.hear(alloc, *moment, *port, octets))
         }
         Event::Drain => GivenAnswer::Drain(lane.drain()),
+        Event::Turn(moment) => GivenAnswer::Turn(lane.turn(alloc, *moment)),
     }
 }

@@ -11,3 +11,4 @@ pub mod Path
 pub mod Pieces
 pub mod Sent
 pub mod Totals
+pub mod Wires

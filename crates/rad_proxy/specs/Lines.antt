@@ -8,7 +8,7 @@ use Rattle.rad_lane.specs.declared.stepping.Action.{Action}
 use Rattle.rad_lane.specs.declared.stepping.Action.TheVariants.{Sent, Resent, Probed, WentDown, WentUp, Idle}
 use Rattle.rad_lane.specs.declared.outgoing.Outgoing.{Outgoing}
 use Rattle.rad_realms.specs.Printed.{dropped_text}
-use Rattle.rad_proxy.specs.Names.{address_text, home_fault_name, refusal_name, watch_name, mode_name}
+use Rattle.rad_proxy.specs.Names.{address_text, endpoint_text, home_fault_name, refusal_name, watch_name, mode_name}
 use Rattle.rad_proxy.specs.PacketText.{head_text, packet_text}
 use Rattle.rad_proxy.specs.declared.hearing.HomeFault.{HomeFault}
 use Rattle.rad_proxy.specs.declared.hearing.Told.{Told}
@@ -17,6 +17,7 @@ use Rattle.rad_proxy.specs.declared.lines.DrainLine.{DrainLine}
 use Rattle.rad_proxy.specs.declared.lines.StateLine.{StateLine}
 use Rattle.rad_proxy.specs.declared.lines.EndLine.{EndLine}
 use Rattle.rad_proxy.specs.declared.lines.CountLine.{CountLine}
+use Rattle.rad_proxy.specs.declared.lines.ListeningLine.{ListeningLine}
 use Rattle.rad_proxy.specs.declared.path.Given.{Given}
 use Rattle.rad_proxy.specs.declared.path.Given.TheVariants.{Taken, Answered}
 use Rattle.rad_proxy.specs.declared.path.PathFault.{PathFault}
@@ -87,3 +88,6 @@ abbrev pub count_line : CountLine → List ℕ
 count_line line =
     codes "clients " ++ decimal line.clients ++ codes " homes " ++ decimal line.homes
     ++ codes " realms " ++ decimal line.realms
+
+abbrev pub listening_line : ListeningLine → List ℕ
+listening_line line = codes "listening " ++ endpoint_text line.endpoint

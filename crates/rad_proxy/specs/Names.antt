@@ -2,6 +2,7 @@
 use Rattle.std.specs.Prelude.{ℕ, List, ◌++◌, codes, slice_index, suc, zero, Bool, true, false}
 use Rattle.std.specs.Fmt.{decimal}
 use Rattle.rad_packet.specs.Faults.{read_fault_text}
+use Rattle.rad_realms.specs.declared.reading.address.Endpoint.{Endpoint}
 use Rattle.rad_lane.specs.declared.accepting.Refusal.{Refusal}
 use Rattle.rad_lane.specs.declared.accepting.Refusal.TheVariants.{Draining, BookFull, QueueFull, TooLong, OutOfMemory, WrongLane}
 use Rattle.rad_lane.specs.declared.hearing.HearFault.{HearFault}
@@ -14,6 +15,10 @@ abbrev pub address_text : List ℕ → List ℕ
 address_text octets =
     decimal (slice_index octets 0) ++ codes "." ++ decimal (slice_index octets 1) ++ codes "."
     ++ decimal (slice_index octets 2) ++ codes "." ++ decimal (slice_index octets 3)
+
+-- An IPv4 address with a UDP port.
+abbrev pub endpoint_text : Endpoint → List ℕ
+endpoint_text endpoint = address_text endpoint.address ++ codes ":" ++ decimal endpoint.port
 
 abbrev pub refusal_name : Refusal → List ℕ
 refusal_name Draining = codes "Draining"

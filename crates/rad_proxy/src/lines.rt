@@ -3,11 +3,12 @@
 ghost use Rattle.std.specs.Prelude.{◌≡◌, ◌≤◌, length};
 
 use crate::hearing::{HomeFault, Told};
-use crate::names::{AddressText, mode_name, refusal_name, watch_name};
+use crate::names::{AddressText, EndpointText, mode_name, refusal_name, watch_name};
 use crate::packet_text::PacketText;
 use crate::path::{Given, PathFault};
 use rad_auth::Reply;
 use rad_lane::{Action, Counts, Outgoing, Taken};
+use rad_realms::Endpoint;
 use std::fmt;
 
 /// What became of a NAS's datagram.
@@ -77,6 +78,12 @@ pub struct CountLine {
     pub clients: usize,
     pub homes: usize,
     pub realms: usize,
+}
+
+/// Where the clients' datagrams come in.
+#[derive(Clone, Copy)]
+pub struct ListeningLine {
+    pub endpoint: Endpoint,
 }
 
 impl EndLine {
@@ -265,5 +272,17 @@ impl fmt::Display for CountLine {
         let homes = self.homes;
         let realms = self.realms;
         write!(f, "clients {clients} homes {homes} realms {realms}")
+    }
+}
+
+impl fmt::Display for ListeningLine {
+    ghost use Rattle.std.specs.Prelude.{Some};
+    ghost use Rattle.rad_proxy.specs.Lines.{listening_line};
+
+    ghost output = { λ line. Some (listening_line line) };
+
+    fn fmt<W: fmt::Write>(&self, f: &mut fmt::Formatter<W>) -> fmt::Result {
+        let endpoint = EndpointText(self.endpoint);
+        write!(f, "listening {endpoint}")
     }
 }

@@ -5,11 +5,16 @@ ghost use Rattle.rad_proxy.specs.Names.{watch_name as the_watch_name, mode_name 
 
 use crate::hearing::HomeFault;
 use rad_lane::{Counts, HearFault, Refusal};
+use rad_realms::Endpoint;
 use std::fmt;
 
 /// An IPv4 address in dotted decimal.
 #[derive(Clone, Copy)]
 pub struct AddressText(pub [u8; 4]);
+
+/// An IPv4 address in dotted decimal, with a UDP port.
+#[derive(Clone, Copy, Debug)]
+pub struct EndpointText(pub Endpoint);
 
 /// Why a lane does not hear a datagram.
 #[derive(Clone, Copy)]
@@ -56,6 +61,19 @@ impl fmt::Display for AddressText {
     fn fmt<W: fmt::Write>(&self, f: &mut fmt::Formatter<W>) -> fmt::Result {
         let [a, b, c, d] = self.0;
         write!(f, "{a}.{b}.{c}.{d}")
+    }
+}
+
+impl fmt::Display for EndpointText {
+    ghost use Rattle.std.specs.Prelude.{Some};
+    ghost use Rattle.rad_proxy.specs.Names.{endpoint_text};
+
+    ghost output = { λ text. Some (endpoint_text text.0) };
+
+    fn fmt<W: fmt::Write>(&self, f: &mut fmt::Formatter<W>) -> fmt::Result {
+        let address = AddressText(self.0.address);
+        let port = self.0.port;
+        write!(f, "{address}:{port}")
     }
 }
 

@@ -3,9 +3,11 @@
 //! implementation.
 
 mod accepting;
+mod cutting;
 mod hearing;
 mod leaving;
 mod octets;
+mod ports;
 mod requests;
 mod running;
 mod script;

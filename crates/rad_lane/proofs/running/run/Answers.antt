@@ -2,6 +2,8 @@ use Rattle.std.proofs.Common.{[], ◌∙◌, arith}
 use Rattle.std.specs.Prelude.{replicate}
 use Rattle.rad_packet.specs.Packet.{packet_text}
 use Rattle.rad_lane.specs.declared.running.Given.{Given}
+use Rattle.std.proofs.lemmas.List.{take_all}
+use Rattle.rad_lane.proofs.RunsLoseNone.{runs_lose_none}
 use Rattle.rad_lane.proofs.RunsOneMore.{takes_here, runs_on, came_on, gives_stays}
 use Rattle.rad_lane.proofs.running.run.Goals as goal
 
@@ -20,3 +22,8 @@ loop-event-preserved g c =
       count = grind (arith, c.push_reserved.ensures.len, c.loop-event.invariant.count);
       room = grind (arith, c.push_reserved.ensures.capacity, c.loop-event.invariant.room);
     }
+
+pub returns-clause-none_lost : goal.returns-clause-none_lost
+returns-clause-none_lost g c =
+    let all = take_all c.loop-event.event-index c.args.events.now (omega arith) in
+    runs_lose_none _ _ _ _ _ (rw all at c.loop-event.invariant.runs)

@@ -1,7 +1,7 @@
 use Rattle.std.proofs.Common.{◌∙◌, refl, ap, sym, arith}
 use Rattle.rad_lane.specs.declared.stamp.Stamp.{Stamp}
 use Rattle.rad_lane.specs.Book.{Book}
-use Rattle.rad_lane.proofs.LawfulAfterAnswer.{keeps_here, refused_here, has_passed, number_since, number_within, stands_answered, one_less, identifier_is, there_by, refused_for_memory, kept_seen}
+use Rattle.rad_lane.proofs.LawfulAfterAnswer.{keeps_here, refused_here, has_passed, number_since, number_within, stands_answered, served_within, one_less, identifier_is, there_by, refused_for_memory, kept_seen}
 use Rattle.rad_lane.proofs.lane.Lane.accept_reply.Goals as goal
 
 pub answer-requires-clause-since : goal.answer-requires-clause-since
@@ -46,6 +46,12 @@ overflow_sub-self g c =
     let counted = c.self.invariant.counted in
     omega (arith, less, counted)
 
+pub overflow_add-self : goal.overflow_add-self
+overflow_add-self g c =
+    let few = served_within _ c.self.invariant.lawful in
+    let fits = c.self.invariant.numbers_fit in
+    omega (arith, few, fits)
+
 pub invariant_of-self-2 : goal.invariant_of-self-2
 invariant_of-self-2 g c =
     let there = there_by _ _ _ c.in-Some-Sending.ensures.value c.in-Some-Sending.field-0-is in
@@ -53,8 +59,8 @@ invariant_of-self-2 g c =
     let later = c.requires.later in
     let keeps = keeps_here _ _ _ _ _ _ c.self.invariant c.args.slot c.in-Some-Sending.sending there _ _ _ _ c.in_ok-answer-in-Some-Sending.ensures.kept in
     let number = ap (λ (s : Stamp). s.number) (c.stamp.ensures.value ∙ keeps.stamp) in
-    rw (c.push.ensures, c.take.ensures.taken, c.set.ensures, c.as_slice.ensures, c.reserve_one.ensures.items, number)
-    (stands_answered _ c.self.invariant.lawful c.args.slot c.in-Some-Sending.sending there c.args.now (omega (arith, last, later)) _ _ keeps _ c.self.invariant.cells_are c.self.invariant.places c.self.invariant.placed_within _ _ _ _ c.self.invariant)
+    rw (c.push.ensures, c.take.ensures.taken, c.set.ensures, c.reserve_one.ensures.items, number)
+    (stands_answered _ c.self.invariant.lawful c.args.slot c.in-Some-Sending.sending there c.args.now (omega (arith, last, later)) _ _ keeps _ c.self.invariant.cells_are c.self.invariant.receipts _ _ _ _ c.self.invariant)
 
 pub returns-clause-ok : goal.returns-clause-ok
 returns-clause-ok g c =

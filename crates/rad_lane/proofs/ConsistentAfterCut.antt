@@ -1,0 +1,291 @@
+-- What a lane keeps beside its book is in step with the book after a cut, and tells what is cut.
+use Rattle.std.proofs.Common.{◌≡◌, ℕ, zero, suc, ◌+◌, ◌-◌, ◌^◌, ◌<◌, ◌≤◌, Bool, true, false, cond, List, [], ◌∷◌, ◌++◌, length, get_or, take, drop, Option, Some, None, refl, sym, ap, ◌∙◌, subst, arith, length-append}
+use Rattle.std.specs.Prelude.{map as each, All, not, option_map, slice_get, ◌==◌}
+use Rattle.std.specs.Option.{option_flatten}
+use Rattle.std.specs.List.{list_any}
+use Rattle.std.specs.Ordering.{is_eq}
+use Rattle.std.specs.FinMap as map
+use Rattle.std.proofs.lemmas.Bool.{ne_eqb, eq-eqb}
+use Rattle.std.proofs.lemmas.List.{append-nil, length-drop, length-take-le, drop-take, take-append-drop, get_or-take, get_or-drop, get_or_append_left, get_or_default}
+use Rattle.std.proofs.lemmas.List.Elements.{All-filter, filter-append, filter_passes}
+use Rattle.std.proofs.lemmas.List.Filters.{length-filter_both}
+use Rattle.std.proofs.lemmas.List.Folds.{list_any_at, list_any_none}
+use Rattle.rad_tables.specs.declared.duplicates.Key.{Key}
+use Rattle.rad_tables.specs.Keys.{key_cmp}
+use Rattle.rad_tables.specs.Pairs.{Table}
+use Rattle.rad_lane.specs.declared.stamp.Stamp.{Stamp}
+use Rattle.rad_lane.specs.declared.answered.Receipt.{Receipt}
+use Rattle.rad_lane.specs.declared.entry.Entry.{Entry}
+use Rattle.rad_lane.specs.declared.watch.Watch.{Watch}
+use Rattle.rad_lane.specs.declared.turning.Volume.{Volume}
+use Rattle.rad_lane.specs.Stamp.{Kept, key_of}
+use Rattle.rad_lane.specs.Setup.{LaneSetup}
+use Rattle.rad_lane.specs.Outstanding.{AnswerKept}
+use Rattle.rad_lane.specs.Book.{Book}
+use Rattle.rad_lane.specs.Repeat.{of_key, last_of, answer_to}
+use Rattle.rad_lane.specs.Lawful.{IsLawful}
+use Rattle.rad_lane.specs.Invariant.{IsConsistent, book_of, last_number, receipt_in, receipt_of, receipt_to}
+use Rattle.rad_lane.specs.Volumes.{IsOver, BeginsUnended, IsCut, is_below, answers_below, answers_since, volume_of, without_cut}
+use Rattle.rad_lane.specs.Cutting.{IsOverBy, unless_of, HasUnderItsKey}
+use Rattle.rad_lane.proofs.ListLemmas.{All-right}
+use Rattle.rad_lane.proofs.NoRepeatOfFresh.{same_key}
+use Rattle.rad_lane.proofs.LawfulAfterCut.{numbered_at, last_behind, cut_numbered, cut_below, kept_since, cut_sent, found_still, accepted_count, next_same, answers_counted, lawful_after_cut}
+
+get_drop : {X : Type 0} (n : ℕ) (xs : List X) (k : ℕ) → slice_get (drop n xs) k ≡ slice_get xs (n + k)
+get_drop zero xs k = let same : k ≡ 0 + k = omega arith in ap (λ i. slice_get xs i) same
+get_drop (suc n) [] k = refl
+get_drop (suc n) (x ∷ xs) k = let same : suc (n + k) ≡ suc n + k = omega arith in get_drop n xs k ∙ ap (λ i. slice_get (x ∷ xs) i) same
+
+get_is : {X : Type 0} (xs : List X) (k : ℕ) (d : X) → k < length xs → slice_get xs k ≡ Some (get_or xs k d)
+get_is [] k d within = absurd (omega arith)
+get_is (x ∷ xs) zero d within = refl
+get_is (x ∷ xs) (suc k) d within = get_is xs k d (omega arith)
+
+-- the last stamp has what all have
+last_has : (P : Stamp → Type 0) (stamps : List Stamp) (number : ℕ) → All P stamps → option_map (λ (s : Stamp). s.number) (last_of stamps) ≡ Some number → (s : Stamp) × P s × (s.number ≡ number)
+last_has P [] number all h = cc
+last_has P (s ∷ []) number all h = let same : s.number ≡ number = cc in (s, all 0 s (omega arith), same)
+last_has P (s ∷ t ∷ stamps) number all h = last_has P (t ∷ stamps) number (All-right (s ∷ []) (t ∷ stamps) P all) h
+
+-- the last number of a key behind the cut
+module _ (cut : List Stamp) where
+  abbrev IsCutOff : Stamp → Type 0
+  IsCutOff t = list_any (λ s. s.number == t.number) cut ≡ true
+
+  abbrev IsLeft : Stamp → Type 0
+  IsLeft t = list_any (λ s. s.number == t.number) cut ≡ false
+
+  none_left : (gone : List Stamp) → All IsCutOff gone → unless_of cut (option_map (λ (s : Stamp). s.number) (last_of gone)) ≡ None
+  none_left [] h = refl
+  none_left (s ∷ []) h = ap (λ b. cond b None (Some s.number)) (h 0 s (omega arith))
+  none_left (s ∷ t ∷ gone) h = none_left (t ∷ gone) (All-right (s ∷ []) (t ∷ gone) IsCutOff h)
+
+  left_same : (left : List Stamp) → All IsLeft left → unless_of cut (option_map (λ (s : Stamp). s.number) (last_of left)) ≡ option_map (λ (s : Stamp). s.number) (last_of left)
+  left_same [] h = refl
+  left_same (s ∷ []) h = ap (λ b. cond b None (Some s.number)) (h 0 s (omega arith))
+  left_same (s ∷ t ∷ left) h = left_same (t ∷ left) (All-right (s ∷ []) (t ∷ left) IsLeft h)
+
+  last_left : (gone left : List Stamp) → All IsCutOff gone → All IsLeft left → unless_of cut (option_map (λ (s : Stamp). s.number) (last_of (gone ++ left))) ≡ option_map (λ (s : Stamp). s.number) (last_of left)
+  last_left gone [] off here = ap (λ (xs : List Stamp). unless_of cut (option_map (λ (s : Stamp). s.number) (last_of xs))) (append-nil gone) ∙ none_left gone off
+  last_left gone (s ∷ left) off here = ap (λ last. unless_of cut (option_map (λ (s : Stamp). s.number) last)) (last_behind gone s left) ∙ left_same (s ∷ left) here
+
+  all_cut_off : All IsCutOff cut
+  all_cut_off k d within = list_any_at (λ s. s.number == (get_or cut k d).number) cut k d within (eq-eqb (get_or cut k d).number (get_or cut k d).number refl)
+
+module _ (book : Book) (kept_records : List Kept) (ports : ℕ) (numbers : map.FinMap key_cmp ℕ) (cells : List (Option Receipt)) (count : ℕ) (s : IsConsistent book kept_records ports numbers cells count) where
+  module _ (now : ℕ) (later : book.last ≤ now) (cut kept : List Stamp) (is : IsCut book now cut kept) where
+    abbrev after : Book
+    after = without_cut book now cut kept
+
+    all_left : All (IsLeft cut) kept
+    all_left k d within =
+        list_any_none (λ t. t.number == (get_or kept k d).number) cut
+        (λ j e inside. ne_eqb (get_or cut j e).number (get_or kept k d).number
+        (λ same.
+        let below = cut_below book s.lawful now later cut kept is j e inside in
+        let since = kept_since book s.lawful now later cut kept is k d within in
+        absurd (omega (arith, below, since, same))))
+
+    -- where the table has a number of the cut, it has it under its key
+    one_of_number : (k : ℕ) (d : Stamp) → k < length cut → All (λ t. t.number ≡ (get_or cut k d).number → t ≡ get_or cut k d) book.accepted
+    one_of_number k d within j e inside same =
+        let at = numbered_at book.accepted book.opening s.lawful.numbered j e inside in
+        let there = numbered_at cut book.opening (cut_numbered book s.lawful now later cut kept is) k d within in
+        let here : j ≡ k = omega (arith, at, there, same) in
+        ap (λ i. get_or book.accepted i e) here
+        ∙ ap (λ (xs : List Stamp). get_or xs k e) is.parts
+        ∙ get_or_append_left cut kept e k within
+        ∙ get_or_default cut k e d within
+
+    pub under_their_keys : All (HasUnderItsKey numbers) cut
+    under_their_keys k d within key h =
+        let found = last_has (λ t. (t.number ≡ (get_or cut k d).number → t ≡ get_or cut k d) × (is_eq (key_cmp (key_of t) key) ≡ true)) (of_key key book.accepted) (get_or cut k d).number
+        (λ j e inside. (
+          All-filter (λ t. is_eq (key_cmp (key_of t) key)) (λ t. t.number ≡ (get_or cut k d).number → t ≡ get_or cut k d) book.accepted (one_of_number k d within) j e inside,
+          filter_passes (λ t. is_eq (key_cmp (key_of t) key)) book.accepted j e inside,
+        ))
+        (sym (s.last_numbers key) ∙ h)
+        in
+        sym (same_key (key_of found.0) key found.1.1) ∙ ap (λ (t : Stamp). key_of t) (found.1.0 found.2)
+
+    module _ (forgotten : map.FinMap key_cmp ℕ) (forgets : (key : Key) → map.get forgotten key ≡ unless_of cut (map.get numbers key)) where
+      last_numbers_still : (key : Key) → map.get forgotten key ≡ last_number key kept
+      last_numbers_still key =
+          forgets key
+          ∙ ap (λ o. unless_of cut o) (s.last_numbers key)
+          ∙ ap (λ (xs : List Stamp). unless_of cut (last_number key xs)) is.parts
+          ∙ ap (λ (xs : List Stamp). unless_of cut (option_map (λ (t : Stamp). t.number) (last_of xs))) (filter-append (λ t. is_eq (key_cmp (key_of t) key)) cut kept)
+          ∙ last_left cut (of_key key cut) (of_key key kept) (All-filter (λ t. is_eq (key_cmp (key_of t) key)) (IsCutOff cut) cut (all_cut_off cut)) (All-filter (λ t. is_eq (key_cmp (key_of t) key)) (IsLeft cut) kept all_left)
+
+      since_still : (key : Key) (number : ℕ) → map.get forgotten key ≡ Some number → book.opening + length cut ≤ number
+      since_still key number h =
+          let found = last_has (λ t. book.opening + length cut ≤ t.number) (of_key key kept) number
+          (All-filter (λ t. is_eq (key_cmp (key_of t) key)) (λ t. book.opening + length cut ≤ t.number) kept (kept_since book s.lawful now later cut kept is))
+          (sym (last_numbers_still key) ∙ h)
+          in
+          omega (arith, found.1, found.2)
+
+      receipts_still : (number : ℕ) → book.opening + length cut ≤ number → receipt_in (drop (length cut) cells) (book.opening + length cut) number ≡ receipt_to number after.answered
+      receipts_still number since =
+          let place : length cut + (number - (book.opening + length cut)) ≡ number - book.opening = omega arith in
+          ap (λ o. option_flatten o) (get_drop (length cut) cells (number - (book.opening + length cut)) ∙ ap (λ k. slice_get cells k) place)
+          ∙ s.receipts number (omega arith)
+          ∙ ap (λ o. option_map receipt_of o) (sym (found_still book s.lawful now later cut kept is number since))
+
+      stands_without : IsConsistent after kept_records ports forgotten (drop (length cut) cells) count
+      stands_without = record {
+        lawful = lawful_after_cut book s.lawful now later cut kept is;
+        rooms = s.rooms;
+        ports_are = s.ports_are;
+        counted = s.counted;
+        last_numbers = last_numbers_still;
+        since_opening = since_still;
+        cells_are = let fewer = length-drop (length cut) cells in let all = accepted_count book s.lawful now later cut kept is in let before = s.cells_are in omega (arith, fewer, all, before);
+        receipts = receipts_still;
+        numbers_fit = let next = next_same book s.lawful now later cut kept is in let before = s.numbers_fit in omega (arith, next, before);
+      }
+
+  -- the receipts tell what is over
+  receipt_at : (k : ℕ) (d : Stamp) → k < length book.accepted → get_or cells k None ≡ receipt_to (get_or book.accepted k d).number book.answered
+  receipt_at k d within =
+      let number = numbered_at book.accepted book.opening s.lawful.numbered k d within in
+      let place : (get_or book.accepted k d).number - book.opening ≡ k = omega (arith, number) in
+      let inside : k < length cells = let same = s.cells_are in omega (arith, same, within) in
+      ap (λ o. option_flatten o) (sym (get_is cells k None inside) ∙ ap (λ i. slice_get cells i) (sym place))
+      ∙ s.receipts (get_or book.accepted k d).number (omega (arith, number))
+
+  over_by : (now : ℕ) (answer : Option AnswerKept) → IsOverBy book.setup.limits.span now (option_map receipt_of answer) → (a : AnswerKept) × (answer ≡ Some a) × (a.moment + book.setup.limits.span ≤ now)
+  over_by now None h = absurd h
+  over_by now (Some a) h = (a, refl, h)
+
+  unended_by : (now : ℕ) (rest : List Stamp) → ((d : Stamp) → 0 < length rest → ¬ IsOver book now (get_or rest 0 d)) → BeginsUnended book now rest
+  unended_by now [] h = tt
+  unended_by now (next ∷ later) h = h next (omega arith)
+
+  module _ (now n : ℕ) (within : n ≤ length cells) (over : All (IsOverBy book.setup.limits.span now) (take n cells)) (longest : (d : Option Receipt) → n < length cells → ¬ IsOverBy book.setup.limits.span now (get_or cells n d)) where
+    over_here : (k : ℕ) (d : Stamp) → k < length (take n book.accepted) → IsOver book now (get_or (take n book.accepted) k d)
+    over_here k d inside =
+        let same = s.cells_are in
+        let counted = length-take-le n book.accepted (omega (arith, same, within)) in
+        let counted_cells = length-take-le n cells within in
+        let below : k < n = omega (arith, counted, inside) in
+        let told : IsOverBy book.setup.limits.span now (get_or cells k None) =
+        subst (IsOverBy book.setup.limits.span now) (get_or-take n cells k None below) (over k None (omega (arith, counted_cells, below))) in
+        subst (λ (t : Stamp). IsOver book now t) (sym (get_or-take n book.accepted k d below))
+        (over_by now (answer_to (get_or book.accepted k d).number book.answered)
+        (subst (IsOverBy book.setup.limits.span now) (receipt_at k d (omega (arith, same, within, below))) told))
+
+    not_over_here : (d : Stamp) → n < length book.accepted → ¬ IsOver book now (get_or book.accepted n d)
+    not_over_here d inside is =
+        let same = s.cells_are in
+        longest None (omega (arith, same, inside))
+        (subst (IsOverBy book.setup.limits.span now) (sym (receipt_at n d inside ∙ ap (λ o. option_map receipt_of o) is.1)) is.2)
+
+    pub cut_found : IsCut book now (take n book.accepted) (drop n book.accepted)
+    cut_found = record {
+      parts = sym (take-append-drop n book.accepted);
+      over = over_here;
+      longest = unended_by now (drop n book.accepted)
+          (λ d some.
+          let left = length-drop n book.accepted in
+          let first : get_or (drop n book.accepted) 0 d ≡ get_or book.accepted n d = get_or-drop n book.accepted 0 d ∙ ap (λ k. get_or book.accepted k d) (let same : n + 0 ≡ n = omega arith in same) in
+          subst (λ (t : Stamp). ¬ IsOver book now t) (sym first) (not_over_here d (omega (arith, left, some))));
+    }
+
+-- the same of the book as it is seen
+module _ (book value : Book) (same : book ≡ value) (kept_records : List Kept) (ports : ℕ) (numbers : map.FinMap key_cmp ℕ) (cells : List (Option Receipt)) (count : ℕ) (s : IsConsistent book kept_records ports numbers cells count) where
+  module _ (seen : List (Option Receipt)) (are : seen ≡ cells) (span : ℕ) (is_span : span ≡ book.setup.limits.span) (now n : ℕ) (within : n ≤ length seen) (over : All (IsOverBy span now) (take n seen)) (longest : (d : Option Receipt) → n < length seen → ¬ IsOverBy span now (get_or seen n d)) where
+    pub cut_within : n ≤ length value.accepted
+    cut_within = subst (λ (b : Book). n ≤ length b.accepted) same (let as_many = ap length are in let all = s.cells_are in omega (arith, within, as_many, all))
+
+    pub cut_is : IsCut value now (take n value.accepted) (drop n value.accepted)
+    cut_is =
+        subst (λ (b : Book). IsCut b now (take n b.accepted) (drop n b.accepted)) same
+        (cut_found book kept_records ports numbers cells count s now n
+        (subst (λ xs. n ≤ length xs) are within)
+        (subst (λ xs. All (IsOverBy book.setup.limits.span now) (take n xs)) are (subst (λ m. All (IsOverBy m now) (take n seen)) is_span over))
+        (subst (λ xs. (d : Option Receipt) → n < length xs → ¬ IsOverBy book.setup.limits.span now (get_or xs n d)) are
+        (subst (λ m. (d : Option Receipt) → n < length seen → ¬ IsOverBy m now (get_or seen n d)) is_span longest)))
+
+    pub cut_some : (n ≡ 0 → ⊥) → 1 ≤ length (take n value.accepted)
+    cut_some some = let few = length-take-le n value.accepted cut_within in omega (arith, few, some)
+
+    -- where nothing is cut off
+    pub none_over : n ≡ 0 → BeginsUnended value now value.accepted
+    none_over none = subst (λ m. BeginsUnended value now (drop m value.accepted)) none cut_is.longest
+
+-- the fields of a lane after a cut
+module _ (setup : LaneSetup) (opening : ℕ) (accepted : List Stamp) (kept : List Kept) (answered : List AnswerKept) (served : ℕ) (slots : Table Entry) (drain : Option ℕ) (watch : Watch) (last : ℕ) where
+  abbrev before : Book
+  before = book_of setup opening accepted kept answered served slots drain watch last
+
+  module _ (value : Book) (same : before ≡ value) (now n : ℕ) (later : value.last ≤ now) (cuts : IsCut value now (take n value.accepted) (drop n value.accepted)) (within : n ≤ length value.accepted) (ports : ℕ) (numbers : map.FinMap key_cmp ℕ) (cells : List (Option Receipt)) (count : ℕ) (s : IsConsistent before kept ports numbers cells count) where
+    later_here : before.last ≤ now
+    later_here = subst (λ (b : Book). b.last ≤ now) (sym same) later
+
+    cut_here : IsCut before now (take n accepted) (drop n accepted)
+    cut_here = subst (λ (b : Book). IsCut b now (take n b.accepted) (drop n b.accepted)) (sym same) cuts
+
+    within_here : n ≤ length accepted
+    within_here = subst (λ (b : Book). n ≤ length b.accepted) (sym same) within
+
+    counted : length (take n accepted) ≡ n
+    counted = length-take-le n accepted within_here
+
+    -- the room that the answers need
+    pub below_counted : length (answers_below (opening + n) answered) ≡ n
+    below_counted =
+        ap (λ m. length (answers_below (opening + m) answered)) (sym counted)
+        ∙ answers_counted before s.lawful now later_here (take n accepted) (drop n accepted) cut_here
+        ∙ counted
+
+    pub since_bounded : length (answers_since (opening + n) answered) ≤ length answered
+    since_bounded =
+        let both = length-filter_both (is_below (opening + n)) (λ answer. not (is_below (opening + n) answer)) (λ answer. refl) answered in
+        omega (arith, both)
+
+    pub under_keys : All (HasUnderItsKey numbers) (take n accepted)
+    under_keys = under_their_keys before kept ports numbers cells count s now later_here (take n accepted) (drop n accepted) cut_here
+
+    abbrev cut_by : ℕ → Book
+    cut_by m = record before {
+      opening = opening + m;
+      accepted = drop n accepted;
+      sent = drop m before.sent;
+      answered = answers_since (opening + m) answered;
+      last = now;
+    }
+
+    abbrev cut_book : Book
+    cut_book = book_of setup (opening + n) (drop n accepted) kept (answers_since (opening + n) answered) served slots drain watch now
+
+    sent_left : take (length (drop n accepted) - length kept) (drop n accepted) ≡ drop n (take (length accepted - length kept) accepted)
+    sent_left =
+        let sent = cut_sent before s.lawful now later_here (take n accepted) (drop n accepted) cut_here in
+        let few = length-take-sent in
+        let left = length-drop n accepted in
+        let all : n + (length accepted - length kept - n) ≡ length accepted - length kept = omega (arith, sent, counted, few) in
+        let rest : length (drop n accepted) - length kept ≡ length accepted - length kept - n = omega (arith, left) in
+        ap (λ m. take m (drop n accepted)) rest ∙ sym (drop-take n (length accepted - length kept - n) accepted) ∙ ap (λ m. drop n (take m accepted)) all
+      where
+        length-take-sent : length (take (length accepted - length kept) accepted) ≡ length accepted - length kept
+        length-take-sent = length-take-le (length accepted - length kept) accepted (omega arith)
+
+    as_cut : cut_book ≡ without_cut before now (take n accepted) (drop n accepted)
+    as_cut =
+        ap (λ (xs : List Stamp). let b : Book = record before { opening = opening + n; accepted = drop n accepted; sent = xs; answered = answers_since (opening + n) answered; last = now } in b) sent_left
+        ∙ ap (λ m. cut_by m) (sym counted)
+
+    pub stands_cut : (forgotten : map.FinMap key_cmp ℕ) → ((key : Key) → map.get forgotten key ≡ unless_of (take n accepted) (map.get numbers key)) → IsConsistent cut_book kept ports forgotten (drop n cells) count
+    stands_cut forgotten forgets =
+        subst (λ (b : Book). IsConsistent b kept ports forgotten (drop n cells) count) (sym as_cut)
+        (subst (λ m. IsConsistent (without_cut before now (take n accepted) (drop n accepted)) kept ports forgotten (drop m cells) count) counted
+        (stands_without before kept ports numbers cells count s now later_here (take n accepted) (drop n accepted) cut_here forgotten forgets))
+
+    abbrev the_volume : ℕ → Volume
+    the_volume m = record { opening = opening; stamps = take n accepted; answered = answers_below (opening + m) answered }
+
+    pub cut_seen : (volume : Volume) (new : Book) → volume ≡ the_volume n → new ≡ cut_book → (volume ≡ volume_of value (take n value.accepted)) × (new ≡ without_cut value now (take n value.accepted) (drop n value.accepted))
+    cut_seen volume new is becomes =
+        subst (λ (b : Book). (volume ≡ volume_of b (take n b.accepted)) × (new ≡ without_cut b now (take n b.accepted) (drop n b.accepted))) same
+        (is ∙ ap (λ m. the_volume m) (sym counted), becomes ∙ as_cut)

@@ -1,0 +1,63 @@
+use Rattle.std.proofs.Common.{take, drop, refl, ap, ◌∙◌, subst}
+use Rattle.rad_realms.specs.declared.limits.LimitNumbers.{LimitNumbers}
+use Rattle.rad_lane.specs.Volumes.{BeginsUnended}
+use Rattle.rad_lane.proofs.ConsistentAfterCut.{cut_is, cut_some, none_over}
+use Rattle.rad_lane.proofs.VolumeLeaves.{volume_answered, volume_repeats}
+use Rattle.rad_lane.proofs.lane.Lane.turn.Goals as goal
+
+pub cut-requires-clause-is_cut : goal.cut-requires-clause-is_cut
+cut-requires-clause-is_cut g c =
+    let span = ap (λ (n : LimitNumbers). n.span) (c.numbers-span.ensures.value ∙ c.limits.ensures.value) in
+    let found = c.count_over-count.ensures in
+    cut_is _ _ c.self.view_is _ _ _ _ _ c.self.invariant _ c.as_slice.ensures _ span c.moment_of-now.result c.count_over-count.result found.within found.over found.longest
+
+pub returns-in-Ok-clause-turns : goal.returns-in-Ok-clause-turns
+returns-in-Ok-clause-turns g c =
+    let span = ap (λ (n : LimitNumbers). n.span) (c.numbers-span.ensures.value ∙ c.limits.ensures.value) in
+    let found = c.count_over-count.ensures in
+    rw (← c.moment_of-now.ensures.value) (
+      take c.count_over-count.result c.args.self.now.accepted,
+      drop c.count_over-count.result c.args.self.now.accepted,
+      cut_is _ _ c.self.view_is _ _ _ _ _ c.self.invariant _ c.as_slice.ensures _ span c.moment_of-now.result c.count_over-count.result found.within found.over found.longest,
+      cut_some _ _ c.self.view_is _ _ _ _ _ c.self.invariant _ c.as_slice.ensures _ span c.moment_of-now.result c.count_over-count.result found.within found.over found.longest c.if-count-eq0.false,
+      c.in-Ok.ensures.ok.0,
+      c.in-Ok.ensures.ok.1,
+    )
+
+pub returns-in-Ok-clause-answered_once : goal.returns-in-Ok-clause-answered_once
+returns-in-Ok-clause-answered_once g c =
+    let span = ap (λ (n : LimitNumbers). n.span) (c.numbers-span.ensures.value ∙ c.limits.ensures.value) in
+    let found = c.count_over-count.ensures in
+    volume_answered _ _ c.self.view_is c.self.invariant.lawful _ c.moment_of-now.ensures.later _ _
+    (cut_is _ _ c.self.view_is _ _ _ _ _ c.self.invariant _ c.as_slice.ensures _ span c.moment_of-now.result c.count_over-count.result found.within found.over found.longest)
+    _ _ c.in-Ok.ensures.ok.0 c.in-Ok.ensures.ok.1
+
+pub returns-in-Ok-clause-repeats : goal.returns-in-Ok-clause-repeats
+returns-in-Ok-clause-repeats g c =
+    let span = ap (λ (n : LimitNumbers). n.span) (c.numbers-span.ensures.value ∙ c.limits.ensures.value) in
+    let found = c.count_over-count.ensures in
+    rw (← c.moment_of-now.ensures.value)
+    (volume_repeats _ _ c.self.view_is c.self.invariant.lawful _ c.moment_of-now.ensures.later _ _
+    (cut_is _ _ c.self.view_is _ _ _ _ _ c.self.invariant _ c.as_slice.ensures _ span c.moment_of-now.result c.count_over-count.result found.within found.over found.longest)
+    _ _ c.in-Ok.ensures.ok.0 c.in-Ok.ensures.ok.1)
+
+pub returns-in-Err-clause-turns : goal.returns-in-Err-clause-turns
+returns-in-Err-clause-turns g c =
+    let span = ap (λ (n : LimitNumbers). n.span) (c.numbers-span.ensures.value ∙ c.limits.ensures.value) in
+    let found = c.count_over-count.ensures in
+    rw (← c.moment_of-now.ensures.value) (
+      take c.count_over-count.result c.args.self.now.accepted,
+      drop c.count_over-count.result c.args.self.now.accepted,
+      cut_is _ _ c.self.view_is _ _ _ _ _ c.self.invariant _ c.as_slice.ensures _ span c.moment_of-now.result c.count_over-count.result found.within found.over found.longest,
+      cut_some _ _ c.self.view_is _ _ _ _ _ c.self.invariant _ c.as_slice.ensures _ span c.moment_of-now.result c.count_over-count.result found.within found.over found.longest c.if-count-eq0.false,
+      c.in-Err.ensures.err,
+    )
+
+pub returns-then-count-eq0-clause-turns : goal.returns-then-count-eq0-clause-turns
+returns-then-count-eq0-clause-turns g c =
+    let span = ap (λ (n : LimitNumbers). n.span) (c.numbers-span.ensures.value ∙ c.limits.ensures.value) in
+    let found = c.count_over-count.ensures in (
+      subst (λ m. BeginsUnended c.args.self.now m c.args.self.now.accepted) c.moment_of-now.ensures.value
+          (none_over _ _ c.self.view_is _ _ _ _ _ c.self.invariant _ c.as_slice.ensures _ span c.moment_of-now.result c.count_over-count.result found.within found.over found.longest c.if-count-eq0.true),
+      refl,
+    )

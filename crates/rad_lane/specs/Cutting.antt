@@ -1,0 +1,23 @@
+-- How a lane finds and cuts the front of its book that is over (own). No public clause cites this module.
+use Rattle.std.specs.Prelude.{◌≡◌, ℕ, ◌+◌, ◌≤◌, ◌==◌, List, Option, Some, None, if◌then◌else◌}
+use Rattle.std.specs.List.{list_any}
+use Rattle.std.specs.FinMap as map
+use Rattle.rad_tables.specs.declared.duplicates.Key.{Key}
+use Rattle.rad_tables.specs.Keys.{key_cmp}
+use Rattle.rad_lane.specs.declared.stamp.Stamp.{Stamp}
+use Rattle.rad_lane.specs.declared.answered.Receipt.{Receipt}
+use Rattle.rad_lane.specs.Stamp.{key_of}
+
+-- There is a receipt, and a span went by since.
+abbrev pub IsOverBy : ℕ → ℕ → Option Receipt → Type 0
+IsOverBy span now None = ⊥
+IsOverBy span now (Some receipt) = receipt.moment + span ≤ now
+
+-- A number that none of the stamps has.
+abbrev pub unless_of : List Stamp → Option ℕ → Option ℕ
+unless_of stamps None = None
+unless_of stamps (Some number) = if list_any (λ s. s.number == number) stamps then None else Some number
+
+-- Where the table has the number of one of the stamps, it has it under that stamp's key.
+abbrev pub HasUnderItsKey : map.FinMap key_cmp ℕ → Stamp → Type 0
+HasUnderItsKey numbers stamp = (key : Key) → map.get numbers key ≡ Some stamp.number → key ≡ key_of stamp
