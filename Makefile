@@ -8,11 +8,12 @@ EXAMPLE = examples/one-request-answered.replay
 # The crates whose wrong bodies `make edits` tries; none named: all of them.
 CRATES ?=
 
-# How many spoiled datagrams `make spoiled` tells the program, and by which chance.
+# How many spoiled datagrams `make spoiled` tells the program, how long `make soak` runs it, and by which chance.
 DATAGRAMS ?= 100000
+SECONDS ?= 60
 SEED ?= 1
 
-.PHONY: build run test edits spoiled
+.PHONY: build run test edits spoiled soak
 
 # Proves and builds the program, over what earlier checks kept, and runs it as stored.
 build:
@@ -25,8 +26,8 @@ run: build
 	@$(PROGRAM) replay < $(EXAMPLE)
 
 # The whole gate: all proofs from nothing, the edits of must-fail/, the tests, the stored run, then the octets that the tests
-# expect, and the program that was built: the rows, the examples, growths refused in turn, and spoiled datagrams. The last
-# line counts it all.
+# expect, and the program that was built: the rows, the examples, growths refused in turn, spoiled datagrams, and UDP over a
+# network that loses. The last line counts it all.
 test:
 	@python3 tests/gate.py $(PROGRAM)
 
@@ -37,6 +38,10 @@ edits:
 # Spoiled datagrams by chance, over the program that was built; the gate has a shorter run of a fixed chance.
 spoiled:
 	@python3 tests/hostile/mutations.py $(PROGRAM) $(DATAGRAMS) $(SEED)
+
+# The program over UDP and a network that loses, for SECONDS; the gate has short runs of a fixed count of requests.
+soak:
+	@python3 tests/hostile/soak.py $(PROGRAM) --seconds $(SECONDS) $(SEED)
 
 # Where `make install` puts things. DESTDIR stands before each of them.
 VERSION = 0.1.0

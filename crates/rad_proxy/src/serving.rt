@@ -113,7 +113,7 @@ where
         Ok(opened) => opened,
         Err(OpenFault::OutOfMemory) => return Err(Fault::Memory),
     };
-    let Ok(attendant) = Attendant::new(alloc, gate, log, bells, proxy.lanes()) else {
+    let Ok(attendant) = Attendant::new(alloc, config, gate, log, bells) else {
         return Err(Fault::Memory);
     };
     let service = Service {

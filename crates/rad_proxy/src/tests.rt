@@ -297,8 +297,8 @@ fn letter_of(made: &std::result::Result<Task, Fault>) -> char {
     match made {
         Ok(Task::Replay) => 'p',
         Ok(Task::Check(file)) if file.as_str() == "some.toml" => 'c',
-        Ok(Task::Check(_)) => '?',
-        Ok(Task::Run) => 'r',
+        Ok(Task::Run(file)) if file.as_str() == "some.toml" => 'r',
+        Ok(Task::Check(_) | Task::Run(_)) => '?',
         Err(Fault::Usage) => 'u',
         Err(_) => '!',
     }
