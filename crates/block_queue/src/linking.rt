@@ -93,7 +93,10 @@ impl<T> Front<T> {
     fn join(self, others: Front<T>) -> Front<T>
         ensures { result ≡ self ++ others }
     {
-        let Front { first: load, middle: more } = others;
+        let Front {
+            first: load,
+            middle: more,
+        } = others;
         let Front { first, middle } = self.add(load);
         match (middle, more) {
             (Some(chain), Some(rest)) => Front {
