@@ -3,6 +3,7 @@ use rad_auth::Reply;
 use rad_tables::Moment;
 use std::alloc::{AllocError, Global};
 use std::marker::Model;
+use std::sync::Arc;
 
 /// An answer to a request: the request's stamp, when it was answered, its serial number, and the reply with the
 /// response.
@@ -17,8 +18,8 @@ pub struct Answered {
     /// How many answers of the lane there were before it.
     serial: u64,
     /// The home server's reply and the response, with the sending and the secrets that they rest on. They stand apart, so
-    /// that an answer that moves in a list moves few octets.
-    reply: Box<Reply>,
+    /// that a volume shares them with the list that it was cut from, until that list lets go of them.
+    reply: Arc<Reply, Global>,
 }
 
 /// What a lane notes of an answer beside its request: the answer's serial number, by which it is found, and when it
@@ -32,13 +33,14 @@ pub(crate) struct Receipt {
 }
 
 impl Model for Answered {
+    ghost use Rattle.std.specs.Arc.{arc_value};
     ghost use Rattle.rad_lane.specs.Outstanding.{AnswerKept, IsAnswered};
 
     ghost Value = { AnswerKept };
 
-    ghost view = { λ a. record { stamp = a.stamp; moment = a.moment; serial = a.serial; reply = a.reply.value } };
+    ghost view = { λ a. record { stamp = a.stamp; moment = a.moment; serial = a.serial; reply = arc_value a.reply } };
 
-    ghost invariant = { λ a. IsAnswered (record { stamp = a.stamp; moment = a.moment; serial = a.serial; reply = a.reply.value }) };
+    ghost invariant = { λ a. IsAnswered (record { stamp = a.stamp; moment = a.moment; serial = a.serial; reply = arc_value a.reply }) };
 }
 
 impl Answered {
@@ -87,11 +89,24 @@ impl Answered {
         requires { IsAnswered (record { stamp = stamp; moment = moment; serial = serial; reply = reply }) }
         ensures { IfOk result (λ answer. answer ≡ record { stamp = stamp; moment = moment; serial = serial; reply = reply }) }
     {
-        let reply = Box::new(alloc, reply)?;
+        let reply = Arc::new(alloc, reply)?;
         Ok(Answered {
             stamp,
             moment,
             serial,
+            reply,
+        })
+    }
+
+    /// The same answer, which shares its packets. An error means that too many share them.
+    pub(crate) fn share(&self) -> Result<Answered, AllocError>
+        ensures { IfOk result (λ answer. answer ≡ self.now) }
+    {
+        let reply = Arc::try_clone(&self.reply)?;
+        Ok(Answered {
+            stamp: self.stamp,
+            moment: self.moment,
+            serial: self.serial,
             reply,
         })
     }

@@ -23,20 +23,16 @@ impl<T> Model for ReservedList<T> {
 }
 
 impl<T> ReservedList<T> {
-    ghost use Rattle.std.specs.Prelude.{◌≡◌, ◌<◌, ◌≤◌, [], ◌∷◌, ◌++◌, drop, length, slice_get, slice_set, option_copied, OnOk};
+    ghost use Rattle.std.specs.Prelude.{◌≡◌, ◌<◌, ◌≤◌, [], ◌∷◌, ◌++◌, drop, length, slice_get, slice_index_or, slice_set, option_copied, OnOk};
 
     /// No items. It takes no memory: what it needs later is made with `alloc`.
     pub(crate) fn new(alloc: Global) -> ReservedList<T>
         ensures { result.items ≡ [] }
     {
-        ReservedList::from_vec(Vec::new(alloc))
-    }
-
-    /// The items of a vector, without memory.
-    pub(crate) fn from_vec(items: Vec<T>) -> ReservedList<T>
-        ensures { result.items ≡ items.items }
-    {
-        ReservedList { items, start: 0 }
+        ReservedList {
+            items: Vec::new(alloc),
+            start: 0,
+        }
     }
 
     /// Makes room for one item more, where there is none. An error means that memory was refused.
@@ -63,6 +59,15 @@ impl<T> ReservedList<T> {
         ensures { self.new.items ≡ slice_set self.old.items place item }
     {
         self.items[self.start + place] = item;
+    }
+
+    /// Exchanges two items.
+    pub(crate) fn swap(&mut self, i: usize, j: usize)
+        requires i_within { i < length self.old.items }
+        requires j_within { j < length self.old.items }
+        ensures { (d : T) → self.new.items ≡ slice_set (slice_set self.old.items i (slice_index_or self.old.items j d)) j (slice_index_or self.old.items i d) }
+    {
+        self.items.swap(self.start + i, self.start + j);
     }
 
     /// The item at a place.
