@@ -1,12 +1,13 @@
 #!/usr/bin/env python3
 """The whole gate: what `rt ci` proves, refuses and runs, then the octets that the tests expect, as another
-implementation makes them, and the rows over the program that `rt ci` built.
+implementation makes them, and then the program that `rt ci` built: over the rows and the examples, with growths refused in
+turn, with spoiled datagrams, and over UDP and a network that loses.
 
 usage: gate.py PROGRAM
 
-What `rt ci` says goes to out/gate.txt, what the octets and the rows say to out/vectors.txt and out/rows.txt, and what each
-crate took, as a table in Markdown, to out/times.md. The last line is `N passed, M failed`, of all of it together; what
-ends badly or without such a line of its own counts as a failure.
+What `rt ci` says goes to out/gate.txt, what each script of SCRIPTS says to out/NAME.txt, and what each crate took, as a
+table in Markdown, to out/times.md. The last line is `N passed, M failed`, of all of it together; what ends badly or
+without such a line of its own counts as a failure.
 """
 import os
 import pathlib
@@ -21,6 +22,15 @@ import progress
 
 TOP = pathlib.Path(__file__).resolve().parent.parent
 RT = os.environ.get("RT", "rt").split()
+SCRIPTS = {
+    "vectors": ("vectors.py", "--check"),
+    "model": ("hostile/model.py", "--check"),
+    "rows": ("rows/run.py", "PROGRAM"),
+    "examples": ("examples.py", "PROGRAM"),
+    "growths": ("hostile/growths.py", "PROGRAM"),
+    "mutations": ("hostile/mutations.py", "PROGRAM"),
+    "soak": ("hostile/soak.py", "PROGRAM"),
+}
 COUNTS = re.compile(r"(\d+) passed, (\d+) failed")
 
 
@@ -54,6 +64,12 @@ def shown(script, word, log):
     return ran.returncode
 
 
+def told_by(name, program):
+    """What passed and what failed of one of the scripts."""
+    log, (script, word) = TOP / "out" / f"{name}.txt", SCRIPTS[name]
+    return counted(shown(script, program if word == "PROGRAM" else word, log), log)
+
+
 def taken(watch):
     """What each crate took, as a table, with the processor time of all that ran so far."""
     used = resource.getrusage(resource.RUSAGE_CHILDREN)
@@ -66,15 +82,11 @@ def taken(watch):
 def main():
     if len(sys.argv) != 2:
         sys.exit(__doc__)
-    gate, vectors, rows, times = (TOP / "out" / name for name in ("gate.txt", "vectors.txt", "rows.txt", "times.md"))
+    gate, times = (TOP / "out" / name for name in ("gate.txt", "times.md"))
     status, watch = progress.run([*RT, "ci"], TOP, gate, list(parts()))
     times.write_text(taken(watch))
     print(f"what each crate took stands in {times}", flush=True)
-    counts = [
-        counted(status, gate),
-        counted(shown("vectors.py", "--check", vectors), vectors),
-        counted(shown("rows/run.py", sys.argv[1], rows), rows),
-    ]
+    counts = [counted(status, gate), *(told_by(name, sys.argv[1]) for name in SCRIPTS)]
     passed, failed = map(sum, zip(*counts))
     print(f"{passed} passed, {failed} failed")
     sys.exit(1 if failed else 0)

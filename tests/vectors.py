@@ -191,6 +191,8 @@ def of_rad_desk():
         "PROBE": lanes["SECOND_PROBE"],
         "PROBE_ANSWER": lanes["SECOND_PROBE_ANSWER"],
         "OTHER_REQUEST": request(9, other, client),
+        "STATUS": status(9, bytes([0xA5] * 16), b"", b"", client),
+        "STATUS_ANSWER": answer(status(9, bytes([0xA5] * 16), b"", b"", client), 9, b"", client),
     }
 
 

@@ -5,7 +5,7 @@ use Rattle.std.specs.Borrow.{Bor}
 use Rattle.std.specs.Option.{option_copied}
 use Rattle.std.specs.Map.Iter.{TakesFirst, deref}
 use Rattle.block_queue.specs.Queue.{Queue, oldest}
-use Rattle.block_queue.specs.Blocks.{items_of, left_in, room_of, pushed, has_none, begins_empty, finishes_empty, AllHaveItems, IsChain, IsQueue}
+use Rattle.block_queue.specs.Blocks.{items_of, left_in, room_of, pushed, has_none, begins_empty, finishes_empty, AllHaveItems, IsChain, IsJoined, IsQueue}
 
 module _ {T : Type 0} where
   pub room_of_last : (bs : List (Queue T)) (last : Queue T) (i : ℕ) → i + 1 ≡ length bs → last ≡ get_or bs i last → room_of bs ≡ last.room
@@ -92,12 +92,12 @@ module _ {T : Type 0} where
   none_at_first [] e = refl
   none_at_first (first ∷ items) e = cc
 
-  none_is : (items : List T) → has_none items ≡ true → items ≡ []
+  pub none_is : (items : List T) → has_none items ≡ true → items ≡ []
   unfolding has_none
   none_is [] e = refl
   none_is (item ∷ items) e = cc
 
-  some_is : (items : List T) → has_none items ≡ false → 0 < length items
+  pub some_is : (items : List T) → has_none items ≡ false → 0 < length items
   unfolding has_none
   some_is [] e = cc
   some_is (item ∷ items) e = omega arith
@@ -162,14 +162,14 @@ module _ {T : Type 0} where
   chained_rest (b ∷ []) h = tt
   chained_rest (b ∷ c ∷ cs) h = h.1
 
-  all_have : (bs : List (Queue T)) → IsChain bs → room_of bs ≡ 0 → AllHaveItems bs
+  pub all_have : (bs : List (Queue T)) → IsChain bs → room_of bs ≡ 0 → AllHaveItems bs
   unfolding room_of AllHaveItems IsChain
   all_have [] h none = tt
   all_have (b ∷ []) (inl some) none = (some, tt)
   all_have (b ∷ []) (inr room) none = absurd (omega arith)
   all_have (b ∷ c ∷ cs) h none = (h.0, all_have (c ∷ cs) h.1 none)
 
-  chained : (bs cs : List (Queue T)) → AllHaveItems bs → IsChain cs → 0 < length cs → IsChain (bs ++ cs)
+  pub chained : (bs cs : List (Queue T)) → AllHaveItems bs → IsChain cs → 0 < length cs → IsChain (bs ++ cs)
   unfolding AllHaveItems IsChain
   chained [] cs all h some = h
   chained (b ∷ []) [] all h some = absurd (omega arith)
@@ -181,7 +181,7 @@ module _ {T : Type 0} where
   items_of_joined [] cs = refl
   items_of_joined (b ∷ bs) cs = ap (λ l. b.items ++ l) (items_of_joined bs cs) ∙ sym (append_assoc b.items (items_of bs) (items_of cs))
 
-  room_of_joined : (bs cs : List (Queue T)) → 0 < length cs → room_of (bs ++ cs) ≡ room_of cs
+  pub room_of_joined : (bs cs : List (Queue T)) → 0 < length cs → room_of (bs ++ cs) ≡ room_of cs
   unfolding room_of
   room_of_joined [] cs some = refl
   room_of_joined (b ∷ []) [] some = absurd (omega arith)
@@ -193,25 +193,30 @@ module _ {T : Type 0} where
   no_more_than [] all = omega arith
   no_more_than (b ∷ bs) all = omega (arith, length-append b.items (items_of bs), no_more_than bs all.1, all.0)
 
-  pub one_more_than : (bs : List (Queue T)) → IsChain bs → length bs ≤ length (items_of bs) + 1
-  unfolding items_of IsChain
-  one_more_than [] h = omega arith
-  one_more_than (b ∷ []) h = omega arith
-  one_more_than (b ∷ c ∷ cs) h = omega (arith, length-append b.items (items_of (c ∷ cs)), one_more_than (c ∷ cs) h.1, h.0)
+  -- each block has an item or room
+  few_blocks : (bs : List (Queue T)) → IsChain bs → length bs ≤ length (items_of bs) + room_of bs
+  unfolding items_of room_of IsChain
+  few_blocks [] h = omega arith
+  few_blocks (b ∷ []) (inl some) = omega (arith, length-append b.items [])
+  few_blocks (b ∷ []) (inr room) = omega arith
+  few_blocks (b ∷ c ∷ cs) h = omega (arith, length-append b.items (items_of (c ∷ cs)), few_blocks (c ∷ cs) h.1, h.0)
+
+  pub blocks_fit : (count : ℕ) (bs : List (Queue T)) → IsQueue count bs → length bs < 2 ^ 64
+  blocks_fit count bs is = let few = few_blocks bs is.chained in let n = is.counted in let fits = is.fits in omega arith
 
   pub queue_new : (bs : List (Queue T)) → bs ≡ [] → IsQueue 0 bs × (items_of bs ≡ [])
   unfolding items_of room_of IsChain
   queue_new bs e = subst (λ (l : List (Queue T)). IsQueue 0 l × (items_of l ≡ [])) (sym e) (record { chained = tt; counted = refl; one_block = omega arith; fits = omega arith }, refl)
 
-  last_room : (q : Queue T) → room_of (q ∷ []) ≡ q.room
+  pub last_room : (q : Queue T) → room_of (q ∷ []) ≡ q.room
   unfolding room_of
   last_room q = refl
 
-  last_items : (q : Queue T) → q.items ≡ [] → items_of (q ∷ []) ≡ []
+  pub last_items : (q : Queue T) → q.items ≡ [] → items_of (q ∷ []) ≡ []
   unfolding items_of
   last_items q e = append-nil q.items ∙ e
 
-  last_chained : (q : Queue T) → 0 < q.room → IsChain (q ∷ [])
+  pub last_chained : (q : Queue T) → 0 < q.room → IsChain (q ∷ [])
   unfolding IsChain
   last_chained q room = inr room
 
@@ -249,15 +254,16 @@ module _ {T : Type 0} where
       let n = is.counted ∙ ap length e in let none = ap length last.0 in let all = last.1 in let fits = is.fits in let most = is.one_block in
       (record { chained = h; counted = omega arith; one_block = omega arith; fits = omega arith }, omega arith)
 
-  pub queue_joined : (n m : ℕ) (bs cs new : List (Queue T)) → AllHaveItems bs → n ≡ length (items_of bs) → IsQueue m cs → 0 < m → n + m < 2 ^ 62 → new ≡ bs ++ cs
-      → IsQueue (n + m) new × (items_of new ≡ items_of bs ++ items_of cs)
-  queue_joined n m bs cs new all count is some fit e =
-      let more = is.counted in let most = is.one_block in
-      let there : 0 < length cs = some_with_items cs (omega arith) in
-      let items = ap items_of e ∙ items_of_joined bs cs in
-      let room : room_of new ≡ room_of cs = ap room_of e ∙ room_of_joined bs cs there in
-      let sum : n + m ≡ length (items_of new) = (omega (arith, length-append (items_of bs) (items_of cs))) ∙ ap length (sym items) in
-      (record { chained = subst IsChain (sym e) (chained bs cs all is.chained there); counted = sum; one_block = omega arith; fits = omega arith }, items)
+  pub queue_joined : (n m : ℕ) (bs cs new : List (Queue T)) → IsQueue n bs → IsQueue m cs → n + m < 2 ^ 63 → IsJoined bs cs new → IsQueue (n + m) new × (items_of new ≡ items_of bs ++ items_of cs)
+  queue_joined n m bs cs new one two fit is =
+      let a = one.counted in let b = two.counted in
+      let sum : n + m ≡ length (items_of new) = (omega (arith, length-append (items_of bs) (items_of cs))) ∙ ap length (sym is.items) in
+      let most : room_of new ≤ 32 = least is.room one.one_block two.one_block in
+      (record { chained = is.chained; counted = sum; one_block = most; fits = omega arith }, is.items)
+    where
+      least : {new a b : ℕ} → (new ≡ a) ⊎ (new ≡ b) → a ≤ 32 → b ≤ 32 → new ≤ 32
+      least (inl e) low low' = omega arith
+      least (inr e) low low' = omega arith
 
   pub chain_begins : (bs : List (Queue T)) → IsChain (drop 1 bs) → begins_empty bs ≡ false → IsChain bs
   unfolding IsChain begins_empty

@@ -26,6 +26,10 @@ module _ {T : Type 0} where
   laid-empty zero rest = ap (λ n. laid zero [] n) (omega arith)
   laid-empty (suc start) rest = let more : suc (start + rest) ≡ suc start + rest = omega arith in ap (λ l. None ∷ l) (laid-empty start rest) ∙ ap (λ n. laid zero [] n) more
 
+  pub laid-one : laid {T = T} 0 [] 1 ≡ None ∷ []
+  unfolding laid
+  laid-one = refl
+
   -- the place behind the last item
   pub behind : (start : ℕ) (items : List T) (rest at : ℕ) → at ≡ start + length items → get_or (laid start items rest) at None ≡ None
   unfolding laid

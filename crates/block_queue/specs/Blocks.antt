@@ -53,6 +53,12 @@ module _ {T : Type 0} where
   IsChain (block ∷ []) = (0 < length block.items) ⊎ (0 < block.room)
   IsChain (block ∷ next ∷ blocks) = (0 < length block.items) × IsChain (next ∷ blocks)
 
+  -- the blocks of two queues, one behind the other
+  pub record IsJoined (first second new : List (Queue T)) : Type 0 where
+    pub chained : IsChain new
+    pub items : items_of new ≡ items_of first ++ items_of second
+    pub room : (room_of new ≡ room_of first) ⊎ (room_of new ≡ room_of second)
+
   -- the chain of a queue that counts its items
   pub record IsQueue (count : ℕ) (blocks : List (Queue T)) : Type 0 where
     pub chained : IsChain blocks

@@ -10,9 +10,12 @@
 
 mod block;
 mod block_queue;
+
 mod chain;
 mod fifo;
 mod iter;
+mod linking;
+mod nodes;
 mod plain_queue;
 mod region;
 #[cfg(test)]

@@ -4,3 +4,9 @@ pub mod Inlet
 pub mod Tells
 pub mod Departures
 pub mod Lawful
+pub mod Ending
+pub mod Refusing
+pub mod Traffic
+pub mod Sends
+pub mod Continues
+pub mod Sending

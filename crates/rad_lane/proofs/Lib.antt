@@ -23,3 +23,4 @@ pub mod NextDueFound
 pub mod NoRepeatOfFresh
 pub mod LawfulAfterWatch
 pub mod LeadsToItsLane
+pub mod UnknownPort

@@ -24,14 +24,14 @@ abbrev pub is_lane : ℕ → Option ℕ → Bool
 is_lane lane None = false
 is_lane lane (Some other) = other == lane
 
--- What a configuration sets a lane up with: its own home's secret and limits, the realms that lead to it, and
--- whether it is the default. Today a lane has one source port.
+-- What a configuration sets a lane up with: its own home's secret and limits, the source ports among them, the realms
+-- that lead to it, and whether it is the default.
 pub record IsSetUp (config : Configuration) (lane : ℕ) (setup : LaneSetup) : Type 0 where
   pub home : HomeEntry
   pub there : slice_get config.homes lane ≡ Some home
   pub parts : setup ≡ record {
     lane = lane;
-    ports = 1;
+    ports = home.limits.ports;
     home_secret = home.secret;
     limits = home.limits;
     realms = realms_of config.realms lane;

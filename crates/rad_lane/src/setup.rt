@@ -15,11 +15,9 @@ use std::marker::Model;
 pub struct Setup {
     /// The number of its home server, counted from 0 in the order of the configuration.
     lane: u16,
-    /// How many source ports it sends from.
-    ports: u16,
     /// The home server's secret.
     home: Secret,
-    /// What the home server's section of the configuration limits.
+    /// What the home server's section of the configuration limits, its source ports among it.
     limits: Limits,
     /// The names of the realms that lead to it.
     realms: ReservedList<Octets>,
@@ -28,14 +26,11 @@ pub struct Setup {
 }
 
 impl Model for Setup {
-    ghost use Rattle.std.specs.Prelude.{◌≤◌};
     ghost use Rattle.rad_lane.specs.Setup.{LaneSetup};
 
     ghost Value = { LaneSetup };
 
-    ghost view = { λ s. record { lane = s.lane; ports = s.ports; home_secret = s.home; limits = s.limits; realms = s.realms.items; is_default = s.is_default } };
-
-    ghost invariant = { λ s. (1 ≤ s.ports) × (s.ports ≤ 4) };
+    ghost view = { λ s. record { lane = s.lane; ports = s.limits.ports; home_secret = s.home; limits = s.limits; realms = s.realms.items; is_default = s.is_default } };
 }
 
 impl Setup {
@@ -55,7 +50,6 @@ impl Setup {
         let home = &config.homes()[usize::from(lane)];
         Ok(Setup {
             lane,
-            ports: 1,
             home: *home.secret(),
             limits: home.limits(),
             realms: realms_of(alloc, config.realms(), lane)?,
@@ -85,7 +79,7 @@ impl Setup {
         ensures least { 1 ≤ self.now.ports }
         ensures most { self.now.ports ≤ 4 }
     {
-        self.ports
+        self.limits.numbers().ports as u16
     }
 
     pub(crate) fn home(&self) -> &Secret
@@ -94,8 +88,10 @@ impl Setup {
         &self.home
     }
 
+    /// What its home server's section limits, which is where its source ports stand.
     pub fn limits(&self) -> &Limits
         ensures value { result.now ≡ self.now.limits }
+        ensures ports { self.now.ports ≡ self.now.limits.ports }
     {
         &self.limits
     }

@@ -187,19 +187,18 @@ impl<Q: Fifo<Record>> Lane<Q> {
     }
 }
 
-/// The pair for what goes out next: the first free one. There always is one, as there are more pairs than the
-/// window is wide.
+/// The pair for what goes out next: the first free one. There always is one beside the pair last allotted, as the
+/// window is two pairs below all of them.
 pub(crate) fn free_slot(slots: &Slots<Entry>, setup: &Setup) -> Slot
     requires fits { map.len slots.now.entries ≤ setup.now.limits.window }
     requires pairs { slots.now.ports ≡ setup.now.ports }
     ensures free { IsFirstFree slots.now result }
     ensures in_range { IsInRange slots.now.ports result }
-    ensures few { setup.now.limits.window ≤ 254 }
+    ensures few { setup.now.limits.window ≤ 1022 }
     ensures another { slots.now.allotted ≢ Some result }
 {
-    let pairs = 256 * usize::from(setup.ports());
-    let window = setup.limits().numbers().window as usize;
-    prove!(window < pairs);
+    let limits = setup.limits().numbers();
+    prove!(limits.window < 256 * limits.ports);
     slots.allot().unwrap()
 }
 

@@ -17,12 +17,15 @@ ReadsOctets octets result =
 abbrev pub counts_of : Configuration → CountLine
 counts_of config = record { clients = length config.clients; homes = length config.homes; realms = length config.realms }
 
--- These are the counts of a configuration whose text has at most so many octets: the octets that were given,
--- where those are known.
-pub record IsCounted (given : Option (List ℕ)) (most : ℕ) (line : CountLine) : Type 0 where
+-- This is the configuration of a text of at most so many octets: the octets that were given, where those are known.
+pub record IsLoaded (given : Option (List ℕ)) (most : ℕ) (config : Configuration) : Type 0 where
   pub text : List ℕ
-  pub config : Configuration
   pub whole : IfSome given (λ octets. text ≡ octets)
   pub bounded : length text ≤ most
   pub reads : ReadsOctets text (Ok config)
+
+-- These are the counts of such a configuration.
+pub record IsCounted (given : Option (List ℕ)) (most : ℕ) (line : CountLine) : Type 0 where
+  pub config : Configuration
+  pub loaded : IsLoaded given most config
   pub counts : line ≡ counts_of config

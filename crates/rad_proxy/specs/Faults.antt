@@ -1,7 +1,7 @@
 -- How the program ends at a fault (own).
 use Rattle.std.specs.Prelude.{ℕ}
 use Rattle.rad_proxy.specs.declared.faults.Fault.{Fault}
-use Rattle.rad_proxy.specs.declared.faults.Fault.TheVariants.{Usage, Input, File, Configuration, Memory, Events, Output}
+use Rattle.rad_proxy.specs.declared.faults.Fault.TheVariants.{Usage, Input, File, Configuration, Listen, LaneSocket, Threads, Memory, Events, Output}
 use Rattle.rad_proxy.specs.declared.faults.Halt.{Halt}
 use Rattle.rad_proxy.specs.declared.faults.Halt.TheVariants as halt
 
@@ -11,6 +11,9 @@ status_of Usage = 1
 status_of (Configuration fault) = 2
 status_of Input = 4
 status_of (File path) = 4
+status_of (Listen endpoint) = 4
+status_of (LaneSocket lane) = 4
+status_of Threads = 4
 status_of Memory = 4
 status_of (Events line) = 4
 status_of Output = 4

@@ -2,18 +2,23 @@
 use Rattle.std.specs.Prelude.{ℕ, List, ◌++◌, codes, slice_index, suc, zero, Bool, true, false}
 use Rattle.std.specs.Fmt.{decimal}
 use Rattle.rad_packet.specs.Faults.{read_fault_text}
+use Rattle.rad_realms.specs.declared.reading.address.Endpoint.{Endpoint}
 use Rattle.rad_lane.specs.declared.accepting.Refusal.{Refusal}
 use Rattle.rad_lane.specs.declared.accepting.Refusal.TheVariants.{Draining, BookFull, QueueFull, TooLong, OutOfMemory, WrongLane}
 use Rattle.rad_lane.specs.declared.hearing.HearFault.{HearFault}
 use Rattle.rad_lane.specs.declared.hearing.HearFault.TheVariants as hear
-use Rattle.rad_proxy.specs.declared.hearing.HomeFault.{HomeFault}
-use Rattle.rad_proxy.specs.declared.hearing.HomeFault.TheVariants as home
+use Rattle.rad_desk.specs.declared.hearing.DeskFault.{DeskFault}
+use Rattle.rad_desk.specs.declared.hearing.DeskFault.TheVariants as desk
 
 -- An IPv4 address in dotted decimal.
 abbrev pub address_text : List ℕ → List ℕ
 address_text octets =
     decimal (slice_index octets 0) ++ codes "." ++ decimal (slice_index octets 1) ++ codes "."
     ++ decimal (slice_index octets 2) ++ codes "." ++ decimal (slice_index octets 3)
+
+-- An IPv4 address with a UDP port.
+abbrev pub endpoint_text : Endpoint → List ℕ
+endpoint_text endpoint = address_text endpoint.address ++ codes ":" ++ decimal endpoint.port
 
 abbrev pub refusal_name : Refusal → List ℕ
 refusal_name Draining = codes "Draining"
@@ -32,9 +37,9 @@ hear_fault_name hear.MessageAuthenticatorHere = codes "MessageAuthenticatorHere"
 hear_fault_name hear.NoProxyState = codes "NoProxyState"
 hear_fault_name hear.OutOfMemory = codes "OutOfMemory"
 
-abbrev pub home_fault_name : HomeFault → List ℕ
-home_fault_name home.RingFull = codes "RingFull"
-home_fault_name (home.Unheard fault) = hear_fault_name fault
+abbrev pub desk_fault_name : DeskFault → List ℕ
+desk_fault_name desk.RingFull = codes "RingFull"
+desk_fault_name (desk.Lane fault) = hear_fault_name fault
 
 -- Whether a home server is up.
 abbrev pub watch_name : Bool → List ℕ

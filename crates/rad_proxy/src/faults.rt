@@ -1,5 +1,6 @@
 //! The faults that end the program, and those that end a script.
 
+use crate::names::EndpointText;
 use rad_realms::ConfigFault;
 use std::alloc::AllocError;
 use thiserror::Error;
@@ -16,6 +17,15 @@ pub enum Fault {
     File(String),
     #[error("configuration: {0}")]
     Configuration(ConfigFault),
+    /// The socket for the clients can't be had.
+    #[error("socket: {0}")]
+    Listen(EndpointText),
+    /// The sockets of this lane can't be had.
+    #[error("socket: lane {0}")]
+    LaneSocket(usize),
+    /// A worker's thread can't be started, or ended by itself.
+    #[error("threads: failed")]
+    Threads,
     #[error("memory: refused")]
     Memory,
     /// The line of this number, counted from 1 after the separator, is malformed, or names a lane or a moment
@@ -38,7 +48,14 @@ impl Fault {
         match self {
             Fault::Usage => 1,
             Fault::Configuration(_) => 2,
-            Fault::Input | Fault::File(_) | Fault::Memory | Fault::Events(_) | Fault::Output => 4,
+            Fault::Input
+            | Fault::File(_)
+            | Fault::Listen(_)
+            | Fault::LaneSocket(_)
+            | Fault::Threads
+            | Fault::Memory
+            | Fault::Events(_)
+            | Fault::Output => 4,
         }
     }
 }

@@ -2,12 +2,13 @@
 
 ghost use Rattle.std.specs.Prelude.{◌≡◌, ◌≤◌, length};
 
-use crate::hearing::{HomeFault, Told};
-use crate::names::{AddressText, mode_name, refusal_name, watch_name};
+use crate::names::{AddressText, DeskFaultText, EndpointText, mode_name, refusal_name, watch_name};
 use crate::packet_text::PacketText;
 use crate::path::{Given, PathFault};
 use rad_auth::Reply;
+use rad_desk::{DeskFault, Told};
 use rad_lane::{Action, Counts, Outgoing, Taken};
+use rad_realms::Endpoint;
 use std::fmt;
 
 /// What became of a NAS's datagram.
@@ -30,7 +31,7 @@ pub struct StepLine<'a> {
 #[derive(Clone, Copy)]
 pub struct HomeLine {
     pub lane: u16,
-    pub outcome: Result<Told, HomeFault>,
+    pub outcome: Result<Told, DeskFault>,
 }
 
 /// The response that was taken of those that wait at a lane, where one waited.
@@ -67,8 +68,8 @@ pub struct EndLine {
     pub queued: usize,
     /// How many requests were sent and not answered.
     pub outstanding: usize,
-    /// How many responses were not taken.
-    pub untaken: usize,
+    /// How many responses were not taken, where that is known.
+    pub untaken: Option<usize>,
 }
 
 /// How many clients, home servers and realms a configuration has.
@@ -79,14 +80,20 @@ pub struct CountLine {
     pub realms: usize,
 }
 
-impl EndLine {
-    ghost use Rattle.std.specs.Prelude.{◌≡◌, ◌↔◌, IsTrue};
+/// Where the clients' datagrams come in.
+#[derive(Clone, Copy)]
+pub struct ListeningLine {
+    pub endpoint: Endpoint,
+}
 
-    /// Whether nothing is left.
+impl EndLine {
+    ghost use Rattle.std.specs.Prelude.{◌≡◌, ◌↔◌, IsTrue, Some};
+
+    /// Whether it is known that nothing is left.
     pub fn is_clean(&self) -> bool
-        ensures { IsTrue result ↔ ((self.now.queued ≡ 0) × (self.now.outstanding ≡ 0) × (self.now.untaken ≡ 0)) }
+        ensures { IsTrue result ↔ ((self.now.queued ≡ 0) × (self.now.outstanding ≡ 0) × (self.now.untaken ≡ Some 0)) }
     {
-        self.queued == 0 && self.outstanding == 0 && self.untaken == 0
+        self.queued == 0 && self.outstanding == 0 && self.untaken == Some(0)
     }
 }
 
@@ -108,7 +115,6 @@ impl fmt::Display for NasLine<'_> {
                 write!(f, "nas: again {lane} {number} {written}")
             }
             Err(PathFault::Dropped(dropped)) => write!(f, "nas: dropped {dropped}"),
-            Err(PathFault::WrongLane) => write!(f, "nas: refused WrongLane"),
             Err(PathFault::Refused(refusal)) => {
                 let refusal = refusal_name(refusal);
                 write!(f, "nas: refused {refusal}")
@@ -154,7 +160,10 @@ impl fmt::Display for HomeLine {
         match self.outcome {
             Ok(Told::Answer(serial)) => write!(f, "home: answer {lane} {serial}"),
             Ok(Told::ProbeAnswered) => write!(f, "home: probe"),
-            Err(fault) => write!(f, "home: dropped {fault}"),
+            Err(fault) => {
+                let fault = DeskFaultText(fault);
+                write!(f, "home: dropped {fault}")
+            }
         }
     }
 }
@@ -246,11 +255,11 @@ impl fmt::Display for EndLine {
     fn fmt<W: fmt::Write>(&self, f: &mut fmt::Formatter<W>) -> fmt::Result {
         let queued = self.queued;
         let outstanding = self.outstanding;
-        let untaken = self.untaken;
-        write!(
-            f,
-            "end: queued {queued} outstanding {outstanding} untaken {untaken}"
-        )
+        write!(f, "end: queued {queued} outstanding {outstanding} ")?;
+        match self.untaken {
+            Some(untaken) => write!(f, "untaken {untaken}"),
+            None => write!(f, "untaken unknown"),
+        }
     }
 }
 
@@ -265,5 +274,17 @@ impl fmt::Display for CountLine {
         let homes = self.homes;
         let realms = self.realms;
         write!(f, "clients {clients} homes {homes} realms {realms}")
+    }
+}
+
+impl fmt::Display for ListeningLine {
+    ghost use Rattle.std.specs.Prelude.{Some};
+    ghost use Rattle.rad_proxy.specs.Lines.{listening_line};
+
+    ghost output = { λ line. Some (listening_line line) };
+
+    fn fmt<W: fmt::Write>(&self, f: &mut fmt::Formatter<W>) -> fmt::Result {
+        let endpoint = EndpointText(self.endpoint);
+        write!(f, "listening {endpoint}")
     }
 }

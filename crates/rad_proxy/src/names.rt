@@ -3,13 +3,22 @@
 ghost use Rattle.std.specs.Prelude.{◌≡◌};
 ghost use Rattle.rad_proxy.specs.Names.{watch_name as the_watch_name, mode_name as the_mode_name, refusal_name as the_refusal_name};
 
-use crate::hearing::HomeFault;
+use rad_desk::DeskFault;
 use rad_lane::{Counts, HearFault, Refusal};
+use rad_realms::Endpoint;
 use std::fmt;
 
 /// An IPv4 address in dotted decimal.
 #[derive(Clone, Copy)]
 pub struct AddressText(pub [u8; 4]);
+
+/// Why a home server's datagram is not heard.
+#[derive(Clone, Copy)]
+pub struct DeskFaultText(pub DeskFault);
+
+/// An IPv4 address in dotted decimal, with a UDP port.
+#[derive(Clone, Copy, Debug)]
+pub struct EndpointText(pub Endpoint);
 
 /// Why a lane does not hear a datagram.
 #[derive(Clone, Copy)]
@@ -59,16 +68,29 @@ impl fmt::Display for AddressText {
     }
 }
 
-impl fmt::Display for HomeFault {
+impl fmt::Display for EndpointText {
     ghost use Rattle.std.specs.Prelude.{Some};
-    ghost use Rattle.rad_proxy.specs.Names.{home_fault_name};
+    ghost use Rattle.rad_proxy.specs.Names.{endpoint_text};
 
-    ghost output = { λ fault. Some (home_fault_name fault) };
+    ghost output = { λ text. Some (endpoint_text text.0) };
 
     fn fmt<W: fmt::Write>(&self, f: &mut fmt::Formatter<W>) -> fmt::Result {
-        match *self {
-            HomeFault::RingFull => write!(f, "RingFull"),
-            HomeFault::Unheard(fault) => {
+        let address = AddressText(self.0.address);
+        let port = self.0.port;
+        write!(f, "{address}:{port}")
+    }
+}
+
+impl fmt::Display for DeskFaultText {
+    ghost use Rattle.std.specs.Prelude.{Some};
+    ghost use Rattle.rad_proxy.specs.Names.{desk_fault_name};
+
+    ghost output = { λ fault. Some (desk_fault_name fault.0) };
+
+    fn fmt<W: fmt::Write>(&self, f: &mut fmt::Formatter<W>) -> fmt::Result {
+        match self.0 {
+            DeskFault::RingFull => write!(f, "RingFull"),
+            DeskFault::Lane(fault) => {
                 let fault = HearFaultText(fault);
                 write!(f, "{fault}")
             }

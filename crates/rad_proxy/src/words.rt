@@ -2,7 +2,7 @@
 
 use crate::faults::Fault;
 use clap::error::ErrorKind;
-use clap::{Arg, ArgAction, Command};
+use clap::{Arg, ArgAction, ArgMatches, Command};
 use std::alloc::{AllocError, Global};
 
 /// What the program is to do.
@@ -12,8 +12,8 @@ pub enum Task {
     Replay,
     /// Checks the configuration in this file.
     Check(String),
-    /// Serves a configuration.
-    Run,
+    /// Serves the configuration in this file.
+    Run(String),
 }
 
 /// What the words ask for. The first word is the program's name; no others mean `replay`.
@@ -35,17 +35,20 @@ pub fn read_words(alloc: Global, words: &[String]) -> Result<Task, Fault> {
         }
     };
     match matches.subcommand() {
-        Some(("check", check)) => {
-            let Some(file) = check.get_str("FILE") else {
-                return Err(Fault::Usage);
-            };
-            match String::from_str(alloc, file) {
-                Ok(file) => Ok(Task::Check(file)),
-                Err(_) => Err(Fault::Memory),
-            }
-        }
-        Some(("run", _)) => Ok(Task::Run),
+        Some(("check", check)) => Ok(Task::Check(read_file_word(alloc, check)?)),
+        Some(("run", run)) => Ok(Task::Run(read_file_word(alloc, run)?)),
         _ => Ok(Task::Replay),
+    }
+}
+
+/// The word FILE of a command.
+fn read_file_word(alloc: Global, matches: &ArgMatches) -> Result<String, Fault> {
+    let Some(file) = matches.get_str("FILE") else {
+        return Err(Fault::Usage);
+    };
+    match String::from_str(alloc, file) {
+        Ok(file) => Ok(file),
+        Err(_) => Err(Fault::Memory),
     }
 }
 

@@ -29,17 +29,18 @@ pub in_range : (n : LimitNumbers) → first_fault (limits_of n) ≡ None → Are
 in_range n e =
     let k = all_kept (limits_of n) e in
     record {
-      window = k.0;
-      queue = k.1.0;
-      book = k.1.1.0;
-      tries = k.1.1.1.0;
-      first_wait = k.1.1.1.1.0;
-      probe_every = k.1.1.1.1.1.0;
-      down_wait = k.1.1.1.1.1.1.0;
-      span = k.1.1.1.1.1.1.1.0.1;
-      ring = k.1.1.1.1.1.1.1.1.0;
+      ports = k.0;
+      window = k.1.0;
+      queue = k.1.1.0;
+      book = k.1.1.1.0;
+      tries = k.1.1.1.1.0;
+      first_wait = k.1.1.1.1.1.0;
+      probe_every = k.1.1.1.1.1.1.0;
+      down_wait = k.1.1.1.1.1.1.1.0;
+      span = k.1.1.1.1.1.1.1.1.0.1;
+      ring = k.1.1.1.1.1.1.1.1.1.0;
     }
 
 pub no_fault : (n : LimitNumbers) → AreInRange n → first_fault (limits_of n) ≡ None
 no_fault n h =
-    none_broken (limits_of n) (h.window, (h.queue, (h.book, (h.tries, (h.first_wait, (h.probe_every, (h.down_wait, ((omega arith, h.span), (h.ring, tt)))))))))
+    none_broken (limits_of n) (h.ports, (h.window, (h.queue, (h.book, (h.tries, (h.first_wait, (h.probe_every, (h.down_wait, ((omega arith, h.span), (h.ring, tt))))))))))

@@ -1,8 +1,8 @@
 -- The limits of a lane (own): the range of each number. Times are in milliseconds.
-use Rattle.std.specs.Prelude.{ℕ, ◌≤◌, List, [], ◌∷◌, Option, Some, None, nat_le, ◌&&◌, if◌then◌else◌}
+use Rattle.std.specs.Prelude.{ℕ, ◌≤◌, ◌*◌, ◌-◌, List, [], ◌∷◌, Option, Some, None, nat_le, ◌&&◌, if◌then◌else◌}
 use Rattle.rad_realms.specs.declared.limits.LimitNumbers.{LimitNumbers}
 use Rattle.rad_realms.specs.declared.limits.LimitFault.{LimitFault}
-use Rattle.rad_realms.specs.declared.limits.LimitFault.TheVariants.{Window, Queue, Book, Tries, FirstWait, ProbeEvery, DownWait, Span, Ring}
+use Rattle.rad_realms.specs.declared.limits.LimitFault.TheVariants.{Ports, Window, Queue, Book, Tries, FirstWait, ProbeEvery, DownWait, Span, Ring}
 
 -- A number, the least and the greatest that it may be, and the fault where it is neither there nor between.
 pub record Limit : Type 0 where
@@ -14,7 +14,8 @@ pub record Limit : Type 0 where
 -- The limits of these numbers, in the order in which they are tested.
 abbrev pub limits_of : LimitNumbers → List Limit
 limits_of n =
-    record { number = n.window; least = 1; most = 254; fault = Window }
+    record { number = n.ports; least = 1; most = 4; fault = Ports }
+    ∷ record { number = n.window; least = 1; most = 256 * n.ports - 2; fault = Window }
     ∷ record { number = n.queue; least = 1; most = 65536; fault = Queue }
     ∷ record { number = n.book; least = 1; most = 1000000; fault = Book }
     ∷ record { number = n.tries; least = 1; most = 10; fault = Tries }
@@ -32,7 +33,8 @@ first_fault (l ∷ ls) = if nat_le l.least l.number && nat_le l.number l.most th
 
 -- Each number is in its range.
 pub record AreInRange (n : LimitNumbers) : Type 0 where
-  pub window : (1 ≤ n.window) × (n.window ≤ 254)
+  pub ports : (1 ≤ n.ports) × (n.ports ≤ 4)
+  pub window : (1 ≤ n.window) × (n.window ≤ 256 * n.ports - 2)
   pub queue : (1 ≤ n.queue) × (n.queue ≤ 65536)
   pub book : (1 ≤ n.book) × (n.book ≤ 1000000)
   pub tries : (1 ≤ n.tries) × (n.tries ≤ 10)

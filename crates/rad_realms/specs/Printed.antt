@@ -4,7 +4,7 @@ use Rattle.rad_packet.specs.Faults.{read_fault_text}
 use Rattle.rad_realms.specs.declared.checking.Dropped.{Dropped}
 use Rattle.rad_realms.specs.declared.checking.Dropped.TheVariants.{UnknownClient, Unread, WrongCode, BadAuthenticator, BadMessageAuthenticator, MessageAuthenticatorHere, NoRealm}
 use Rattle.rad_realms.specs.declared.limits.LimitFault.{LimitFault}
-use Rattle.rad_realms.specs.declared.limits.LimitFault.TheVariants.{Window, Queue, Book, Tries, FirstWait, ProbeEvery, DownWait, Span, Ring}
+use Rattle.rad_realms.specs.declared.limits.LimitFault.TheVariants.{Window, Queue, Book, Tries, FirstWait, ProbeEvery, DownWait, Span, Ring, Ports}
 
 abbrev pub dropped_text : Dropped → List ℕ
 dropped_text UnknownClient = codes "UnknownClient"
@@ -25,3 +25,4 @@ limit_text ProbeEvery = codes "ProbeEvery"
 limit_text DownWait = codes "DownWait"
 limit_text Span = codes "Span"
 limit_text Ring = codes "Ring"
+limit_text Ports = codes "Ports"

@@ -4,7 +4,7 @@ use Rattle.std.specs.Fmt.{decimal}
 use Rattle.rad_realms.specs.declared.reading.faults.Part.{Part}
 use Rattle.rad_realms.specs.declared.reading.faults.Part.TheVariants as part
 use Rattle.rad_realms.specs.declared.reading.faults.Key.{Key}
-use Rattle.rad_realms.specs.declared.reading.faults.Key.TheVariants.{Listen, DefaultHome, Linger, Client, Home, Realm, Address, Secret, Name, Window, Queue, Book, Tries, FirstWait, ProbeEvery, DownWait, Span, Ring}
+use Rattle.rad_realms.specs.declared.reading.faults.Key.TheVariants.{Listen, DefaultHome, Linger, Client, Home, Realm, Address, Secret, Name, Window, Queue, Book, Tries, FirstWait, ProbeEvery, DownWait, Span, Ring, Ports}
 use Rattle.rad_realms.specs.declared.reading.faults.Spot.{Spot}
 use Rattle.rad_realms.specs.declared.reading.faults.ConfigFault.{ConfigFault}
 use Rattle.rad_realms.specs.declared.reading.faults.ConfigFault.TheVariants.{Toml, OutOfMemory, Missing, WrongType, OutOfRange, DoubleName, UnknownHome, BadAddress, TooMany}
@@ -34,6 +34,7 @@ key_name ProbeEvery = codes "probe_every"
 key_name DownWait = codes "down_wait"
 key_name Span = codes "span"
 key_name Ring = codes "ring"
+key_name Ports = codes "ports"
 
 -- the index behind the part, but for the top, which is one
 abbrev pub index_text : Part → ℕ → List ℕ

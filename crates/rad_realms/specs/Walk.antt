@@ -13,7 +13,7 @@ use Rattle.rad_realms.specs.declared.limits.LimitFault.TheVariants as limit
 use Rattle.rad_realms.specs.declared.reading.faults.Part.{Part}
 use Rattle.rad_realms.specs.declared.reading.faults.Part.TheVariants as part
 use Rattle.rad_realms.specs.declared.reading.faults.Key.{Key}
-use Rattle.rad_realms.specs.declared.reading.faults.Key.TheVariants.{Listen, DefaultHome, Linger, Client, Home, Realm, Address, Secret, Name, Window, Queue, Book, Tries, FirstWait, ProbeEvery, DownWait, Span, Ring}
+use Rattle.rad_realms.specs.declared.reading.faults.Key.TheVariants.{Listen, DefaultHome, Linger, Client, Home, Realm, Address, Secret, Name, Window, Queue, Book, Tries, FirstWait, ProbeEvery, DownWait, Span, Ring, Ports}
 use Rattle.rad_realms.specs.declared.reading.faults.Spot.{Spot}
 use Rattle.rad_realms.specs.declared.reading.faults.ConfigFault.{ConfigFault}
 use Rattle.rad_realms.specs.declared.reading.faults.ConfigFault.TheVariants.{Toml, Missing, WrongType, OutOfRange, DoubleName, UnknownHome, BadAddress, TooMany}
@@ -181,7 +181,8 @@ numbers_at index doc = do
   down_wait ← lane_number_at index DownWait 60000 doc
   span ← lane_number_at index Span 30000 doc
   ring ← lane_number_at index Ring 256 doc
-  Ok (record { window = window; queue = queue; book = book; tries = tries; first_wait = first_wait; probe_every = probe_every; down_wait = down_wait; span = span; ring = ring })
+  ports ← lane_number_at index Ports 1 doc
+  Ok (record { window = window; queue = queue; book = book; tries = tries; first_wait = first_wait; probe_every = probe_every; down_wait = down_wait; span = span; ring = ring; ports = ports })
 
 abbrev pub limit_key : LimitFault → Key
 limit_key limit.Window = Window
@@ -193,6 +194,7 @@ limit_key limit.ProbeEvery = ProbeEvery
 limit_key limit.DownWait = DownWait
 limit_key limit.Span = Span
 limit_key limit.Ring = Ring
+limit_key limit.Ports = Ports
 
 abbrev pub kept_or_fault : ℕ → LimitNumbers → Option LimitFault → Result LimitNumbers ConfigFault
 kept_or_fault index numbers None = Ok numbers

@@ -1,6 +1,6 @@
 //! The limits of a lane: its numbers, each of them in a range.
 
-ghost use Rattle.std.specs.Prelude.{◌≡◌, ◌&&◌, nat_le, if◌then◌else◌, Ok, Err};
+ghost use Rattle.std.specs.Prelude.{◌≡◌, ◌≤◌, ◌&&◌, nat_le, if◌then◌else◌, Ok, Err, OnOk};
 
 use std::fmt;
 use std::marker::Model;
@@ -16,13 +16,14 @@ pub const DEFAULT_LIMITS: LimitNumbers = LimitNumbers {
     down_wait: 60_000,
     span: 30_000,
     ring: 256,
+    ports: 1,
 };
 
 /// The numbers of a lane, as a home server's table in the configuration has them. Times are in
 /// milliseconds.
 #[derive(Clone, Copy, Debug, PartialEq, Eq)]
 pub struct LimitNumbers {
-    /// The most requests that are sent and not answered, 1 to 254.
+    /// The most requests that are sent and not answered, 1 to `256 * ports - 2`.
     pub window: u32,
     /// The most requests that wait to be sent, 1 to 65,536.
     pub queue: u32,
@@ -40,11 +41,15 @@ pub struct LimitNumbers {
     pub span: u32,
     /// The most responses that wait to be taken, 1 to 4096.
     pub ring: u32,
+    /// The source ports that requests are sent from, 1 to 4.
+    pub ports: u32,
 }
 
 /// Which number is out of its range. The first one in this order is told, and printed as its name here.
 #[derive(Clone, Copy, Debug, PartialEq, Eq)]
 pub enum LimitFault {
+    /// `ports`.
+    Ports,
     /// `window`.
     Window,
     /// `queue`.
@@ -73,6 +78,7 @@ impl fmt::Display for LimitFault {
 
     fn fmt<W: fmt::Write>(&self, f: &mut fmt::Formatter<W>) -> fmt::Result {
         f.write_str(match self {
+            LimitFault::Ports => "Ports",
             LimitFault::Window => "Window",
             LimitFault::Queue => "Queue",
             LimitFault::Book => "Book",
@@ -119,7 +125,9 @@ impl Limits {
         ensures kept { IfOk result (λ limits. limits ≡ numbers) }
         ensures fault { result_err result ≡ first_fault (limits_of numbers) }
     {
-        within(numbers.window, 1, 254, LimitFault::Window)?;
+        within(numbers.ports, 1, 4, LimitFault::Ports)?;
+        let widest = 256 * numbers.ports - 2;
+        within(numbers.window, 1, widest, LimitFault::Window)?;
         within(numbers.queue, 1, 65_536, LimitFault::Queue)?;
         within(numbers.book, 1, 1_000_000, LimitFault::Book)?;
         within(numbers.tries, 1, 10, LimitFault::Tries)?;
@@ -142,7 +150,8 @@ impl Limits {
 
 /// Refuses a number that is out of a range.
 fn within(number: u32, least: u32, most: u32, fault: LimitFault) -> Result<(), LimitFault>
-    ensures { result ≡ (if nat_le least number && nat_le number most then Ok tt else Err fault) }
+    ensures value { result ≡ (if nat_le least number && nat_le number most then Ok tt else Err fault) }
+    ensures kept { OnOk result ((least ≤ number) × (number ≤ most)) }
 {
     if least <= number && number <= most {
         Ok(())

@@ -7,6 +7,7 @@ mod cutting;
 mod hearing;
 mod leaving;
 mod octets;
+mod ports;
 mod requests;
 mod running;
 mod script;

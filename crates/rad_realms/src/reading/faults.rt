@@ -167,6 +167,8 @@ pub enum Key {
     Span,
     /// `ring`.
     Ring,
+    /// `ports`.
+    Ports,
 }
 
 impl Key {
@@ -196,6 +198,7 @@ impl Key {
             Key::DownWait => "down_wait",
             Key::Span => "span",
             Key::Ring => "ring",
+            Key::Ports => "ports",
         }
     }
 }

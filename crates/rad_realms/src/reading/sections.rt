@@ -108,6 +108,7 @@ fn lane_numbers(index: usize, doc: &Table) -> Result<LimitNumbers, ConfigFault>
     let down_wait = lane_number(index, Key::DownWait, DEFAULT_LIMITS.down_wait, doc)?;
     let span = lane_number(index, Key::Span, DEFAULT_LIMITS.span, doc)?;
     let ring = lane_number(index, Key::Ring, DEFAULT_LIMITS.ring, doc)?;
+    let ports = lane_number(index, Key::Ports, DEFAULT_LIMITS.ports, doc)?;
     Ok(LimitNumbers {
         window,
         queue,
@@ -118,6 +119,7 @@ fn lane_numbers(index: usize, doc: &Table) -> Result<LimitNumbers, ConfigFault>
         down_wait,
         span,
         ring,
+        ports,
     })
 }
 
@@ -142,6 +144,7 @@ fn key_of_limit(fault: LimitFault) -> Key
         LimitFault::DownWait => Key::DownWait,
         LimitFault::Span => Key::Span,
         LimitFault::Ring => Key::Ring,
+        LimitFault::Ports => Key::Ports,
     }
 }
 

@@ -23,10 +23,10 @@ secret = "home-secret"
 name = "h2"
 address = "127.0.0.2:65535"
 secret = "second-secret"
-window = 254
+window = 1022
 span = 0
 ring = 1
-ports = "what no one reads"
+ports = 4
 [[realm]]
 name = "other.org"
 home = "h1"
@@ -347,7 +347,7 @@ const LISTEN: Endpoint = Endpoint {
 };
 
 const SECOND_NUMBERS: LimitNumbers = LimitNumbers {
-    window: 254,
+    window: 1022,
     queue: 4096,
     book: 100_000,
     tries: 3,
@@ -356,6 +356,7 @@ const SECOND_NUMBERS: LimitNumbers = LimitNumbers {
     down_wait: 60_000,
     span: 0,
     ring: 1,
+    ports: 4,
 };
 
 /// Checks what the configuration tells of its second client.

@@ -203,7 +203,14 @@ const HOMES: [(&str, &str); 12] = [
     ),
 ];
 
-const NUMBERS: [(&str, &str); 9] = [
+const NUMBERS: [(&str, &str); 16] = [
+    ("ports = 5", "OutOfRange at home 0 ports"),
+    ("ports = 5\nwindow = 2000", "OutOfRange at home 0 ports"),
+    ("ports = 2\nwindow = 510", "read"),
+    ("ports = 2\nwindow = 511", "OutOfRange at home 0 window"),
+    ("ports = 4\nwindow = 1022", "read"),
+    ("ports = 4\nwindow = 1023", "OutOfRange at home 0 window"),
+    ("ports = true\nring = true", "WrongType at home 0 ring"),
     ("window = 254", "read"),
     ("window = 255", "OutOfRange at home 0 window"),
     ("window = \"64\"", "WrongType at home 0 window"),
@@ -284,7 +291,8 @@ fn number_prints(
 }
 
 /// Each limit with four numbers: one below its range, the ends of the range, and one above it.
-const LIMITS: [(&str, [i32; 4]); 9] = [
+const LIMITS: [(&str, [i32; 4]); 10] = [
+    ("ports", [0, 1, 4, 5]),
     ("window", [0, 1, 254, 255]),
     ("queue", [0, 1, 65_536, 65_537]),
     ("book", [0, 1, 1_000_000, 1_000_001]),

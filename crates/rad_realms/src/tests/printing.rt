@@ -32,7 +32,8 @@ fn each_reason_is_printed(rt: HostRuntime) -> Result<(), Fail> {
     Ok(())
 }
 
-const LIMITS: [(LimitFault, &str); 9] = [
+const LIMITS: [(LimitFault, &str); 10] = [
+    (LimitFault::Ports, "Ports"),
     (LimitFault::Window, "Window"),
     (LimitFault::Queue, "Queue"),
     (LimitFault::Book, "Book"),

@@ -4,7 +4,7 @@ use super::octets::SECOND_PROBE;
 use super::requests::reply_to;
 use super::script::Call::{Hear, Step};
 use super::script::Gives::Step as Did;
-use super::script::{answer, at, puts, sent, slot};
+use super::script::{answer, at, pair, puts, sent, slot};
 use super::test_lane::TestLane;
 use super::waiting::accept_each;
 use block_queue::{Fifo, PlainQueue};
@@ -12,8 +12,8 @@ use rad_lane::{Action, Answered, Entry, Leftover, Record};
 use std::process::Abort;
 use std::test::Fail;
 
-/// Whether two lanes left the same: the stamps, the answers with their octets, under each Identifier of the first
-/// source port what is outstanding, with its octets, its due and how often it was sent, and the queue.
+/// Whether two lanes left the same: the stamps, the answers with their octets, under each pair of four
+/// source ports what is outstanding, with its octets, its due and how often it was sent, and the queue.
 pub fn is_same(one: &Leftover<PlainQueue<Record>>, other: &Leftover<PlainQueue<Record>>) -> bool {
     one.lane() == other.lane()
         && one.opening() == other.opening()
@@ -21,8 +21,8 @@ pub fn is_same(one: &Leftover<PlainQueue<Record>>, other: &Leftover<PlainQueue<R
         && one.sent() == other.sent()
         && are_same_answers(one.answered(), other.answered())
         && one.outstanding().used() == other.outstanding().used()
-        && (0..256).all(|count| {
-            let pair = slot(count);
+        && (0..1024).all(|count| {
+            let pair = pair(count);
             is_same_entry(one.outstanding().get(pair), other.outstanding().get(pair))
         })
         && one.queued().len() == other.queued().len()

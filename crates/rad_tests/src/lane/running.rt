@@ -39,7 +39,7 @@ impl TestLane {
     }
 }
 
-/// A request, once it is checked.
+/// A request that its client sent and that was checked.
 pub fn checked<'a>(config: &'a Config, request: &'a [u8]) -> Result<Checked<'a>, Fail> {
     match check_in(config, CLIENT, CLIENT_PORT, request) {
         Ok(Incoming::Request(checked)) => Ok(checked),
@@ -74,7 +74,8 @@ fn are_idle_answered_and_drained(gives: &[Given]) -> bool {
     }
 }
 
-fn did(answer: &GivenAnswer, wanted: Action) -> bool {
+/// Whether this was a step that did this.
+pub fn did(answer: &GivenAnswer, wanted: Action) -> bool {
     match answer {
         GivenAnswer::Step(action) => *action == wanted,
         _ => false,

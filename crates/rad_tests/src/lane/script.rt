@@ -110,6 +110,14 @@ pub fn moment(milliseconds: u32) -> Moment {
     Moment::new(u64::from(milliseconds)).unwrap()
 }
 
+/// The pair of this count, where source ports come one after the other: behind Identifier 255 comes the next one's 0.
+pub fn pair(count: u16) -> Slot {
+    Slot {
+        port: count / 256,
+        identifier: (count % 256) as u8,
+    }
+}
+
 /// The pair of the first source port and the Identifier that goes round with this count.
 pub fn slot(count: u16) -> Slot {
     Slot {

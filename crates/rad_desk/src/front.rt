@@ -1,0 +1,189 @@
+//! The worker of the clients' side.
+
+ghost use Rattle.std.specs.Prelude.{◌≡◌, ◌≤◌, [], ◌∷◌, ◌++◌};
+ghost use Rattle.rad_packet.specs.Packet.{identifier_of, authenticator_of};
+ghost use Rattle.rad_auth.specs.Authenticator.{accounting_response};
+ghost use Rattle.rad_desk.specs.Departures.{IsVerifiedResponse};
+ghost use Rattle.rad_desk.specs.Traffic.{went};
+ghost use Rattle.rad_desk.specs.Continues.{Continues, AllContinue};
+ghost use Rattle.rad_desk.specs.Sends.{SendsOnly, Gave, OneGave, GoesBack, LeavesTheFront};
+ghost use Rattle.rad_desk.specs.Sending.{SendsUpToOne, IsFrom};
+
+use crate::gate::{Call, Gate, Note, Worker};
+use crate::inlet::Inlet;
+use crate::proxy::Proxy;
+use crate::tally::{Shift, Tally};
+use crate::wire::{Received, Wire};
+use rad_auth::answer_status;
+use rad_lane::Taken;
+use rad_packet::Datagram;
+use rad_realms::{Checked, CheckedStatus, Config, Endpoint, Incoming, check_in};
+use std::alloc::Global;
+use std::sync::Wait;
+
+/// The socket on which the clients' datagrams are received.
+const LISTEN: u16 = 0;
+
+/// Works for the clients: so many turns at most, or until the gate stops it. In each turn it receives once and, where
+/// that is a request, has its lane take it, or where it is a Status-Server, answers it; a repeat of an answered
+/// request is answered again. Then it takes from each inlet once at most, and sends what it took.
+///
+/// A send that fails is a datagram lost, and a receive that fails ends nothing.
+pub fn front_worker<W: Wire, G: Gate>(
+    rt: &impl Wait,
+    alloc: Global,
+    proxy: &Proxy,
+    config: &Config,
+    inlets: &mut [Inlet],
+    wire: &mut W,
+    gate: &G,
+    turns: u64,
+) -> Tally
+    ensures sends { SendsOnly (LeavesTheFront config.now inlets.old inlets.new) (W.log wire.old) (W.log wire.new) }
+    ensures inlets { AllContinue inlets.old inlets.new }
+    ensures turns { result.turns ≤ turns }
+{
+    let mut shift = Shift::new(Worker::Front, gate);
+    let mut octets = [0; 4096];
+    let mut datagram = Datagram::new();
+    for turn in 0..turns {
+        shift.begin_turn(turn);
+        if !take_in(
+            rt,
+            alloc,
+            proxy,
+            config,
+            wire,
+            &mut shift,
+            &mut octets,
+            &mut datagram,
+        ) {
+            return shift.tally;
+        }
+        if !hand_out(inlets, wire, &mut shift) {
+            return shift.tally;
+        }
+    }
+    shift.tally
+}
+
+/// Receives once, and does what is to be done with what came. It answers whether the worker goes on.
+fn take_in<W: Wire, G: Gate>(
+    rt: &impl Wait,
+    alloc: Global,
+    proxy: &Proxy,
+    config: &Config,
+    wire: &mut W,
+    shift: &mut Shift<'_, G>,
+    octets: &mut [u8; 4096],
+    datagram: &mut Datagram,
+) -> bool
+    ensures sends { SendsOnly (GoesBack config.now) (W.log wire.old) (W.log wire.new) }
+    ensures turns { shift.new.tally.turns ≡ shift.old.tally.turns }
+{
+    let Received::Got {
+        address,
+        port,
+        socket,
+        count,
+    } = shift.receive(wire, octets)
+    else {
+        return true;
+    };
+    let from = Endpoint { address, port };
+    match check_in(config, address, port, &octets[..count]) {
+        Ok(Incoming::Request(request)) => {
+            accept(rt, alloc, proxy, &request, wire, shift, socket, datagram)
+        }
+        Ok(Incoming::Status(status)) => {
+            answer(&status, wire, shift, socket, from, datagram);
+            true
+        }
+        Err(reason) => {
+            shift.note(Note::Dropped(from, reason));
+            true
+        }
+    }
+}
+
+/// Has a lane take a request. It answers whether the worker goes on.
+fn accept<W: Wire, G: Gate>(
+    rt: &impl Wait,
+    alloc: Global,
+    proxy: &Proxy,
+    request: &Checked<'_>,
+    wire: &mut W,
+    shift: &mut Shift<'_, G>,
+    socket: u16,
+    datagram: &mut Datagram,
+) -> bool
+    ensures sends { SendsUpToOne (IsFrom socket (record { address = request.now.client; port = request.now.port }) IsVerifiedResponse) (W.log wire.old) (W.log wire.new) }
+    ensures turns { shift.new.tally.turns ≡ shift.old.tally.turns }
+{
+    if !shift.may(Call::Accept) {
+        return false;
+    }
+    let from = Endpoint {
+        address: request.client(),
+        port: request.port(),
+    };
+    let taken = proxy.accept(rt, alloc, request, wire.now(), datagram);
+    shift.made(Call::Accept);
+    match taken {
+        Ok(Taken::New(number)) => shift.note(Note::Accepted(request.lane(), number)),
+        Ok(Taken::Waiting(_)) => {}
+        Ok(Taken::Again(_)) => shift.send(wire, socket, from, datagram.bytes()),
+        Err(refusal) => shift.note(Note::Refused(from, refusal)),
+    }
+    true
+}
+
+/// Answers a Status-Server.
+fn answer<W: Wire, G: Gate>(
+    status: &CheckedStatus<'_>,
+    wire: &mut W,
+    shift: &mut Shift<'_, G>,
+    socket: u16,
+    from: Endpoint,
+    datagram: &mut Datagram,
+)
+    ensures sends { W.log wire.new ≡ W.log wire.old ++ went socket from.address from.port (accounting_response (identifier_of status.now.text) (authenticator_of status.now.text) [] status.now.secret) ∷ [] }
+    ensures turns { shift.new.tally.turns ≡ shift.old.tally.turns }
+{
+    answer_status(status.packet(), status.secret(), datagram);
+    shift.send(wire, socket, from, datagram.bytes());
+}
+
+/// Takes from each inlet once at most, and sends what it took. It answers whether the worker goes on.
+fn hand_out<W: Wire, G: Gate>(inlets: &mut [Inlet], wire: &mut W, shift: &mut Shift<'_, G>) -> bool
+    ensures sends { SendsOnly (λ before p. OneGave inlets.old inlets.new p) (W.log wire.old) (W.log wire.new) }
+    ensures inlets { AllContinue inlets.old inlets.new }
+    ensures turns { shift.new.tally.turns ≡ shift.old.tally.turns }
+{
+    for place in 0..inlets.len() {
+        if !shift.may(Call::Take) {
+            return false;
+        }
+        take(&mut inlets[place], wire, shift);
+    }
+    true
+}
+
+/// Takes a response where one is there, and sends it.
+fn take<W: Wire, G: Gate>(inlet: &mut Inlet, wire: &mut W, shift: &mut Shift<'_, G>)
+    ensures sends { SendsOnly (λ before p. Gave inlet.old inlet.new p) (W.log wire.old) (W.log wire.new) }
+    ensures inlet { Continues inlet.old inlet.new }
+    ensures turns { shift.new.tally.turns ≡ shift.old.tally.turns }
+{
+    let taken = inlet.take();
+    shift.made(Call::Take);
+    let Some(outgoing) = taken else {
+        return;
+    };
+    let to = Endpoint {
+        address: outgoing.client,
+        port: outgoing.port,
+    };
+    shift.send(wire, LISTEN, to, outgoing.reply.response());
+    shift.note(Note::Took(inlet.lane(), outgoing.serial));
+}

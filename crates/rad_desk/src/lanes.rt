@@ -1,0 +1,153 @@
+//! The worker of a home server.
+
+ghost use Rattle.std.specs.Prelude.{◌≡◌, ◌<◌, ◌≤◌};
+ghost use Rattle.rad_desk.specs.Sends.{SendsOnly, IsDeparture, GoesHome};
+ghost use Rattle.rad_desk.specs.Sending.{SendsUpToOne};
+
+use crate::gate::{Call, Gate, Note, Worker};
+use crate::hearing::Told;
+use crate::proxy::Proxy;
+use crate::tally::{Shift, Tally};
+use crate::wire::{Received, Wire};
+use rad_lane::Action;
+use rad_packet::Datagram;
+use rad_realms::{Endpoint, Home};
+use std::alloc::Global;
+use std::sync::Wait;
+
+/// Works for a lane and its home server: so many turns at most, or until the gate stops it. In each turn it receives
+/// once and, where that came from the home server's address and port, has the lane hear it. Then the lane does one
+/// thing that is next, and what that gives is sent to the home server, from the socket of its source port.
+///
+/// A send that fails is a datagram lost, and the sending stands; a receive that fails ends nothing.
+pub fn lane_worker<W: Wire, G: Gate>(
+    rt: &impl Wait,
+    alloc: Global,
+    proxy: &Proxy,
+    lane: u16,
+    home: &Home,
+    wire: &mut W,
+    gate: &G,
+    turns: u64,
+) -> Tally
+    requires { lane < proxy.now }
+    ensures sends { SendsOnly (GoesHome home.now) (W.log wire.old) (W.log wire.new) }
+    ensures turns { result.turns ≤ turns }
+{
+    let mut shift = Shift::new(Worker::Lane(lane), gate);
+    let mut octets = [0; 4096];
+    let mut datagram = Datagram::new();
+    for turn in 0..turns {
+        shift.begin_turn(turn);
+        if !hear(rt, alloc, proxy, lane, home, wire, &mut shift, &mut octets) {
+            return shift.tally;
+        }
+        if !step(rt, proxy, lane, home, wire, &mut shift, &mut datagram) {
+            return shift.tally;
+        }
+    }
+    shift.tally
+}
+
+/// Where a home server is.
+fn endpoint_of(home: &Home) -> Endpoint
+    ensures { result ≡ home.now.endpoint }
+{
+    Endpoint {
+        address: home.address(),
+        port: home.port(),
+    }
+}
+
+/// Receives once, and has the lane hear what came from its home server. It answers whether the worker goes on.
+fn hear<W: Wire, G: Gate>(
+    rt: &impl Wait,
+    alloc: Global,
+    proxy: &Proxy,
+    lane: u16,
+    home: &Home,
+    wire: &mut W,
+    shift: &mut Shift<'_, G>,
+    octets: &mut [u8; 4096],
+) -> bool
+    requires { lane < proxy.now }
+    ensures sends { SendsOnly (GoesHome home.now) (W.log wire.old) (W.log wire.new) }
+    ensures turns { shift.new.tally.turns ≡ shift.old.tally.turns }
+{
+    let Received::Got {
+        address,
+        port,
+        socket,
+        count,
+    } = shift.receive(wire, octets)
+    else {
+        return true;
+    };
+    let from = Endpoint { address, port };
+    if from != endpoint_of(home) {
+        shift.note(Note::NotHome(from));
+        return true;
+    }
+    if !shift.may(Call::Hear) {
+        return false;
+    }
+    let told = proxy.hear(rt, alloc, lane, wire.now(), socket, &octets[..count]);
+    shift.made(Call::Hear);
+    match told {
+        Ok(Told::Answer(serial)) => shift.note(Note::Answered(lane, serial)),
+        Ok(Told::ProbeAnswered) => {}
+        Err(fault) => shift.note(Note::Unheard(fault)),
+    }
+    true
+}
+
+/// Has the lane do what is next, and sends what that gives. It answers whether the worker goes on.
+fn step<W: Wire, G: Gate>(
+    rt: &impl Wait,
+    proxy: &Proxy,
+    lane: u16,
+    home: &Home,
+    wire: &mut W,
+    shift: &mut Shift<'_, G>,
+    datagram: &mut Datagram,
+) -> bool
+    requires { lane < proxy.now }
+    ensures sends { SendsOnly (GoesHome home.now) (W.log wire.old) (W.log wire.new) }
+    ensures turns { shift.new.tally.turns ≡ shift.old.tally.turns }
+{
+    if !shift.may(Call::Step) {
+        return false;
+    }
+    let action = proxy.step(rt, lane, wire.now(), wire.random(), datagram);
+    shift.made(Call::Step);
+    match action {
+        Action::Sent(_, slot) | Action::Resent(_, slot) | Action::Probed(slot) => {
+            send_home(home, slot.port, wire, shift, datagram);
+        }
+        Action::WentDown => shift.note(Note::WentDown),
+        Action::WentUp => shift.note(Note::WentUp),
+        Action::Idle(_) => {}
+    }
+    true
+}
+
+/// Sends a datagram to the home server, from the socket of a source port. One of a port that the home server does not
+/// have, as where it is another lane's, is lost.
+fn send_home<W: Wire, G: Gate>(
+    home: &Home,
+    port: u16,
+    wire: &mut W,
+    shift: &mut Shift<'_, G>,
+    datagram: &Datagram,
+)
+    requires { IsDeparture datagram.now }
+    ensures sends { SendsUpToOne (GoesHome home.now (W.log wire.old)) (W.log wire.old) (W.log wire.new) }
+    ensures turns { shift.new.tally.turns ≡ shift.old.tally.turns }
+{
+    let to = endpoint_of(home);
+    if u32::from(port) < home.limits().numbers().ports {
+        shift.send(wire, port, to, datagram.bytes());
+    } else {
+        shift.lose(to);
+    }
+}

@@ -1,0 +1,108 @@
+//! What a worker did, and whom it tells.
+
+ghost use Rattle.std.specs.Prelude.{◌≡◌, ◌<◌, ◌+◌, ◌∷◌, ◌++◌, []};
+ghost use Rattle.rad_desk.specs.Traffic.{went, Receives};
+
+use crate::gate::{Call, Gate, Go, Note, Worker};
+use crate::wire::{Delivery, Received, Wire};
+use rad_realms::Endpoint;
+
+/// How much a worker did. A count at the greatest number stays there.
+#[derive(Clone, Copy, Debug, PartialEq, Eq)]
+pub struct Tally {
+    /// How many turns it began.
+    pub turns: u64,
+    /// How many datagrams came.
+    pub received: u64,
+    /// How many datagrams were handed over.
+    pub sent: u64,
+    /// How many receives and sends failed.
+    pub faults: u64,
+}
+
+/// A worker's time at work: who it is, whom it asks and tells, and what it did.
+#[derive(Drop)]
+pub(crate) struct Shift<'a, G> {
+    pub(crate) worker: Worker,
+    pub(crate) gate: &'a G,
+    pub(crate) tally: Tally,
+}
+
+impl<'a, G: Gate> Shift<'a, G> {
+    /// Nothing is done yet.
+    pub(crate) fn new(worker: Worker, gate: &'a G) -> Shift<'a, G>
+        ensures { result.tally.turns ≡ 0 }
+    {
+        let tally = Tally {
+            turns: 0,
+            received: 0,
+            sent: 0,
+            faults: 0,
+        };
+        Shift {
+            worker,
+            gate,
+            tally,
+        }
+    }
+
+    /// Begins a turn, after so many others.
+    pub(crate) fn begin_turn(&mut self, others: u64)
+        requires { others < u64.MAX }
+        ensures { self.new.tally.turns ≡ others + 1 }
+    {
+        self.tally.turns = others + 1;
+    }
+
+    /// Whether it goes on to a call.
+    pub(crate) fn may(&self, call: Call) -> bool {
+        self.gate.before(self.worker, call) == Go::On
+    }
+
+    /// It made a call.
+    pub(crate) fn made(&self, call: Call) {
+        self.gate.after(self.worker, call);
+    }
+
+    pub(crate) fn note(&self, note: Note) {
+        self.gate.note(self.worker, note);
+    }
+
+    /// Receives a datagram, and counts it.
+    pub(crate) fn receive<W: Wire>(&mut self, wire: &mut W, datagram: &mut [u8; 4096]) -> Received
+        ensures receives { Receives (W.log wire.old) result datagram.new (W.log wire.new) }
+        ensures turns { self.new.tally.turns ≡ self.old.tally.turns }
+    {
+        let received = wire.receive(datagram);
+        match received {
+            Received::Got { .. } => {
+                self.tally.received = self.tally.received.saturating_add(1);
+            }
+            Received::Nothing => {}
+            Received::Fault => {
+                self.tally.faults = self.tally.faults.saturating_add(1);
+                self.note(Note::ReceiveFault);
+            }
+        }
+        received
+    }
+
+    /// Sends a datagram, and counts it. Where that fails, it is lost.
+    pub(crate) fn send<W: Wire>(&mut self, wire: &mut W, socket: u16, to: Endpoint, octets: &[u8])
+        ensures sends { W.log wire.new ≡ W.log wire.old ++ went socket to.address to.port octets.now ∷ [] }
+        ensures turns { self.new.tally.turns ≡ self.old.tally.turns }
+    {
+        match wire.send(socket, to.address, to.port, octets) {
+            Delivery::Sent => self.tally.sent = self.tally.sent.saturating_add(1),
+            Delivery::Fault => self.lose(to),
+        }
+    }
+
+    /// Counts a datagram that could not be sent.
+    pub(crate) fn lose(&mut self, to: Endpoint)
+        ensures { self.new.tally.turns ≡ self.old.tally.turns }
+    {
+        self.tally.faults = self.tally.faults.saturating_add(1);
+        self.note(Note::SendFault(to));
+    }
+}

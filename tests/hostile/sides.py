@@ -1,0 +1,265 @@
+"""The two sides of a proxy, NASes and home servers, each with its own log of what it sent and what it was told.
+
+What is not as it should be goes to the `faults` of the `Findings` that all of them share.
+"""
+from array import array
+from collections import Counter, deque
+from dataclasses import dataclass, field
+
+from model import Fault, is_right_status, is_signed, read
+from network import Port
+from vectors import ACCOUNTING_REQUEST, ACCOUNTING_RESPONSE, ACCT_SESSION_ID, CLASS, PROXY_STATE, STATUS_SERVER, ZEROS
+from vectors import answer, attribute, mark, request, status, user_name
+
+MOST_FAULTS = 20
+FIRST_WAIT, LONGEST_WAIT = 0.3, 2.0
+EARLIER_KEPT = 12
+
+
+@dataclass
+class Findings:
+    """What came out so far: faults in words, and counts."""
+
+    faults: list = field(default_factory=list)
+    counts: Counter = field(default_factory=Counter)
+
+    def fault(self, text):
+        self.counts["faults"] += 1
+        if len(self.faults) < MOST_FAULTS:
+            self.faults.append(text)
+
+
+@dataclass(slots=True)
+class Arrived:
+    """A request as a home server's log has it: what it came under, what it has, and the attributes of replies to it."""
+
+    identity: tuple
+    number: int
+    attributes: bytes
+    replies: set = field(default_factory=set)
+    is_answered: bool = False
+
+    def note_reply(self, attributes):
+        self.is_answered = True
+        self.replies.add(attributes)
+
+    def forget_texts(self):
+        """Once it is acknowledged its texts are not needed any more."""
+        self.attributes = b""
+        self.replies.clear()
+
+
+class Home:
+    """A home server: it answers each right request, and each time with another Class."""
+
+    def __init__(self, loop, network, findings, lane, name, secret, window, chance):
+        self.network, self.findings, self.chance = network, findings, chance
+        self.lane, self.name, self.secret, self.window = lane, name, secret, window
+        self.realm = f"{name}.example"
+        self.port = Port(loop, "127.0.0.1", self.arrive)
+        self.log, self.sessions = {}, {}
+        self.next_number, self.excused, self.lost = 0, 0, 0
+        self.is_away = False
+        self.in_order = array("Q"), array("Q")
+
+    def go_away(self, is_closed):
+        """From now on it answers nothing; where its port is closed, the kernel answers that it is unreachable."""
+        self.is_away = True
+        if is_closed:
+            self.port.close()
+
+    def come_back(self):
+        self.is_away = False
+        if self.port.socket is None:
+            self.port.open()
+            self.excuse()
+
+    def arrive(self, octets, sender):
+        """What comes from the proxy, before the network behind does what it does."""
+        self.findings.counts["datagrams to home servers"] += 1
+        try:
+            came = read(octets)
+        except Fault as fault:
+            self.findings.fault(f"{self.name}: the proxy sent {octets.hex()}: {fault}")
+            return
+        number = int.from_bytes(came.octets[-8:], "big")
+        if came.code == STATUS_SERVER and is_right_status(came, self.secret) and len(came.octets) == 38:
+            self.findings.counts["probes"] += 1
+        elif came.code == ACCOUNTING_REQUEST and is_signed(came, ZEROS, self.secret) and octets.endswith(mark(self.lane, number)):
+            self.take_down(came, number, sender[1])
+        else:
+            self.findings.fault(f"{self.name}: what came is neither a request of this lane nor a Status-Server: {octets.hex()}")
+            return
+        self.network.carry(octets, lambda carried, is_spoiled: self.serve(carried, sender, is_spoiled))
+
+    def take_down(self, came, number, port):
+        """Puts a request into the log, or sees that it is what came before."""
+        session, identity = came.of_type(ACCT_SESSION_ID)[0][0], (port, came.identifier, came.authenticator)
+        known = self.log.setdefault(session, Arrived(identity, number, came.octets[20:-12]))
+        if known.identity != identity:
+            self.findings.fault(f"{self.name}: {session} came under two identifiers or authenticators, or from two ports")
+        if self.sessions.setdefault(number, session) != session:
+            self.findings.fault(f"{self.name}: number {number} is that of {session} and of {self.sessions[number]}")
+        self.keep_order(number)
+
+    def keep_order(self, number):
+        """Sees that first sendings come in the order of acceptance, but for those that this side could not receive."""
+        if number < self.next_number:
+            return
+        if number > self.next_number and self.port.lost() > self.lost:
+            self.excuse()
+        first = max(self.next_number, self.excused)
+        if number > first:
+            self.findings.fault(f"{self.name}: number {number} came before {first}")
+        self.next_number = number + 1
+
+    def excuse(self):
+        """Of what was sent up to now some may be lost: of the unanswered ones, and those are a window at most."""
+        self.excused, self.lost = self.next_number + self.window, self.port.lost()
+
+    def serve(self, octets, sender, is_spoiled):
+        """Answers what came through the network, where it is right."""
+        if self.is_away or is_spoiled:
+            return
+        came = read(octets)
+        if came.code == STATUS_SERVER:
+            more = attribute(80, ZEROS) if self.chance.random() < 0.5 else b""
+            self.reply(answer(octets, came.identifier, more, self.secret), sender, None)
+            return
+        states = b"".join(attribute(PROXY_STATE, value) for value, _ in came.of_type(PROXY_STATE))
+        kept, own = states[:-12], states[-12:]
+        first = attribute(CLASS, self.chance.randbytes(self.chance.randrange(20)))
+        last = attribute(CLASS, b"last") if self.chance.random() < 0.5 else b""
+        known = self.log[came.of_type(ACCT_SESSION_ID)[0][0]]
+        octets = answer(octets, came.identifier, first + kept + own + last, self.secret)
+        self.reply(octets, sender, lambda: known.note_reply(first + kept + last))
+
+    def reply(self, octets, sender, note):
+        """Sends a reply through the network, and takes it down once it is on its way to the proxy unspoiled."""
+
+        def deliver(carried, is_spoiled):
+            self.findings.counts["datagrams of home servers"] += 1
+            if self.port.send(carried, sender) and not is_spoiled and note is not None:
+                note()
+
+        self.network.carry(octets, deliver)
+
+
+@dataclass(slots=True)
+class Asked:
+    """A request of a NAS's: what it sent, to whose home server, and what came of it."""
+
+    session: bytes
+    octets: bytes
+    states: bytes
+    home: Home
+    copies: int = 0
+    place: int = 0
+    response: bytes | None = None
+
+    def is_answered_by(self, response, secret):
+        return is_signed(response, self.octets[4:20], secret)
+
+
+class Nas:
+    """An access server: it sends each request until it is acknowledged, and checks what it is told."""
+
+    places = 0
+
+    def __init__(self, loop, network, findings, name, address, secret, proxy, chance):
+        self.loop, self.network, self.findings, self.chance = loop, network, findings, chance
+        self.name, self.secret, self.proxy = name, secret, proxy
+        self.port = Port(loop, address, self.arrive)
+        self.out, self.earlier = {}, {identifier: deque(maxlen=EARLIER_KEPT) for identifier in range(256)}
+        self.free, self.made = deque(range(256)), 0
+
+    def ask(self, home):
+        """Makes a request for a home server's realm, and sends it."""
+        identifier = self.free.popleft()
+        session = f"{self.name}-{self.made}".encode()
+        self.made += 1
+        states = attribute(PROXY_STATE, self.chance.randbytes(3)) if self.chance.random() < 0.3 else b""
+        more = attribute(CLASS, self.chance.randbytes(self.chance.choice([0, 30, 200])))
+        user = user_name(f"bob@{home.realm}".encode())
+        octets = request(identifier, user + attribute(ACCT_SESSION_ID, session) + states + more, self.secret)
+        self.out[identifier] = Asked(session, octets, states, home)
+        self.findings.counts["requests"] += 1
+        self.send(self.out[identifier], FIRST_WAIT)
+
+    def send(self, asked, wait):
+        """Sends a request, and again after a while if it is not acknowledged until then."""
+        if self.out.get(asked.octets[1]) is not asked:
+            return
+        self.network.carry(asked.octets, lambda octets, is_spoiled: self.put(asked, octets, is_spoiled))
+        self.loop.later(wait, lambda: self.send(asked, min(2 * wait, LONGEST_WAIT)))
+
+    def put(self, asked, octets, is_spoiled):
+        """Sends a request's octets to the proxy, and takes that down."""
+        self.findings.counts["datagrams of NASes"] += 1
+        if self.port.send(octets, self.proxy) and not is_spoiled:
+            Nas.places += 1
+            asked.copies += 1
+            asked.place = Nas.places
+
+    def ask_status(self):
+        """Asks whether the proxy is there; the answer is checked where one comes."""
+        octets = status(self.chance.randrange(256), self.chance.randbytes(16), b"", b"", self.secret)
+        self.earlier[octets[1]].append(Asked(b"", octets, b"", None, response=answer(octets, octets[1], b"", self.secret)))
+        self.network.carry(octets, lambda carried, _: self.port.send(carried, self.proxy))
+
+    def arrive(self, octets, sender):
+        self.findings.counts["datagrams to NASes"] += 1
+        if sender != self.proxy:
+            self.findings.fault(f"{self.name}: a datagram came from {sender}")
+        self.check_response(octets)
+        self.network.carry(octets, self.hear)
+
+    def check_response(self, octets):
+        """Sees that what the proxy sent answers a request under its identifier, always by the same octets."""
+        try:
+            came = read(octets)
+        except Fault as fault:
+            self.findings.fault(f"{self.name}: the proxy sent {octets.hex()}: {fault}")
+            return
+        asked = self.asked_under(came)
+        if asked is None or came.code != ACCOUNTING_RESPONSE:
+            self.findings.fault(f"{self.name}: a response to nothing that was asked came: {octets.hex()}")
+        elif asked.home is None:
+            self.findings.counts["answers to Status-Servers"] += 1
+            if asked.response != octets:
+                self.findings.fault(f"{self.name}: a Status-Server was answered by {octets.hex()}")
+        elif asked.response is None:
+            asked.response = octets
+            self.check_answer(asked, octets)
+        elif asked.response != octets:
+            self.findings.fault(f"{self.name}: {asked.session} was answered in two ways")
+
+    def asked_under(self, came):
+        """The request that a response answers."""
+        under = [self.out.get(came.identifier), *reversed(self.earlier[came.identifier])]
+        return next((asked for asked in under if asked and asked.is_answered_by(came, self.secret)), None)
+
+    def check_answer(self, asked, octets):
+        """Sees that a response is what the home server replied, less the proxy's mark."""
+        known = asked.home.log.get(asked.session)
+        if known is None or octets[20:] not in known.replies:
+            self.findings.fault(f"{self.name}: {asked.home.name} replied nothing of what {asked.session} was answered")
+        elif known.attributes != asked.octets[20:]:
+            self.findings.fault(f"{self.name}: {asked.session} is at {asked.home.name} with other attributes")
+        elif asked.copies == 1:
+            asked.home.in_order[0].append(asked.place)
+            asked.home.in_order[1].append(known.number)
+
+    def hear(self, octets, is_spoiled):
+        """Takes a request as acknowledged, where a response came through the network unspoiled."""
+        if is_spoiled:
+            return
+        asked = self.out.get(octets[1])
+        if asked is None or asked.response != octets:
+            return
+        del self.out[octets[1]]
+        self.earlier[octets[1]].append(asked)
+        self.free.append(octets[1])
+        if asked.session in asked.home.log:
+            asked.home.log[asked.session].forget_texts()
+        self.findings.counts["acknowledged"] += 1

@@ -1,0 +1,291 @@
+#!/usr/bin/env python3
+"""Runs the program over UDP, between NASes and home servers of its own and over a network that loses.
+
+usage: soak.py PROGRAM                       short runs of a fixed count of requests, one for each ending and one more
+       soak.py PROGRAM --seconds N SEED      one run of N seconds, by a seed
+
+The network drops, doubles, delays and spoils datagrams in both directions, and home servers go away and come back, silent
+or with their ports closed. At the end both sides' logs are compared: each acknowledged request is at its home server, with
+its own attributes, under one identifier and one authenticator; first sendings came in the order of acceptance, as far as
+a home server could receive them; each response was right, answered its own request and was what the home server had
+replied. Then the input ends, and the `end:` line and the status have to agree with what the sides know. The endings:
+
+    calm      all is acknowledged
+    away      a home server answers nothing any more, and some requests are left over
+    drain     the input ends while requests are out; each that was accepted is answered before the program ends
+
+In one of the short runs some hundred growths of the program are refused in its midst; its log has to say so, and all else
+has to hold. The last line is `N passed, M failed`, of acknowledged requests and faults.
+"""
+import pathlib
+import random
+import re
+import socket
+import subprocess
+import sys
+import tempfile
+from dataclasses import dataclass
+
+sys.dont_write_bytecode = True
+
+from growths import Refuser
+from network import Loop, Network
+from sides import Findings, Home, Nas
+
+ENDINGS = ["calm", "away", "drain"]
+REQUESTS, SEED = 1500, 1
+REFUSED = 5000, 6000
+IN_FLIGHT, MOST_A_SECOND = 300, 400
+LEFT_OVER = 20
+PATIENCE, AFTERWARDS = 120, 0.3
+SPARE_LINES = 1000
+LINGER = {"calm": 5000, "away": 500, "drain": 60_000}
+WINDOWS = [254, 4, 40]
+LIMITS = ["ring = 256", "queue = 20\nring = 3", "ring = 40\ntries = 1"]
+ROUNDS = "first_wait = 200\nprobe_every = 1000\ndown_wait = 1500\nspan = 60000\nbook = 1000000"
+STATE = re.compile(r"lane (\d+) \S+ (?:up|down) \w+ accepted (\d+) queued (\d+) outstanding (\d+) answered (\d+) opening (\d+)")
+
+
+@dataclass
+class Counted:
+    """What a state line counts of a lane."""
+
+    lane: int
+    accepted: int
+    queued: int
+    outstanding: int
+    answered: int
+    opening: int
+
+
+class Program:
+    """The program under `run`, with its commands and what it prints."""
+
+    def __init__(self, loop, words, log, settings):
+        pipes = {"stdin": subprocess.PIPE, "stdout": subprocess.PIPE, "stderr": log}
+        self.loop, self.ran = loop, subprocess.Popen(words, bufsize=0, env=settings, **pipes)
+        self.text, self.is_open = b"", True
+        loop.watch(self.ran.stdout, self.read)
+
+    def read(self):
+        octets = self.ran.stdout.read(65536)
+        self.text += octets
+        if not octets:
+            self.is_open = False
+            self.loop.forget(self.ran.stdout)
+
+    def lines(self):
+        return self.text.decode("utf-8", "replace").splitlines()
+
+    def has_line(self, begin):
+        return any(line.startswith(begin) for line in self.lines())
+
+    def states(self, lanes):
+        """Asks for the state lines, and waits for them."""
+        self.text = b""
+        self.ran.stdin.write(b"state\n")
+        self.loop.run_until(lambda: self.text.count(b"\n") >= lanes or not self.is_open, PATIENCE)
+        return [Counted(*map(int, found.groups())) for line in self.lines() if (found := STATE.fullmatch(line))]
+
+    def end(self):
+        """Ends its input, and gives its last line and its status."""
+        self.text = b""
+        self.ran.stdin.close()
+        if not self.loop.run_until(lambda: not self.is_open, PATIENCE):
+            self.ran.kill()
+        return (self.lines() or [""])[-1], self.ran.wait()
+
+
+class Soak:
+    """One run: the sides, the network between them and the program."""
+
+    def __init__(self, program, folder, seed, ending, refuser=None):
+        self.chance, self.ending, self.refuser = random.Random(f"{seed} {ending}"), ending, refuser
+        self.loop, self.findings = Loop(), Findings()
+        self.network = Network(self.loop, self.chance)
+        self.homes = [self.home(lane) for lane in range(len(LIMITS))]
+        self.listen = free_address()
+        self.nases = [self.nas(number) for number in range(3)]
+        self.log = pathlib.Path(folder, "log")
+        file = pathlib.Path(folder, "proxy.toml")
+        file.write_text(self.configuration())
+        with self.log.open("wb") as log:
+            settings = refuser and refuser.settings(*REFUSED)
+            self.program = Program(self.loop, [program, "run", str(file)], log, settings)
+        self.made, self.credit, self.is_asking = 0, 0, False
+
+    def home(self, lane):
+        name, secret, shared = f"h{lane}", f"home-{lane}-secret".encode(), (self.loop, self.network, self.findings)
+        return Home(*shared, lane, name, secret, WINDOWS[lane], self.chance)
+
+    def nas(self, number):
+        address, secret = f"127.0.0.{11 + number}", f"nas-{number}-secret".encode()
+        return Nas(self.loop, self.network, self.findings, f"n{number}", address, secret, self.listen, self.chance)
+
+    def configuration(self):
+        parts = [f'listen = "{self.listen[0]}:{self.listen[1]}"\nlinger = {LINGER[self.ending]}']
+        parts += [f'[[client]]\naddress = "{nas.port.address[0]}"\nsecret = "{nas.secret.decode()}"' for nas in self.nases]
+        parts += [
+            f'[[home]]\nname = "{home.name}"\naddress = "127.0.0.1:{home.port.address[1]}"\n'
+            f'secret = "{home.secret.decode()}"\nwindow = {home.window}\n{LIMITS[home.lane]}\n{ROUNDS}'
+            for home in self.homes
+        ]
+        parts += [f'[[realm]]\nname = "{home.realm}"\nhome = "{home.name}"' for home in self.homes]
+        return "\n\n".join(parts) + "\n"
+
+    def out(self):
+        """How many requests are not acknowledged."""
+        return sum(len(nas.out) for nas in self.nases)
+
+    def ask(self, home):
+        """One request more, of a NAS that has an identifier for it."""
+        nas = self.chance.choice([nas for nas in self.nases if nas.free])
+        nas.ask(home)
+        self.made += 1
+
+    def ask_more(self):
+        """New requests, as long as few enough are out, and a Status-Server now and then."""
+        self.credit = min(self.credit + MOST_A_SECOND / 100, 50)
+        while self.is_asking and self.credit >= 1 and self.out() < IN_FLIGHT:
+            self.credit -= 1
+            self.ask(self.chance.choices(self.homes, [6, 1, 2])[0])
+        if self.is_asking:
+            if self.chance.random() < 0.05:
+                self.chance.choice(self.nases).ask_status()
+            self.loop.later(0.01, self.ask_more)
+
+    def come_and_go(self, home):
+        """A home server goes away for a while, and comes back for a while."""
+        if not self.is_asking:
+            return
+        if home.is_away:
+            home.come_back()
+        else:
+            home.go_away(self.chance.random() < 0.5)
+        seconds = self.chance.uniform(0.2, 3) if home.is_away else self.chance.uniform(2, 8)
+        self.loop.later(seconds, lambda: self.come_and_go(home))
+
+    def run(self, is_enough, seconds):
+        """The whole run, of which the asking ends when it is enough."""
+        if not self.loop.run_until(lambda: self.program.has_line("listening "), PATIENCE):
+            self.findings.fault(f"the program does not listen; it wrote {self.log.read_bytes()[-400:]}")
+            self.program.end()
+            return
+        self.is_asking = True
+        self.ask_more()
+        for home in self.homes:
+            self.loop.later(self.chance.uniform(1, 4), lambda home=home: self.come_and_go(home))
+        self.loop.run_until(lambda: is_enough(self) or not self.program.is_open, seconds)
+        self.is_asking, self.network.is_calm = False, True
+        for home in self.homes:
+            home.come_back()
+        getattr(self, f"end_{self.ending}")()
+        self.compare()
+
+    def settle(self):
+        """Waits until all is acknowledged, and compares the counts of each lane with the logs."""
+        if not self.loop.run_until(lambda: self.out() == 0 or not self.program.is_open, PATIENCE):
+            self.findings.fault(f"{self.out()} requests are not acknowledged though all home servers are back")
+        counted = self.program.states(len(self.homes))
+        wanted = [Counted(home.lane, len(home.log), 0, 0, len(home.log), 0) for home in self.homes]
+        for lane in counted:
+            lane.opening = 0
+        if counted != wanted:
+            self.findings.fault(f"the program counts {counted}, and the home servers have {wanted}")
+
+    def end_calm(self):
+        self.settle()
+        self.agree(*self.program.end(), "end: queued 0 outstanding 0 untaken 0", 0)
+
+    def end_away(self):
+        """A home server is silent, and some requests for it are left over."""
+        self.settle()
+        home = self.chance.choice(self.homes)
+        wanted = len(home.log) + LEFT_OVER
+        home.go_away(False)
+        for _ in range(LEFT_OVER):
+            self.ask(home)
+        if not self.loop.run_until(lambda: self.program.states(len(self.homes))[home.lane].accepted == wanted, PATIENCE):
+            self.findings.fault(f"the program does not accept {LEFT_OVER} requests more for a silent home server")
+        line, status = self.program.end()
+        outstanding = sum(not known.is_answered for known in home.log.values())
+        self.agree(line, status, f"end: queued {LEFT_OVER - outstanding} outstanding {outstanding} untaken 0", 3)
+
+    def end_drain(self):
+        """The input ends while requests are out; what was accepted is answered."""
+        self.findings.counts["out when the input ended"] = self.out()
+        line, status = self.program.end()
+        self.loop.run_until(lambda: False, AFTERWARDS)
+        self.agree(line, status, "end: queued 0 outstanding 0 untaken 0", 0)
+        for home in self.homes:
+            if not all(known.is_answered for known in home.log.values()):
+                self.findings.fault(f"{home.name} has requests that it did not answer, and none is left over")
+
+    def agree(self, line, status, wanted_line, wanted_status):
+        if (line, status) != (wanted_line, wanted_status):
+            self.findings.fault(f"it ended in {line!r} with status {status}; wanted {wanted_line!r} and {wanted_status}")
+
+    def compare(self):
+        """What both sides' logs show together."""
+        counts = self.findings.counts
+        for home in self.homes:
+            numbers = [number for _, number in sorted(zip(*home.in_order))]
+            counts["requests whose order is known"] += len(numbers)
+            if numbers != sorted(numbers):
+                self.findings.fault(f"{home.name}: requests of one sending each were not accepted in the order of sending")
+            if self.ending != "away" and sorted(home.sessions) != list(range(len(home.sessions))):
+                self.findings.fault(f"{home.name}: a request was accepted that never came")
+        log = self.log.read_bytes()
+        if self.refuser and not (self.refuser.has_refused() and b"OutOfMemory" in log):
+            self.findings.fault("no growth was refused, or its log tells of none")
+        passed_on = sum(counts[f"datagrams {which}"] for which in ("of NASes", "to NASes", "to home servers", "of home servers"))
+        lines = log.count(b"\n")
+        counts["lines of its log"] = lines
+        if lines > passed_on + SPARE_LINES:
+            self.findings.fault(f"its log has {lines} lines, for {passed_on} datagrams")
+
+
+def free_address():
+    """An address on loopback whose port nobody has."""
+    with socket.socket(socket.AF_INET, socket.SOCK_DGRAM) as tried:
+        tried.bind(("127.0.0.1", 0))
+        return tried.getsockname()
+
+
+def ran(program, seed, ending, is_enough, seconds, is_refusing=False):
+    """One run: how many requests were acknowledged, and how many faults were found."""
+    with tempfile.TemporaryDirectory() as folder:
+        soak = Soak(program, folder, seed, ending, Refuser(folder) if is_refusing else None)
+        try:
+            soak.run(is_enough, seconds)
+        finally:
+            soak.program.ran.kill()
+            soak.program.ran.wait()
+    counts, faults = soak.findings.counts, soak.findings.faults
+    how = f"{ending}, growths refused" if is_refusing else ending
+    told = ", ".join(f"{name} {count}" for name, count in (*counts.items(), *soak.network.counts.items()))
+    print(f"seed {seed}, {how}: {told}", *faults, sep="\n  ", flush=True)
+    return counts["acknowledged"], counts["faults"]
+
+
+def has_made_enough(soak):
+    return soak.made >= REQUESTS
+
+
+def main():
+    words = sys.argv[1:]
+    if len(words) == 1:
+        runs = [(SEED, ending, has_made_enough, PATIENCE) for ending in ENDINGS]
+        runs.append((SEED, "calm", has_made_enough, PATIENCE, True))
+    elif len(words) == 4 and words[1] == "--seconds":
+        runs = [(int(words[3]), ENDINGS[int(words[3]) % len(ENDINGS)], lambda soak: False, int(words[2]))]
+    else:
+        sys.exit(__doc__)
+    program = str(pathlib.Path(words[0]).resolve())
+    passed, failed = map(sum, zip(*(ran(program, *run) for run in runs)))
+    print(f"{passed} passed, {failed} failed")
+    sys.exit(1 if failed or not passed else 0)
+
+
+if __name__ == "__main__":
+    main()
