@@ -97,8 +97,8 @@ impl fmt::Display for SentText<'_> {
     fn fmt<W: fmt::Write>(&self, f: &mut fmt::Formatter<W>) -> fmt::Result {
         let head = self.head();
         let packet = self.packet;
-        let attributes = AttributesText(&packet.octets[20..]);
-        write!(f, "{head} {attributes}")
+        let rest = AttributesText(&packet.octets[20..]);
+        write!(f, "{head} {rest}")
     }
 }
 
@@ -115,8 +115,8 @@ impl fmt::Display for SentHeadText<'_> {
             identifier: packet.octets[1],
             port: self.port,
         };
-        let length = packet.octets.len();
-        write!(f, "{code} {identifier} {length}")
+        let count = packet.octets.len();
+        write!(f, "{code} {identifier} {count}")
     }
 }
 
