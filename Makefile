@@ -8,11 +8,12 @@ EXAMPLE = examples/one-request-answered.replay
 # The crates whose wrong bodies `make edits` tries; none named: all of them.
 CRATES ?=
 
-# How many spoiled datagrams `make spoiled` tells the program, and by which chance.
+# How many spoiled datagrams `make spoiled` tells the program, how long `make soak` runs it, and by which chance.
 DATAGRAMS ?= 100000
+SECONDS ?= 60
 SEED ?= 1
 
-.PHONY: build run test edits spoiled
+.PHONY: build run test edits growths spoiled soak
 
 # Proves and builds the program, over what earlier checks kept, and runs it as stored.
 build:
@@ -25,7 +26,8 @@ run: build
 	@$(PROGRAM) replay < $(EXAMPLE)
 
 # The whole gate: all proofs from nothing, the edits of must-fail/, the tests, the stored run, then the octets that the tests
-# expect, and the program that was built: the rows, growths refused in turn, and spoiled datagrams. The last line counts it all.
+# expect, and the program that was built: the rows, the examples, growths refused in turn, spoiled datagrams, and UDP over a
+# network that loses. The last line counts it all.
 test:
 	@python3 tests/gate.py $(PROGRAM)
 
@@ -33,6 +35,78 @@ test:
 edits:
 	@python3 tests/edits.py $(CRATES)
 
+# Each growth refused in turn, in the program that was built and in the tests that were; the gate does it in the program.
+growths:
+	@python3 tests/hostile/growths.py $(PROGRAM) $(wildcard crates/*/out/*_tests)
+
 # Spoiled datagrams by chance, over the program that was built; the gate has a shorter run of a fixed chance.
 spoiled:
 	@python3 tests/hostile/mutations.py $(PROGRAM) $(DATAGRAMS) $(SEED)
+
+# The program over UDP and a network that loses, for SECONDS; the gate has short runs of a fixed count of requests.
+soak:
+	@python3 tests/hostile/soak.py $(PROGRAM) --seconds $(SECONDS) $(SEED)
+
+# Where `make install` puts things. DESTDIR stands before each of them.
+VERSION = 0.1.0
+PREFIX ?= /usr/local
+SBINDIR ?= $(PREFIX)/sbin
+LIBEXECDIR ?= $(PREFIX)/libexec
+MANDIR ?= $(PREFIX)/share/man
+DOCDIR ?= $(PREFIX)/share/doc/rad_proxy
+UNITDIR ?= $(PREFIX)/lib/systemd/system
+SYSUSERSDIR ?= $(PREFIX)/lib/sysusers.d
+SYSCONFDIR ?= /etc
+RUNDIR ?= /run
+DESTDIR ?=
+
+# What is made of the sources of packaging/: the folders, and for the unit the configuration's name.
+FOLDERS = -e 's,@sbindir@,$(SBINDIR),g' -e 's,@libexecdir@,$(LIBEXECDIR),g' -e 's,@sysconfdir@,$(SYSCONFDIR),g' \
+	-e 's,@rundir@,$(RUNDIR),g'
+ONE = -e 's,@of@,,' -e 's,@config@,rad_proxy,g' -e 's,@runtime@,rad_proxy,'
+MANY = -e 's,@of@, %i,' -e 's,@config@,%i,g' -e 's,@runtime@,rad_proxy-%i,'
+
+.PHONY: install uninstall manual deb service
+
+# Installs the program that `make build` left, the scripts of the service, the units, the manual and the examples. The
+# configuration is the operator's: $(SYSCONFDIR)/rad_proxy is made, and nothing is put there.
+install:
+	@test -x $(PROGRAM) || { echo "there is no $(PROGRAM): run make build first" >&2; exit 1; }
+	install -d $(DESTDIR)$(SBINDIR) $(DESTDIR)$(LIBEXECDIR)/rad_proxy $(DESTDIR)$(UNITDIR) $(DESTDIR)$(SYSUSERSDIR)
+	install -d $(DESTDIR)$(MANDIR)/man8 $(DESTDIR)$(MANDIR)/man5 $(DESTDIR)$(DOCDIR)/docs $(DESTDIR)$(SYSCONFDIR)/rad_proxy
+	install -m 755 $(PROGRAM) $(DESTDIR)$(SBINDIR)
+	sed $(FOLDERS) packaging/rad_proxyctl.in > $(DESTDIR)$(SBINDIR)/rad_proxyctl
+	sed $(FOLDERS) packaging/serve.in > $(DESTDIR)$(LIBEXECDIR)/rad_proxy/serve
+	chmod 755 $(DESTDIR)$(SBINDIR)/rad_proxyctl $(DESTDIR)$(LIBEXECDIR)/rad_proxy/serve
+	sed $(FOLDERS) $(ONE) packaging/rad_proxy.service.in > $(DESTDIR)$(UNITDIR)/rad_proxy.service
+	sed $(FOLDERS) $(MANY) packaging/rad_proxy.service.in > $(DESTDIR)$(UNITDIR)/rad_proxy@.service
+	chmod 644 $(DESTDIR)$(UNITDIR)/rad_proxy.service $(DESTDIR)$(UNITDIR)/rad_proxy@.service
+	install -m 644 packaging/sysusers.conf $(DESTDIR)$(SYSUSERSDIR)/rad_proxy.conf
+	install -m 644 man/man8/rad_proxy.8 man/man8/rad_proxyctl.8 $(DESTDIR)$(MANDIR)/man8
+	install -m 644 man/man5/rad_proxy.toml.5 $(DESTDIR)$(MANDIR)/man5
+	install -m 644 README.md LICENSE $(DESTDIR)$(DOCDIR)
+	install -m 644 docs/*.md $(DESTDIR)$(DOCDIR)/docs
+	cp -R examples $(DESTDIR)$(DOCDIR)
+	chmod -R u=rwX,go=rX $(DESTDIR)$(DOCDIR)
+
+# Takes away what `make install` put, and leaves the configuration.
+uninstall:
+	rm -f $(DESTDIR)$(SBINDIR)/rad_proxy $(DESTDIR)$(SBINDIR)/rad_proxyctl
+	rm -f $(DESTDIR)$(UNITDIR)/rad_proxy.service $(DESTDIR)$(UNITDIR)/rad_proxy@.service
+	rm -f $(DESTDIR)$(SYSUSERSDIR)/rad_proxy.conf $(DESTDIR)$(MANDIR)/man8/rad_proxy.8
+	rm -f $(DESTDIR)$(MANDIR)/man8/rad_proxyctl.8 $(DESTDIR)$(MANDIR)/man5/rad_proxy.toml.5
+	rm -rf $(DESTDIR)$(LIBEXECDIR)/rad_proxy $(DESTDIR)$(DOCDIR)
+
+# Looks at the manual and at the scripts of packaging/: mandoc and shellcheck have to find nothing.
+manual:
+	mandoc -T lint -W warning man/man8/rad_proxy.8 man/man8/rad_proxyctl.8 man/man5/rad_proxy.toml.5
+	shellcheck packaging/serve.in packaging/rad_proxyctl.in packaging/deb packaging/try-deb packaging/try-service \
+		packaging/debian/postinst packaging/debian/prerm packaging/debian/postrm
+
+# A Debian package of the program that `make build` left, in out/.
+deb:
+	@VERSION=$(VERSION) packaging/deb
+
+# Tries the installed scripts and the program over UDP on this machine's own address.
+service:
+	@packaging/try-service

@@ -1,7 +1,7 @@
 #!/usr/bin/env python3
 """The whole gate: what `rt ci` proves, refuses and runs, then the octets that the tests expect, as another
-implementation makes them, and then the program that `rt ci` built: over the rows, with growths refused in turn, and with
-spoiled datagrams.
+implementation makes them, and then the program that `rt ci` built: over the rows and the examples, with growths refused in
+turn, with spoiled datagrams, and over UDP and a network that loses.
 
 usage: gate.py PROGRAM
 
@@ -26,8 +26,10 @@ SCRIPTS = {
     "vectors": ("vectors.py", "--check"),
     "model": ("hostile/model.py", "--check"),
     "rows": ("rows/run.py", "PROGRAM"),
+    "examples": ("examples.py", "PROGRAM"),
     "growths": ("hostile/growths.py", "PROGRAM"),
     "mutations": ("hostile/mutations.py", "PROGRAM"),
+    "soak": ("hostile/soak.py", "PROGRAM"),
 }
 COUNTS = re.compile(r"(\d+) passed, (\d+) failed")
 

@@ -1,20 +1,30 @@
 #!/usr/bin/env python3
 """Refuses the growths of a program one after the other, and says where what it answers is not what it should.
 
-usage: growths.py PROGRAM
+usage: growths.py PROGRAM [TESTS ..]
 
-`replay` runs over some rows of tests/rows. In each run an allocation is refused by refuse.c: the first, then the second,
-and so on until there is none of that number; and once more so, with all that follow refused too. A run has to end in
-`configuration: OutOfMemory` or `memory: refused`, with the lines before as without the refusal, or it goes on: then
-each event whose growth was refused says so and has changed nothing, and every other line and the end are what model.py
-answers. Where one allocation alone is refused, the program may also do with a smaller one and answer all; where all that
-follow are refused too, it may not. The last line is `N passed, M failed`.
+`replay` runs over some rows of tests/rows, and `run` is asked for its state and drained. In each run an allocation is
+refused by refuse.c: the first, then the second, and so on until there is none of that number; and once more so, with all
+that follow refused too. `replay` has to end in `configuration: OutOfMemory` or `memory: refused`, with the lines before as
+without the refusal, or it goes on: then each event whose growth was refused says so and has changed nothing, and every
+other line and the end are what model.py answers. `run` ends in one of these two or in `threads: failed`. Where one
+allocation alone is refused, the program may also do with a smaller one and answer all; where all that follow are refused
+too, `replay` may not.
+
+TESTS are programs of tests, as `rt test` leaves them in crates/CRATE/out/CRATE_tests. With one growth refused, each test has
+to pass or to fail by itself, and not by a fault of memory; beyond the first FIRST ones only some are refused. The last line
+is `N passed, M failed`.
 """
 import os
 import pathlib
+import signal
+import socket
 import subprocess
 import sys
 import tempfile
+from dataclasses import dataclass
+from functools import partial
+from typing import Callable
 
 sys.dont_write_bytecode = True
 
@@ -24,91 +34,162 @@ HERE = pathlib.Path(__file__).resolve().parent
 ROWS = ["lane/answers-one-request", "draining/drains", "responses/untaken-of-two-homes", "watch/comes-up-by-probe"]
 REFUSALS = ["nas: refused OutOfMemory", "home: dropped OutOfMemory"]
 ENDINGS = {"configuration: OutOfMemory": 2, "memory: refused": 4}
+ENDINGS_OF_RUN = {**ENDINGS, "threads: failed": 4}
+COMMANDS = b"state\ndrain\n"
+STATE = "lane 0 h1 up open accepted 0 queued 0 outstanding 0 answered 0 opening 0"
+TEST_FAILED = 101
+FIRST, LATER = 200, 20
 MOST_ALLOCATIONS = 1_000_000
 SECONDS = 60
 
 
-def built(folder):
-    """The library that refuses, built from refuse.c."""
-    library = pathlib.Path(folder, "refuse.so")
-    compiler = os.environ.get("CC", "cc").split()
-    subprocess.run([*compiler, "-O2", "-shared", "-fPIC", "-o", library, HERE / "refuse.c"], check=True)
-    return library
-
-
 class Refuser:
-    """Runs a program with allocations refused."""
+    """Runs programs with allocations refused, by a library that it builds from refuse.c."""
 
     def __init__(self, folder):
-        self.library, self.note = built(folder), pathlib.Path(folder, "note")
+        self.library, self.note = pathlib.Path(folder, "refuse.so"), pathlib.Path(folder, "note")
+        compiler = os.environ.get("CC", "cc").split()
+        subprocess.run([*compiler, "-O2", "-shared", "-fPIC", "-o", self.library, HERE / "refuse.c"], check=True)
+
+    def settings(self, first, last):
+        """The environment in which the allocations from `first` to `last` are refused."""
+        numbers = {"REFUSE_FIRST": str(first), "REFUSE_LAST": str(last), "REFUSE_NOTE": str(self.note)}
+        return {**os.environ, **numbers, "LD_PRELOAD": str(self.library)}
+
+    def has_refused(self):
+        return self.note.exists()
 
     def run(self, words, given, first, last):
-        """What came of the program with the allocations from `first` to `last` refused; none where it made fewer."""
+        """What came of a program with the allocations from `first` to `last` refused; none where it made fewer."""
         self.note.unlink(missing_ok=True)
-        numbers = {"REFUSE_FIRST": str(first), "REFUSE_LAST": str(last), "REFUSE_NOTE": str(self.note)}
-        settings = {**os.environ, **numbers, "LD_PRELOAD": str(self.library)}
-        ran = subprocess.run(words, input=given, env=settings, capture_output=True, timeout=SECONDS)
-        return ran if self.note.exists() else None
+        how = {"input": given, "env": self.settings(first, last), "capture_output": True, "timeout": SECONDS}
+        try:
+            ran = subprocess.run(words, **how)
+        except subprocess.TimeoutExpired as late:
+            ran = subprocess.CompletedProcess(words, -signal.SIGKILL, late.stdout or b"", b"")
+        return ran if self.has_refused() else None
 
 
-def joined(lines):
-    return "\n".join(lines).encode()
+@dataclass
+class Subject:
+    """What is run: its words and its input, and what says of a run, and of whether one growth alone was refused, its fault."""
+
+    name: str
+    words: list
+    given: bytes
+    fault_of: Callable
+    is_alone_enough: bool = False
 
 
-def fault_of(script, ran, is_alone):
-    """What is wrong with a run in which allocations were refused, one alone or more, and nothing where all is right."""
-    told, errors = ran.stdout.decode().splitlines(), ran.stderr.decode().removesuffix("\n")
-    if ran.returncode < 0:
-        return f"it was ended by signal {-ran.returncode}"
+def told_by(ran):
+    """The lines of standard output, and the last one of standard error."""
+    errors = ran.stderr.decode("utf-8", "replace").splitlines()
+    return ran.stdout.decode("utf-8", "replace").splitlines(), errors[-1] if errors else ""
+
+
+def fault_of_replay(script, ran, is_alone):
+    """What is wrong with a run of `replay` over a script, and nothing where all is right."""
+    told, error = told_by(ran)
     wanted, status = answers(script, lambda place: place < len(told) and told[place] in REFUSALS)
-    if errors:
-        if ENDINGS.get(errors) != ran.returncode:
-            return f"it ended with status {ran.returncode} and wrote {errors!r}"
-        return None if told == wanted[: len(told)] and len(told) < len(wanted) else "a line before the end is not as it was"
+    if ran.stderr:
+        return fault_of_ending(wanted, told, ran.returncode, ENDINGS.get(error), ran.stderr)
     if (told, ran.returncode) != (wanted, status):
-        return "\n".join([f"it ended with status {ran.returncode}, wanted {status}", *rows.difference(joined(wanted), joined(told))])
+        texts = ("\n".join(lines).encode() for lines in (wanted, told))
+        return "\n".join([f"it ended with status {ran.returncode}, wanted {status}", *rows.difference(*texts)])
     count = sum(line in REFUSALS for line in told)
     if is_alone:
         return None if count <= 1 else f"{count} events tell a refused growth"
     return None if count else "nothing tells that a growth was refused"
 
 
+def fault_of_run(wanted, ran, _):
+    """The same of `run`, which has to print these lines where it does not end early."""
+    told, error = told_by(ran)
+    if (ran.returncode, told) == (0, wanted):
+        return None
+    return fault_of_ending(wanted, told, ran.returncode, ENDINGS_OF_RUN.get(error), ran.stderr)
+
+
+def fault_of_test(ran, _):
+    """What is wrong with a test that was run: an assertion of its own may stop it, and nothing else."""
+    text = (ran.stdout + ran.stderr).decode("utf-8", "replace")
+    is_stopped = ran.returncode == -signal.SIGABRT and "test stopped at" in text
+    if ran.returncode in (0, TEST_FAILED) or is_stopped:
+        return None
+    return f"it ended with status {ran.returncode}: {text[-400:]}"
+
+
+def fault_of_ending(wanted, told, status, wanted_status, errors):
+    """What is wrong with a run that a refused growth ended."""
+    if status < 0:
+        return f"it was ended by signal {-status}"
+    if status != wanted_status:
+        return f"it ended with status {status} and wrote {errors!r}"
+    return None if told == wanted[: len(told)] and len(told) < len(wanted) else f"of {wanted} it printed {told}"
+
+
 def ending_of(ran):
     """The line that tells the first refused growth, if there is one."""
-    return ran.stderr.decode().removesuffix("\n") or next((line for line in ran.stdout.decode().splitlines() if line in REFUSALS), None)
+    told, error = told_by(ran)
+    return error or next((line for line in told if line in REFUSALS), None)
 
 
-def refused_in_turn(refuser, words, given, is_alone):
+def subjects(program, folder):
+    """All that is run."""
+    for name in ROWS:
+        script = rows.Row(name).streams["<"]
+        yield Subject(name, [program, "replay"], script, partial(fault_of_replay, script.decode()))
+    with socket.socket(socket.AF_INET, socket.SOCK_DGRAM) as free:
+        free.bind(("127.0.0.1", 0))
+        listen = f"127.0.0.1:{free.getsockname()[1]}"
+    file = pathlib.Path(folder, "one-home.toml")
+    file.write_text((rows.ROWS / "one-home.toml").read_text("utf-8").replace("127.0.0.1:1813", listen), "utf-8")
+    wanted = [f"listening {listen}", STATE, "drain: 0 0", "end: queued 0 outstanding 0 untaken 0"]
+    yield Subject("run", [program, "run", str(file)], COMMANDS, partial(fault_of_run, wanted))
+
+
+def tests_of(program):
+    """The tests of a program of tests."""
+    listed = subprocess.run([program, "--list"], capture_output=True, text=True, check=True).stdout.splitlines()
+    for name in (line.removesuffix(": test") for line in listed if line.endswith(": test")):
+        yield Subject(f"{pathlib.Path(program).name} {name}", [program, name], b"", fault_of_test, is_alone_enough=True)
+
+
+def refused_in_turn(refuser, subject, is_alone):
     """Each run with one allocation refused, or all from one on: the number of that one, and what came."""
-    for number in range(1, MOST_ALLOCATIONS):
-        ran = refuser.run(words, given, number, number if is_alone else MOST_ALLOCATIONS)
+    number = 1
+    while number < MOST_ALLOCATIONS:
+        ran = refuser.run(subject.words, subject.given, number, number if is_alone else MOST_ALLOCATIONS)
         if ran is None:
             return
         yield number, ran
+        number += 1 if number < FIRST else number // LATER
 
 
-def tried(refuser, program, name, is_alone, seen):
-    """How many runs over a row passed and failed; how they ended goes to `seen`."""
-    script, endings, failed = rows.Row(name).streams["<"], [], 0
+def tried(refuser, subject, is_alone, seen):
+    """How many runs of a subject passed and failed; how they ended goes to `seen`."""
+    endings, failed = [], 0
     how = "alone" if is_alone else "with all that follow"
-    for number, ran in refused_in_turn(refuser, [program, "replay"], script, is_alone):
+    for number, ran in refused_in_turn(refuser, subject, is_alone):
         endings.append(ending_of(ran))
-        fault = fault_of(script.decode(), ran, is_alone)
+        fault = subject.fault_of(ran, is_alone)
         if fault is not None:
             failed += 1
-            print(f"{name}, allocation {number} refused {how}: {fault}")
-    print(f"{name}: {len(endings)} allocations refused {how}, {endings.count(None)} of them did no harm", flush=True)
+            print(f"{subject.name}, allocation {number} refused {how}: {fault}")
+    print(f"{subject.name}: {len(endings)} allocations refused {how}, {endings.count(None)} of them did no harm", flush=True)
     seen.update(endings)
-    return len(endings) - failed, failed if endings else 1
+    return len(endings) - failed, failed if endings or subject.is_alone_enough else 1
 
 
 def main():
-    if len(sys.argv) != 2:
+    if len(sys.argv) < 2:
         sys.exit(__doc__)
-    program, seen = str(pathlib.Path(sys.argv[1]).resolve()), set()
+    (program, *tests), seen, counts = (str(pathlib.Path(word).resolve()) for word in sys.argv[1:]), set(), []
     with tempfile.TemporaryDirectory() as folder:
         refuser = Refuser(folder)
-        counts = [tried(refuser, program, name, is_alone, seen) for name in ROWS for is_alone in (True, False)]
+        for subject in (*subjects(program, folder), *(test for name in tests for test in tests_of(name))):
+            for is_alone in (True,) if subject.is_alone_enough else (True, False):
+                counts.append(tried(refuser, subject, is_alone, seen))
     unseen = {*REFUSALS, *ENDINGS} - seen
     if unseen:
         print(f"no refused growth ended in {', '.join(sorted(unseen))}")

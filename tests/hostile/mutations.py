@@ -20,7 +20,7 @@ from model import Replay, answer, attribute, request, rows, signed, status
 
 DATAGRAMS, SEED = 20_000, 1
 SCRIPT = 400
-SECONDS = 300
+PATIENCE = 300
 OF_EACH_ROW = 12
 CLIENT, STRANGER = "10.0.0.1", "10.0.0.9"
 NAS_SECRET = b"nas-secret"
@@ -196,7 +196,7 @@ def main():
         count = min(SCRIPT, datagrams - done)
         conversation = Conversation(f"{seed} {done}", asked, replied)
         script = conversation.run(count)
-        ran = subprocess.run([program, "replay"], input=script.encode(), capture_output=True, timeout=SECONDS)
+        ran = subprocess.run([program, "replay"], input=script.encode(), capture_output=True, timeout=PATIENCE)
         told = difference(conversation, ran)
         if told is not None:
             kept = rows.TOP / "out" / f"spoiled-{seed}-{done}.replay"

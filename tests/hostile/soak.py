@@ -1,7 +1,7 @@
 #!/usr/bin/env python3
 """Runs the program over UDP, between NASes and home servers of its own and over a network that loses.
 
-usage: soak.py PROGRAM                       three short runs of a fixed count of requests, one for each ending
+usage: soak.py PROGRAM                       short runs of a fixed count of requests, one for each ending and one more
        soak.py PROGRAM --seconds N SEED      one run of N seconds, by a seed
 
 The network drops, doubles, delays and spoils datagrams in both directions, and home servers go away and come back, silent
@@ -14,7 +14,8 @@ replied. Then the input ends, and the `end:` line and the status have to agree w
     away      a home server answers nothing any more, and some requests are left over
     drain     the input ends while requests are out; each that was accepted is answered before the program ends
 
-The last line is `N passed, M failed`, of acknowledged requests and faults.
+In one of the short runs some hundred growths of the program are refused in its midst; its log has to say so, and all else
+has to hold. The last line is `N passed, M failed`, of acknowledged requests and faults.
 """
 import pathlib
 import random
@@ -27,11 +28,13 @@ from dataclasses import dataclass
 
 sys.dont_write_bytecode = True
 
+from growths import Refuser
 from network import Loop, Network
 from sides import Findings, Home, Nas
 
 ENDINGS = ["calm", "away", "drain"]
 REQUESTS, SEED = 1500, 1
+REFUSED = 5000, 6000
 IN_FLIGHT, MOST_A_SECOND = 300, 400
 LEFT_OVER = 20
 PATIENCE, AFTERWARDS = 120, 0.3
@@ -58,9 +61,9 @@ class Counted:
 class Program:
     """The program under `run`, with its commands and what it prints."""
 
-    def __init__(self, loop, words, log):
+    def __init__(self, loop, words, log, settings):
         pipes = {"stdin": subprocess.PIPE, "stdout": subprocess.PIPE, "stderr": log}
-        self.loop, self.ran = loop, subprocess.Popen(words, bufsize=0, **pipes)
+        self.loop, self.ran = loop, subprocess.Popen(words, bufsize=0, env=settings, **pipes)
         self.text, self.is_open = b"", True
         loop.watch(self.ran.stdout, self.read)
 
@@ -96,8 +99,8 @@ class Program:
 class Soak:
     """One run: the sides, the network between them and the program."""
 
-    def __init__(self, program, folder, seed, ending):
-        self.chance, self.ending = random.Random(f"{seed} {ending}"), ending
+    def __init__(self, program, folder, seed, ending, refuser=None):
+        self.chance, self.ending, self.refuser = random.Random(f"{seed} {ending}"), ending, refuser
         self.loop, self.findings = Loop(), Findings()
         self.network = Network(self.loop, self.chance)
         self.homes = [self.home(lane) for lane in range(len(LIMITS))]
@@ -107,7 +110,8 @@ class Soak:
         file = pathlib.Path(folder, "proxy.toml")
         file.write_text(self.configuration())
         with self.log.open("wb") as log:
-            self.program = Program(self.loop, [program, "run", str(file)], log)
+            settings = refuser and refuser.settings(*REFUSED)
+            self.program = Program(self.loop, [program, "run", str(file)], log, settings)
         self.made, self.credit, self.is_asking = 0, 0, False
 
     def home(self, lane):
@@ -231,8 +235,11 @@ class Soak:
                 self.findings.fault(f"{home.name}: requests of one sending each were not accepted in the order of sending")
             if self.ending != "away" and sorted(home.sessions) != list(range(len(home.sessions))):
                 self.findings.fault(f"{home.name}: a request was accepted that never came")
+        log = self.log.read_bytes()
+        if self.refuser and not (self.refuser.has_refused() and b"OutOfMemory" in log):
+            self.findings.fault("no growth was refused, or its log tells of none")
         passed_on = sum(counts[f"datagrams {which}"] for which in ("of NASes", "to NASes", "to home servers", "of home servers"))
-        lines = self.log.read_bytes().count(b"\n")
+        lines = log.count(b"\n")
         counts["lines of its log"] = lines
         if lines > passed_on + SPARE_LINES:
             self.findings.fault(f"its log has {lines} lines, for {passed_on} datagrams")
@@ -245,25 +252,31 @@ def free_address():
         return tried.getsockname()
 
 
-def ran(program, seed, ending, is_enough, seconds):
+def ran(program, seed, ending, is_enough, seconds, is_refusing=False):
     """One run: how many requests were acknowledged, and how many faults were found."""
     with tempfile.TemporaryDirectory() as folder:
-        soak = Soak(program, folder, seed, ending)
+        soak = Soak(program, folder, seed, ending, Refuser(folder) if is_refusing else None)
         try:
             soak.run(is_enough, seconds)
         finally:
             soak.program.ran.kill()
             soak.program.ran.wait()
-        counts, faults = soak.findings.counts, soak.findings.faults
-        told = ", ".join(f"{name} {count}" for name, count in (*counts.items(), *soak.network.counts.items()))
-        print(f"seed {seed}, {ending}: {told}", *faults, sep="\n  ", flush=True)
-        return counts["acknowledged"], counts["faults"]
+    counts, faults = soak.findings.counts, soak.findings.faults
+    how = f"{ending}, growths refused" if is_refusing else ending
+    told = ", ".join(f"{name} {count}" for name, count in (*counts.items(), *soak.network.counts.items()))
+    print(f"seed {seed}, {how}: {told}", *faults, sep="\n  ", flush=True)
+    return counts["acknowledged"], counts["faults"]
+
+
+def has_made_enough(soak):
+    return soak.made >= REQUESTS
 
 
 def main():
     words = sys.argv[1:]
     if len(words) == 1:
-        runs = [(SEED, ending, lambda soak: soak.made >= REQUESTS, PATIENCE) for ending in ENDINGS]
+        runs = [(SEED, ending, has_made_enough, PATIENCE) for ending in ENDINGS]
+        runs.append((SEED, "calm", has_made_enough, PATIENCE, True))
     elif len(words) == 4 and words[1] == "--seconds":
         runs = [(int(words[3]), ENDINGS[int(words[3]) % len(ENDINGS)], lambda soak: False, int(words[2]))]
     else:

@@ -1,4 +1,4 @@
--- A `&` to a region is made where one to a value is. Assumes `Logic`.
+-- A `&` to a region, and one to nodes, is made where one to a value is. Assumes `Logic`.
 use Prim.Native.Nat.{ℕ, ◌+◌, ◌*◌, ◌^◌}
 use Rattle.std.specs.Prelude.{List, [], ◌∷◌, Option, Some, None, length}
 use Rattle.std.specs.Mem.{type_size}
@@ -16,6 +16,7 @@ use denote.SharingLaws.{beside_shr_laws, nothing_shr_laws, said_shr_laws}
 use denote.Shares.{Shares-less}
 use denote.Struct.Lending.{Lends, Lends-both, Lends-nothing, Lends-said, Lends-false}
 use Rattle.block_queue.specs.Region.{place_owns, places_own, region_owns, place_lent, places_lent, region_lent}
+use Rattle.block_queue.specs.Nodes.{nodes_own, nodes_lent}
 
 module _ (R : RattleType) (L : RowLaws R) where
   place_lent_laws : (b o : ℕ) (place : Option R.Denot) → ShrLaws (place_lent R b o place)
@@ -29,6 +30,10 @@ module _ (R : RattleType) (L : RowLaws R) where
   pub region_lent_laws : (p : Ptr) (places : List (Option R.Denot)) → ShrLaws (region_lent R p places)
   region_lent_laws (block_ptr b o) places = beside_shr_laws _ _ (said_shr_laws (flt (length places * type_size R) (2 ^ 63)) tt) (beside_shr_laws _ _ (places_lent_laws b o places) nothing_shr_laws)
   region_lent_laws null_ptr places = said_shr_laws ffalse tt
+
+  pub nodes_lent_laws : (cells : List (Ptr × R.Denot)) → ShrLaws (nodes_lent R cells)
+  nodes_lent_laws [] = nothing_shr_laws
+  nodes_lent_laws (cell ∷ cells) = beside_shr_laws _ _ (region_lent_laws cell.0 (Some cell.1 ∷ [])) (nodes_lent_laws cells)
 
 module _ {M : Type 1} {𝓤 : Ura M} (𝓛 : Logic 𝓤) (l : Lft) (R : RattleType) (L : Laws R) (inc : Incl l R.lives) where
   Lends-place : (b o : ℕ) (place : Option R.Denot) → Lends 𝓛 (place_owns R b o place) (place_lent R b o place) l
@@ -47,3 +52,9 @@ module _ {M : Type 1} {𝓤 : Ura M} (𝓛 : Logic 𝓤) (l : Lft) (R : RattleTy
       Lends-both 𝓛 small (fsep (places_own R b o places) right) (said small) (beside (places_lent R b o places) nothing) l (Lends-said 𝓛 small tt l)
       (Lends-both 𝓛 (places_own R b o places) right (places_lent R b o places) nothing l (Lends-places b o places) (Lends-nothing 𝓛 right l))
   Lends-region token null_ptr places = Lends-false 𝓛 (said ffalse) l
+
+  pub Lends-nodes : (token : Ty → Ptr → Fml) (cells : List (Ptr × R.Denot)) → Lends 𝓛 (nodes_own R token cells) (nodes_lent R cells) l
+  Lends-nodes token [] = Lends-nothing 𝓛 ftrue l
+  Lends-nodes token (cell ∷ cells) =
+      Lends-both 𝓛 (region_owns R token cell.0 (Some cell.1 ∷ [])) (nodes_own R token cells) (region_lent R cell.0 (Some cell.1 ∷ [])) (nodes_lent R cells) l
+      (Lends-region token cell.0 (Some cell.1 ∷ [])) (Lends-nodes token cells)

@@ -1,5 +1,9 @@
 mod Blocks
+mod Cells
+mod Ends
 mod Lending
+mod NodeSteps
 mod Places
 mod Regions
 mod Rooms
+mod Sending

@@ -1,5 +1,5 @@
 -- Which places of a block hold a value, after one of them is written or read.
-use Rattle.std.proofs.Common.{◌≡◌, ℕ, zero, suc, ◌+◌, ◌-◌, ◌<◌, ◌≤◌, List, [], ◌∷◌, ◌++◌, Option, Some, None, refl, sym, ap, ◌∙◌, subst, arith, length, get_or, set, replicate, slice_get, length-append}
+use Rattle.std.proofs.Common.{◌≡◌, ℕ, zero, suc, ◌+◌, ◌-◌, ◌<◌, ◌≤◌, List, [], ◌∷◌, ◌++◌, Option, Some, None, refl, sym, ap, ◌∙◌, subst, arith, length, get_or, set, slice_get, length-append}
 use Rattle.block_queue.specs.Queue.{Queue}
 use Rattle.block_queue.specs.Places.{laid, values, IsFilled, IsBlock}
 
@@ -25,6 +25,10 @@ module _ {T : Type 0} where
   unfolding laid
   laid-empty zero rest = ap (λ n. laid zero [] n) (omega arith)
   laid-empty (suc start) rest = let more : suc (start + rest) ≡ suc start + rest = omega arith in ap (λ l. None ∷ l) (laid-empty start rest) ∙ ap (λ n. laid zero [] n) more
+
+  pub laid-one : laid {T = T} 0 [] 1 ≡ None ∷ []
+  unfolding laid
+  laid-one = refl
 
   -- the place behind the last item
   pub behind : (start : ℕ) (items : List T) (rest at : ℕ) → at ≡ start + length items → get_or (laid start items rest) at None ≡ None

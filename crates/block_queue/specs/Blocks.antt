@@ -36,12 +36,6 @@ module _ {T : Type 0} where
   begins_empty [] = false
   begins_empty (block ∷ blocks) = has_none block.items
 
-  -- the last block has no item
-  unfoldable pub finishes_empty : List (Queue T) → Bool
-  finishes_empty [] = false
-  finishes_empty (block ∷ []) = has_none block.items
-  finishes_empty (block ∷ next ∷ blocks) = finishes_empty (next ∷ blocks)
-
   -- no block is without an item
   unfoldable pub AllHaveItems : List (Queue T) → Type 0
   AllHaveItems [] = Unit {0}
@@ -52,6 +46,12 @@ module _ {T : Type 0} where
   IsChain [] = Unit {0}
   IsChain (block ∷ []) = (0 < length block.items) ⊎ (0 < block.room)
   IsChain (block ∷ next ∷ blocks) = (0 < length block.items) × IsChain (next ∷ blocks)
+
+  -- the blocks of two queues, one behind the other
+  pub record IsJoined (first second new : List (Queue T)) : Type 0 where
+    pub chained : IsChain new
+    pub items : items_of new ≡ items_of first ++ items_of second
+    pub room : (room_of new ≡ room_of first) ⊎ (room_of new ≡ room_of second)
 
   -- the chain of a queue that counts its items
   pub record IsQueue (count : ℕ) (blocks : List (Queue T)) : Type 0 where

@@ -1,11 +1,11 @@
 ghost use Rattle.std.specs.Prelude.{◌≡◌, ◌+◌, ◌^◌, ◌<◌, ◌++◌, length};
 ghost use Rattle.std.specs.Map.Iter.{ShowsInOrder, deref};
 
-use crate::block::Block;
 use crate::iter::Iter;
-use crate::{Fifo, chain};
+use crate::linking::{Blocks, Load};
+use crate::{Fifo, linking};
+use core::mem::replace_with;
 use std::alloc::{AllocError, Global};
-use std::collections::LinkedList;
 use std::marker::Model;
 
 /// A queue that holds so many items is given no more room.
@@ -13,23 +13,26 @@ const MOST: usize = 0x8000_0000_0000_0000;
 
 /// A queue in a chain of blocks, whose items stay where they are while it grows.
 ///
-/// Each block but the last has an item, so that at most one empty block is kept.
+/// Each block but the last has an item. At most one empty block is kept, as the last one or apart.
 #[derive(Drop)]
 pub struct BlockQueue<T> {
-    blocks: LinkedList<Block<T>>,
+    blocks: Option<Blocks<T>>,
+    kept: Option<Load<T>>,
     count: usize,
     alloc: Global,
 }
 
 impl<T> Model for BlockQueue<T> {
     ghost use Rattle.block_queue.specs.Queue.{Queue};
+    ghost use Rattle.std.specs.Prelude.{◌≡◌, [], IfSome};
     ghost use Rattle.block_queue.specs.Blocks.{items_of, room_of, IsQueue};
+    ghost use Rattle.block_queue.specs.Chain.{joined};
 
     ghost Value = { Queue T };
 
-    ghost view = { λ q. record { items = items_of q.blocks; room = room_of q.blocks } };
+    ghost view = { λ q. record { items = items_of (joined q.blocks); room = room_of (joined q.blocks) } };
 
-    ghost invariant = { λ q. IsQueue q.count q.blocks };
+    ghost invariant = { λ q. IsQueue q.count (joined q.blocks) × IfSome q.kept (λ load. load.block.items ≡ []) };
 }
 
 impl<T> Fifo<T> for BlockQueue<T> {
@@ -39,7 +42,8 @@ impl<T> Fifo<T> for BlockQueue<T> {
 
     fn new(alloc: Global) -> Self {
         BlockQueue {
-            blocks: LinkedList::new(alloc),
+            blocks: None,
+            kept: None,
             count: 0,
             alloc,
         }
@@ -52,15 +56,15 @@ impl<T> Fifo<T> for BlockQueue<T> {
         if self.count >= MOST {
             return Err(AllocError);
         }
-        chain::add_block(&mut self.blocks, self.alloc)
+        linking::add(&mut self.blocks, &mut self.kept, self.alloc)
     }
 
     fn spare(&self) -> usize {
-        chain::spare(&self.blocks)
+        linking::spare(&self.blocks)
     }
 
     fn push_back(&mut self, item: T) {
-        chain::push(&mut self.blocks, item);
+        linking::push(&mut self.blocks, item);
         self.count += 1;
     }
 
@@ -69,11 +73,11 @@ impl<T> Fifo<T> for BlockQueue<T> {
             return None;
         }
         self.count -= 1;
-        Some(chain::pop(&mut self.blocks))
+        Some(linking::pop(&mut self.blocks, &mut self.kept))
     }
 
     fn front(&self) -> Option<&T> {
-        chain::front(&self.blocks)
+        linking::first_item(&self.blocks)
     }
 
     fn len(&self) -> usize {
@@ -91,26 +95,29 @@ impl<T> BlockQueue<T> {
         ensures rest { result ≡ self.now.items }
         ensures runs { ShowsInOrder (deref {X = T}) }
     {
-        Iter::new(self.blocks.iter())
+        Iter::new(linking::walk(&self.blocks))
     }
 
     /// Puts the items of another queue behind these. It takes no memory, and may give one block
     /// back.
     pub fn append(&mut self, other: BlockQueue<T>)
-        requires { length self.old.items + length other.items < 2 ^ 62 }
+        requires { length self.old.items + length other.items < 2 ^ 63 }
         ensures { self.new.items ≡ self.old.items ++ other.items }
     {
         let BlockQueue {
             blocks,
+            kept,
             count,
             alloc: _,
         } = other;
-        if count == 0 {
-            chain::end(blocks);
-            return;
-        }
-        chain::shed_last(&mut self.blocks);
-        chain::join(&mut self.blocks, blocks);
+        let empty = if count == 0 {
+            replace_with(&mut self.blocks, blocks, linking::linked_in_front)
+        } else {
+            replace_with(&mut self.blocks, blocks, linking::linked)
+        };
+        linking::keep(&mut self.kept, empty);
+        linking::keep(&mut self.kept, kept);
+        linking::keep_one(&self.blocks, &mut self.kept);
         self.count += count;
     }
 }

@@ -1,195 +1,223 @@
-//! What is done to a chain of blocks at its two ends.
-ghost use Rattle.std.specs.Prelude.{◌≡◌, ◌+◌, ◌-◌, ◌^◌, ◌<◌, ◌≤◌, ◌⊎◌, true, [], ◌∷◌, ◌++◌, OnOk, OnErr, drop as without, take, length, option_copied, slice_set};
-ghost use Rattle.block_queue.specs.Queue.{oldest};
-ghost use Rattle.block_queue.specs.Blocks.{items_of, room_of, pushed, begins_empty, finishes_empty, AllHaveItems, IsChain};
+//! Elements in nodes that lead to one another: a chain, whose two ends are known.
+ghost use Rattle.std.specs.Prelude.{◌≡◌, ◌^◌, ◌<◌, [], ◌∷◌, ◌++◌, None, Some, length};
+ghost use Rattle.std.specs.Map.Iter.{TakesFirst, deref};
+ghost use Rattle.block_queue.specs.Chain.{joined};
 
-use crate::block::Block;
+use crate::nodes::{Nodes, Place};
+use crate::region::Region;
 use std::alloc::{AllocError, Global};
-use std::collections::LinkedList;
+use std::marker::Model;
 
-/// Links an empty block behind the others. An error means that memory was refused.
-pub(crate) fn add_block<T>(
-    blocks: &mut LinkedList<Block<T>>,
+/// An element, and where the node after it lies.
+pub(crate) struct Node<E> {
+    next: Option<Place>,
+    elem: E,
+}
+
+/// Memory for a node, before it is linked and after it was taken out.
+pub(crate) struct Seat<E> {
+    node: Region<Node<E>, Global>,
     alloc: Global,
-) -> Result<(), AllocError>
-    ensures ok { OnOk result (blocks.new ≡ blocks.old ++ record { items = []; room = 32 } ∷ []) }
-    ensures refused { OnErr result (blocks.new ≡ blocks.old) }
-{
-    let block = Block::new(alloc)?;
-    match blocks.push_back(block) {
-        Ok(()) => Ok(()),
-        Err(refused) => {
-            refused.value.free();
-            Err(AllocError)
+    ghost empty: { node.places ≡ None ∷ [] },
+}
+
+impl<E> Seat<E> {
+    /// An error means that memory was refused, or that a node has no layout.
+    pub(crate) fn new(alloc: Global) -> Result<Seat<E>, AllocError> {
+        Ok(Seat {
+            node: Region::single(&alloc)?,
+            alloc,
+        })
+    }
+
+    /// Moves an element into the memory, in a node that leads to no other yet.
+    fn fill(self, elem: E) -> (Region<Node<E>, Global>, Global)
+        ensures { result.0.places ≡ Some (record { next = None; elem = elem }) ∷ [] }
+    {
+        let Seat { mut node, alloc } = self;
+        node.write(0, Node { next: None, elem });
+        (node, alloc)
+    }
+
+    /// Gives the memory back.
+    pub(crate) fn free(self) {
+        let Seat { node, alloc } = self;
+        node.free_single(&alloc);
+    }
+}
+
+impl<E> Drop for Seat<E> {
+    fn drop(self) {
+        self.free();
+    }
+}
+
+/// One element or more.
+pub(crate) struct Chain<E> {
+    head: Place,
+    tail: Place,
+    nodes: Nodes<Node<E>, Global>,
+    alloc: Global,
+}
+
+impl<E> Model for Chain<E> {
+    ghost use Rattle.std.specs.Prelude.{List};
+    ghost use Rattle.block_queue.specs.Chain.{elems, IsLinked};
+
+    ghost Value = { List E };
+
+    ghost view = { λ c. elems c.nodes.cells };
+
+    ghost invariant = { λ c. IsLinked c.head c.tail c.nodes.cells };
+}
+
+/// The first element of a chain, the memory of its node, and the chain of the others.
+pub(crate) struct Parted<E> {
+    pub(crate) elem: E,
+    pub(crate) seat: Seat<E>,
+    pub(crate) rest: Option<Chain<E>>,
+}
+
+impl<E> Chain<E> {
+    /// A chain of one element.
+    pub(crate) fn one(seat: Seat<E>, elem: E) -> Chain<E>
+        ensures { result ≡ elem ∷ [] }
+    {
+        let (node, alloc) = seat.fill(elem);
+        let (nodes, place) = Nodes::one(node);
+        Chain {
+            head: place,
+            tail: place,
+            nodes,
+            alloc,
+        }
+    }
+
+    /// These elements and then the others.
+    pub(crate) fn join(self, others: Chain<E>) -> Chain<E>
+        ensures { result ≡ self ++ others }
+    {
+        let Chain {
+            head,
+            tail,
+            nodes,
+            alloc,
+        } = self;
+        let Chain {
+            head: next,
+            tail: end,
+            nodes: rest,
+            alloc: _,
+        } = others;
+        let (mut node, front) = nodes.take_last(tail);
+        let Node { next: _, elem } = node.read(0);
+        node.write(
+            0,
+            Node {
+                next: Some(next),
+                elem,
+            },
+        );
+        let (last, _) = Nodes::one(node);
+        Chain {
+            head,
+            tail: end,
+            nodes: front.join(last).join(rest),
+            alloc,
+        }
+    }
+
+    /// Takes the first element out.
+    pub(crate) fn split(self) -> Parted<E>
+        ensures { self ≡ result.elem ∷ joined result.rest }
+    {
+        let Chain {
+            head,
+            tail,
+            nodes,
+            alloc,
+        } = self;
+        let (mut node, others) = nodes.take_first(head);
+        let Node { next, elem } = node.read(0);
+        let seat = Seat { node, alloc };
+        match next {
+            Some(head) => Parted {
+                elem,
+                seat,
+                rest: Some(Chain {
+                    head,
+                    tail,
+                    nodes: others,
+                    alloc,
+                }),
+            },
+            None => {
+                others.end();
+                Parted {
+                    elem,
+                    seat,
+                    rest: None,
+                }
+            }
+        }
+    }
+
+    /// The elements, the first one first.
+    pub(crate) fn steps(&self) -> Steps<'_, E>
+        requires { length self.now < 2 ^ 64 }
+        ensures { result ≡ self.now }
+    {
+        Steps {
+            nodes: &self.nodes,
+            index: 0,
+            next: Some(self.head),
         }
     }
 }
 
-/// How many places the last block has behind its items.
-pub(crate) fn spare<T>(blocks: &LinkedList<Block<T>>) -> usize
-    ensures { result ≡ room_of blocks.now }
-{
-    match blocks.back() {
-        Some(last) => last.room(),
-        None => 0,
+impl<E: Drop> Drop for Chain<E> {
+    fn drop(self) {
+        let mut left = Some(self);
+        while let Some(chain) = left {
+            let Parted {
+                elem: _,
+                seat: _,
+                rest,
+            } = chain.split();
+            left = rest;
+        }
     }
 }
 
-/// Puts an item into the last block.
-pub(crate) fn push<T>(blocks: &mut LinkedList<Block<T>>, item: T)
-    requires { 1 ≤ room_of blocks.old }
-    ensures { blocks.new ≡ pushed blocks.old item }
-{
-    match blocks.back_mut() {
-        Some(last) => last.push(item),
-        None => unreachable!(),
-    }
+/// The elements of a chain from one on.
+#[derive(Drop)]
+pub(crate) struct Steps<'a, E> {
+    nodes: &'a Nodes<Node<E>, Global>,
+    index: usize,
+    next: Option<Place>,
 }
 
-/// Takes the oldest item out of the first block, and the block out of the chain if that was its
-/// last item and others follow.
-pub(crate) fn pop<T>(blocks: &mut LinkedList<Block<T>>) -> T
-    requires shape { IsChain blocks.old }
-    requires filled { 0 < length (items_of blocks.old) }
-    ensures items { items_of blocks.old ≡ result ∷ items_of blocks.new }
-    ensures shape { IsChain blocks.new }
-    ensures room { (room_of blocks.new ≡ room_of blocks.old) ⊎ ((items_of blocks.new ≡ []) × (room_of blocks.new ≡ 32)) }
-{
-    let item = pop_first(blocks);
-    shed_first(blocks);
-    item
+impl<'a, E> Model for Steps<'a, E> {
+    ghost use Rattle.std.specs.Prelude.{List, drop};
+    ghost use Rattle.block_queue.specs.Chain.{elems, IsStep};
+
+    ghost Value = { List E };
+
+    ghost view = { λ s. elems (drop s.index s.nodes.now.cells) };
+
+    ghost invariant = { λ s. IsStep s.index s.next s.nodes.now.cells };
 }
 
-fn pop_first<T>(blocks: &mut LinkedList<Block<T>>) -> T
-    requires shape { IsChain blocks.old }
-    requires filled { 0 < length (items_of blocks.old) }
-    ensures items { items_of blocks.old ≡ result ∷ items_of blocks.new }
-    ensures rest { without 1 blocks.new ≡ without 1 blocks.old }
-    ensures room { room_of blocks.new ≡ room_of blocks.old }
-{
-    match blocks.front_mut() {
-        Some(first) => first.pop(),
-        None => unreachable!(),
-    }
-}
-
-/// Sees to a first block without items.
-fn shed_first<T>(blocks: &mut LinkedList<Block<T>>)
-    requires { IsChain (without 1 blocks.old) }
-    ensures items { items_of blocks.new ≡ items_of blocks.old }
-    ensures shape { IsChain blocks.new }
-    ensures room { (room_of blocks.new ≡ room_of blocks.old) ⊎ ((items_of blocks.new ≡ []) × (room_of blocks.new ≡ 32)) }
-{
-    let empty = starts_empty(blocks);
-    if empty {
-        shed_empty(blocks);
-        return;
-    }
-}
-
-/// Frees the first block if others follow it, and else has it begin again.
-fn shed_empty<T>(blocks: &mut LinkedList<Block<T>>)
-    requires empty { begins_empty blocks.old ≡ true }
-    requires shape { IsChain (without 1 blocks.old) }
-    ensures items { items_of blocks.new ≡ items_of blocks.old }
-    ensures shape { IsChain blocks.new }
-    ensures room { (room_of blocks.new ≡ room_of blocks.old) ⊎ ((items_of blocks.new ≡ []) × (room_of blocks.new ≡ 32)) }
-{
-    if blocks.len() == 1 {
-        clear_first(blocks);
-        return;
-    }
-    free_first(blocks);
-}
-
-fn clear_first<T>(blocks: &mut LinkedList<Block<T>>)
-    requires { begins_empty blocks.old ≡ true }
-    ensures { blocks.new ≡ slice_set blocks.old 0 (record { items = []; room = 32 }) }
-{
-    match blocks.front_mut() {
-        Some(first) => first.clear(),
-        None => unreachable!(),
-    }
-}
-
-fn free_first<T>(blocks: &mut LinkedList<Block<T>>)
-    requires { begins_empty blocks.old ≡ true }
-    ensures { blocks.new ≡ without 1 blocks.old }
-{
-    match blocks.pop_front() {
-        Some(first) => first.free(),
-        None => unreachable!(),
-    }
-}
-
-fn starts_empty<T>(blocks: &LinkedList<Block<T>>) -> bool
-    ensures { result ≡ begins_empty blocks.now }
-{
-    match blocks.front() {
-        Some(first) => first.is_empty(),
-        None => false,
-    }
-}
-
-/// The oldest item.
-pub(crate) fn front<T>(blocks: &LinkedList<Block<T>>) -> Option<&T>
-    requires { IsChain blocks.now }
-    ensures { option_copied result ≡ oldest (items_of blocks.now) }
-{
-    match blocks.front() {
-        Some(first) => first.first(),
-        None => None,
-    }
-}
-
-/// Frees the last block if it has no item.
-pub(crate) fn shed_last<T>(blocks: &mut LinkedList<Block<T>>)
-    requires { IsChain blocks.old }
-    ensures items { items_of blocks.new ≡ items_of blocks.old }
-    ensures shape { AllHaveItems blocks.new }
-{
-    let empty = ends_empty(blocks);
-    if empty {
-        free_last(blocks);
-        return;
-    }
-}
-
-/// Links the other blocks behind these. It takes no memory.
-pub(crate) fn join<T>(blocks: &mut LinkedList<Block<T>>, mut others: LinkedList<Block<T>>)
-    requires { length blocks.old + length others < 2 ^ 63 }
-    ensures { blocks.new ≡ blocks.old ++ others }
-{
-    match blocks.append(&mut others) {
-        Ok(()) => others.destroy_empty(),
-        Err(_) => unreachable!(),
-    }
-}
-
-/// Frees the block of a chain that holds no item, if it has one.
-pub(crate) fn end<T>(mut blocks: LinkedList<Block<T>>)
-    requires shape { IsChain blocks }
-    requires empty { length (items_of blocks) ≡ 0 }
-{
-    shed_last(&mut blocks);
-    blocks.destroy_empty();
-}
-
-fn free_last<T>(blocks: &mut LinkedList<Block<T>>)
-    requires { finishes_empty blocks.old ≡ true }
-    ensures { blocks.new ≡ take (length blocks.old - 1) blocks.old }
-{
-    match blocks.pop_back() {
-        Some(last) => last.free(),
-        None => unreachable!(),
-    }
-}
-
-fn ends_empty<T>(blocks: &LinkedList<Block<T>>) -> bool
-    ensures { result ≡ finishes_empty blocks.now }
-{
-    match blocks.back() {
-        Some(last) => last.is_empty(),
-        None => false,
+impl<'a, E> Steps<'a, E> {
+    /// The next element, if there is one more.
+    pub(crate) fn next(&mut self) -> Option<&'a E>
+        ensures { TakesFirst deref self.old result self.new }
+    {
+        let place = self.next?;
+        let nodes = self.nodes;
+        let node = nodes.get(self.index, place);
+        self.index += 1;
+        self.next = node.next;
+        Some(&node.elem)
     }
 }

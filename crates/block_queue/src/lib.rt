@@ -13,6 +13,8 @@ mod block_queue;
 mod chain;
 mod fifo;
 mod iter;
+mod linking;
+mod nodes;
 mod plain_queue;
 mod region;
 #[cfg(test)]

@@ -1,5 +1,5 @@
 //! Raw memory for the values of one block.
-ghost use Rattle.std.specs.Prelude.{◌≡◌, ℕ, ◌<◌, [], true, List, Option, Some, None, IfOk, get_or, length, slice_set};
+ghost use Rattle.std.specs.Prelude.{◌≡◌, ℕ, ◌<◌, [], ◌∷◌, true, List, Option, Some, None, IfOk, get_or, length, slice_set};
 ghost use Rattle.block_queue.specs.Places.{laid, IsFilled};
 ghost use Rattle.block_queue.specs.Region.{Fits, region_owns, region_lent};
 
@@ -14,8 +14,8 @@ pub(crate) const PLACES: usize = 32;
 ///
 /// It is given back to the allocator by [`Region::free`] alone, once no place holds a value.
 pub(crate) struct Region<T, A: Allocator> {
-    first: *mut T,
-    by: PhantomData<A>,
+    pub(crate) first: *mut T,
+    pub(crate) by: PhantomData<A>,
     ghost heap: { A },
     ghost places: { List (Option T) },
 }
@@ -47,6 +47,16 @@ impl<T, A: Allocator> Region<T, A> {
         Region::allocate(alloc, PLACES)
     }
 
+    /// A region of one place, which is empty. An error means what it means of [`Region::new`].
+    pub(crate) fn single(alloc: &A) -> Result<Region<T, A>, AllocError>
+        ensures { IfOk result (λ r. (r.places ≡ None ∷ []) × (r.heap ≡ alloc.now)) }
+    {
+        if !has_layout::<T>() {
+            return Err(AllocError);
+        }
+        Region::allocate(alloc, 1)
+    }
+
     fn allocate(alloc: &A, count: usize) -> Result<Region<T, A>, AllocError>
         requires { Fits T.row count }
         ensures { IfOk result (λ r. (r.places ≡ laid 0 [] count) × (r.heap ≡ alloc.now)) }
@@ -68,6 +78,14 @@ impl<T, A: Allocator> Region<T, A> {
         self.release(alloc, PLACES);
     }
 
+    /// Gives the memory of a region of one place back.
+    pub(crate) fn free_single(self, alloc: &A)
+        requires empty { self.places ≡ None ∷ [] }
+        requires heap { self.heap ≡ alloc.now }
+    {
+        self.release(alloc, 1);
+    }
+
     fn release(self, alloc: &A, count: usize)
         requires { (self.places ≡ laid 0 [] count) × (self.heap ≡ alloc.now) }
     {
@@ -80,7 +98,7 @@ impl<T, A: Allocator> Region<T, A> {
     /// Moves a value into an empty place.
     pub(crate) fn write(&mut self, index: usize, item: T)
         requires { (index < length self.old.places) × (get_or self.old.places index None ≡ None) }
-        ensures { (self.new.places ≡ slice_set self.old.places index (Some item)) × (self.new.heap ≡ self.old.heap) }
+        ensures { (self.new.places ≡ slice_set self.old.places index (Some item)) × (self.new.heap ≡ self.old.heap) × (self.new.first ≡ self.old.first) }
     {
         unsafe { self.first.add(index).write(item) }
     }
@@ -89,7 +107,7 @@ impl<T, A: Allocator> Region<T, A> {
     pub(crate) fn read(&mut self, index: usize) -> T
         requires { IsFilled self.old.places index }
         ensures value { get_or self.old.places index None ≡ Some result }
-        ensures places { (self.new.places ≡ slice_set self.old.places index None) × (self.new.heap ≡ self.old.heap) }
+        ensures places { (self.new.places ≡ slice_set self.old.places index None) × (self.new.heap ≡ self.old.heap) × (self.new.first ≡ self.old.first) }
     {
         unsafe { self.first.add(index).read() }
     }

@@ -29,7 +29,7 @@ const TRIES: u32 = 2000;
 /// A contract sees how many lanes there are.
 #[derive(Drop)]
 pub struct Proxy {
-    desks: Vec<Mutex<Desk>>,
+    pub(crate) desks: Vec<Mutex<Desk>>,
 }
 
 impl Model for Proxy {

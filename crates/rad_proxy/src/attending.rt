@@ -1,9 +1,10 @@
 //! What the program does as the workers ask and tell: it stops them, wakes them, counts what the front took, and logs.
 
-use crate::telling::{WorkerText, tell};
+use crate::telling::{tell, worker_name};
 use crate::waking::Bell;
 use log::{Log, error};
 use rad_desk::{Call, Gate, Go, Note, Worker};
+use rad_realms::Config;
 use std::alloc::{AllocError, Global};
 use std::sync::Arc;
 use std::sync::atomic::{AtomicBool, AtomicU64, Ordering};
@@ -20,41 +21,55 @@ impl Gate for Open {
     fn after(&self, _worker: Worker, _call: Call) {}
 }
 
+/// What is known of a lane from what the workers told.
+#[derive(Drop)]
+struct Known {
+    /// How many responses the front took from it and sent.
+    taken: AtomicU64,
+    /// Whether its home server was told to be down.
+    is_down: AtomicBool,
+}
+
 /// Attends to the workers. Another gate is asked and told first.
 #[derive(Drop)]
 pub struct Attendant<'a, G, L> {
     outer: &'a G,
     log: &'a L,
+    config: &'a Config,
     /// The bell of the front, then those of the lanes in order.
     bells: &'a [Arc<Bell>],
-    /// How many responses the front took from each lane.
-    taken: Vec<AtomicU64>,
+    /// What is known of each lane, in order.
+    lanes: Vec<Known>,
     /// Whether the workers are to stop.
     stops: AtomicBool,
 }
 
 impl<'a, G: Gate, L: Log> Attendant<'a, G, L> {
-    /// Attends to the workers of so many lanes.
+    /// Attends to the workers of a configuration.
     ///
     /// # Errors
     ///
     /// Where memory is refused.
     pub fn new(
         alloc: Global,
+        config: &'a Config,
         outer: &'a G,
         log: &'a L,
         bells: &'a [Arc<Bell>],
-        lanes: u16,
     ) -> Result<Attendant<'a, G, L>, AllocError> {
-        let mut taken = Vec::with_capacity(alloc, usize::from(lanes))?;
-        for _ in 0..lanes {
-            taken.push(AtomicU64::new(0))?;
+        let mut lanes = Vec::with_capacity(alloc, config.homes().len())?;
+        for _ in config.homes() {
+            lanes.push(Known {
+                taken: AtomicU64::new(0),
+                is_down: AtomicBool::new(false),
+            })?;
         }
         Ok(Attendant {
             outer,
             log,
+            config,
             bells,
-            taken,
+            lanes,
             stops: AtomicBool::new(false),
         })
     }
@@ -75,37 +90,49 @@ impl<'a, G: Gate, L: Log> Attendant<'a, G, L> {
     /// A worker ended. Where it was not told to, the others stop too.
     pub fn ended(&self, worker: Worker) {
         if !self.is_stopped() {
-            let worker = WorkerText(worker);
-            error!(self.log; "{worker}: ended by itself");
+            let name = worker_name(self.config, worker);
+            error!(self.log; "event=stopped worker={name} reason=\"ended by itself\"");
             self.stop();
         }
     }
 
     /// How many responses the front took from a lane and sent.
     pub fn taken(&self, lane: u16) -> u64 {
-        match self.taken.get(usize::from(lane)) {
-            Some(taken) => taken.load(Ordering::SeqCst),
+        match self.lanes.get(usize::from(lane)) {
+            Some(known) => known.taken.load(Ordering::SeqCst),
             None => 0,
         }
     }
 
-    fn ring_front(&self) {
-        if let Some(bell) = self.bells.first() {
-            bell.ring();
-        }
-    }
-
-    fn ring_lane(&self, lane: u16) {
-        if let Some(bell) = self.bells.get(usize::from(lane) + 1) {
-            bell.ring();
-        }
-    }
-
-    /// Wakes a worker itself: it has more to do than it did.
+    /// Rings the bell of a worker.
     fn ring(&self, worker: Worker) {
-        match worker {
-            Worker::Front => self.ring_front(),
-            Worker::Lane(lane) => self.ring_lane(lane),
+        let place = match worker {
+            Worker::Front => 0,
+            Worker::Lane(lane) => usize::from(lane) + 1,
+        };
+        if let Some(bell) = self.bells.get(place) {
+            bell.ring();
+        }
+    }
+
+    /// The front took a response from a lane and sent it.
+    fn count_taken(&self, lane: u16) {
+        if let Some(known) = self.lanes.get(usize::from(lane)) {
+            known.taken.fetch_add(1, Ordering::SeqCst);
+        }
+    }
+
+    /// A lane's home server is down or up from now on, which is logged where it is news.
+    fn mark(&self, worker: Worker, is_down: bool) {
+        let Worker::Lane(lane) = worker else {
+            return;
+        };
+        let Some(known) = self.lanes.get(usize::from(lane)) else {
+            return;
+        };
+        if known.is_down.swap(is_down, Ordering::SeqCst) != is_down {
+            let note = if is_down { Note::WentDown } else { Note::WentUp };
+            tell(self.log, self.config, worker, note);
         }
     }
 }
@@ -125,16 +152,22 @@ impl<G: Gate, L: Log> Gate for Attendant<'_, G, L> {
     fn note(&self, worker: Worker, note: Note) {
         self.outer.note(worker, note);
         match note {
-            Note::Accepted(lane, _) => self.ring_lane(lane),
-            Note::Answered(_, _) => self.ring_front(),
-            Note::WentDown | Note::WentUp => self.ring(worker),
-            Note::Took(lane, _) => {
-                if let Some(taken) = self.taken.get(usize::from(lane)) {
-                    taken.fetch_add(1, Ordering::SeqCst);
-                }
+            Note::Accepted(lane, _) => self.ring(Worker::Lane(lane)),
+            Note::Answered(..) => {
+                self.mark(worker, false);
+                self.ring(Worker::Front);
             }
-            _ => {}
+            // Going down or up is all that this step did, and there is more to do.
+            Note::WentDown => {
+                self.mark(worker, true);
+                self.ring(worker);
+            }
+            Note::WentUp => {
+                self.mark(worker, false);
+                self.ring(worker);
+            }
+            Note::Took(lane, _) => self.count_taken(lane),
+            _ => tell(self.log, self.config, worker, note),
         }
-        tell(self.log, worker, note);
     }
 }

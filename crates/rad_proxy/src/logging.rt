@@ -5,8 +5,8 @@ use libc::net::{POLLOUT, poll};
 use libc::types::pollfd;
 use log::kv::Source;
 use log::span::Spans;
-use log::{Line, Log, Metadata, Record};
-use std::fmt::Display;
+use log::{Level, Log, Metadata, Record};
+use std::fmt::{self, Display};
 use std::hint::spin_loop;
 use std::io::Eprint;
 use std::sync::atomic::{AtomicU64, Ordering};
@@ -44,7 +44,7 @@ impl<R: Eprint> ErrorLines<R> {
             if !takes_more() {
                 return false;
             }
-            let _ = eprintln!(self.rt; "[WARN  rad_proxy] {dropped} lines were dropped");
+            let _ = eprintln!(self.rt; "level=warn event=lines-dropped count={dropped}");
             self.dropped.fetch_sub(dropped, Ordering::SeqCst);
         }
         takes_more() && self.rt.eprintln(line).is_ok()
@@ -75,7 +75,11 @@ impl<R: Eprint> Log for ErrorLines<R> {
     }
 
     fn log<D: Display, K: Source, S: Spans>(&self, record: &Record<'_, D, K, S>) {
-        if !self.write(Line::new(record)) {
+        let line = LevelLine {
+            level: record.level(),
+            text: record.args(),
+        };
+        if !self.write(line) {
             self.dropped.fetch_add(1, Ordering::SeqCst);
         }
     }
@@ -84,6 +88,37 @@ impl<R: Eprint> Log for ErrorLines<R> {
 
     fn target(&self) -> &str {
         ""
+    }
+}
+
+/// A log line: a level, and what happened.
+struct LevelLine<'a, D> {
+    level: Level,
+    text: &'a D,
+}
+
+impl<D> Drop for LevelLine<'_, D> {
+    fn drop(self) {
+        let LevelLine { level: _, text: _ } = self;
+    }
+}
+
+impl<D: Display> Display for LevelLine<'_, D> {
+    fn fmt<W: fmt::Write>(&self, f: &mut fmt::Formatter<W>) -> fmt::Result {
+        let level = level_name(self.level);
+        let text = self.text;
+        write!(f, "level={level} {text}")
+    }
+}
+
+/// The name of a level in lower case.
+fn level_name(level: Level) -> &'static str {
+    match level {
+        Level::Error => "error",
+        Level::Warn => "warn",
+        Level::Info => "info",
+        Level::Debug => "debug",
+        Level::Trace => "trace",
     }
 }
 

@@ -3,7 +3,7 @@
 use crate::faults::Fault;
 use crate::names::EndpointText;
 use libc::net::{SO_RCVBUF, SOL_SOCKET, setsockopt};
-use rad_realms::{Config, Endpoint, Home};
+use rad_realms::{Config, Endpoint};
 use std::alloc::Global;
 use std::io;
 use std::net::{Ipv4Addr, Net, SocketAddr, SocketAddrV4, UdpSocket};
@@ -41,8 +41,8 @@ impl Sockets {
             return Err(Fault::Memory);
         };
         for (lane, home) in config.homes().iter().enumerate() {
-            let count = source_ports(home);
-            let sockets = bind_each(rt, alloc, ANY, count, Fault::LaneSocket(lane))?;
+            let ports = home.limits().numbers().ports;
+            let sockets = bind_each(rt, alloc, ANY, ports, Fault::LaneSocket(lane))?;
             if lanes.push(sockets).is_err() {
                 return Err(Fault::Memory);
             }
@@ -60,10 +60,10 @@ fn bind_each<R: Net>(
     rt: &R,
     alloc: Global,
     endpoint: Endpoint,
-    count: usize,
+    count: u32,
     fault: Fault,
 ) -> Result<Vec<UdpSocket>, Fault> {
-    let Ok(mut sockets) = Vec::with_capacity(alloc, count) else {
+    let Ok(mut sockets) = Vec::with_capacity(alloc, count as usize) else {
         return Err(Fault::Memory);
     };
     for _ in 0..count {
@@ -75,11 +75,6 @@ fn bind_each<R: Net>(
         }
     }
     Ok(sockets)
-}
-
-/// How many source ports a home server's lane has.
-fn source_ports(_home: &Home) -> usize {
-    1
 }
 
 /// A socket that is bound and does not wait.

@@ -1,8 +1,9 @@
+use Rattle.std.proofs.Common.{[], refl}
 use Rattle.block_queue.proofs.Blocks.{queue_new}
 use Rattle.block_queue.proofs.block_queue.BlockQueueFifo.new.Goals as goal
 
 pub invariant_of-result : goal.invariant_of-result
-invariant_of-result g c = (queue_new c.new.result c.new.ensures).0
+invariant_of-result g c = ((queue_new [] refl).0, tt)
 
 pub returns : goal.returns
-returns g c = (queue_new c.new.result c.new.ensures).1
+returns g c = (queue_new [] refl).1

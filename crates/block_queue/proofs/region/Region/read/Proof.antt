@@ -1,8 +1,8 @@
 -- `read` moves a value out, and its place is empty. Assumes `Logic`.
-use mathlib.Core.Path.{◌≡◌, refl, sym, subst, ◌∙◌}
+use mathlib.Core.Path.{◌≡◌, refl, sym}
 use Prim.Native.Nat.{ℕ, ◌+◌, ◌*◌, ◌<◌, ◌^◌}
 use native.Mathlib.Omega.{arith}
-use mathlib.Core.List.{List, [], ◌∷◌, ◌++◌}
+use mathlib.Core.List.{List, [], ◌∷◌}
 use lib.ListN.{length, get_or, set, length-set}
 use base.Logic.{SProp}
 use base.Fml.{Fml, ftrue, fsep, fat, froom, flft}
@@ -79,6 +79,6 @@ read_spec 𝓤 𝓛 𝓜 𝓡 wired X U L LU g d dd _ _ =
     -- [obs; the borrow; the token; what the value owns; the other tokens]
     feq_i ! (List Val) (vptr rb ro ∷ []) (vptr rb ro ∷ []) refl $ fjoin3 ! $ nothing ! $ nothing ! $ fjoin ! $ move ! (1 ∷ 0 ∷ []) $ fjoin ! $ move ! (1 ∷ 3 ∷ []) $ join ! $
     -- [the tokens; self; what the value owns]
-    let Got : Type 0 = get_or r.places i None ≡ Some x in let Kept : Type 0 = (new.places ≡ new.places) × (r.heap ≡ r.heap) in
-    use0 𝓛 (raw (fact 𝓤 Kept)) (fact_i 𝓤 Kept (emp 𝓤) (refl, refl)) $ use0 𝓛 (raw (fact 𝓤 Got)) (fact_i 𝓤 Got (emp 𝓤) asked.1) $ join ! $
+    let Got : Type 0 = get_or r.places i None ≡ Some x in let Kept : Type 0 = (new.places ≡ new.places) × (r.heap ≡ r.heap) × (r.first ≡ r.first) in
+    use0 𝓛 (raw (fact 𝓤 Kept)) (fact_i 𝓤 Kept (emp 𝓤) (refl, refl, refl)) $ use0 𝓛 (raw (fact 𝓤 Got)) (fact_i 𝓤 Got (emp 𝓤) asked.1) $ join ! $
     returns ! (look_at ! 0 refl) $ free_all ! refl $ keep ! (1 ∷ 2 ∷ 3 ∷ 0 ∷ []) $ by ! (leaves 𝓛 En hs c y v x (new, (tt, tt)) (tt, (tt, tt)))))))))

@@ -1,0 +1,95 @@
+-- A list of blocks whose first or last one is at hand.
+use Rattle.std.proofs.Common.{◌≡◌, ◌-◌, ◌<◌, ◌≤◌, inl, inr, true, false, List, [], ◌∷◌, ◌++◌, None, refl, sym, ap, ◌∙◌, subst, arith, length, get_or, drop, append-nil, length-append}
+use Rattle.block_queue.specs.Queue.{Queue, oldest}
+use Rattle.block_queue.specs.Blocks.{items_of, room_of, pushed, has_none, begins_empty, AllHaveItems, IsChain, IsJoined}
+use Rattle.block_queue.proofs.Blocks.{none_is, some_is, oldest_first, items_of_joined, room_of_joined, chained, last_room, last_items, freed_first}
+
+module _ {T : Type 0} where
+  pub room_at_end : (front : List (Queue T)) (q : Queue T) → room_of (front ++ q ∷ []) ≡ q.room
+  room_at_end front q = room_of_joined front (q ∷ []) (omega arith) ∙ last_room q
+
+  pub pushed_at_end : (front : List (Queue T)) (q : Queue T) (item : T) → pushed (front ++ q ∷ []) item ≡ front ++ record { items = q.items ++ item ∷ []; room = q.room - 1 } ∷ []
+  unfolding pushed
+  pushed_at_end [] q item = refl
+  pushed_at_end (b ∷ []) q item = refl
+  pushed_at_end (b ∷ c ∷ bs) q item = ap (λ l. b ∷ l) (pushed_at_end (c ∷ bs) q item)
+
+  pub first_filled : (b : Queue T) (bs : List (Queue T)) → IsChain (b ∷ bs) → 0 < length (items_of (b ∷ bs)) → 0 < length b.items
+  unfolding IsChain items_of
+  first_filled b [] h some = subst (λ l. 0 < length l) (append-nil b.items) some
+  first_filled b (c ∷ cs) h some = h.0
+
+  pub first_popped : (b left : Queue T) (bs : List (Queue T)) (item : T) → b.items ≡ item ∷ left.items → items_of (b ∷ bs) ≡ item ∷ items_of (left ∷ bs)
+  unfolding items_of
+  first_popped b left bs item e = ap (λ l. l ++ items_of bs) e
+
+  pub room_popped : (b left : Queue T) (bs : List (Queue T)) → left.room ≡ b.room → room_of (left ∷ bs) ≡ room_of (b ∷ bs)
+  unfolding room_of
+  room_popped b left [] e = e
+  room_popped b left (c ∷ cs) e = refl
+
+  front_has : (front : List (Queue T)) (q : Queue T) → IsChain (front ++ q ∷ []) → AllHaveItems front
+  unfolding IsChain AllHaveItems
+  front_has [] q h = tt
+  front_has (b ∷ []) q h = (h.0, tt)
+  front_has (b ∷ c ∷ cs) q h = (h.0, front_has (c ∷ cs) q h.1)
+
+  all_with : (front : List (Queue T)) (q : Queue T) → AllHaveItems front → 0 < length q.items → AllHaveItems (front ++ q ∷ [])
+  unfolding AllHaveItems
+  all_with [] q all some = (some, tt)
+  all_with (b ∷ bs) q all some = (all.0, all_with bs q all.1 some)
+
+  -- the last block has no item, and is left out
+  pub without_last : (front bs : List (Queue T)) (q : Queue T) → front ++ q ∷ [] ≡ bs → IsChain bs → has_none q.items ≡ true → AllHaveItems front × (items_of front ≡ items_of bs) × (q.items ≡ [])
+  without_last front bs q e h none =
+      let empty = none_is q.items none in
+      (front_has front q (subst IsChain (sym e) h), sym (append-nil (items_of front)) ∙ ap (λ l. items_of front ++ l) (sym (last_items q empty)) ∙ sym (items_of_joined front (q ∷ [])) ∙ ap items_of e, empty)
+
+  -- the last block has an item
+  pub with_last : (front bs : List (Queue T)) (q : Queue T) → front ++ q ∷ [] ≡ bs → IsChain bs → has_none q.items ≡ false → AllHaveItems (front ++ q ∷ [])
+  with_last front bs q e h some = all_with front q (front_has front q (subst IsChain (sym e) h)) (some_is q.items some)
+
+  pub only_empty : (front bs : List (Queue T)) (q : Queue T) → front ++ q ∷ [] ≡ bs → length bs ≡ 1 → begins_empty bs ≡ true → q.items ≡ []
+  unfolding begins_empty
+  only_empty [] bs q e one none = none_is q.items (ap begins_empty e ∙ none)
+  only_empty (b ∷ front) bs q e one none = let n : length (b ∷ front ++ q ∷ []) ≡ length bs = ap length e in absurd (omega (arith, length-append front (q ∷ [])))
+
+  pub oldest_at_first : (bs rest : List (Queue T)) (first : Queue T) → bs ≡ first ∷ rest → IsChain bs → oldest first.items ≡ oldest (items_of bs)
+  oldest_at_first bs rest first e h = let n : length bs ≡ length (first ∷ rest) = ap length e in oldest_first bs first h (omega arith) (sym (ap (λ l. get_or l 0 first) e))
+
+  pub begins_at_first : (bs rest : List (Queue T)) (first : Queue T) → bs ≡ first ∷ rest → has_none first.items ≡ begins_empty bs
+  unfolding begins_empty
+  begins_at_first bs rest first e = ap begins_empty (sym e)
+
+  pub without_first : (bs rest : List (Queue T)) (first : Queue T) → bs ≡ first ∷ rest → begins_empty bs ≡ true → 2 ≤ length bs → (items_of rest ≡ items_of bs) × (room_of rest ≡ room_of bs) × (first.items ≡ [])
+  without_first bs rest first e none two =
+      let same : drop 1 bs ≡ rest = ap (drop 1) e in let freed = freed_first bs none two in
+      (ap items_of (sym same) ∙ freed.0, ap room_of (sym same) ∙ freed.1, none_is first.items (begins_at_first bs rest first e ∙ none))
+
+  pub no_room : (bs : List (Queue T)) → bs ≡ [] → 0 ≡ room_of bs
+  unfolding room_of
+  no_room bs e = ap room_of (sym e)
+
+  pub no_oldest : (bs : List (Queue T)) → bs ≡ [] → None ≡ oldest (items_of bs)
+  unfolding items_of
+  no_oldest bs e = ap (λ l. oldest (items_of l)) (sym e)
+
+  pub no_first : (bs : List (Queue T)) → bs ≡ [] → false ≡ begins_empty bs
+  unfolding begins_empty
+  no_first bs e = ap begins_empty (sym e)
+
+  pub linked_both : (bs cs front new : List (Queue T)) → AllHaveItems front → items_of front ≡ items_of bs → IsChain cs → 0 < length cs → new ≡ front ++ cs → IsJoined bs cs new
+  linked_both bs cs front new all same h some e =
+      record {
+        chained = subst IsChain (sym e) (chained front cs all h some);
+        items = ap items_of e ∙ items_of_joined front cs ∙ ap (λ l. l ++ items_of cs) same;
+        room = inr (ap room_of e ∙ room_of_joined front cs some);
+      }
+
+  pub linked_none : (bs : List (Queue T)) → IsChain bs → IsJoined bs [] bs
+  unfolding items_of
+  linked_none bs h = record { chained = h; items = sym (append-nil (items_of bs)); room = inl refl }
+
+  pub none_linked : (cs : List (Queue T)) → IsChain cs → IsJoined [] cs cs
+  unfolding items_of
+  none_linked cs h = record { chained = h; items = refl; room = inr refl }

@@ -1,0 +1,7 @@
+use Rattle.std.proofs.Common.{◌∙◌, sym}
+use Rattle.block_queue.specs.Chain.{joined}
+use Rattle.block_queue.proofs.Blocks.{chain_begins}
+use Rattle.block_queue.proofs.linking.shed_first.Goals as goal
+
+pub returns-clause-shape : goal.returns-clause-shape
+returns-clause-shape g c = chain_begins (joined c.args.blocks.now) c.requires.shape (sym c.starts_empty-empty.ensures ∙ c.if-empty.false)
