@@ -13,7 +13,7 @@ DATAGRAMS ?= 100000
 SECONDS ?= 60
 SEED ?= 1
 
-.PHONY: build run test edits spoiled soak
+.PHONY: build run test edits growths spoiled soak
 
 # Proves and builds the program, over what earlier checks kept, and runs it as stored.
 build:
@@ -34,6 +34,10 @@ test:
 # The wrong bodies that the gate leaves out: the prover has to refuse each one.
 edits:
 	@python3 tests/edits.py $(CRATES)
+
+# Each growth refused in turn, in the program that was built and in the tests that were; the gate does it in the program.
+growths:
+	@python3 tests/hostile/growths.py $(PROGRAM) $(wildcard crates/*/out/*_tests)
 
 # Spoiled datagrams by chance, over the program that was built; the gate has a shorter run of a fixed chance.
 spoiled:

@@ -1,6 +1,6 @@
 #!/usr/bin/env python3
 """The whole gate: what `rt ci` proves, refuses and runs, then the octets that the tests expect, as another
-implementation makes them, and then the program that `rt ci` built: over the rows, over the examples, with growths refused in
+implementation makes them, and then the program that `rt ci` built: over the rows and the examples, with growths refused in
 turn, with spoiled datagrams, and over UDP and a network that loses.
 
 usage: gate.py PROGRAM

@@ -1,7 +1,7 @@
 #!/usr/bin/env python3
 """Refuses the growths of a program one after the other, and says where what it answers is not what it should.
 
-usage: growths.py PROGRAM
+usage: growths.py PROGRAM [TESTS ..]
 
 `replay` runs over some rows of tests/rows, and `run` is asked for its state and drained. In each run an allocation is
 refused by refuse.c: the first, then the second, and so on until there is none of that number; and once more so, with all
@@ -9,7 +9,11 @@ that follow refused too. `replay` has to end in `configuration: OutOfMemory` or 
 without the refusal, or it goes on: then each event whose growth was refused says so and has changed nothing, and every
 other line and the end are what model.py answers. `run` ends in one of these two or in `threads: failed`. Where one
 allocation alone is refused, the program may also do with a smaller one and answer all; where all that follow are refused
-too, `replay` may not. The last line is `N passed, M failed`.
+too, `replay` may not.
+
+TESTS are programs of tests, as `rt test` leaves them in crates/CRATE/out/CRATE_tests. With one growth refused, each test has
+to pass or to fail by itself, and not by a fault of memory; beyond the first FIRST ones only some are refused. The last line
+is `N passed, M failed`.
 """
 import os
 import pathlib
@@ -33,6 +37,8 @@ ENDINGS = {"configuration: OutOfMemory": 2, "memory: refused": 4}
 ENDINGS_OF_RUN = {**ENDINGS, "threads: failed": 4}
 COMMANDS = b"state\ndrain\n"
 STATE = "lane 0 h1 up open accepted 0 queued 0 outstanding 0 answered 0 opening 0"
+TEST_FAILED = 101
+FIRST, LATER = 200, 20
 MOST_ALLOCATIONS = 1_000_000
 SECONDS = 60
 
@@ -72,6 +78,7 @@ class Subject:
     words: list
     given: bytes
     fault_of: Callable
+    is_alone_enough: bool = False
 
 
 def told_by(ran):
@@ -103,6 +110,15 @@ def fault_of_run(wanted, ran, _):
     return fault_of_ending(wanted, told, ran.returncode, ENDINGS_OF_RUN.get(error), ran.stderr)
 
 
+def fault_of_test(ran, _):
+    """What is wrong with a test that was run: an assertion of its own may stop it, and nothing else."""
+    text = (ran.stdout + ran.stderr).decode("utf-8", "replace")
+    is_stopped = ran.returncode == -signal.SIGABRT and "test stopped at" in text
+    if ran.returncode in (0, TEST_FAILED) or is_stopped:
+        return None
+    return f"it ended with status {ran.returncode}: {text[-400:]}"
+
+
 def fault_of_ending(wanted, told, status, wanted_status, errors):
     """What is wrong with a run that a refused growth ended."""
     if status < 0:
@@ -132,13 +148,22 @@ def subjects(program, folder):
     yield Subject("run", [program, "run", str(file)], COMMANDS, partial(fault_of_run, wanted))
 
 
+def tests_of(program):
+    """The tests of a program of tests."""
+    listed = subprocess.run([program, "--list"], capture_output=True, text=True, check=True).stdout.splitlines()
+    for name in (line.removesuffix(": test") for line in listed if line.endswith(": test")):
+        yield Subject(f"{pathlib.Path(program).name} {name}", [program, name], b"", fault_of_test, is_alone_enough=True)
+
+
 def refused_in_turn(refuser, subject, is_alone):
     """Each run with one allocation refused, or all from one on: the number of that one, and what came."""
-    for number in range(1, MOST_ALLOCATIONS):
+    number = 1
+    while number < MOST_ALLOCATIONS:
         ran = refuser.run(subject.words, subject.given, number, number if is_alone else MOST_ALLOCATIONS)
         if ran is None:
             return
         yield number, ran
+        number += 1 if number < FIRST else number // LATER
 
 
 def tried(refuser, subject, is_alone, seen):
@@ -153,16 +178,18 @@ def tried(refuser, subject, is_alone, seen):
             print(f"{subject.name}, allocation {number} refused {how}: {fault}")
     print(f"{subject.name}: {len(endings)} allocations refused {how}, {endings.count(None)} of them did no harm", flush=True)
     seen.update(endings)
-    return len(endings) - failed, failed if endings else 1
+    return len(endings) - failed, failed if endings or subject.is_alone_enough else 1
 
 
 def main():
-    if len(sys.argv) != 2:
+    if len(sys.argv) < 2:
         sys.exit(__doc__)
-    program, seen = str(pathlib.Path(sys.argv[1]).resolve()), set()
+    (program, *tests), seen, counts = (str(pathlib.Path(word).resolve()) for word in sys.argv[1:]), set(), []
     with tempfile.TemporaryDirectory() as folder:
         refuser = Refuser(folder)
-        counts = [tried(refuser, subject, is_alone, seen) for subject in subjects(program, folder) for is_alone in (True, False)]
+        for subject in (*subjects(program, folder), *(test for name in tests for test in tests_of(name))):
+            for is_alone in (True,) if subject.is_alone_enough else (True, False):
+                counts.append(tried(refuser, subject, is_alone, seen))
     unseen = {*REFUSALS, *ENDINGS} - seen
     if unseen:
         print(f"no refused growth ended in {', '.join(sorted(unseen))}")

@@ -10,6 +10,7 @@ and compares that with what the rows have, which was worked out one by one. The 
 """
 import hashlib
 import hmac
+import itertools
 import pathlib
 import sys
 import tomllib
@@ -25,7 +26,7 @@ import run as rows  # noqa: E402
 
 from vectors import ACCOUNTING_REQUEST, ACCOUNTING_RESPONSE, STATUS_SERVER  # noqa: E402
 from vectors import MESSAGE_AUTHENTICATOR, PROXY_STATE, USER_NAME, ZEROS  # noqa: E402
-from vectors import answer, attribute, mark, packet, request, signed, status, turned  # noqa: E402
+from vectors import answer, attribute, mark, packet, request, signed, status, turned, user_name  # noqa: E402
 
 LEAST_LENGTH, GREATEST_LENGTH = 20, 4096
 GREATEST_REQUEST = GREATEST_LENGTH - len(mark(0, 0))
@@ -42,6 +43,7 @@ DEFAULTS = {
     "down_wait": 60_000,
     "span": 30_000,
     "ring": 256,
+    "ports": 1,
 }
 PROBE_OCTETS = bytes([0x5A] * 16)
 STATUS_OCTETS = bytes([0xA5] * 16)
@@ -120,11 +122,11 @@ def shown(octets):
 
 @dataclass
 class Sending:
-    """What stands under an identifier: a request that was sent, or a probe, which has no number."""
+    """What stands under a place, its source port and identifier: a request that was sent, or a probe, without number."""
 
     octets: bytes
+    place: int
     number: int | None = None
-    request: Packet | None = None
     due: int = 0
     sendings: int = 0
 
@@ -147,10 +149,11 @@ class Lane:
     def __init__(self, number, home):
         self.number, self.name, self.secret = number, home["name"], home["secret"].encode()
         self.limits = {key: home.get(key, default) for key, default in DEFAULTS.items()}
-        self.book, self.last_of_key = [], {}
+        self.book, self.opening, self.last_of_key = [], 0, {}
         self.queue, self.out, self.ring = deque(), {}, deque()
         self.under = {}
-        self.answers, self.last, self.identifier = 0, 0, IDENTIFIERS - 1
+        self.places = IDENTIFIERS * self.limits["ports"]
+        self.answers, self.last, self.place = 0, 0, self.places - 1
         self.is_up, self.until, self.next_probe, self.drained = True, 0, 0, None
 
     def accept(self, moment, client, port, secret, asked, is_refused):
@@ -159,7 +162,7 @@ class Lane:
         key = client, port, asked.identifier, asked.authenticator
         before = self.last_of_key.get(key)
         if before is not None:
-            known = self.book[before]
+            known = self.book[before - self.opening]
             if known.answered is None:
                 self.last = now
                 return f"waiting {self.number} {before}"
@@ -168,8 +171,8 @@ class Lane:
                 return f"again {self.number} {before} {shown(known.response)}"
         self.refuse(asked, is_refused)
         self.last = now
-        self.last_of_key[key] = len(self.book)
-        self.queue.append(len(self.book))
+        self.last_of_key[key] = self.opening + len(self.book)
+        self.queue.append(self.last_of_key[key])
         self.book.append(Accepted(client, port, secret, asked))
         return f"new {self.number} {self.queue[-1]}"
 
@@ -200,12 +203,12 @@ class Lane:
         due = [sending for sending in by_due if sending.due <= now]
         fresh = [sending for sending in due if sending.sendings < self.limits["tries"]]
         if fresh:
-            return f"resent {shown(self.send(fresh[0], now))}"
+            return f"resent {self.send(fresh[0], now)}"
         if due:
             self.is_up, self.until, self.next_probe = False, now + self.limits["down_wait"], now
             return "down"
         if self.queue and len(by_due) < self.limits["window"]:
-            return f"sent {shown(self.send(self.first_sending(self.queue.popleft()), now))}"
+            return f"sent {self.send(self.first_sending(self.queue.popleft()), now)}"
         return f"idle {min(by_due[0].due, LAST_MOMENT)}" if by_due else "idle"
 
     def step_down(self, now):
@@ -214,37 +217,42 @@ class Lane:
             return "up"
         if self.next_probe <= now:
             self.forget_probe()
-            identifier = self.allot()
-            octets = status(identifier, PROBE_OCTETS, b"", b"", self.secret)
-            self.out[identifier] = Sending(octets)
-            self.under[identifier] = octets
+            place = self.allot()
+            octets = status(place % IDENTIFIERS, PROBE_OCTETS, b"", b"", self.secret)
+            self.out[place] = Sending(octets, place)
+            self.under[place] = octets
             self.next_probe = now + self.limits["probe_every"]
-            return f"probed {octets[0]} {octets[1]} {len(octets)}"
+            return f"probed {self.shown(octets, place).rpartition(' ')[0]}"
         return f"idle {min(self.until, self.next_probe, LAST_MOMENT)}"
 
     def allot(self):
-        """The first free identifier behind the last allotted one."""
-        behind = [(self.identifier + way) % IDENTIFIERS for way in range(1, IDENTIFIERS + 1)]
-        self.identifier = next(identifier for identifier in behind if identifier not in self.out)
-        return self.identifier
+        """The first free place behind the last allotted one."""
+        behind = ((self.place + way) % self.places for way in range(1, self.places + 1))
+        self.place = next(place for place in behind if place not in self.out)
+        return self.place
 
     def first_sending(self, number):
-        """The sending of a queued request under a new identifier, before it is sent."""
-        identifier, asked = self.allot(), self.book[number].request
-        octets = request(identifier, asked.octets[20:] + mark(self.number, number), self.secret)
-        self.out[identifier] = Sending(octets, number, asked)
-        return self.out[identifier]
+        """The sending of a queued request under a new place, before it is sent."""
+        place, asked = self.allot(), self.book[number - self.opening].request
+        octets = request(place % IDENTIFIERS, asked.octets[20:] + mark(self.number, number), self.secret)
+        self.out[place] = Sending(octets, place, number)
+        return self.out[place]
 
     def send(self, sending, now):
-        """Sends once more, and gives the octets."""
+        """Sends once more, and gives what is printed of it."""
         wait = self.limits["first_wait"] * 2**sending.sendings
         sending.sendings += 1
         sending.due = now + min(wait, LONGEST_WAIT)
-        self.under[sending.octets[1]] = sending.octets
-        return sending.octets
+        self.under[sending.place] = sending.octets
+        return self.shown(sending.octets, sending.place)
+
+    def shown(self, octets, place):
+        """A packet to the home server as it is printed: where there is more than one source port, with that."""
+        code, identifier, rest = shown(octets).split(" ", 2)
+        return f"{code} {identifier}.{place // IDENTIFIERS} {rest}" if self.limits["ports"] > 1 else shown(octets)
 
     def forget_probe(self):
-        self.out = {identifier: sending for identifier, sending in self.out.items() if sending.number is not None}
+        self.out = {place: sending for place, sending in self.out.items() if sending.number is not None}
 
     def go_up(self, now):
         self.is_up = True
@@ -252,14 +260,14 @@ class Lane:
         for sending in self.out.values():
             sending.due, sending.sendings = now, 0
 
-    def hear(self, moment, datagram, is_refused):
-        """What is printed of a datagram from the home server."""
+    def hear(self, moment, port, datagram, is_refused):
+        """What is printed of a datagram from the home server to a source port."""
         if len(self.ring) >= self.limits["ring"]:
             raise Fault("RingFull")
         reply = read(datagram)
         if reply.code != ACCOUNTING_RESPONSE:
             raise Fault("WrongCode")
-        sending = self.out.get(reply.identifier)
+        sending = self.out.get(IDENTIFIERS * port + reply.identifier)
         if sending is None:
             raise Fault("Unknown")
         if not is_signed(reply, sending.octets[4:20], self.secret):
@@ -282,12 +290,12 @@ class Lane:
             raise Fault("OutOfMemory")
         place = states[-1][1]
         attributes = reply.octets[20:place] + reply.octets[place + 12 :]
-        known = self.book[sending.number]
+        known = self.book[sending.number - self.opening]
         known.response = answer(known.request.octets, known.request.identifier, attributes, known.secret)
         known.answered = max(moment, self.last)
         self.answers += 1
         self.ring.append(known)
-        del self.out[sending.octets[1]]
+        del self.out[sending.place]
 
     def take(self):
         """What is printed of the next response for a NAS."""
@@ -298,16 +306,31 @@ class Lane:
 
     def drain(self):
         if self.drained is None:
-            self.drained = len(self.book)
+            self.drained = self.opening + len(self.book)
         return f"drain: {self.number} {self.drained}"
+
+    def turn(self, moment, is_refused):
+        """Cuts the front of the book whose requests were all answered a span ago or more, and forgets their keys."""
+        now, span = max(moment, self.last), self.limits["span"]
+        is_over = (known.answered is not None and known.answered + span <= now for known in self.book)
+        cut = sum(1 for _ in itertools.takewhile(bool, is_over))
+        if cut == 0:
+            raise Fault("NothingToTurn")
+        if is_refused:
+            raise Fault("OutOfMemory")
+        self.last = now
+        self.opening += cut
+        del self.book[:cut]
+        self.last_of_key = {key: number for key, number in self.last_of_key.items() if number >= self.opening}
+        return f"{self.number} {cut} {self.opening}"
 
     def state(self):
         """The line of the lane's counts."""
         queued, outstanding = len(self.queue), len(self.requests_out())
         mode = "open" if self.drained is None else "draining" if queued or outstanding else "done"
         watch = "up" if self.is_up else "down"
-        counts = f"accepted {len(self.book)} queued {queued} outstanding {outstanding} answered {self.answers}"
-        return f"lane {self.number} {self.name} {watch} {mode} {counts} opening 0"
+        counts = f"accepted {self.opening + len(self.book)} queued {queued} outstanding {outstanding} answered {self.answers}"
+        return f"lane {self.number} {self.name} {watch} {mode} {counts} opening {self.opening}"
 
 
 class Replay:
@@ -347,9 +370,10 @@ class Replay:
             return [f"nas: refused {fault}"]
 
     def on_home(self, words, is_refused):
-        lane = self.lanes[int(words[0])]
+        number, _, port = words[0].partition(".")
+        lane, port = self.lanes[int(number)], int(port or 0)
         try:
-            return [f"home: {lane.hear(self.moment, home_datagram(lane, words[1:]), is_refused)}"]
+            return [f"home: {lane.hear(self.moment, port, home_datagram(lane, port, words[1:]), is_refused)}"]
         except Fault as fault:
             return [f"home: dropped {fault}"]
 
@@ -361,6 +385,12 @@ class Replay:
 
     def on_drain(self, _, __):
         return [lane.drain() for lane in self.lanes]
+
+    def on_turn(self, words, is_refused):
+        try:
+            return [f"turn: {self.lanes[int(words[0])].turn(self.moment, is_refused)}"]
+        except Fault as fault:
+            return [f"turn: refused {fault}"]
 
     def on_state(self, _, __):
         return [lane.state() for lane in self.lanes]
@@ -414,13 +444,13 @@ class Replay:
         return changed(unsigned if secret is None else signed(code, number, ZEROS, attributes, secret), changes, 19)
 
 
-def home_datagram(lane, words):
-    """The octets of a home server's PACKET."""
+def home_datagram(lane, port, words):
+    """The octets of a home server's PACKET to a source port."""
     if words[0] == "raw":
         return octets_of(words[1])
     changes, words = changes_of(words)
     code, number, attributes = int(words[1]), int(words[2]), octets_of(words[3])
-    base = lane.under.get(number, bytes(20))[4:20]
+    base = lane.under.get(IDENTIFIERS * port + number, bytes(20))[4:20]
     return changed(signed(code, number, base, attributes, lane.secret), changes, 19)
 
 

@@ -1,4 +1,4 @@
--- What each call of a lane does to its answers.
+-- What each call of a lane does to its answers, and that it keeps the setup.
 use Rattle.std.proofs.Common.{◌≡◌, ℕ, ◌+◌, List, [], ◌∷◌, ◌++◌, Option, Some, None, ap}
 use Rattle.std.specs.Prelude.{Result, Ok, Err}
 use Rattle.rad_tables.specs.declared.slots.Slot.{Slot}
@@ -10,6 +10,7 @@ use Rattle.rad_lane.specs.declared.stepping.Action.{Action}
 use Rattle.rad_lane.specs.declared.stepping.Action.TheVariants.{Sent, Resent, Probed, WentDown, WentUp, Idle}
 use Rattle.rad_lane.specs.declared.watch.Watch.{Watch}
 use Rattle.rad_lane.specs.declared.watch.Watch.TheVariants.{Up as up, Down as down}
+use Rattle.rad_lane.specs.Setup.{LaneSetup}
 use Rattle.rad_lane.specs.Outstanding.{AnswerKept}
 use Rattle.rad_lane.specs.Book.{Book, moment_in}
 use Rattle.rad_lane.specs.Accepts.{Accepts}
@@ -18,9 +19,9 @@ use Rattle.rad_lane.specs.Watch.{GoesUpIfDown}
 use Rattle.rad_lane.specs.Steps.{Steps, StepsBy, StepsWhileUp, StepsWhileDown}
 use Rattle.rad_lane.specs.Hears.{HearsReply, HearsProbe}
 
--- the answers that are kept, and how many there were
-abbrev pub answers_of : Book → List AnswerKept × ℕ
-answers_of book = (book.answered, book.served)
+-- the answers that are kept, how many there were, and the setup
+abbrev pub answers_of : Book → List AnswerKept × ℕ × LaneSetup
+answers_of book = (book.answered, book.served, book.setup)
 
 pub same_by_accept : (old new : Book) (request : Request) (moment : ℕ) (result : Result Taken Refusal) (d : Datagrams) → Accepts old request moment result d new → answers_of new ≡ answers_of old
 same_by_accept old new request moment (Ok (New number)) d a = ap answers_of a.3
@@ -60,5 +61,5 @@ same_by_coming_up (down until next out) now old new c = ap answers_of c.others
 pub same_by_probe : (old new : Book) (now port : ℕ) (datagram : List ℕ) → HearsProbe old now port datagram new → answers_of new ≡ answers_of old
 same_by_probe old new now port datagram h = same_by_coming_up old.watch now _ new h.book
 
-pub one_more_by_reply : (old new : Book) (now port : ℕ) (datagram : List ℕ) (answer : AnswerKept) → HearsReply old now port datagram answer new → answers_of new ≡ (old.answered ++ answer ∷ [], old.served + 1)
+pub one_more_by_reply : (old new : Book) (now port : ℕ) (datagram : List ℕ) (answer : AnswerKept) → HearsReply old now port datagram answer new → answers_of new ≡ (old.answered ++ answer ∷ [], old.served + 1, old.setup)
 one_more_by_reply old new now port datagram answer h = same_by_coming_up old.watch now _ new h.book

@@ -1,5 +1,5 @@
 -- The outlet after each call of its lane, and the order of what was taken.
-use Rattle.std.proofs.Common.{◌≡◌, ℕ, zero, suc, ◌+◌, List, [], ◌∷◌, ◌++◌, length, refl, sym, ap, ◌∙◌, arith, add-zero, add-one, length-append, subst}
+use Rattle.std.proofs.Common.{◌≡◌, ℕ, zero, suc, ◌+◌, ◌≤◌, List, [], ◌∷◌, ◌++◌, length, refl, sym, ap, ◌∙◌, arith, add-zero, add-one, length-append, subst}
 use Rattle.std.specs.Prelude.{slice_get, slice_index_or, All, MatchOption, Result, Ok, Err, Some, IfOk, OnErr}
 use Rattle.std.specs.List.{range_with_len}
 use Rattle.std.proofs.lemmas.List.{map-append}
@@ -8,6 +8,7 @@ use Rattle.rtrb.specs.declared.errors.PopError.{PopError}
 use Rattle.rad_auth.specs.Replied.{Replied}
 use Rattle.rad_lane.specs.declared.stamp.Stamp.{Stamp}
 use Rattle.rad_lane.specs.declared.outgoing.Outgoing.{Outgoing}
+use Rattle.rad_lane.specs.Setup.{LaneSetup}
 use Rattle.rad_lane.specs.Outstanding.{AnswerKept}
 use Rattle.rad_lane.specs.Book.{Book}
 use Rattle.rad_lane.specs.Hears.{HearsReply, GoesOut}
@@ -61,8 +62,8 @@ agrees_by old new now port datagram answer outgoing h out = record {
 pub outlet_answered : (old new : Book) (now port : ℕ) (datagram : List ℕ) (answer : AnswerKept) (outgoing : Outgoing) (given : List Outgoing) → HearsReply old now port datagram answer new → GoesOut answer outgoing → IsOutlet old given → IsOutlet new (given ++ outgoing ∷ [])
 outlet_answered old new now port datagram answer outgoing given h out outlet =
     let more = one_more_by_reply old new now port datagram answer h in
-    let kept : new.answered ≡ old.answered ++ answer ∷ [] = ap (λ (a : List AnswerKept × ℕ). a.0) more in
-    let count : new.served ≡ old.served + 1 = ap (λ (a : List AnswerKept × ℕ). a.1) more in
+    let kept : new.answered ≡ old.answered ++ answer ∷ [] = ap (λ (a : List AnswerKept × ℕ × LaneSetup). a.0) more in
+    let count : new.served ≡ old.served + 1 = ap (λ (a : List AnswerKept × ℕ × LaneSetup). a.1) more in
     let next : answer.serial ≡ length given = h.keeps.serial ∙ sym outlet.served in
     let Agreed : AnswerKept → Type 0 = AgreesAtItsSerial (given ++ outgoing ∷ []) in
     let there : slice_get (given ++ outgoing ∷ []) answer.serial ≡ Some outgoing = ap (λ n. slice_get (given ++ outgoing ∷ []) n) next ∙ at_last given outgoing in
@@ -77,7 +78,17 @@ outlet_answered old new now port datagram answer outgoing given h out outlet =
 -- Nothing was answered.
 pub outlet_same : (old new : Book) (given : List Outgoing) → answers_of new ≡ answers_of old → IsOutlet old given → IsOutlet new given
 outlet_same old new given same outlet = record {
-  served = outlet.served ∙ sym (ap (λ (a : List AnswerKept × ℕ). a.1) same);
+  served = outlet.served ∙ sym (ap (λ (a : List AnswerKept × ℕ × LaneSetup). a.1) same);
   in_order = outlet.in_order;
-  agree = subst (All (AgreesAtItsSerial given)) (sym (ap (λ (a : List AnswerKept × ℕ). a.0) same)) outlet.agree;
+  agree = subst (All (AgreesAtItsSerial given)) (sym (ap (λ (a : List AnswerKept × ℕ × LaneSetup). a.0) same)) outlet.agree;
 }
+
+-- The queue has the same bound.
+bounded_by : (old new : Book) → new.setup ≡ old.setup → old.setup.limits.queue ≤ 65536 → new.setup.limits.queue ≤ 65536
+bounded_by old new kept h = subst (λ (s : LaneSetup). s.limits.queue ≤ 65536) (sym kept) h
+
+pub bounded_answered : (old new : Book) (now port : ℕ) (datagram : List ℕ) (answer : AnswerKept) → HearsReply old now port datagram answer new → old.setup.limits.queue ≤ 65536 → new.setup.limits.queue ≤ 65536
+bounded_answered old new now port datagram answer h = bounded_by old new (ap (λ (a : List AnswerKept × ℕ × LaneSetup). a.2) (one_more_by_reply old new now port datagram answer h))
+
+pub bounded_same : (old new : Book) → answers_of new ≡ answers_of old → old.setup.limits.queue ≤ 65536 → new.setup.limits.queue ≤ 65536
+bounded_same old new same h = bounded_by old new (ap (λ (a : List AnswerKept × ℕ × LaneSetup). a.2) same) h

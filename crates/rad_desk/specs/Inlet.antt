@@ -1,6 +1,7 @@
 -- What a contract sees of an inlet (own).
-use Rattle.std.specs.Prelude.{◌≡◌, ℕ, List}
-use Rattle.rtrb.specs.Ring.{received, known_items, IsPair, SameConsumer}
+use Rattle.std.specs.Prelude.{◌≡◌, ℕ, ◌<◌, ◌≤◌, List, [], ◌++◌, length, MatchOption}
+use Rattle.std.specs.Vec.{vec_capacity}
+use Rattle.rtrb.specs.Ring.{received, known_items, consumer_capacity, IsPair, SameConsumer}
 use Rattle.rad_lane.specs.declared.outgoing.Outgoing.{Outgoing}
 use Rattle.rad_desk.specs.declared.desk.Desk.{Desk}
 use Rattle.rad_desk.specs.declared.inlet.Inlet.{Inlet}
@@ -25,3 +26,22 @@ pub record SameInlet (old new : Inlet) : Type 0 where
 -- What the inlet takes is what the desk gives.
 abbrev pub AreOfOneRing : Desk → Inlet → Type 0
 AreOfOneRing desk inlet = IsPair desk.giver inlet.taker
+
+-- how many places its ring has
+abbrev pub places_of : Inlet → ℕ
+places_of inlet = consumer_capacity inlet.taker
+
+-- Nothing was taken and nothing looked at.
+pub record IsUntouched (old new : Inlet) : Type 0 where
+  pub lane : lane_of new ≡ lane_of old
+  pub taker : new.taker ≡ old.taker
+
+-- It has room for as many responses as its ring can hold.
+abbrev pub HasRoom : Inlet → Type 0
+HasRoom inlet = MatchOption inlet.room ⊥ (λ room. (room.items ≡ []) × (places_of inlet ≤ vec_capacity room))
+
+-- It takes these responses, until it sees no other, or as many as the ring can hold.
+pub record Empties (old : Inlet) (rest : List Outgoing) (new : Inlet) : Type 0 where
+  pub took : taken new ≡ taken old ++ rest
+  pub all : length rest < places_of old → seen new ≡ []
+  pub same : SameInlet old new

@@ -4,7 +4,10 @@ pub mod Inlet
 pub mod Tells
 pub mod Departures
 pub mod Lawful
+pub mod Ending
+pub mod Refusing
 pub mod Traffic
 pub mod Sends
 pub mod Continues
 pub mod Sending
+pub mod Turned

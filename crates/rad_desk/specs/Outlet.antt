@@ -1,5 +1,5 @@
 -- The outlet of a lane (own): the responses that its ring was given, beside the book of the lane.
-use Rattle.std.specs.Prelude.{◌≡◌, List, length, map as each, slice_get, All, MatchOption}
+use Rattle.std.specs.Prelude.{◌≡◌, ℕ, ◌+◌, List, length, map as each, slice_get, All, Option, Some, None, MatchOption}
 use Rattle.std.specs.List.{range_with_len}
 use Rattle.rad_lane.specs.declared.outgoing.Outgoing.{Outgoing}
 use Rattle.rad_lane.specs.Outstanding.{AnswerKept}
@@ -8,6 +8,11 @@ use Rattle.rad_lane.specs.Book.{Book}
 -- The serials of the responses are 0, 1, 2 and so on.
 abbrev pub InOrder : List Outgoing → Type 0
 InOrder responses = each (λ r. r.serial) responses ≡ range_with_len 0 (length responses)
+
+-- How many responses there are up to the last one of this serial, which begin at 0.
+abbrev pub count_to : Option ℕ → ℕ
+count_to None = 0
+count_to (Some serial) = serial + 1
 
 -- A response agrees with an answer that is kept: it goes to the same client and port, under the identifier of the same
 -- request, and it is the same response, after the same reply to the same sending.

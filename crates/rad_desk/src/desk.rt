@@ -1,18 +1,19 @@
 //! A lane with the giving end of its ring.
 
+ghost use Rattle.std.specs.Prelude.{◌≤◌};
 ghost use Rattle.std.proofs.Props.{props};
 ghost use Rattle.rtrb.specs.Ring.{sent};
 ghost use Rattle.rad_desk.specs.Outlet.{IsOutlet};
 
 use crate::inlet::Inlet;
 use crate::numbered::Numbered;
-use block_queue::PlainQueue;
-use rad_lane::{Lane, Outgoing, Record, Setup};
+use block_queue::BlockQueue;
+use rad_lane::{Lane, Leftover, Outgoing, Record, Setup};
 use rtrb::{Producer, RingBuffer};
 use std::alloc::Global;
 
 /// The queue of a lane behind its lock.
-pub type RecordQueue = PlainQueue<Record>;
+pub type RecordQueue = BlockQueue<Record>;
 
 /// Why there is no desk.
 #[derive(Clone, Copy, Debug, PartialEq, Eq)]
@@ -24,17 +25,21 @@ pub enum OpenFault {
 /// A lane and the giving end of its ring.
 ///
 /// Its type keeps that the ring was given each response that the lane served, in order of answering, and that
-/// each answer kept is the response that was given under its serial.
+/// each answer kept is the response that was given under its serial; and that the lane's queue has a bound, so that
+/// the queues of all lanes can be joined.
 #[derive(Drop)]
 pub struct Desk {
     pub(crate) lane: Lane<RecordQueue>,
     pub(crate) giver: Producer<Outgoing, Global, Numbered>,
     ghost outlet: { IsOutlet lane (sent giver) } by { Prim.hlevel props },
+    ghost bounded: { lane.setup.limits.queue ≤ 65536 },
 }
 
 impl Desk {
-    ghost use Rattle.std.specs.Prelude.{◌≡◌, [], ◌++◌, length, IfOk};
+    ghost use Rattle.std.specs.Prelude.{◌≡◌, ◌≤◌, [], ◌++◌, length, IfOk};
     ghost use Rattle.rad_lane.specs.Empty.{empty_book};
+    ghost use Rattle.rad_lane.specs.Lawful.{IsLawful};
+    ghost use Rattle.rad_lane.specs.Closes.{Leaves};
     ghost use Rattle.rad_desk.specs.Desk.{book, given, free_places, SameRing};
     ghost use Rattle.rad_desk.specs.Inlet.{lane_of, taken, seen, AreOfOneRing, SameInlet};
 
@@ -75,5 +80,15 @@ impl Desk {
         ensures inlet { SameInlet inlet.old inlet.new }
     {
         inlet.taker.slots_beside(&mut self.giver)
+    }
+
+    /// Ends the lane, and gives what its book holds. The giving end of its ring goes.
+    pub(crate) fn close(self) -> Leftover<RecordQueue>
+        ensures leaves { Leaves (book self) result }
+        ensures lawful { IsLawful (book self) }
+        ensures bounded { (book self).setup.limits.queue ≤ 65536 }
+    {
+        let Desk { lane, giver: _ } = self;
+        lane.close()
     }
 }

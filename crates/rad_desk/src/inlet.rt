@@ -1,12 +1,13 @@
 //! The end of a ring from which responses are taken.
 
+ghost use Rattle.std.specs.Prelude.{◌≡◌, length};
 ghost use Rattle.rtrb.specs.Ring.{received};
-ghost use Rattle.rad_desk.specs.Outlet.{InOrder};
+ghost use Rattle.rad_desk.specs.Outlet.{InOrder, count_to};
 
 use crate::numbered::Numbered;
 use rad_lane::Outgoing;
 use rtrb::Consumer;
-use std::alloc::Global;
+use std::alloc::{AllocError, Global};
 
 /// The end of a lane's ring from which the front takes responses.
 ///
@@ -15,14 +16,19 @@ use std::alloc::Global;
 pub struct Inlet {
     lane: u16,
     pub(crate) taker: Consumer<Outgoing, Global, Numbered>,
+    /// The serial of the response that was taken last.
+    last: Option<u64>,
+    /// Where the responses that are left go at the end. It is made when it is needed.
+    room: Option<Vec<Outgoing>>,
     ghost in_order: { InOrder (received taker) },
+    ghost counted: { length (received taker) ≡ count_to last },
 }
 
 impl Inlet {
-    ghost use Rattle.std.specs.Prelude.{◌≡◌, ◌<◌, ◌∷◌, ◌++◌, [], length, IsSome, IfSome, IfNone};
+    ghost use Rattle.std.specs.Prelude.{◌≡◌, ◌<◌, ◌↔◌, ◌∷◌, ◌++◌, [], length, IsTrue, IsSome, IfSome, IfNone, OnOk};
     ghost use mathlib.Core.List.{IsPrefix};
     ghost use Rattle.rad_desk.specs.Outlet.{InOrder};
-    ghost use Rattle.rad_desk.specs.Inlet.{lane_of, taken, seen, SameInlet};
+    ghost use Rattle.rad_desk.specs.Inlet.{lane_of, taken, seen, SameInlet, IsUntouched, HasRoom, Empties};
 
     /// An inlet that took nothing yet.
     pub(crate) fn new(lane: u16, taker: Consumer<Outgoing, Global, Numbered>) -> Inlet
@@ -30,7 +36,12 @@ impl Inlet {
         ensures lane { lane_of result ≡ lane }
         ensures taker { result.taker ≡ taker }
     {
-        Inlet { lane, taker }
+        Inlet {
+            lane,
+            taker,
+            last: None,
+            room: None,
+        }
     }
 
     /// The number of the lane.
@@ -44,12 +55,57 @@ impl Inlet {
     pub fn take(&mut self) -> Option<Outgoing>
         ensures some { IfSome result (λ response. taken self.new ≡ taken self.old ++ response ∷ []) }
         ensures none { IfNone result (taken self.new ≡ taken self.old) }
+        ensures nothing { IfNone result (seen self.new ≡ []) }
         ensures serial { IfSome result (λ response. response.serial ≡ length (taken self.old)) }
         ensures seen { IfSome result (λ response. IsPrefix (seen self.old) (response ∷ seen self.new)) }
         ensures succeeds { 0 < length (seen self.old) → IsSome result }
         ensures same { SameInlet self.old self.new }
         ensures in_order { InOrder (taken self.new) }
     {
-        self.taker.pop().ok()
+        match self.taker.pop() {
+            Ok(response) => {
+                self.last = Some(response.serial);
+                Some(response)
+            }
+            Err(_) => None,
+        }
+    }
+
+    /// Whether it took so many responses.
+    pub(crate) fn has_taken(&self, count: u64) -> bool
+        ensures { IsTrue result ↔ (length (taken self.now) ≡ count) }
+    {
+        match self.last {
+            Some(serial) => count > 0 && serial == count - 1,
+            None => count == 0,
+        }
+    }
+
+    /// Makes room for as many responses as its ring can hold.
+    ///
+    /// # Errors
+    ///
+    /// Where memory is refused.
+    pub(crate) fn make_room(&mut self, alloc: Global) -> Result<(), AllocError>
+        ensures untouched { IsUntouched self.old self.new }
+        ensures room { OnOk result (HasRoom self.new) }
+    {
+        self.room = Some(Vec::with_capacity(alloc, self.taker.capacity())?);
+        Ok(())
+    }
+
+    /// Takes all that is left, into the room that was made for it.
+    pub(crate) fn empty(&mut self) -> Vec<Outgoing>
+        requires { HasRoom self.old }
+        ensures { Empties self.old result.items self.new }
+    {
+        let mut rest = self.room.take().unwrap();
+        for _ in 0..self.taker.capacity() {
+            match self.take() {
+                Some(response) => rest.push_reserved(response),
+                None => return rest,
+            }
+        }
+        rest
     }
 }

@@ -11,7 +11,9 @@
 #![tactic(auto)]
 
 mod agreeing;
+mod closing;
 mod desk;
+mod ending;
 mod front;
 mod gate;
 mod hearing;
@@ -20,12 +22,15 @@ mod lanes;
 pub mod laws;
 mod numbered;
 mod proxy;
+mod report;
 mod tally;
 #[cfg(test)]
 mod tests;
+mod turning;
 mod wire;
 mod working;
 
+pub use closing::CloseFault;
 pub use desk::OpenFault;
 pub use front::front_worker;
 pub use gate::{Call, Gate, Go, Note, Worker};
@@ -33,5 +38,6 @@ pub use hearing::{DeskFault, Told};
 pub use inlet::Inlet;
 pub use lanes::lane_worker;
 pub use proxy::{Proxy, open};
+pub use report::{LaneEnd, Report, Rest};
 pub use tally::Tally;
 pub use wire::{Delivery, Received, Traffic, Wire};

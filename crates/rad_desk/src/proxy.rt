@@ -29,7 +29,7 @@ const TRIES: u32 = 2000;
 /// A contract sees how many lanes there are.
 #[derive(Drop)]
 pub struct Proxy {
-    desks: Vec<Mutex<Desk>>,
+    pub(crate) desks: Vec<Mutex<Desk>>,
 }
 
 impl Model for Proxy {
@@ -157,7 +157,7 @@ impl Proxy {
     }
 
     /// Holds a lane. It tries for a while before it sleeps.
-    fn lock(&self, rt: &impl Wait, lane: u16) -> MutexGuard<'_, Desk>
+    pub(crate) fn lock(&self, rt: &impl Wait, lane: u16) -> MutexGuard<'_, Desk>
         requires { lane < self.now }
     {
         let desk = &self.desks[usize::from(lane)];

@@ -1,9 +1,12 @@
 //! What no clause says: that a desk takes requests, sends them and hears of them where memory is ample, what it says
 //! when its ring is full, that a call through a lock reaches its own lane, and the octets of another implementation.
 
+mod closing;
 mod memory;
 mod octets;
+mod packets;
 mod test_desk;
+mod threads;
 mod through_locks;
 mod workers;
 

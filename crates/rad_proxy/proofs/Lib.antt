@@ -1,4 +1,3 @@
 pub mod Among
 pub mod HexLemmas
 pub mod LastSent
-pub mod Waiting

@@ -1,11 +1,9 @@
 pub mod Configurations
 pub mod Faults
-pub mod Hearing
 pub mod Hex
-pub mod Lanes
+pub mod LeftOver
 pub mod Lines
 pub mod Names
-pub mod Outlets
 pub mod PacketText
 pub mod Path
 pub mod Pieces

@@ -2,17 +2,16 @@
 use Rattle.std.specs.Prelude.{ℕ, List, ◌++◌, codes, Option, Some, None, Result, Ok, Err}
 use Rattle.std.specs.Fmt.{decimal}
 use Rattle.rad_lane.specs.declared.accepting.Taken.TheVariants.{New, Waiting, Again}
-use Rattle.rad_lane.specs.declared.accepting.Refusal.TheVariants as refusal
 use Rattle.rad_lane.specs.declared.counts.Counts.{Counts}
 use Rattle.rad_lane.specs.declared.stepping.Action.{Action}
 use Rattle.rad_lane.specs.declared.stepping.Action.TheVariants.{Sent, Resent, Probed, WentDown, WentUp, Idle}
 use Rattle.rad_lane.specs.declared.outgoing.Outgoing.{Outgoing}
 use Rattle.rad_realms.specs.Printed.{dropped_text}
-use Rattle.rad_proxy.specs.Names.{address_text, endpoint_text, home_fault_name, refusal_name, watch_name, mode_name}
+use Rattle.rad_proxy.specs.Names.{address_text, endpoint_text, desk_fault_name, refusal_name, watch_name, mode_name}
 use Rattle.rad_proxy.specs.PacketText.{head_text, packet_text}
-use Rattle.rad_proxy.specs.declared.hearing.HomeFault.{HomeFault}
-use Rattle.rad_proxy.specs.declared.hearing.Told.{Told}
-use Rattle.rad_proxy.specs.declared.hearing.Told.TheVariants.{Answer, ProbeAnswered}
+use Rattle.rad_desk.specs.declared.hearing.DeskFault.{DeskFault}
+use Rattle.rad_desk.specs.declared.hearing.Told.{Told}
+use Rattle.rad_desk.specs.declared.hearing.Told.TheVariants.{Answer, ProbeAnswered}
 use Rattle.rad_proxy.specs.declared.lines.DrainLine.{DrainLine}
 use Rattle.rad_proxy.specs.declared.lines.StateLine.{StateLine}
 use Rattle.rad_proxy.specs.declared.lines.EndLine.{EndLine}
@@ -21,7 +20,7 @@ use Rattle.rad_proxy.specs.declared.lines.ListeningLine.{ListeningLine}
 use Rattle.rad_proxy.specs.declared.path.Given.{Given}
 use Rattle.rad_proxy.specs.declared.path.Given.TheVariants.{Taken, Answered}
 use Rattle.rad_proxy.specs.declared.path.PathFault.{PathFault}
-use Rattle.rad_proxy.specs.declared.path.PathFault.TheVariants.{Dropped, WrongLane, Refused}
+use Rattle.rad_proxy.specs.declared.path.PathFault.TheVariants.{Dropped, Refused}
 
 -- A lane with a number: of a request, or of a response.
 abbrev pub request_text : ℕ → ℕ → List ℕ
@@ -35,7 +34,6 @@ nas_line (Ok (Taken lane (Waiting number))) written = codes "nas: waiting " ++ r
 nas_line (Ok (Taken lane (Again number))) written =
     codes "nas: again " ++ request_text lane number ++ codes " " ++ packet_text written
 nas_line (Err (Dropped reason)) written = codes "nas: dropped " ++ dropped_text reason
-nas_line (Err WrongLane) written = codes "nas: refused " ++ refusal_name refusal.WrongLane
 nas_line (Err (Refused reason)) written = codes "nas: refused " ++ refusal_name reason
 
 -- What a step did, with the octets of the packet that it gave to be sent.
@@ -49,10 +47,10 @@ step_line (Idle None) sent = codes "step: idle"
 step_line (Idle (Some next)) sent = codes "step: idle " ++ decimal next
 
 -- What became of a datagram of a lane's home server.
-abbrev pub home_line : ℕ → Result Told HomeFault → List ℕ
+abbrev pub home_line : ℕ → Result Told DeskFault → List ℕ
 home_line lane (Ok (Answer serial)) = codes "home: answer " ++ request_text lane serial
 home_line lane (Ok ProbeAnswered) = codes "home: probe"
-home_line lane (Err fault) = codes "home: dropped " ++ home_fault_name fault
+home_line lane (Err fault) = codes "home: dropped " ++ desk_fault_name fault
 
 -- To whom a response goes: an address and a port.
 abbrev pub receiver_text : List ℕ → ℕ → List ℕ
@@ -79,10 +77,15 @@ state_line line =
     ++ (watch_name line.counts.up ++ codes " " ++ mode_name line.counts.draining line.counts.queued line.counts.outstanding
     ++ codes " " ++ counts_text line.counts)
 
+-- How many responses were not taken, where that is known.
+abbrev pub untaken_text : Option ℕ → List ℕ
+untaken_text (Some count) = codes "untaken " ++ decimal count
+untaken_text None = codes "untaken unknown"
+
 abbrev pub end_line : EndLine → List ℕ
 end_line line =
-    codes "end: queued " ++ decimal line.queued ++ codes " outstanding " ++ decimal line.outstanding
-    ++ codes " untaken " ++ decimal line.untaken
+    (codes "end: queued " ++ decimal line.queued ++ codes " outstanding " ++ decimal line.outstanding ++ codes " ")
+    ++ untaken_text line.untaken
 
 abbrev pub count_line : CountLine → List ℕ
 count_line line =

@@ -7,8 +7,8 @@ use Rattle.rad_lane.specs.declared.accepting.Refusal.{Refusal}
 use Rattle.rad_lane.specs.declared.accepting.Refusal.TheVariants.{Draining, BookFull, QueueFull, TooLong, OutOfMemory, WrongLane}
 use Rattle.rad_lane.specs.declared.hearing.HearFault.{HearFault}
 use Rattle.rad_lane.specs.declared.hearing.HearFault.TheVariants as hear
-use Rattle.rad_proxy.specs.declared.hearing.HomeFault.{HomeFault}
-use Rattle.rad_proxy.specs.declared.hearing.HomeFault.TheVariants as home
+use Rattle.rad_desk.specs.declared.hearing.DeskFault.{DeskFault}
+use Rattle.rad_desk.specs.declared.hearing.DeskFault.TheVariants as desk
 
 -- An IPv4 address in dotted decimal.
 abbrev pub address_text : List ℕ → List ℕ
@@ -37,9 +37,9 @@ hear_fault_name hear.MessageAuthenticatorHere = codes "MessageAuthenticatorHere"
 hear_fault_name hear.NoProxyState = codes "NoProxyState"
 hear_fault_name hear.OutOfMemory = codes "OutOfMemory"
 
-abbrev pub home_fault_name : HomeFault → List ℕ
-home_fault_name home.RingFull = codes "RingFull"
-home_fault_name (home.Unheard fault) = hear_fault_name fault
+abbrev pub desk_fault_name : DeskFault → List ℕ
+desk_fault_name desk.RingFull = codes "RingFull"
+desk_fault_name (desk.Lane fault) = hear_fault_name fault
 
 -- Whether a home server is up.
 abbrev pub watch_name : Bool → List ℕ

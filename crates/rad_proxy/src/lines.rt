@@ -2,11 +2,11 @@
 
 ghost use Rattle.std.specs.Prelude.{◌≡◌, ◌≤◌, length};
 
-use crate::hearing::{HomeFault, Told};
-use crate::names::{AddressText, EndpointText, mode_name, refusal_name, watch_name};
+use crate::names::{AddressText, DeskFaultText, EndpointText, mode_name, refusal_name, watch_name};
 use crate::packet_text::PacketText;
 use crate::path::{Given, PathFault};
 use rad_auth::Reply;
+use rad_desk::{DeskFault, Told};
 use rad_lane::{Action, Counts, Outgoing, Taken};
 use rad_realms::Endpoint;
 use std::fmt;
@@ -31,7 +31,7 @@ pub struct StepLine<'a> {
 #[derive(Clone, Copy)]
 pub struct HomeLine {
     pub lane: u16,
-    pub outcome: Result<Told, HomeFault>,
+    pub outcome: Result<Told, DeskFault>,
 }
 
 /// The response that was taken of those that wait at a lane, where one waited.
@@ -68,8 +68,8 @@ pub struct EndLine {
     pub queued: usize,
     /// How many requests were sent and not answered.
     pub outstanding: usize,
-    /// How many responses were not taken.
-    pub untaken: usize,
+    /// How many responses were not taken, where that is known.
+    pub untaken: Option<usize>,
 }
 
 /// How many clients, home servers and realms a configuration has.
@@ -87,13 +87,13 @@ pub struct ListeningLine {
 }
 
 impl EndLine {
-    ghost use Rattle.std.specs.Prelude.{◌≡◌, ◌↔◌, IsTrue};
+    ghost use Rattle.std.specs.Prelude.{◌≡◌, ◌↔◌, IsTrue, Some};
 
-    /// Whether nothing is left.
+    /// Whether it is known that nothing is left.
     pub fn is_clean(&self) -> bool
-        ensures { IsTrue result ↔ ((self.now.queued ≡ 0) × (self.now.outstanding ≡ 0) × (self.now.untaken ≡ 0)) }
+        ensures { IsTrue result ↔ ((self.now.queued ≡ 0) × (self.now.outstanding ≡ 0) × (self.now.untaken ≡ Some 0)) }
     {
-        self.queued == 0 && self.outstanding == 0 && self.untaken == 0
+        self.queued == 0 && self.outstanding == 0 && self.untaken == Some(0)
     }
 }
 
@@ -115,7 +115,6 @@ impl fmt::Display for NasLine<'_> {
                 write!(f, "nas: again {lane} {number} {written}")
             }
             Err(PathFault::Dropped(dropped)) => write!(f, "nas: dropped {dropped}"),
-            Err(PathFault::WrongLane) => write!(f, "nas: refused WrongLane"),
             Err(PathFault::Refused(refusal)) => {
                 let refusal = refusal_name(refusal);
                 write!(f, "nas: refused {refusal}")
@@ -161,7 +160,10 @@ impl fmt::Display for HomeLine {
         match self.outcome {
             Ok(Told::Answer(serial)) => write!(f, "home: answer {lane} {serial}"),
             Ok(Told::ProbeAnswered) => write!(f, "home: probe"),
-            Err(fault) => write!(f, "home: dropped {fault}"),
+            Err(fault) => {
+                let fault = DeskFaultText(fault);
+                write!(f, "home: dropped {fault}")
+            }
         }
     }
 }
@@ -253,11 +255,11 @@ impl fmt::Display for EndLine {
     fn fmt<W: fmt::Write>(&self, f: &mut fmt::Formatter<W>) -> fmt::Result {
         let queued = self.queued;
         let outstanding = self.outstanding;
-        let untaken = self.untaken;
-        write!(
-            f,
-            "end: queued {queued} outstanding {outstanding} untaken {untaken}"
-        )
+        write!(f, "end: queued {queued} outstanding {outstanding} ")?;
+        match self.untaken {
+            Some(untaken) => write!(f, "untaken {untaken}"),
+            None => write!(f, "untaken unknown"),
+        }
     }
 }
 

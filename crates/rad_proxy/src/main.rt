@@ -9,14 +9,12 @@ mod commands;
 mod configuration;
 mod events;
 mod faults;
-mod hearing;
 mod hex;
-mod lanes;
+mod left_over;
 mod lines;
 mod loading;
 mod logging;
 mod names;
-mod outlets;
 mod packet_text;
 mod path;
 mod pieces;
@@ -78,7 +76,7 @@ where
     let words = read_arguments(rt)?;
     match read_words(alloc, words.as_slice())? {
         Task::Replay => {
-            let end = replay(alloc, rt.reader(), io::writer(rt))?;
+            let end = replay(rt, alloc, rt.reader(), io::writer(rt))?;
             Ok(status_at(&end))
         }
         Task::Check(file) => {

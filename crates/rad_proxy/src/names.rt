@@ -3,7 +3,7 @@
 ghost use Rattle.std.specs.Prelude.{◌≡◌};
 ghost use Rattle.rad_proxy.specs.Names.{watch_name as the_watch_name, mode_name as the_mode_name, refusal_name as the_refusal_name};
 
-use crate::hearing::HomeFault;
+use rad_desk::DeskFault;
 use rad_lane::{Counts, HearFault, Refusal};
 use rad_realms::Endpoint;
 use std::fmt;
@@ -11,6 +11,10 @@ use std::fmt;
 /// An IPv4 address in dotted decimal.
 #[derive(Clone, Copy)]
 pub struct AddressText(pub [u8; 4]);
+
+/// Why a home server's datagram is not heard.
+#[derive(Clone, Copy)]
+pub struct DeskFaultText(pub DeskFault);
 
 /// An IPv4 address in dotted decimal, with a UDP port.
 #[derive(Clone, Copy, Debug)]
@@ -77,16 +81,16 @@ impl fmt::Display for EndpointText {
     }
 }
 
-impl fmt::Display for HomeFault {
+impl fmt::Display for DeskFaultText {
     ghost use Rattle.std.specs.Prelude.{Some};
-    ghost use Rattle.rad_proxy.specs.Names.{home_fault_name};
+    ghost use Rattle.rad_proxy.specs.Names.{desk_fault_name};
 
-    ghost output = { λ fault. Some (home_fault_name fault) };
+    ghost output = { λ fault. Some (desk_fault_name fault.0) };
 
     fn fmt<W: fmt::Write>(&self, f: &mut fmt::Formatter<W>) -> fmt::Result {
-        match *self {
-            HomeFault::RingFull => write!(f, "RingFull"),
-            HomeFault::Unheard(fault) => {
+        match self.0 {
+            DeskFault::RingFull => write!(f, "RingFull"),
+            DeskFault::Lane(fault) => {
                 let fault = HearFaultText(fault);
                 write!(f, "{fault}")
             }

@@ -9,6 +9,7 @@ use crate::script::Script;
 use rad_realms::ConfigFault;
 use std::alloc::Global;
 use std::io::{BufWriter, ErrorKind, Read, Write};
+use std::sync::Wait;
 
 /// The most octets of the input.
 const MOST_INPUT: u64 = 16_777_216;
@@ -21,7 +22,8 @@ const SEPARATOR: &[u8] = b"%%";
 /// # Errors
 ///
 /// The first fault, once the answers of the events before it are written.
-pub fn replay<R: Read + Drop, W: Write + Drop>(
+pub fn replay<T: Wait, R: Read + Drop, W: Write + Drop>(
+    rt: &T,
     alloc: Global,
     reader: R,
     writer: W,
@@ -39,11 +41,11 @@ pub fn replay<R: Read + Drop, W: Write + Drop>(
         Ok(output) => output,
         Err(_) => return Err(Fault::Memory),
     };
-    let mut script = match Script::new(alloc, config) {
+    let script = match Script::new(alloc, config) {
         Ok(script) => script,
         Err(_) => return Err(Fault::Memory),
     };
-    let ran = script.run(events, &mut output);
+    let ran = script.run(rt, events, &mut output);
     if output.flush().is_err() {
         return Err(Fault::Output);
     }

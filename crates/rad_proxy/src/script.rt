@@ -1,24 +1,25 @@
 //! A script of events that runs over the proxy.
 
-ghost use Rattle.std.specs.Prelude.{◌≤◌, length};
-
 use crate::building::{Sender, build};
 use crate::events::{Event, Packet};
 use crate::faults::{Fault, Halt};
-use crate::hearing::hear_at;
-use crate::lanes::{HomeLane, left_over, set_up, step};
+use crate::left_over::close;
 use crate::lines::{DrainLine, EndLine, HomeLine, NasLine, StateLine, StepLine, TakeLine};
-use crate::outlets::{Outlet, set_up_outlets, take_at};
 use crate::packet_text::PacketText;
 use crate::path::{Arrival, take_in};
 use crate::pieces::Pieces;
 use crate::sent::{LastSent, keep_sent};
+use rad_desk::{Inlet, OpenFault, Proxy, open};
 use rad_packet::Datagram;
 use rad_realms::Config;
 use rad_tables::Moment;
 use std::alloc::{AllocError, Global};
 use std::fmt::Display;
 use std::io::Write;
+use std::sync::Wait;
+
+/// The source port that a home server's datagrams come to.
+const SOURCE_PORT: u16 = 0;
 
 /// The octets that every step gets in place of random ones.
 const RANDOM: [u8; 16] = [0x5a; 16];
@@ -28,14 +29,13 @@ const RANDOM: [u8; 16] = [0x5a; 16];
 pub struct Script {
     alloc: Global,
     config: Config,
+    proxy: Proxy,
     /// One for each home server, in the order of the configuration.
-    lanes: Vec<HomeLane>,
-    outlets: Vec<Outlet>,
+    inlets: Vec<Inlet>,
     /// What each lane sent last.
     sent: Vec<LastSent>,
     moment: Moment,
     datagram: Vec<u8>,
-    ghost beside: { length lanes.items ≤ length outlets.items },
 }
 
 impl Script {
@@ -45,17 +45,19 @@ impl Script {
     ///
     /// Where memory is refused.
     pub fn new(alloc: Global, config: Config) -> Result<Self, AllocError> {
-        let lanes = set_up(alloc, &config)?;
-        let outlets = set_up_outlets(alloc, &config)?;
-        let mut sent = Vec::with_capacity(alloc, lanes.len())?;
-        for _ in &lanes {
+        let (proxy, inlets) = match open(alloc, &config) {
+            Ok(opened) => opened,
+            Err(OpenFault::OutOfMemory) => return Err(AllocError),
+        };
+        let mut sent = Vec::with_capacity(alloc, inlets.len())?;
+        for _ in &inlets {
             sent.push(LastSent::new(alloc)?)?;
         }
         Ok(Script {
             alloc,
             config,
-            lanes,
-            outlets,
+            proxy,
+            inlets,
             sent,
             moment: Moment::new(0).unwrap(),
             datagram: Vec::new(alloc),
@@ -67,16 +69,21 @@ impl Script {
     /// # Errors
     ///
     /// The first event that has no answer, `Memory` or `Output`; the answers before it are written.
-    pub fn run<W: Write>(&mut self, events: &[u8], output: &mut W) -> Result<EndLine, Fault> {
+    pub fn run<R: Wait, W: Write>(
+        mut self,
+        rt: &R,
+        events: &[u8],
+        output: &mut W,
+    ) -> Result<EndLine, Fault> {
         for (index, line) in Pieces::new(events, b'\n').enumerate() {
             if line.is_empty() || line[0] == b'#' {
                 continue;
             }
-            if let Err(halt) = self.answer(line, output) {
+            if let Err(halt) = self.answer(rt, line, output) {
                 return Err(halt.at_line(index + 1));
             }
         }
-        let end = left_over(&self.lanes, &self.outlets);
+        let end = close(self.alloc, self.proxy, self.inlets)?;
         match print(output, &end) {
             Ok(()) => Ok(end),
             Err(_) => Err(Fault::Output),
@@ -84,7 +91,12 @@ impl Script {
     }
 
     /// Writes the answer of one event.
-    fn answer<W: Write>(&mut self, line: &[u8], output: &mut W) -> Result<(), Halt> {
+    fn answer<R: Wait, W: Write>(
+        &mut self,
+        rt: &R,
+        line: &[u8],
+        output: &mut W,
+    ) -> Result<(), Halt> {
         match Event::parse(line) {
             Some(
                 Event::Nas {
@@ -92,13 +104,13 @@ impl Script {
                     port,
                     packet,
                 },
-            ) => self.nas(address, port, &packet, output),
-            Some(Event::Home { lane, packet }) => self.home(lane, &packet, output),
+            ) => self.nas(rt, address, port, &packet, output),
+            Some(Event::Home { lane, packet }) => self.home(rt, lane, &packet, output),
             Some(Event::Take { lane }) => self.take(lane, output),
-            Some(Event::Step { lane }) => self.step(lane, output),
+            Some(Event::Step { lane }) => self.step(rt, lane, output),
             Some(Event::At { milliseconds }) => self.set_moment(milliseconds),
-            Some(Event::Drain) => self.drain(output),
-            Some(Event::State) => self.state(output),
+            Some(Event::Drain) => self.drain(rt, output),
+            Some(Event::State) => self.state(rt, output),
             None => Err(Halt::Malformed),
         }
     }
@@ -115,8 +127,9 @@ impl Script {
     }
 
     /// Writes what a NAS's datagram comes to.
-    fn nas<W: Write>(
+    fn nas<R: Wait, W: Write>(
         &mut self,
+        rt: &R,
         address: [u8; 4],
         port: u16,
         packet: &Packet<'_>,
@@ -135,9 +148,10 @@ impl Script {
             moment: self.moment,
         };
         let outcome = take_in(
+            rt,
             self.alloc,
             &self.config,
-            &mut self.lanes,
+            &self.proxy,
             arrival,
             &mut written,
         );
@@ -146,21 +160,21 @@ impl Script {
     }
 
     /// Writes what a lane's step does.
-    fn step<W: Write>(&mut self, lane: u16, output: &mut W) -> Result<(), Halt> {
-        let mut sent = Datagram::new();
-        match step(&mut self.lanes, lane, self.moment, RANDOM, &mut sent) {
-            Some(action) => {
-                keep_sent(&mut self.sent, lane, &action, &sent);
-                let sent = PacketText::new(sent.bytes());
-                print(output, &StepLine { action, sent })
-            }
-            None => Err(Halt::Malformed),
+    fn step<R: Wait, W: Write>(&mut self, rt: &R, lane: u16, output: &mut W) -> Result<(), Halt> {
+        if lane >= self.proxy.lanes() {
+            return Err(Halt::Malformed);
         }
+        let mut sent = Datagram::new();
+        let action = self.proxy.step(rt, lane, self.moment, RANDOM, &mut sent);
+        keep_sent(&mut self.sent, lane, &action, &sent);
+        let sent = PacketText::new(sent.bytes());
+        print(output, &StepLine { action, sent })
     }
 
     /// Writes what a datagram of a lane's home server comes to.
-    fn home<W: Write>(
+    fn home<R: Wait, W: Write>(
         &mut self,
+        rt: &R,
         lane: u16,
         packet: &Packet<'_>,
         output: &mut W,
@@ -177,47 +191,50 @@ impl Script {
             Sender::Home(home.secret(), sent),
             &mut self.datagram,
         )?;
-        let outcome = hear_at(
+        if lane >= self.proxy.lanes() {
+            return Err(Halt::Malformed);
+        }
+        let outcome = self.proxy.hear(
+            rt,
             self.alloc,
-            &mut self.lanes,
-            &mut self.outlets,
             lane,
             self.moment,
+            SOURCE_PORT,
             self.datagram.as_slice(),
         );
-        match outcome {
-            Some(outcome) => print(output, &HomeLine { lane, outcome }),
-            None => Err(Halt::Malformed),
-        }
+        print(output, &HomeLine { lane, outcome })
     }
 
     /// Takes a lane's first response that waits, and writes it.
     fn take<W: Write>(&mut self, lane: u16, output: &mut W) -> Result<(), Halt> {
-        match take_at(&mut self.outlets, lane) {
-            Some(taken) => print(output, &TakeLine { taken }),
-            None => Err(Halt::Malformed),
-        }
+        let Some(inlet) = self.inlets.get_mut(usize::from(lane)) else {
+            return Err(Halt::Malformed);
+        };
+        let taken = inlet.take();
+        print(output, &TakeLine { taken })
     }
 
     /// Drains each lane, and writes how many requests it had accepted.
-    fn drain<W: Write>(&mut self, output: &mut W) -> Result<(), Halt> {
-        for (lane, home) in self.lanes.iter_mut().enumerate() {
-            let count = home.drain();
+    fn drain<R: Wait, W: Write>(&self, rt: &R, output: &mut W) -> Result<(), Halt> {
+        for lane in 0..self.proxy.lanes() {
+            let count = self.proxy.drain(rt, lane);
+            let lane = usize::from(lane);
             print(output, &DrainLine { lane, count })?;
         }
         Ok(())
     }
 
     /// Writes how each lane stands.
-    fn state<W: Write>(&self, output: &mut W) -> Result<(), Halt> {
-        for (lane, home) in self.lanes.iter().enumerate() {
-            let Some(entry) = self.config.homes().get(lane) else {
+    fn state<R: Wait, W: Write>(&self, rt: &R, output: &mut W) -> Result<(), Halt> {
+        for number in 0..self.proxy.lanes() {
+            let lane = usize::from(number);
+            let Some(home) = self.config.homes().get(lane) else {
                 return Ok(());
             };
             let line = StateLine {
                 lane,
-                name: entry.name(),
-                counts: home.counts(),
+                name: home.name(),
+                counts: self.proxy.counts(rt, number),
             };
             print(output, &line)?;
         }

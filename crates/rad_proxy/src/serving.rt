@@ -5,6 +5,7 @@ ghost use denote.Param.Send.{IsSend, IsSync};
 use crate::attending::Attendant;
 use crate::commands::{Command, Commands};
 use crate::faults::Fault;
+use crate::left_over::close;
 use crate::lines::{DrainLine, EndLine, ListeningLine, StateLine};
 use crate::names::EndpointText;
 use crate::sockets::Sockets;
@@ -15,7 +16,7 @@ use rad_desk::{Gate, Inlet, OpenFault, Proxy, Wire, Worker, front_worker, lane_w
 use rad_realms::Config;
 use std::alloc::{AllocError, Global};
 use std::fmt::Display;
-use std::io::{self, ErrorKind, Read, Write};
+use std::io::{BufWriter, ErrorKind, Read, Write};
 use std::net::{Net, UdpSocket};
 use std::random::RandomSource;
 use std::sync::{Arc, Wait, WaitMethods};
@@ -62,7 +63,7 @@ pub fn run<R, G, L, I, O>(
     gate: &G,
     log: &L,
     reader: I,
-    mut writer: O,
+    writer: O,
 ) -> Result<EndLine, Fault>
 where
     R: Clock + Net + RandomSource + Threads + Wait + Sync,
@@ -71,6 +72,9 @@ where
     I: Read + Drop,
     O: Write + Drop,
 {
+    let Ok(mut writer) = BufWriter::new(alloc, writer) else {
+        return Err(Fault::Memory);
+    };
     let sockets = Sockets::bind(rt, alloc, config)?;
     let (wires, bells) = make_wires(rt, alloc, config, sockets)?;
     let listening = ListeningLine {
@@ -124,7 +128,7 @@ where
         attendant: &attendant,
     };
     let (inlets, mut writer) = work(service, wires, inlets, reader, writer)?;
-    let end = end_of(rt, &proxy, inlets);
+    let end = close(alloc, proxy, inlets)?;
     print(&mut writer, &end)?;
     Ok(end)
 }
@@ -371,28 +375,6 @@ where
         }
     }
     true
-}
-
-/// What is left in the lanes and the inlets.
-fn end_of(rt: &impl Wait, proxy: &Proxy, inlets: Vec<Inlet>) -> EndLine {
-    let mut end = EndLine {
-        queued: 0,
-        outstanding: 0,
-        untaken: 0,
-    };
-    for lane in 0..proxy.lanes() {
-        let counts = proxy.counts(rt, lane);
-        end.queued = end.queued.saturating_add(counts.queued);
-        end.outstanding = end.outstanding.saturating_add(counts.outstanding);
-    }
-    for mut inlet in inlets {
-        for _ in 0..4096 {
-            if inlet.take().is_some() {
-                end.untaken = end.untaken.saturating_add(1);
-            }
-        }
-    }
-    end
 }
 
 /// The wires over these sockets, whose moments count from now, and their bells, the front's first.

@@ -1,7 +1,6 @@
 //! What the workers note, as log lines: an event and what belongs to it, as `event=down home=h1`.
 
-use crate::hearing::HomeFault;
-use crate::names::{AddressText, refusal_name};
+use crate::names::{AddressText, DeskFaultText, refusal_name};
 use log::{Log, info, warn};
 use rad_desk::{DeskFault, Note, Worker};
 use rad_realms::{Config, Dropped, Endpoint};
@@ -64,9 +63,6 @@ fn tell_dropped<L: Log>(log: &L, from: PeerText, reason: Dropped) {
 
 /// Logs that a datagram of a home server was dropped.
 fn tell_unheard<L: Log>(log: &L, home: &str, fault: DeskFault) {
-    let reason = match fault {
-        DeskFault::RingFull => HomeFault::RingFull,
-        DeskFault::Lane(fault) => HomeFault::Unheard(fault),
-    };
+    let reason = DeskFaultText(fault);
     info!(log; "event=unheard home={home} reason=\"{reason}\"");
 }

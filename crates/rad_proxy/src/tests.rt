@@ -1,5 +1,8 @@
 //! What no contract says: the octets that a run writes, whatever reads and writes do.
 
+mod octets;
+mod serving;
+
 use crate::check_command::check_text;
 use crate::faults::Fault;
 use crate::lines::EndLine;
@@ -7,6 +10,7 @@ use crate::replaying::replay;
 use crate::words::{Task, read_words};
 use std::alloc::{AllocError, Global};
 use std::io::{Error, ErrorKind, Read, Result, Write};
+use std::sync::Wait;
 use std::test::Fail;
 
 /// The one configuration, and the line that ends it.
@@ -122,13 +126,14 @@ fn many_steps(alloc: Global) -> std::result::Result<String, AllocError> {
 }
 
 fn run(
+    rt: &impl Wait,
     alloc: Global,
     reader: Slow<'_>,
     room: usize,
     taken: &mut Vec<u8>,
 ) -> std::result::Result<EndLine, Fault> {
     taken.clear();
-    replay(alloc, reader, Narrow { taken, room })
+    replay(rt, alloc, reader, Narrow { taken, room })
 }
 
 #[test]
@@ -142,11 +147,11 @@ fn forwards_one_request(rt: HostRuntime) -> std::result::Result<(), Fail> {
             most,
             fails: false,
         };
-        let end = run(alloc, reader, 1000, &mut taken)?;
+        let end = run(&rt, alloc, reader, 1000, &mut taken)?;
         assert_eq!(rt; taken.as_slice(), ANSWERS.as_bytes(), "read by {most}");
         assert_eq!(rt; end.queued, 0);
         assert_eq!(rt; end.outstanding, 1);
-        assert_eq!(rt; end.untaken, 0);
+        assert_eq!(rt; end.untaken, Some(0));
     }
     Ok(())
 }
@@ -162,7 +167,7 @@ fn a_failed_write_ends_the_run(rt: HostRuntime) -> std::result::Result<(), Fail>
         most: 4096,
         fails: false,
     };
-    run(alloc, reader, usize::MAX, &mut whole)?;
+    run(&rt, alloc, reader, usize::MAX, &mut whole)?;
     assert_eq!(rt; whole.len(), 11 * MANY + 38);
     for room in [0, 1, 8192, 10_000, whole.len() - 1] {
         let reader = Slow {
@@ -170,7 +175,7 @@ fn a_failed_write_ends_the_run(rt: HostRuntime) -> std::result::Result<(), Fail>
             most: 4096,
             fails: false,
         };
-        let ran = run(alloc, reader, room, &mut taken);
+        let ran = run(&rt, alloc, reader, room, &mut taken);
         assert!(rt; matches!(ran, Err(Fault::Output)), "room for {room}");
         assert!(rt; whole.starts_with(taken.as_slice()), "room for {room}");
     }
@@ -187,7 +192,7 @@ fn a_failed_read_ends_the_run(rt: HostRuntime) -> std::result::Result<(), Fail> 
         most: 64,
         fails: true,
     };
-    let ran = run(alloc, reader, 1000, &mut taken);
+    let ran = run(&rt, alloc, reader, 1000, &mut taken);
     assert!(rt; matches!(ran, Err(Fault::Input)));
     assert!(rt; taken.is_empty());
     Ok(())
@@ -201,7 +206,7 @@ fn refused_memory_ends_the_run(rt: HostRuntime) -> std::result::Result<(), Fail>
         taken: &mut taken,
         room: 1000,
     };
-    assert!(rt; matches!(replay(alloc, Starved, narrow), Err(Fault::Memory)));
+    assert!(rt; matches!(replay(&rt, alloc, Starved, narrow), Err(Fault::Memory)));
     assert!(rt; taken.is_empty());
     let checked = check_text(alloc, "a file", Starved);
     assert!(rt; matches!(checked, Err(Fault::Memory)));
@@ -223,7 +228,7 @@ fn the_longest_input_is_read(rt: HostRuntime) -> std::result::Result<(), Fail> {
             taken: &mut taken,
             room: 1000,
         };
-        let ran = replay(alloc, padded, narrow);
+        let ran = replay(&rt, alloc, padded, narrow);
         assert_eq!(rt; ran.is_ok(), is_read, "{count} octets");
         if is_read {
             assert_eq!(rt; taken.as_slice(), ANSWERS.as_bytes());
@@ -277,7 +282,7 @@ fn lines_of_a_configuration_end_in_cr_lf_too(rt: HostRuntime) -> std::result::Re
         most: 4096,
         fails: false,
     };
-    run(alloc, reader, 1000, &mut taken)?;
+    run(&rt, alloc, reader, 1000, &mut taken)?;
     assert_eq!(rt; taken.as_slice(), ANSWERS.as_bytes());
     Ok(())
 }

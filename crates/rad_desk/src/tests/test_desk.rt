@@ -14,8 +14,7 @@ use std::alloc::Global;
 use std::process::Abort;
 use std::test::Fail;
 
-/// A client, a realm and its home server. The ring has one place, and one sending without an answer takes the
-/// home server to be down.
+/// A client, a realm and its home server. One sending without an answer takes the home server to be down.
 const TEXT: &str = r#"
 listen = "127.0.0.1:1813"
 [[client]]
@@ -28,8 +27,21 @@ home = "h1"
 name = "h1"
 address = "127.0.0.1:2813"
 secret = "home-secret"
-ring = 1
 tries = 1
+"#;
+
+/// A ring of one place.
+const ONE_PLACE: &str = "ring = 1\n";
+
+/// A second home server, and its realm.
+pub const OTHER_HOME: &str = r#"
+[[home]]
+name = "h2"
+address = "127.0.0.1:2814"
+secret = "other-secret"
+[[realm]]
+name = "other.org"
+home = "h2"
 "#;
 
 /// The client's UDP port.
@@ -51,7 +63,7 @@ pub struct TestDesk {
 
 impl TestDesk {
     pub fn new(alloc: Global) -> Result<TestDesk, Fail> {
-        let config = config(alloc, "")?;
+        let config = config(alloc, ONE_PLACE)?;
         let (desk, inlet) = pair(alloc, &config)?;
         Ok(TestDesk {
             alloc,

@@ -1,7 +1,7 @@
 //! The calls through the lock of a lane, of which no clause says which lane they reached.
 
 use super::octets::{FORWARDED, OTHER_REQUEST, REPLY, REQUEST, RESPONSE};
-use super::test_desk::{CLIENT_PORT, RANDOM, at, config, slot};
+use super::test_desk::{CLIENT_PORT, OTHER_HOME, RANDOM, at, config, slot};
 use crate::{Proxy, Told, open};
 use rad_lane::{Action, Refusal, Taken};
 use rad_packet::Datagram;
@@ -10,19 +10,8 @@ use std::alloc::Global;
 use std::sync::Wait;
 use std::test::Fail;
 
-/// A second home server, and its realm.
-const OTHER_HOME: &str = r#"
-[[home]]
-name = "h2"
-address = "127.0.0.1:2814"
-secret = "other-secret"
-[[realm]]
-name = "other.org"
-home = "h2"
-"#;
-
 /// The proxy's answer to a request that was checked against a configuration, at moment 0.
-fn accept(
+pub fn accept(
     rt: &impl Wait,
     alloc: Global,
     proxy: &Proxy,
@@ -39,7 +28,7 @@ fn accept(
 }
 
 #[test]
-fn a_request_goes_through_its_lane(rt: HostRuntime) -> Result<(), Fail> {
+fn calls_reach_their_own_lane(rt: HostRuntime) -> Result<(), Fail> {
     let alloc = rt.alloc();
     let config = config(alloc, OTHER_HOME)?;
     let (proxy, mut inlets) = open(alloc, &config)?;
@@ -67,7 +56,7 @@ fn a_request_goes_through_its_lane(rt: HostRuntime) -> Result<(), Fail> {
 }
 
 #[test]
-fn requests_of_another_configuration_are_refused(rt: HostRuntime) -> Result<(), Fail> {
+fn accept_finds_its_lane(rt: HostRuntime) -> Result<(), Fail> {
     let alloc = rt.alloc();
     let (proxy, _inlets) = open(alloc, &config(alloc, "")?)?;
     let other = config(alloc, OTHER_HOME)?;

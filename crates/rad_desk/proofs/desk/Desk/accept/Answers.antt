@@ -1,6 +1,6 @@
 use Rattle.rad_lane.specs.Datagrams.{Datagrams}
 use Rattle.rad_desk.proofs.Answers.{same_by_accept}
-use Rattle.rad_desk.proofs.Outlets.{outlet_same}
+use Rattle.rad_desk.proofs.Outlets.{outlet_same, bounded_same}
 use Rattle.rad_desk.proofs.Wires.{returns as returns_verified}
 use Rattle.rad_desk.proofs.desk.Desk.accept.Goals as goal
 
@@ -8,7 +8,7 @@ pub invariant_of-self : goal.invariant_of-self
 invariant_of-self c =
     let datagrams : Datagrams = record { before = c.args.datagram.now; after = c.accept.new.datagram } in
     let same = same_by_accept c.args.self.now.lane c.accept.new.self c.args.request.now c.args.moment c.accept.result datagrams c.accept.ensures in
-    record { outlet = outlet_same _ _ _ same c.args.self.now.outlet }
+    record { outlet = outlet_same _ _ _ same c.args.self.now.outlet; bounded = bounded_same c.args.self.now.lane c.accept.new.self same c.args.self.now.bounded }
 
 pub returns-clause-returns : goal.returns-clause-returns
 returns-clause-returns c =

@@ -1,11 +1,12 @@
 use Rattle.rad_desk.proofs.Answers.{same_by_step}
-use Rattle.rad_desk.proofs.Outlets.{outlet_same}
+use Rattle.rad_desk.proofs.Outlets.{outlet_same, bounded_same}
 use Rattle.rad_desk.proofs.Wires.{departs}
 use Rattle.rad_desk.proofs.desk.Desk.step.Goals as goal
 
 pub invariant_of-self : goal.invariant_of-self
 invariant_of-self c =
-    record { outlet = outlet_same _ _ _ (same_by_step _ _ _ _ _ _ c.step.ensures.steps) c.args.self.now.outlet }
+    let same = same_by_step c.args.self.now.lane c.step.new.self _ _ _ _ c.step.ensures.steps in
+    record { outlet = outlet_same _ _ _ same c.args.self.now.outlet; bounded = bounded_same c.args.self.now.lane c.step.new.self same c.args.self.now.bounded }
 
 pub returns-clause-departs : goal.returns-clause-departs
 returns-clause-departs c = departs _ _ _ _ _ _ c.keep_law.ensures c.step.ensures.steps

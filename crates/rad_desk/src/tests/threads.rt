@@ -1,0 +1,126 @@
+//! A lane and the front in threads of their own.
+
+use super::packets::{reply_to, request};
+use super::test_desk::{RANDOM, at, config};
+use super::through_locks::accept;
+use crate::laws::agrees;
+use crate::{DeskFault, Inlet, Proxy, Rest, Told, open};
+use rad_lane::{Action, Outgoing, Taken};
+use rad_packet::Datagram;
+use rad_realms::Config;
+use std::alloc::Global;
+use std::sync::Wait;
+use std::test::Fail;
+use std::thread;
+use std::time::{Clock, Duration};
+
+/// A ring of four places.
+const FOUR_PLACES: &str = "ring = 4\n";
+
+/// How many requests go through it.
+const REQUESTS: u16 = 300;
+
+/// How many of the responses are taken before the end.
+const TAKEN: usize = 298;
+
+/// How often a thread looks again, a millisecond apart.
+const LOOKS: u32 = 10_000;
+
+/// Has all requests accepted, sent and answered. It gives their numbers.
+fn answer_all<R: Wait + Clock>(
+    rt: &R,
+    alloc: Global,
+    proxy: &Proxy,
+    config: &Config,
+) -> Option<Vec<u64>> {
+    let mut numbers = Vec::new(alloc);
+    for count in 0..REQUESTS {
+        let request = request(count)?;
+        match accept(rt, alloc, proxy, config, request.bytes())? {
+            Ok(Taken::New(number)) => numbers.push(number).ok()?,
+            _ => return None,
+        }
+        let serial = answer(rt, alloc, proxy)?;
+        if serial != u64::from(count) {
+            return None;
+        }
+    }
+    Some(numbers)
+}
+
+/// Sends the first request of the queue and hears its reply, once the ring has a place. It gives the serial.
+fn answer<R: Wait + Clock>(rt: &R, alloc: Global, proxy: &Proxy) -> Option<u64> {
+    if proxy.lanes() == 0 {
+        return None;
+    }
+    let mut datagram = Datagram::new();
+    let Action::Sent(..) = proxy.step(rt, 0, at(0), RANDOM, &mut datagram) else {
+        return None;
+    };
+    let reply = reply_to(datagram.bytes())?;
+    for _ in 0..LOOKS {
+        match proxy.hear(rt, alloc, 0, at(0), 0, reply.bytes()) {
+            Ok(Told::Answer(serial)) => return Some(serial),
+            Err(DeskFault::RingFull) => thread::sleep(rt, Duration::from_millis(1)),
+            _ => return None,
+        }
+    }
+    None
+}
+
+/// Takes most of the responses, and gives them with the inlet.
+fn take_most<R: Clock>(rt: &R, alloc: Global, mut inlet: Inlet) -> Option<(Inlet, Vec<Outgoing>)> {
+    let mut taken = Vec::with_capacity(alloc, TAKEN).ok()?;
+    for _ in 0..LOOKS {
+        match inlet.take() {
+            Some(response) => taken.push(response).ok()?,
+            None => thread::sleep(rt, Duration::from_millis(1)),
+        }
+        if taken.len() == TAKEN {
+            return Some((inlet, taken));
+        }
+    }
+    None
+}
+
+#[test]
+fn each_response_goes_through_once(rt: HostRuntime) -> Result<(), Fail> {
+    let alloc = rt.alloc();
+    let config = config(alloc, FOUR_PLACES)?;
+    let (proxy, mut inlets) = open(alloc, &config)?;
+    let inlet = inlets.pop().ok_or("an inlet")?;
+    let (numbers, took) = thread::join(
+        &rt,
+        || answer_all(&rt, alloc, &proxy, &config),
+        || take_most(&rt, alloc, inlet),
+    );
+    let numbers = numbers.ok_or("an answer to each request")?;
+    let (inlet, taken) = took.ok_or("responses")?;
+    inlets.push(inlet)?;
+    let Ok(report) = proxy.close(alloc, inlets) else {
+        return Err(Fail::from("memory"));
+    };
+    let end = report.ends.as_slice().first().ok_or("an end")?;
+    let Rest::Known(rest) = &end.rest else {
+        return Err(Fail::from("the rest"));
+    };
+    let answered = end.answered.as_slice();
+    let mut count = 0;
+    for (response, answer) in taken.iter().chain(rest.as_slice()).zip(answered) {
+        assert_eq!(rt; (response.serial, answer.serial()), (count, count));
+        assert!(rt; agrees(answer, response));
+        count += 1;
+    }
+    assert_eq!(rt; count, u64::from(REQUESTS));
+    assert_eq!(rt; taken.len() + rest.as_slice().len(), usize::from(REQUESTS));
+    let mut asked = 0;
+    for (stamp, number) in end.accepted.as_slice().iter().zip(numbers.as_slice()) {
+        assert_eq!(rt; (stamp.number, *number), (asked, asked));
+        let request = request(asked as u16).ok_or("a request")?;
+        assert_eq!(rt; stamp.authenticator, request.packet().authenticator());
+        asked += 1;
+    }
+    assert_eq!(rt; asked, u64::from(REQUESTS));
+    assert_eq!(rt; end.accepted.as_slice().len(), usize::from(REQUESTS));
+    Ok(())
+}
