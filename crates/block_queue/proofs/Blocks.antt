@@ -1,39 +1,17 @@
 -- What a chain of blocks is after a step at one of its ends.
-use Rattle.std.proofs.Common.{◌≡◌, ℕ, zero, suc, ◌+◌, ◌-◌, ◌^◌, ◌<◌, ◌≤◌, ◌⊎◌, inl, inr, Bool, true, false, List, [], ◌∷◌, ◌++◌, Some, None, refl, sym, ap, ◌∙◌, subst, arith, length, get_or, set, drop, take, append-nil, append_assoc, length-append}
+use Rattle.std.proofs.Common.{◌≡◌, ℕ, zero, suc, ◌+◌, ◌-◌, ◌^◌, ◌<◌, ◌≤◌, ◌⊎◌, inl, inr, true, false, List, [], ◌∷◌, ◌++◌, Some, None, refl, sym, ap, ◌∙◌, subst, arith, length, get_or, set, drop, append-nil, append_assoc, length-append}
 use Rattle.std.specs.Prelude.{Result, Ok, Err, OnOk, OnErr, Option, slice_get}
 use Rattle.std.specs.Borrow.{Bor}
 use Rattle.std.specs.Option.{option_copied}
 use Rattle.std.specs.Map.Iter.{TakesFirst, deref}
 use Rattle.block_queue.specs.Queue.{Queue, oldest}
-use Rattle.block_queue.specs.Blocks.{items_of, left_in, room_of, pushed, has_none, begins_empty, finishes_empty, AllHaveItems, IsChain, IsJoined, IsQueue}
+use Rattle.block_queue.specs.Blocks.{items_of, left_in, room_of, pushed, has_none, begins_empty, AllHaveItems, IsChain, IsQueue}
 
 module _ {T : Type 0} where
-  pub room_of_last : (bs : List (Queue T)) (last : Queue T) (i : ℕ) → i + 1 ≡ length bs → last ≡ get_or bs i last → room_of bs ≡ last.room
-  unfolding room_of
-  room_of_last [] last i e f = absurd (omega arith)
-  room_of_last (b ∷ []) last zero e f = sym (ap (λ q. q.room) f)
-  room_of_last (b ∷ []) last (suc i) e f = absurd (omega arith)
-  room_of_last (b ∷ c ∷ cs) last zero e f = absurd (omega arith)
-  room_of_last (b ∷ c ∷ cs) last (suc i) e f = room_of_last (c ∷ cs) last i (omega arith) f
-
-  pub room_of_none : (bs : List (Queue T)) → (0 < length bs → false ≡ true) → 0 ≡ room_of bs
-  unfolding room_of
-  room_of_none [] none = refl
-  room_of_none (b ∷ bs) none = let no = none (omega arith) in cc
-
   pub some_with_room : (bs : List (Queue T)) → 1 ≤ room_of bs → 0 < length bs
   unfolding room_of
   some_with_room [] room = absurd (omega arith)
   some_with_room (b ∷ bs) room = omega arith
-
-  pub pushed_last : (bs : List (Queue T)) (last : Queue T) (i : ℕ) (item : T) → i + 1 ≡ length bs → last ≡ get_or bs i last
-      → set bs i (record { items = last.items ++ item ∷ []; room = last.room - 1 }) ≡ pushed bs item
-  unfolding pushed
-  pushed_last [] last i item e f = absurd (omega arith)
-  pushed_last (b ∷ []) last zero item e f = ap (λ (q : Queue T). record { items = q.items ++ item ∷ []; room = q.room - 1 } ∷ []) f
-  pushed_last (b ∷ []) last (suc i) item e f = absurd (omega arith)
-  pushed_last (b ∷ c ∷ cs) last zero item e f = absurd (omega arith)
-  pushed_last (b ∷ c ∷ cs) last (suc i) item e f = ap (λ l. b ∷ l) (pushed_last (c ∷ cs) last i item (omega arith) f)
 
   pub items_of_pushed : (bs : List (Queue T)) (item : T) → 0 < length bs → items_of (pushed bs item) ≡ items_of bs ++ item ∷ []
   unfolding items_of pushed
@@ -60,28 +38,6 @@ module _ {T : Type 0} where
   some_with_items [] some = absurd (omega arith)
   some_with_items (b ∷ bs) some = omega arith
 
-  pub first_has : (bs : List (Queue T)) (first : Queue T) → IsChain bs → 0 < length (items_of bs) → first ≡ get_or bs 0 first → 0 < length first.items
-  unfolding items_of IsChain
-  first_has [] first h some f = absurd (omega arith)
-  first_has (b ∷ []) first h some f = subst (λ (q : Queue T). 0 < length q.items) (sym f) (subst (λ l. 0 < length l) (append-nil b.items) some)
-  first_has (b ∷ c ∷ cs) first h some f = subst (λ (q : Queue T). 0 < length q.items) (sym f) h.0
-
-  pub popped_items : (bs : List (Queue T)) (first left : Queue T) (item : T) → 0 < length bs → first ≡ get_or bs 0 first → first.items ≡ item ∷ left.items
-      → items_of bs ≡ item ∷ items_of (set bs 0 left)
-  unfolding items_of
-  popped_items [] first left item some f e = absurd (omega arith)
-  popped_items (b ∷ bs) first left item some f e = ap (λ l. l ++ items_of bs) (ap (λ q. q.items) (sym f) ∙ e)
-
-  pub popped_rest : (bs : List (Queue T)) (left : Queue T) → drop 1 (set bs 0 left) ≡ drop 1 bs
-  popped_rest [] left = refl
-  popped_rest (b ∷ bs) left = refl
-
-  pub popped_room : (bs : List (Queue T)) (first left : Queue T) → 0 < length bs → first ≡ get_or bs 0 first → left.room ≡ first.room → room_of (set bs 0 left) ≡ room_of bs
-  unfolding room_of
-  popped_room [] first left some f e = absurd (omega arith)
-  popped_room (b ∷ []) first left some f e = e ∙ ap (λ q. q.room) f
-  popped_room (b ∷ c ∷ cs) first left some f e = refl
-
   pub some_at_first : (items : List T) (item : T) → Some item ≡ oldest items → false ≡ has_none items
   unfolding has_none
   some_at_first [] item e = cc
@@ -102,44 +58,10 @@ module _ {T : Type 0} where
   some_is [] e = cc
   some_is (item ∷ items) e = omega arith
 
-  pub begins_with : (bs : List (Queue T)) (first : Queue T) → 0 < length bs → first ≡ get_or bs 0 first → has_none first.items ≡ begins_empty bs
-  unfolding begins_empty
-  begins_with [] first some f = absurd (omega arith)
-  begins_with (b ∷ bs) first some f = ap (λ q. has_none q.items) f
-
-  pub begins_none : (bs : List (Queue T)) → (0 < length bs → false ≡ true) → false ≡ begins_empty bs
-  unfolding begins_empty
-  begins_none [] none = refl
-  begins_none (b ∷ bs) none = let no = none (omega arith) in cc
-
-  pub finishes_with : (bs : List (Queue T)) (last : Queue T) (i : ℕ) → i + 1 ≡ length bs → last ≡ get_or bs i last → has_none last.items ≡ finishes_empty bs
-  unfolding finishes_empty
-  finishes_with [] last i e f = absurd (omega arith)
-  finishes_with (b ∷ []) last zero e f = ap (λ q. has_none q.items) f
-  finishes_with (b ∷ []) last (suc i) e f = absurd (omega arith)
-  finishes_with (b ∷ c ∷ cs) last zero e f = absurd (omega arith)
-  finishes_with (b ∷ c ∷ cs) last (suc i) e f = finishes_with (c ∷ cs) last i (omega arith) f
-
-  pub finishes_none : (bs : List (Queue T)) → (0 < length bs → false ≡ true) → false ≡ finishes_empty bs
-  unfolding finishes_empty
-  finishes_none [] none = refl
-  finishes_none (b ∷ bs) none = let no = none (omega arith) in cc
-
   pub begins : (bs : List (Queue T)) → begins_empty bs ≡ true → 0 < length bs
   unfolding begins_empty
   begins [] e = cc
   begins (b ∷ bs) e = omega arith
-
-  pub finishes : (bs : List (Queue T)) → finishes_empty bs ≡ true → 0 < length bs
-  unfolding finishes_empty
-  finishes [] e = cc
-  finishes (b ∷ bs) e = omega arith
-
-  pub empty_first : (bs : List (Queue T)) (first : Queue T) → begins_empty bs ≡ true → first ≡ get_or bs 0 first → first.items ≡ []
-  empty_first bs first e f = none_is first.items (begins_with bs first (begins bs e) f ∙ e)
-
-  pub empty_last : (bs : List (Queue T)) (last : Queue T) (i : ℕ) → finishes_empty bs ≡ true → i + 1 ≡ length bs → last ≡ get_or bs i last → last.items ≡ []
-  empty_last bs last i e l f = none_is last.items (finishes_with bs last i l f ∙ e)
 
   oldest_append : (items more : List T) → 0 < length items → oldest items ≡ oldest (items ++ more)
   oldest_append [] more some = absurd (omega arith)
@@ -150,11 +72,6 @@ module _ {T : Type 0} where
   oldest_first [] first h some f = absurd (omega arith)
   oldest_first (b ∷ []) first h some f = ap (λ q. oldest q.items) f ∙ ap oldest (sym (append-nil b.items))
   oldest_first (b ∷ c ∷ cs) first h some f = ap (λ q. oldest q.items) f ∙ oldest_append b.items (items_of (c ∷ cs)) h.0
-
-  pub none_oldest : (bs : List (Queue T)) → (0 < length bs → false ≡ true) → None ≡ oldest (items_of bs)
-  unfolding items_of
-  none_oldest [] none = refl
-  none_oldest (b ∷ bs) none = let no = none (omega arith) in cc
 
   pub chained_rest : (bs : List (Queue T)) → IsChain bs → IsChain (drop 1 bs)
   unfolding IsChain
@@ -187,11 +104,6 @@ module _ {T : Type 0} where
   room_of_joined (b ∷ []) [] some = absurd (omega arith)
   room_of_joined (b ∷ []) (c ∷ cs) some = refl
   room_of_joined (b ∷ b' ∷ bs) cs some = room_of_joined (b' ∷ bs) cs some
-
-  pub no_more_than : (bs : List (Queue T)) → AllHaveItems bs → length bs ≤ length (items_of bs)
-  unfolding items_of AllHaveItems
-  no_more_than [] all = omega arith
-  no_more_than (b ∷ bs) all = omega (arith, length-append b.items (items_of bs), no_more_than bs all.1, all.0)
 
   -- each block has an item or room
   few_blocks : (bs : List (Queue T)) → IsChain bs → length bs ≤ length (items_of bs) + room_of bs
@@ -254,17 +166,6 @@ module _ {T : Type 0} where
       let n = is.counted ∙ ap length e in let none = ap length last.0 in let all = last.1 in let fits = is.fits in let most = is.one_block in
       (record { chained = h; counted = omega arith; one_block = omega arith; fits = omega arith }, omega arith)
 
-  pub queue_joined : (n m : ℕ) (bs cs new : List (Queue T)) → IsQueue n bs → IsQueue m cs → n + m < 2 ^ 63 → IsJoined bs cs new → IsQueue (n + m) new × (items_of new ≡ items_of bs ++ items_of cs)
-  queue_joined n m bs cs new one two fit is =
-      let a = one.counted in let b = two.counted in
-      let sum : n + m ≡ length (items_of new) = (omega (arith, length-append (items_of bs) (items_of cs))) ∙ ap length (sym is.items) in
-      let most : room_of new ≤ 32 = least is.room one.one_block two.one_block in
-      (record { chained = is.chained; counted = sum; one_block = most; fits = omega arith }, is.items)
-    where
-      least : {new a b : ℕ} → (new ≡ a) ⊎ (new ≡ b) → a ≤ 32 → b ≤ 32 → new ≤ 32
-      least (inl e) low low' = omega arith
-      least (inr e) low low' = omega arith
-
   pub chain_begins : (bs : List (Queue T)) → IsChain (drop 1 bs) → begins_empty bs ≡ false → IsChain bs
   unfolding IsChain begins_empty
   chain_begins [] h e = tt
@@ -277,34 +178,11 @@ module _ {T : Type 0} where
   cleared_items (b ∷ []) left e one none = (append-nil left.items ∙ none, append-nil b.items ∙ none_is b.items e)
   cleared_items (b ∷ c ∷ cs) left e one none = absurd (omega arith)
 
-  pub cleared_chain : (bs : List (Queue T)) (left : Queue T) → length bs ≡ 1 → 0 < left.room → IsChain (set bs 0 left) × (room_of (set bs 0 left) ≡ left.room)
-  unfolding IsChain room_of
-  cleared_chain [] left one room = absurd (omega arith)
-  cleared_chain (b ∷ []) left one room = (inr room, refl)
-  cleared_chain (b ∷ c ∷ cs) left one room = absurd (omega arith)
-
   pub freed_first : (bs : List (Queue T)) → begins_empty bs ≡ true → 2 ≤ length bs → (items_of (drop 1 bs) ≡ items_of bs) × (room_of (drop 1 bs) ≡ room_of bs)
   unfolding items_of room_of begins_empty
   freed_first [] e two = absurd (omega arith)
   freed_first (b ∷ []) e two = absurd (omega arith)
   freed_first (b ∷ c ∷ cs) e two = (ap (λ l. l ++ items_of (c ∷ cs)) (sym (none_is b.items e)), refl)
-
-  pub all_finish : (bs : List (Queue T)) → IsChain bs → finishes_empty bs ≡ false → AllHaveItems bs
-  unfolding IsChain AllHaveItems finishes_empty
-  all_finish [] h e = tt
-  all_finish (b ∷ []) h e = (some_is b.items e, tt)
-  all_finish (b ∷ c ∷ cs) h e = (h.0, all_finish (c ∷ cs) h.1 e)
-
-  pub freed_last : (bs : List (Queue T)) (i : ℕ) → i + 1 ≡ length bs → IsChain bs → finishes_empty bs ≡ true → AllHaveItems (take i bs) × (items_of (take i bs) ≡ items_of bs)
-  unfolding IsChain AllHaveItems items_of finishes_empty
-  freed_last [] i l h e = absurd (omega arith)
-  freed_last (b ∷ []) zero l h e = (tt, sym (append-nil b.items ∙ none_is b.items e))
-  freed_last (b ∷ []) (suc i) l h e = absurd (omega arith)
-  freed_last (b ∷ c ∷ cs) zero l h e = absurd (omega arith)
-  freed_last (b ∷ c ∷ cs) (suc i) l h e = let more = freed_last (c ∷ cs) i (omega arith) h.1 e in ((h.0, more.0), ap (λ l. b.items ++ l) more.1)
-
-  pub no_blocks : (bs : List (Queue T)) → AllHaveItems bs → length (items_of bs) ≡ 0 → length bs ≡ 0
-  no_blocks bs all none = let most = no_more_than bs all in omega arith
 
   pub queue_grown : {A E : Type 0} (r : Result A E) (count : ℕ) (bs new : List (Queue T)) (q : Queue T) → IsQueue count bs → room_of bs ≡ 0 → count < 2 ^ 63 → q.items ≡ [] → q.room ≡ 32
       → OnOk r (new ≡ bs ++ q ∷ []) → OnErr r (new ≡ bs) → IsQueue count new × (items_of new ≡ items_of bs) × (room_of bs ≤ room_of new) × OnOk r (1 ≤ room_of new)

@@ -1,7 +1,7 @@
 -- How the nodes of a chain lead to one another after chains are joined or parted.
-use Rattle.std.proofs.Common.{◌≡◌, ℕ, zero, suc, ◌+◌, ◌<◌, ◌≤◌, ◌^◌, List, [], ◌∷◌, ◌++◌, Option, Some, None, refl, sym, ap, ◌∙◌, subst, arith, length, drop, set, get_or, slice_get}
+use Rattle.std.proofs.Common.{◌≡◌, ℕ, zero, suc, ◌+◌, ◌<◌, ◌^◌, List, [], ◌∷◌, ◌++◌, Option, Some, None, refl, sym, ap, ◌∙◌, subst, arith, length, drop, get_or, slice_get}
 use denote.RawPtr.{Ptr}
-use Rattle.block_queue.specs.Nodes.{cell_at, IsHeld, BeginsAt, EndsAt, IsShownAt, LiesAt}
+use Rattle.block_queue.specs.Nodes.{cell_at, BeginsAt, EndsAt, IsShownAt}
 use Rattle.block_queue.specs.Chain.{elems, first_place, last_place, IsFollowed, IsLinked, IsStep}
 use Rattle.block_queue.specs.declared.chain.Node.{Node}
 use Rattle.block_queue.specs.declared.nodes.Place.{Place}
@@ -49,13 +49,13 @@ module _ {E : Type 0} where
       → cells ≡ front ++ (tail.at, x) ∷ [] → y.next ≡ Some next → y.elem ≡ x.elem → new ≡ (front ++ (tail.at, y) ∷ []) ++ more
       → IsLinked head end new × (elems new ≡ elems cells ++ elems more)
   joined_on head tail next end cells more front new x y one two e leads same made = (
-      record {
-        begins = ap first_place made ∙ sym (first_of front more tail.at x y) ∙ ap first_place (sym e) ∙ one.begins;
-        ends = ap last_place made ∙ last_of (front ++ (tail.at, y) ∷ []) more next two.begins ∙ two.ends;
-        followed = subst IsFollowed (sym made) (followed_on front more tail.at x y next (subst IsFollowed e one.followed) two.followed two.begins leads);
-      },
-      ap elems made ∙ elems_on front more tail.at x y same ∙ ap (λ l. elems l ++ elems more) (sym e),
-    )
+    record {
+      begins = ap first_place made ∙ sym (first_of front more tail.at x y) ∙ ap first_place (sym e) ∙ one.begins;
+      ends = ap last_place made ∙ last_of (front ++ (tail.at, y) ∷ []) more next two.begins ∙ two.ends;
+      followed = subst IsFollowed (sym made) (followed_on front more tail.at x y next (subst IsFollowed e one.followed) two.followed two.begins leads);
+    },
+    ap elems made ∙ elems_on front more tail.at x y same ∙ ap (λ l. elems l ++ elems more) (sym e),
+  )
 
   -- a chain without its first node
   pub parted_on : (head tail next : Place) (cells more : List (Ptr × Node E)) (x : Node E) → IsLinked head tail cells → cells ≡ (head.at, x) ∷ more → x.next ≡ Some next
@@ -81,9 +81,9 @@ module _ {E : Type 0} where
   pub one_linked : (place : Place) (cells : List (Ptr × Node E)) (elem : E) → cells ≡ (place.at, record { next = None; elem = elem }) ∷ [] → IsLinked place place cells × (elems cells ≡ elem ∷ [])
   unfolding elems first_place last_place IsFollowed
   one_linked place cells elem e = (
-      record { begins = ap first_place e; ends = ap last_place e; followed = subst IsFollowed (sym e) (refl, tt) },
-      ap elems e,
-    )
+    record { begins = ap first_place e; ends = ap last_place e; followed = subst IsFollowed (sym e) (refl, tt) },
+    ap elems e,
+  )
 
   -- the one node of a region
   pub one_cell : (p : Ptr) (places : List (Option (Node E))) (x : Node E) → places ≡ Some x ∷ [] → cell_at p places ≡ (p, x) ∷ []

@@ -1,5 +1,5 @@
 -- A list of blocks whose first or last one is at hand.
-use Rattle.std.proofs.Common.{◌≡◌, ℕ, suc, ◌+◌, ◌-◌, ◌<◌, ◌≤◌, ◌⊎◌, inl, inr, Bool, true, false, List, [], ◌∷◌, ◌++◌, Some, None, Option, refl, sym, ap, ◌∙◌, subst, arith, length, get_or, drop, append-nil, length-append}
+use Rattle.std.proofs.Common.{◌≡◌, ◌-◌, ◌<◌, ◌≤◌, inl, inr, true, false, List, [], ◌∷◌, ◌++◌, None, refl, sym, ap, ◌∙◌, subst, arith, length, get_or, drop, append-nil, length-append}
 use Rattle.block_queue.specs.Queue.{Queue, oldest}
 use Rattle.block_queue.specs.Blocks.{items_of, room_of, pushed, has_none, begins_empty, AllHaveItems, IsChain, IsJoined}
 use Rattle.block_queue.proofs.Blocks.{none_is, some_is, oldest_first, items_of_joined, room_of_joined, chained, last_room, last_items, freed_first}

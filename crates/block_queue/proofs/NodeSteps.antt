@@ -9,12 +9,12 @@ use mathlib.Core.List.{List, [], ◌∷◌, ◌++◌}
 use seplogic.Ra.Ura.{Ura}
 use lib.ListN.{length}
 use base.Logic.{ent, sep, emp, never, id⊢}
-use base.Fml.{Fml, Lft, ftrue, fhide}
+use base.Fml.{Fml, Lft, fhide}
 use lib.Dec.{T}
 use mir.Syntax.{Ty, ty_ptr, ty_struct, tcons, tnil}
 use mir.Val.{Val, vstruct, vcons, vnil, of_list, has_ty, WT}
 use types.Logic.{Logic, sem}
-use types.Kit.{Item, Goal, Seq, Step, step, ‵, ◌⊛◌, ◌$◌, ◌∵◌, !, qed, by, move, keep, drop, use2, use1, split, frame, fsplit, fjoin, fpick, feq_l, flt_i, flt_l, rewrite, done}
+use types.Kit.{Item, Goal, Seq, Step, step, ‵, ◌⊛◌, ◌$◌, ◌∵◌, !, qed, by, move, keep, drop, use2, use1, split, fsplit, fjoin, fpick, feq_l, flt_i, flt_l, rewrite, done}
 use denote.RattleType.{RattleType}
 use denote.Laws.{Is}
 use denote.Memory.{hidden_shr}

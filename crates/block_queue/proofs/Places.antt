@@ -1,5 +1,5 @@
 -- Which places of a block hold a value, after one of them is written or read.
-use Rattle.std.proofs.Common.{◌≡◌, ℕ, zero, suc, ◌+◌, ◌-◌, ◌<◌, ◌≤◌, List, [], ◌∷◌, ◌++◌, Option, Some, None, refl, sym, ap, ◌∙◌, subst, arith, length, get_or, set, replicate, slice_get, length-append}
+use Rattle.std.proofs.Common.{◌≡◌, ℕ, zero, suc, ◌+◌, ◌-◌, ◌<◌, ◌≤◌, List, [], ◌∷◌, ◌++◌, Option, Some, None, refl, sym, ap, ◌∙◌, subst, arith, length, get_or, set, slice_get, length-append}
 use Rattle.block_queue.specs.Queue.{Queue}
 use Rattle.block_queue.specs.Places.{laid, values, IsFilled, IsBlock}
 

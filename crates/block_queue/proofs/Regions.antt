@@ -11,7 +11,7 @@ use lib.ListN.{length, get_or, set}
 use seplogic.Ra.Ura.{Ura}
 use base.Fraction.{full_share}
 use base.Stored.{Gv}
-use base.Logic.{SProp, ent, sep, never, id⊢}
+use base.Logic.{ent, sep, never, id⊢}
 use base.Fml.{Fml, Lft, GName, Share, ftrue, fsep, fhide, froom, flft, fobs, fauth, fbor, fobor}
 use lib.Dec.{T}
 use mir.Syntax.{ty_array, ty_ptr, ty_struct, tcons, tnil}
@@ -29,7 +29,7 @@ use denote.Steps.{opens, closes}
 use denote.Struct.Struct.{Struct}
 use denote.Struct.Owning.{shape}
 use denote.Struct.Lending.{lent_out}
-use Rattle.std.specs.Prelude.{Option, Some, None}
+use Rattle.std.specs.Prelude.{Option, None}
 use Rattle.std.specs.Mem.{type_size}
 use Rattle.core.proofs.mem.Param.{El, R, el_x, elτ}
 use Rattle.core.proofs.alloc.Calls.{Al, token}

@@ -13,7 +13,7 @@ use mir.Val.{Val, vstruct, vcons, vnil}
 use base.Logic.{ent, sep, emp}
 use base.Fml.{froom}
 use types.Logic.{Logic, sem}
-use types.Kit.{‵, raw, ◌⊛◌, ◌$◌, ◌∵◌, !, qed, move, use0, use1, rewrite, done}
+use types.Kit.{‵, raw, ◌$◌, ◌∵◌, !, qed, move, use0, use1, rewrite, done}
 use types.Match.{live}
 use contract.Monad.{fact, fact_i}
 use denote.RattleType.{RattleType}

@@ -36,12 +36,6 @@ module _ {T : Type 0} where
   begins_empty [] = false
   begins_empty (block ∷ blocks) = has_none block.items
 
-  -- the last block has no item
-  unfoldable pub finishes_empty : List (Queue T) → Bool
-  finishes_empty [] = false
-  finishes_empty (block ∷ []) = has_none block.items
-  finishes_empty (block ∷ next ∷ blocks) = finishes_empty (next ∷ blocks)
-
   -- no block is without an item
   unfoldable pub AllHaveItems : List (Queue T) → Type 0
   AllHaveItems [] = Unit {0}

@@ -1,8 +1,8 @@
 ghost use Rattle.std.specs.Prelude.{◌≡◌, ◌+◌, ◌^◌, ◌<◌, ◌++◌, length};
 ghost use Rattle.std.specs.Map.Iter.{ShowsInOrder, deref};
 
-use crate::linking::{Blocks, Load};
 use crate::iter::Iter;
+use crate::linking::{Blocks, Load};
 use crate::{Fifo, linking};
 use core::mem::replace_with;
 use std::alloc::{AllocError, Global};

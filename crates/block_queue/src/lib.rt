@@ -10,7 +10,6 @@
 
 mod block;
 mod block_queue;
-
 mod chain;
 mod fifo;
 mod iter;

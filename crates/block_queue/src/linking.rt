@@ -2,7 +2,7 @@
 ghost use Rattle.std.specs.Prelude.{◌≡◌, ◌^◌, ◌<◌, ◌≤◌, ◌⊎◌, true, false, [], ◌∷◌, ◌++◌, OnOk, OnErr, IfOk, IfSome, drop as without, length, option_copied, slice_set};
 ghost use Rattle.std.specs.Map.Iter.{TakesFirst, deref};
 ghost use Rattle.block_queue.specs.Queue.{oldest};
-ghost use Rattle.block_queue.specs.Blocks.{items_of, room_of, pushed, begins_empty, finishes_empty, AllHaveItems, IsChain, IsJoined};
+ghost use Rattle.block_queue.specs.Blocks.{items_of, room_of, pushed, begins_empty, AllHaveItems, IsChain, IsJoined};
 ghost use Rattle.block_queue.specs.Chain.{joined};
 
 use crate::block::Block;
@@ -93,7 +93,10 @@ impl<T> Front<T> {
     fn join(self, others: Front<T>) -> Front<T>
         ensures { result ≡ self ++ others }
     {
-        let Front { first: load, middle: more } = others;
+        let Front {
+            first: load,
+            middle: more,
+        } = others;
         let Front { first, middle } = self.add(load);
         match (middle, more) {
             (Some(chain), Some(rest)) => Front {

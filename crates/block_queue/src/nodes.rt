@@ -43,7 +43,12 @@ impl<T, A: Allocator> Nodes<T, A> {
             of: PhantomData,
             by: PhantomData,
         };
-        (nodes, Place { at: first as *mut u8 })
+        (
+            nodes,
+            Place {
+                at: first as *mut u8,
+            },
+        )
     }
 
     /// These nodes and then the others.

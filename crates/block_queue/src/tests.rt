@@ -68,6 +68,51 @@ fn joined_queues_follow_one_another(rt: HostRuntime) -> Result<(), Fail> {
     Ok(())
 }
 
+/// A queue that held `first` and so many more, of which the first ones were popped.
+fn shortened(
+    rt: &impl Abort,
+    alloc: Global,
+    first: u64,
+    popped: u64,
+    left: u64,
+) -> Result<BlockQueue<u64>, AllocError> {
+    let before = first.wrapping_sub(popped);
+    let mut queue = numbered::<BlockQueue<u64>>(rt, alloc, before, popped.wrapping_add(left))?;
+    for number in 0..popped {
+        assert_eq!(rt; queue.pop_front(), Some(before.wrapping_add(number)));
+    }
+    Ok(queue)
+}
+
+/// Blocks that were emptied, and are kept, do not come between the items.
+#[test]
+fn shortened_queues_follow_one_another(rt: HostRuntime) -> Result<(), Fail> {
+    let counts = [(0u64, 0u64), (1, 0), (40, 0), (40, 1), (70, 30), (64, 33)];
+    for (popped, left) in counts {
+        for (more_popped, more_left) in counts {
+            let mut queue = shortened(&rt, rt.alloc(), 0, popped, left)?;
+            let other = shortened(&rt, rt.alloc(), left, more_popped, more_left)?;
+            assert!(rt; queue.len() < 100);
+            assert!(rt; other.len() < 100);
+            queue.append(other);
+            let both = left.wrapping_add(more_left);
+            for number in both..100 {
+                queue.reserve_one()?;
+                assert!(rt; queue.spare() > 0);
+                queue.push_back(number);
+            }
+            let mut expected = 0u64;
+            for number in queue.iter() {
+                assert_eq!(rt; *number, expected);
+                expected = expected.wrapping_add(1);
+            }
+            assert_eq!(rt; expected, 100);
+            pops_all(&rt, queue, 100);
+        }
+    }
+    Ok(())
+}
+
 /// What may move to another thread.
 fn moved<S: Send>(value: S) -> S {
     value

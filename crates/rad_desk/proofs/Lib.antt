@@ -9,3 +9,4 @@ pub mod Endings
 pub mod Untouched
 pub mod Sends
 pub mod Returning
+pub mod OutletAfterTurn

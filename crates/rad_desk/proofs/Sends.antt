@@ -1,6 +1,5 @@
 -- What was sent between two moments, put together from what was sent between each two.
-use Rattle.std.proofs.Common.{◌≡◌, ℕ, List, [], ◌∷◌, ◌++◌, refl, sym, ap, ◌∙◌, subst, append_assoc}
-use Rattle.std.specs.Prelude.{⊤}
+use Rattle.std.proofs.Common.{◌≡◌, ℕ, List, [], ◌∷◌, ◌++◌, sym, ap, ◌∙◌, subst, append_assoc}
 use Rattle.std.proofs.lemmas.List.{append-nil}
 use Rattle.rad_desk.specs.declared.wire.Way.{Way}
 use Rattle.rad_desk.specs.declared.wire.Way.TheVariants.{Came, Went}

@@ -10,3 +10,4 @@ pub mod Traffic
 pub mod Sends
 pub mod Continues
 pub mod Sending
+pub mod Turned

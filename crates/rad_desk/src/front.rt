@@ -40,7 +40,7 @@ pub fn front_worker<W: Wire, G: Gate>(
     turns: u64,
 ) -> Tally
     ensures sends { SendsOnly (LeavesTheFront config.now inlets.old inlets.new) (W.log wire.old) (W.log wire.new) }
-    ensures inlets { AllContinue inlets.old inlets.new }
+    ensures inlets { AllContinue inlets.old inlets.new (W.log wire.old) (W.log wire.new) }
     ensures turns { result.turns ≤ turns }
 {
     let mut shift = Shift::new(Worker::Front, gate);
@@ -157,7 +157,7 @@ fn answer<W: Wire, G: Gate>(
 /// Takes from each inlet once at most, and sends what it took. It answers whether the worker goes on.
 fn hand_out<W: Wire, G: Gate>(inlets: &mut [Inlet], wire: &mut W, shift: &mut Shift<'_, G>) -> bool
     ensures sends { SendsOnly (λ before p. OneGave inlets.old inlets.new p) (W.log wire.old) (W.log wire.new) }
-    ensures inlets { AllContinue inlets.old inlets.new }
+    ensures inlets { AllContinue inlets.old inlets.new (W.log wire.old) (W.log wire.new) }
     ensures turns { shift.new.tally.turns ≡ shift.old.tally.turns }
 {
     for place in 0..inlets.len() {
@@ -172,7 +172,7 @@ fn hand_out<W: Wire, G: Gate>(inlets: &mut [Inlet], wire: &mut W, shift: &mut Sh
 /// Takes a response where one is there, and sends it.
 fn take<W: Wire, G: Gate>(inlet: &mut Inlet, wire: &mut W, shift: &mut Shift<'_, G>)
     ensures sends { SendsOnly (λ before p. Gave inlet.old inlet.new p) (W.log wire.old) (W.log wire.new) }
-    ensures inlet { Continues inlet.old inlet.new }
+    ensures inlet { Continues inlet.old inlet.new (W.log wire.old) (W.log wire.new) }
     ensures turns { shift.new.tally.turns ≡ shift.old.tally.turns }
 {
     let taken = inlet.take();

@@ -42,7 +42,16 @@ pub fn lane_worker<W: Wire, G: Gate>(
         if !hear(rt, alloc, proxy, lane, home, wire, &mut shift, &mut octets) {
             return shift.tally;
         }
-        if !step(rt, proxy, lane, home, wire, &mut shift, &mut datagram) {
+        if !step(
+            rt,
+            alloc,
+            proxy,
+            lane,
+            home,
+            wire,
+            &mut shift,
+            &mut datagram,
+        ) {
             return shift.tally;
         }
     }
@@ -104,6 +113,7 @@ fn hear<W: Wire, G: Gate>(
 /// Has the lane do what is next, and sends what that gives. It answers whether the worker goes on.
 fn step<W: Wire, G: Gate>(
     rt: &impl Wait,
+    alloc: Global,
     proxy: &Proxy,
     lane: u16,
     home: &Home,
@@ -126,7 +136,7 @@ fn step<W: Wire, G: Gate>(
         }
         Action::WentDown => shift.note(Note::WentDown),
         Action::WentUp => shift.note(Note::WentUp),
-        Action::Idle(_) => {}
+        Action::Idle(_) => return cut(rt, alloc, proxy, lane, home, wire, shift),
     }
     true
 }
@@ -150,4 +160,35 @@ fn send_home<W: Wire, G: Gate>(
     } else {
         shift.lose(to);
     }
+}
+
+/// Has the lane cut off what is over, where its book is half full, and drops what was cut. It answers whether the worker
+/// goes on.
+fn cut<W: Wire, G: Gate>(
+    rt: &impl Wait,
+    alloc: Global,
+    proxy: &Proxy,
+    lane: u16,
+    home: &Home,
+    wire: &mut W,
+    shift: &mut Shift<'_, G>,
+) -> bool
+    requires { lane < proxy.now }
+    ensures sends { W.log wire.new ≡ W.log wire.old }
+    ensures turns { shift.new.tally.turns ≡ shift.old.tally.turns }
+{
+    let counts = proxy.counts(rt, lane);
+    let held = counts.accepted - counts.opening;
+    if held.saturating_mul(2) < u64::from(home.limits().numbers().book) {
+        return true;
+    }
+    if !shift.may(Call::Turn) {
+        return false;
+    }
+    let turned = proxy.turn(rt, alloc, lane, wire.now());
+    shift.made(Call::Turn);
+    if let Ok(volume) = turned {
+        shift.note(Note::Cut(volume.stamps.as_slice().len() as u64));
+    }
+    true
 }

@@ -26,6 +26,7 @@ mod report;
 mod tally;
 #[cfg(test)]
 mod tests;
+mod turning;
 mod wire;
 mod working;
 

@@ -157,7 +157,7 @@ impl Proxy {
     }
 
     /// Holds a lane. It tries for a while before it sleeps.
-    fn lock(&self, rt: &impl Wait, lane: u16) -> MutexGuard<'_, Desk>
+    pub(crate) fn lock(&self, rt: &impl Wait, lane: u16) -> MutexGuard<'_, Desk>
         requires { lane < self.now }
     {
         let desk = &self.desks[usize::from(lane)];

@@ -91,7 +91,7 @@ impl Desk {
     }
 
     /// The law that the lane's type keeps, for whoever calls it to use.
-    fn keep_law(&self)
+    pub(crate) fn keep_law(&self)
         ensures { IsLawful (book self.now) }
     {
         let _ = self.lane.accepted();

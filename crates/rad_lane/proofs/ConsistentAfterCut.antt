@@ -1,6 +1,6 @@
 -- What a lane keeps beside its book is in step with the book after a cut, and tells what is cut.
 use Rattle.std.proofs.Common.{◌≡◌, ℕ, zero, suc, ◌+◌, ◌-◌, ◌^◌, ◌<◌, ◌≤◌, Bool, true, false, cond, List, [], ◌∷◌, ◌++◌, length, get_or, take, drop, Option, Some, None, refl, sym, ap, ◌∙◌, subst, arith, length-append}
-use Rattle.std.specs.Prelude.{map as each, All, not, option_map, slice_get, ◌==◌}
+use Rattle.std.specs.Prelude.{map as each, All, option_map, slice_get, ◌==◌}
 use Rattle.std.specs.Option.{option_flatten}
 use Rattle.std.specs.List.{list_any}
 use Rattle.std.specs.Ordering.{is_eq}
@@ -8,7 +8,6 @@ use Rattle.std.specs.FinMap as map
 use Rattle.std.proofs.lemmas.Bool.{ne_eqb, eq-eqb}
 use Rattle.std.proofs.lemmas.List.{append-nil, length-drop, length-take-le, drop-take, take-append-drop, get_or-take, get_or-drop, get_or_append_left, get_or_default}
 use Rattle.std.proofs.lemmas.List.Elements.{All-filter, filter-append, filter_passes}
-use Rattle.std.proofs.lemmas.List.Filters.{length-filter_both}
 use Rattle.std.proofs.lemmas.List.Folds.{list_any_at, list_any_none}
 use Rattle.rad_tables.specs.declared.duplicates.Key.{Key}
 use Rattle.rad_tables.specs.Keys.{key_cmp}
@@ -25,7 +24,7 @@ use Rattle.rad_lane.specs.Book.{Book}
 use Rattle.rad_lane.specs.Repeat.{of_key, last_of, answer_to}
 use Rattle.rad_lane.specs.Lawful.{IsLawful}
 use Rattle.rad_lane.specs.Invariant.{IsConsistent, book_of, last_number, receipt_in, receipt_of, receipt_to}
-use Rattle.rad_lane.specs.Volumes.{IsOver, BeginsUnended, IsCut, is_below, answers_below, answers_since, volume_of, without_cut}
+use Rattle.rad_lane.specs.Volumes.{IsOver, BeginsUnended, IsCut, answers_below, answers_since, volume_of, without_cut}
 use Rattle.rad_lane.specs.Cutting.{IsOverBy, unless_of, HasUnderItsKey}
 use Rattle.rad_lane.proofs.ListLemmas.{All-right}
 use Rattle.rad_lane.proofs.NoRepeatOfFresh.{same_key}
@@ -232,17 +231,12 @@ module _ (setup : LaneSetup) (opening : ℕ) (accepted : List Stamp) (kept : Lis
     counted : length (take n accepted) ≡ n
     counted = length-take-le n accepted within_here
 
-    -- the room that the answers need
+    -- as many answers are cut off as requests
     pub below_counted : length (answers_below (opening + n) answered) ≡ n
     below_counted =
         ap (λ m. length (answers_below (opening + m) answered)) (sym counted)
         ∙ answers_counted before s.lawful now later_here (take n accepted) (drop n accepted) cut_here
         ∙ counted
-
-    pub since_bounded : length (answers_since (opening + n) answered) ≤ length answered
-    since_bounded =
-        let both = length-filter_both (is_below (opening + n)) (λ answer. not (is_below (opening + n) answer)) (λ answer. refl) answered in
-        omega (arith, both)
 
     pub under_keys : All (HasUnderItsKey numbers) (take n accepted)
     under_keys = under_their_keys before kept ports numbers cells count s now later_here (take n accepted) (drop n accepted) cut_here

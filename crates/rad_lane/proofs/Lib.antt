@@ -5,6 +5,7 @@ pub mod ForgetsNumbers
 pub mod SerialFound
 pub mod LawfulAfterCut
 pub mod ListLemmas
+pub mod MovesUp
 pub mod LawfulAfterAccept
 pub mod LawfulWhenEmpty
 pub mod LawfulAfterDrain

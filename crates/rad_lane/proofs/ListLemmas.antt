@@ -1,10 +1,11 @@
 -- Filters of lists, and fronts of lists that are cut off.
-use Rattle.std.proofs.Common.{◌≡◌, ℕ, zero, suc, ◌+◌, ◌<◌, Bool, true, false, cond, List, [], ◌∷◌, ◌++◌, length, get_or, set, take, drop, Option, Some, refl, sym, ap, ◌∙◌, subst, arith, length-append}
-use Rattle.std.specs.Prelude.{map as each, All, AllPairs, filter, find, swap}
+use Rattle.std.proofs.Common.{◌≡◌, ℕ, zero, suc, ◌+◌, ◌<◌, ◌≤◌, Bool, true, false, cond, List, [], ◌∷◌, ◌++◌, length, get_or, set, take, drop, Option, Some, refl, sym, ap, ◌∙◌, subst, arith, length-append}
+use Rattle.std.specs.Prelude.{map as each, All, AllPairs, filter, find, not, swap}
 use Rattle.std.specs.List.{range_with_len}
 use Rattle.std.specs.List.Sorted.{IsPermutation, IsStrictlyIncreasing}
 use Rattle.std.proofs.lemmas.List.{append-nil, get_or-append-add, get_or_append_left, get_or-map, length-map, take_at, drop_at, take-append-drop}
 use Rattle.std.proofs.lemmas.List.Elements.{All-head, All-tail, filter-append, filter_more}
+use Rattle.std.proofs.Math.Seq.{drop-cons}
 use Rattle.std.proofs.lemmas.List.Kept.{AllPairs-filter, AllPairs-from_increasing}
 use Rattle.std.proofs.lemmas.List.Sorted.{IsPermutation-refl, IsPermutation-trans, IsPermutation-cons, IsPermutation-middle, IsPermutation-keeps}
 
@@ -75,12 +76,34 @@ module _ {X : Type 0} (p : X → Bool) where
       ∙ ap (λ b. filter p (take i xs) ++ cond b (x ∷ []) []) fails
       ∙ append-nil (filter p (take i xs))
 
-  -- an item that passes leaves the filter of the front shorter than the whole
-  pub filter_shorter : (xs : List X) (i : ℕ) (x : X) → i < length xs → x ≡ get_or xs i x → p x ≡ true → length (filter p (take i xs)) < length (filter p xs)
-  filter_shorter xs i x within is passes =
-      let more = ap length (filter_takes xs i x within is passes) ∙ length-append (filter p (take i xs)) (x ∷ []) in
-      let all = ap (λ ys. length (filter p ys)) (sym (take-append-drop (i + 1) xs)) ∙ ap length (filter-append p (take (i + 1) xs) (drop (i + 1) xs)) ∙ length-append (filter p (take (i + 1) xs)) (filter p (drop (i + 1) xs)) in
-      omega (arith, more, all)
+  -- a filter of the rest of a list that begins with an item, where the item passes or not
+  filter_at : (xs : List X) (i : ℕ) (x : X) → i < length xs → x ≡ get_or xs i x → filter p (drop i xs) ≡ cond (p x) (x ∷ filter p (drop (i + 1) xs)) (filter p (drop (i + 1) xs))
+  filter_at xs i x within is =
+      let next : suc i ≡ i + 1 = omega arith in
+      ap (λ ys. filter p ys) (drop-cons xs i x within ∙ ap (λ y. y ∷ drop (suc i) xs) (sym is) ∙ ap (λ k. x ∷ drop k xs) next)
+
+  pub rest_takes : (xs : List X) (i : ℕ) (x : X) → i < length xs → x ≡ get_or xs i x → p x ≡ true → filter p (drop i xs) ≡ x ∷ filter p (drop (i + 1) xs)
+  rest_takes xs i x within is passes = filter_at xs i x within is ∙ ap (λ b. cond b (x ∷ filter p (drop (i + 1) xs)) (filter p (drop (i + 1) xs))) passes
+
+  pub rest_skips : (xs : List X) (i : ℕ) (x : X) → i < length xs → x ≡ get_or xs i x → p x ≡ false → filter p (drop i xs) ≡ filter p (drop (i + 1) xs)
+  rest_skips xs i x within is fails = filter_at xs i x within is ∙ ap (λ b. cond b (x ∷ filter p (drop (i + 1) xs)) (filter p (drop (i + 1) xs))) fails
+
+  -- where nothing in the rest passes, the front has all that does
+  pub filter_front : (xs : List X) (n : ℕ) → filter p (drop n xs) ≡ [] → filter p (take n xs) ≡ filter p xs
+  filter_front xs n none =
+      sym (append-nil (filter p (take n xs)))
+      ∙ ap (λ l. filter p (take n xs) ++ l) (sym none)
+      ∙ sym (filter-append p (take n xs) (drop n xs))
+      ∙ ap (λ l. filter p l) (take-append-drop n xs)
+
+  others_by : (b : Bool) (x : X) (us vs xs : List X) → cond b (x ∷ us) us ≡ [] → (us ≡ [] → vs ≡ xs) → cond (not b) (x ∷ vs) vs ≡ x ∷ xs
+  others_by true x us vs xs h rest = cc
+  others_by false x us vs xs h rest = ap (λ l. x ∷ l) (rest h)
+
+  -- where nothing passes, the others are all
+  pub others_all : (xs : List X) → filter p xs ≡ [] → filter (λ x. not (p x)) xs ≡ xs
+  others_all [] h = refl
+  others_all (x ∷ xs) h = others_by (p x) x (filter p xs) (filter (λ y. not (p y)) xs) xs h (others_all xs)
 
   found_by : (test : X → Bool) (t b : Bool) (x : X) (us xs : List X) → t ≡ test x → (t ≡ true → b ≡ true) → find test us ≡ find test xs → find test (cond b (x ∷ us) us) ≡ cond (test x) (Some x) (find test xs)
   found_by test t true x us xs is passes h = ap (λ o. cond (test x) (Some x) o) h
@@ -179,3 +202,13 @@ module _ {X : Type 0} (number : X → ℕ) where
   pub rises-filter : (p : X → Bool) (xs : List X) → IsStrictlyIncreasing (each number xs) → IsStrictlyIncreasing (each number (filter p xs))
   rises-filter p xs h =
       rise_by (filter p xs) (AllPairs-filter (λ x y. number x < number y) p xs (pairs_rise xs h))
+
+pub take_less : {X : Type 0} (i n : ℕ) (xs : List X) → i ≤ n → take i (take n xs) ≡ take i xs
+take_less zero n xs h = refl
+take_less (suc i) zero xs h = absurd (omega arith)
+take_less (suc i) (suc n) [] h = refl
+take_less (suc i) (suc n) (x ∷ xs) h = ap (λ ys. x ∷ ys) (take_less i n xs (omega arith))
+
+pub no_items : {X : Type 0} (xs : List X) → length xs ≡ 0 → xs ≡ []
+no_items [] h = refl
+no_items (x ∷ xs) h = absurd (omega arith)

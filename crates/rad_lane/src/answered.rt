@@ -3,6 +3,7 @@ use rad_auth::Reply;
 use rad_tables::Moment;
 use std::alloc::{AllocError, Global};
 use std::marker::Model;
+use std::sync::Arc;
 
 /// An answer to a request: the request's stamp, when it was answered, its serial number, and the reply with the
 /// response.
@@ -16,8 +17,9 @@ pub struct Answered {
     moment: Moment,
     /// How many answers of the lane there were before it.
     serial: u64,
-    /// The home server's reply and the response, with the sending and the secrets that they rest on.
-    reply: Reply,
+    /// The home server's reply and the response, with the sending and the secrets that they rest on. They stand apart, so
+    /// that a volume shares them with the list that it was cut from, until that list lets go of them.
+    reply: Arc<Reply, Global>,
 }
 
 /// What a lane notes of an answer beside its request: the answer's serial number, by which it is found, and when it
@@ -31,13 +33,14 @@ pub(crate) struct Receipt {
 }
 
 impl Model for Answered {
+    ghost use Rattle.std.specs.Arc.{arc_value};
     ghost use Rattle.rad_lane.specs.Outstanding.{AnswerKept, IsAnswered};
 
     ghost Value = { AnswerKept };
 
-    ghost view = { λ a. record { stamp = a.stamp; moment = a.moment; serial = a.serial; reply = a.reply } };
+    ghost view = { λ a. record { stamp = a.stamp; moment = a.moment; serial = a.serial; reply = arc_value a.reply } };
 
-    ghost invariant = { λ a. IsAnswered (record { stamp = a.stamp; moment = a.moment; serial = a.serial; reply = a.reply }) };
+    ghost invariant = { λ a. IsAnswered (record { stamp = a.stamp; moment = a.moment; serial = a.serial; reply = arc_value a.reply }) };
 }
 
 impl Answered {
@@ -75,17 +78,37 @@ impl Answered {
         &self.reply
     }
 
-    /// An answer that was just made.
-    pub(crate) fn new(stamp: Stamp, moment: Moment, serial: u64, reply: Reply) -> Answered
+    /// An answer that was just made. An error means that memory was refused.
+    pub(crate) fn new(
+        alloc: Global,
+        stamp: Stamp,
+        moment: Moment,
+        serial: u64,
+        reply: Reply,
+    ) -> Result<Answered, AllocError>
         requires { IsAnswered (record { stamp = stamp; moment = moment; serial = serial; reply = reply }) }
-        ensures { result ≡ record { stamp = stamp; moment = moment; serial = serial; reply = reply } }
+        ensures { IfOk result (λ answer. answer ≡ record { stamp = stamp; moment = moment; serial = serial; reply = reply }) }
     {
-        Answered {
+        let reply = Arc::new(alloc, reply)?;
+        Ok(Answered {
             stamp,
             moment,
             serial,
             reply,
-        }
+        })
+    }
+
+    /// The same answer, which shares its packets. An error means that too many share them.
+    pub(crate) fn share(&self) -> Result<Answered, AllocError>
+        ensures { IfOk result (λ answer. answer ≡ self.now) }
+    {
+        let reply = Arc::try_clone(&self.reply)?;
+        Ok(Answered {
+            stamp: self.stamp,
+            moment: self.moment,
+            serial: self.serial,
+            reply,
+        })
     }
 
     /// The response on its way to the client, with a copy of what it rests on.

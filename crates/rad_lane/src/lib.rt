@@ -44,7 +44,9 @@ pub use counts::Counts;
 pub use entry::{Entry, Probe};
 pub use hearing::{HearFault, Heard};
 pub use lane::{Lane, SetupFault};
-pub use laws::{a_cut_loses_nothing, a_lane_takes_what_leads_to_it, a_port_that_a_lane_lacks_is_unknown};
+pub use laws::{
+    a_cut_loses_nothing, a_lane_takes_what_leads_to_it, a_port_that_a_lane_lacks_is_unknown,
+};
 pub use leftover::{Leftover, LeftoverParts};
 pub use outgoing::Outgoing;
 pub use record::Record;

@@ -2,23 +2,28 @@ use crate::Series;
 use std::alloc::{AllocError, Global};
 use std::marker::Model;
 
-/// Items in order, whose room is made before it is needed.
+/// Items in order, whose room is made before it is needed. They stand in one row, which begins with items that were let
+/// go of, at most half of it.
 #[derive(Drop)]
 pub(crate) struct ReservedList<T> {
     items: Vec<T>,
+    /// Where those begin that the list has.
+    start: usize,
 }
 
 impl<T> Model for ReservedList<T> {
-    ghost use Rattle.std.specs.Prelude.{◌-◌, vec_capacity, vec_len};
+    ghost use Rattle.std.specs.Prelude.{◌-◌, ◌≤◌, drop, length, vec_capacity, vec_len};
     ghost use Rattle.rad_lane.specs.ReservedList.{ListWithRoom};
 
     ghost Value = { ListWithRoom T };
 
-    ghost view = { λ r. record { items = r.items.items; room = vec_capacity r.items - vec_len r.items } };
+    ghost view = { λ r. record { items = drop r.start r.items.items; room = vec_capacity r.items - vec_len r.items } };
+
+    ghost invariant = { λ r. r.start ≤ length r.items.items };
 }
 
 impl<T> ReservedList<T> {
-    ghost use Rattle.std.specs.Prelude.{◌≡◌, ◌<◌, ◌≤◌, [], ◌∷◌, ◌++◌, drop, length, slice_get, slice_set, option_copied, OnOk};
+    ghost use Rattle.std.specs.Prelude.{◌≡◌, ◌<◌, ◌≤◌, [], ◌∷◌, ◌++◌, drop, length, slice_get, slice_index_or, slice_set, option_copied, OnOk};
 
     /// No items. It takes no memory: what it needs later is made with `alloc`.
     pub(crate) fn new(alloc: Global) -> ReservedList<T>
@@ -26,6 +31,7 @@ impl<T> ReservedList<T> {
     {
         ReservedList {
             items: Vec::new(alloc),
+            start: 0,
         }
     }
 
@@ -52,45 +58,64 @@ impl<T> ReservedList<T> {
         requires { place < length self.old.items }
         ensures { self.new.items ≡ slice_set self.old.items place item }
     {
-        self.items[place] = item;
+        self.items[self.start + place] = item;
+    }
+
+    /// Exchanges two items.
+    pub(crate) fn swap(&mut self, i: usize, j: usize)
+        requires i_within { i < length self.old.items }
+        requires j_within { j < length self.old.items }
+        ensures { (d : T) → self.new.items ≡ slice_set (slice_set self.old.items i (slice_index_or self.old.items j d)) j (slice_index_or self.old.items i d) }
+    {
+        self.items.swap(self.start + i, self.start + j);
     }
 
     /// The item at a place.
     pub(crate) fn get(&self, place: usize) -> Option<&T>
         ensures { option_copied result ≡ slice_get self.now.items place }
     {
-        self.items.as_slice().get(place)
+        self.as_slice().get(place)
     }
 
     /// The items.
     pub(crate) fn as_slice(&self) -> &[T]
         ensures { result.now ≡ self.now.items }
     {
-        self.items.as_slice()
+        &self.items.as_slice()[self.start..]
     }
 
-    /// The items of a vector, without memory.
-    pub(crate) fn from_vec(items: Vec<T>) -> ReservedList<T>
-        ensures { result.items ≡ items.items }
-    {
-        ReservedList { items }
-    }
-
-    /// Lets go of so many of the first items. It takes no memory, and moves each of the others once.
+    /// Lets go of so many of the first items. It takes no memory. The others are moved only where more were let go of
+    /// since the last move than there are others, so that in all no more items are moved than let go of.
     pub(crate) fn drop_front(&mut self, count: usize)
     where
         T: Drop,
         requires { count ≤ length self.old.items }
         ensures { self.new.items ≡ drop count self.old.items }
     {
-        drop(self.items.drain(..count));
+        self.start += count;
+        if self.items.len() - self.start < self.start {
+            self.compact();
+        }
     }
 
-    /// The items, which no more are added to. It takes no memory and moves no item.
+    /// Moves the items to the begin of the row.
+    fn compact(&mut self)
+    where
+        T: Drop,
+        ensures { self.new.items ≡ self.old.items }
+    {
+        drop(self.items.drain(..self.start));
+        self.start = 0;
+    }
+
+    /// The items, which no more are added to. It takes no memory.
     pub(crate) fn into_series(self) -> Series<T>
+    where
+        T: Drop,
         ensures { result ≡ self.items }
     {
-        let ReservedList { items } = self;
+        let ReservedList { mut items, start } = self;
+        drop(items.drain(..start));
         Series::from_vec(items)
     }
 }

@@ -152,7 +152,7 @@ impl Sending {
         };
         let client = self.request.client_secret();
         let reply = respond(alloc, head, &self.packet(), packet, client, &self.home)?;
-        let answer = Answered::new(stamp, now, serial, reply);
+        let answer = Answered::new(alloc, stamp, now, serial, reply)?;
         let outgoing = answer.outgoing(alloc)?;
         Ok((answer, outgoing))
     }

@@ -1,6 +1,6 @@
 //! Volumes: the front of the book that is over is cut off.
 
-ghost use Rattle.std.specs.Prelude.{◌≡◌, ◌≢◌, ◌<◌, ◌≤◌, [], ℕ, ◌++◌, All, map as each, Option, Some, length, take, drop, slice_index_or, vec_capacity, IfOk, OnErr};
+ghost use Rattle.std.specs.Prelude.{◌≡◌, ◌≢◌, ◌<◌, ◌≤◌, [], ℕ, ◌++◌, All, map as each, Option, Some, length, take, drop, slice_index_or, IfOk, OnErr};
 ghost use Rattle.std.specs.Bool.{OnTrue, OnFalse};
 ghost use Rattle.std.specs.List.Sorted.{IsPermutation};
 ghost use Rattle.std.specs.FinMap as map;
@@ -9,7 +9,7 @@ ghost use Rattle.rad_lane.specs.declared.answered.Receipt.{Receipt as the_receip
 ghost use Rattle.rad_lane.specs.Stamp.{key_of as the_key_of};
 ghost use Rattle.rad_lane.specs.Book.{moment_in};
 ghost use Rattle.rad_lane.specs.Repeat.{repeats};
-ghost use Rattle.rad_lane.specs.Volumes.{IsCut, Turns, answers_below, answers_since, volume_of, without_cut};
+ghost use Rattle.rad_lane.specs.Volumes.{IsCut, Turns, answers_below as the_answers_below, answers_since, volume_of, without_cut};
 ghost use Rattle.rad_lane.specs.Cutting.{HasUnderItsKey, IsOverBy, unless_of};
 
 use crate::answered::Receipt;
@@ -18,7 +18,6 @@ use crate::{Answered, Lane, Record, Series, Stamp};
 use block_queue::Fifo;
 use rad_tables::{Duplicates, Key, Moment};
 use std::alloc::{AllocError, Global};
-use std::mem;
 
 /// The front of a book that was cut off: requests that were all answered, and so long ago that none is repeated
 /// any more, with their answers.
@@ -46,9 +45,10 @@ impl<Q: Fifo<Record>> Lane<Q> {
     /// Cuts off the front of the book: as many of the first requests as were all answered a span ago or longer, with
     /// their answers. A repeat of one of them would be taken as a new request before the cut too.
     ///
-    /// It takes time linear in what it cuts, and for each request of that the logarithm of how many keys there are; and
-    /// it moves what stays once. Room for it is made first: for the volume, and for the answers, which are moved to a
-    /// list of their own. Where there is nothing to cut it looks at one request alone and makes no room.
+    /// It takes time linear in what it cuts and in the answers that came before the last one that it cuts, and for each
+    /// request of the cut the logarithm of how many keys there are. Nothing else of the book moves, but once in a while:
+    /// what was let go of stays in memory until it is half of a list, and then the other half is moved up. Room is made
+    /// first, and for the volume alone. Where there is nothing to cut it looks at one request alone and makes no room.
     ///
     /// # Errors
     ///
@@ -71,7 +71,7 @@ impl<Q: Fifo<Record>> Lane<Q> {
         }
     }
 
-    /// Cuts off so many of the first requests, with their answers. All room is made before anything changes.
+    /// Cuts off so many of the first requests, with their answers. All that needs memory is made before anything changes.
     fn cut(&mut self, alloc: Global, count: usize, now: Moment) -> Result<Volume, AllocError>
         requires later { self.old.last ≤ now }
         requires is_cut { IsCut self.old now (take count self.old.accepted) (drop count self.old.accepted) }
@@ -82,14 +82,12 @@ impl<Q: Fifo<Record>> Lane<Q> {
         let opening = self.opening;
         let next = opening + count as u64;
         let stamps = Vec::from_slice(alloc, &self.accepted.as_slice()[..count])?;
-        let room = Vec::with_capacity(alloc, count)?;
-        let kept_room = Vec::with_capacity(alloc, self.answered.as_slice().len())?;
+        let end = end_of(self.answered.as_slice(), next, count);
+        let answered = answers_below(alloc, &self.answered.as_slice()[..end], next, count)?;
         forget(&mut self.duplicates, stamps.as_slice());
         self.accepted.drop_front(count);
         self.receipts.drop_front(count);
-        let answers = mem::replace(&mut self.answered, ReservedList::new(alloc));
-        let (answered, kept) = part(answers.into_series().into_vec(), next, room, kept_room);
-        self.answered = ReservedList::from_vec(kept);
+        drop_below(&mut self.answered, end, next);
         self.opening = next;
         self.last = now;
         Ok(Volume {
@@ -158,26 +156,59 @@ fn key_of(stamp: &Stamp) -> Key
     }
 }
 
-/// Parts answers into those to requests below a number and the others, each in order. Both lists have the room.
-fn part(
-    answers: Vec<Answered>,
-    number: u64,
-    mut below: Vec<Answered>,
-    mut since: Vec<Answered>,
-) -> (Vec<Answered>, Vec<Answered>)
-    requires below_empty { below.items ≡ [] }
-    requires since_empty { since.items ≡ [] }
-    requires below_room { length (answers_below number answers.items) ≤ vec_capacity below }
-    requires since_room { length (answers_since number answers.items) ≤ vec_capacity since }
-    ensures below { result.0.items ≡ answers_below number answers.items }
-    ensures since { result.1.items ≡ answers_since number answers.items }
+/// Where the front of the answers ends that has all those to requests below a number, which are so many.
+fn end_of(answers: &[Answered], number: u64, count: usize) -> usize
+    requires { length (the_answers_below number answers.now) ≡ count }
+    ensures within { result ≤ length answers.now }
+    ensures none_behind { the_answers_below number (drop result answers.now) ≡ [] }
 {
+    let mut left = count;
+    let mut end = 0;
+    for answer in answers {
+        if left == 0 {
+            return end;
+        }
+        if answer.stamp().number < number {
+            left -= 1;
+        }
+        end += 1;
+    }
+    end
+}
+
+/// The answers to requests below a number, which are so many at most. They share their packets with these.
+fn answers_below(
+    alloc: Global,
+    answers: &[Answered],
+    number: u64,
+    count: usize,
+) -> Result<Vec<Answered>, AllocError>
+    ensures { IfOk result (λ below. below.items ≡ the_answers_below number answers.now) }
+{
+    let mut below = Vec::with_capacity(alloc, count)?;
     for answer in answers {
         if answer.stamp().number < number {
-            below.push_reserved(answer);
-        } else {
-            since.push_reserved(answer);
+            below.push(answer.share()?)?;
         }
     }
-    (below, since)
+    Ok(below)
+}
+
+/// Lets go of the answers to requests below a number, none of which stand behind this end. The others that stand before
+/// it move up to it, and then the list begins with them.
+fn drop_below(answers: &mut ReservedList<Answered>, end: usize, number: u64)
+    requires within { end ≤ length answers.old.items }
+    requires none_behind { the_answers_below number (drop end answers.old.items) ≡ [] }
+    ensures { answers.new.items ≡ answers_since number answers.old.items }
+{
+    let mut first = end;
+    let mut place = end;
+    while place > 0 {
+        place -= 1;
+        if number <= answers.as_slice()[place].stamp().number {
+            first -= 1;
+            answers.swap(first, place);
+        }
+    }
+    answers.drop_front(first);
 }

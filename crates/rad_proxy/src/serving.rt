@@ -16,7 +16,7 @@ use rad_desk::{Gate, Inlet, OpenFault, Proxy, Wire, Worker, front_worker, lane_w
 use rad_realms::Config;
 use std::alloc::{AllocError, Global};
 use std::fmt::Display;
-use std::io::{self, ErrorKind, Read, Write};
+use std::io::{BufWriter, ErrorKind, Read, Write};
 use std::net::{Net, UdpSocket};
 use std::random::RandomSource;
 use std::sync::{Arc, Wait, WaitMethods};
@@ -63,7 +63,7 @@ pub fn run<R, G, L, I, O>(
     gate: &G,
     log: &L,
     reader: I,
-    mut writer: O,
+    writer: O,
 ) -> Result<EndLine, Fault>
 where
     R: Clock + Net + RandomSource + Threads + Wait + Sync,
@@ -72,6 +72,9 @@ where
     I: Read + Drop,
     O: Write + Drop,
 {
+    let Ok(mut writer) = BufWriter::new(alloc, writer) else {
+        return Err(Fault::Memory);
+    };
     let sockets = Sockets::bind(rt, alloc, config)?;
     let (wires, bells) = make_wires(rt, alloc, config, sockets)?;
     let listening = ListeningLine {

@@ -1,5 +1,8 @@
 //! What no contract says: the octets that a run writes, whatever reads and writes do.
 
+mod octets;
+mod serving;
+
 use crate::check_command::check_text;
 use crate::faults::Fault;
 use crate::lines::EndLine;

@@ -60,8 +60,11 @@ struct Works {
 }
 
 impl Works {
-    fn new(alloc: Global, stops: Option<Call>) -> Result<Works, Fail> {
-        let config = read_config(alloc, TEXT)?;
+    /// Over the configuration that goes on with these lines.
+    fn new(alloc: Global, more: &str, stops: Option<Call>) -> Result<Works, Fail> {
+        let mut text = String::from_str(alloc, TEXT)?;
+        text.push_str(more)?;
+        let config = read_config(alloc, text.as_str())?;
         let (proxy, inlets) = open(alloc, &config)?;
         Ok(Works {
             alloc,
@@ -126,7 +129,7 @@ fn tally(turns: u64, received: u64, sent: u64, faults: u64) -> Tally {
 
 #[test]
 fn each_worker_does_its_part(rt: HostRuntime) -> Result<(), Fail> {
-    let mut works = Works::new(rt.alloc(), None)?;
+    let mut works = Works::new(rt.alloc(), "", None)?;
     works.front.comes(CLIENT, &REQUEST);
     assert_eq!(rt; works.front(&rt, 1), tally(1, 1, 0, 0));
     assert_eq!(rt; works.gate.told(), Some(Note::Accepted(0, 0)));
@@ -149,7 +152,7 @@ fn each_worker_does_its_part(rt: HostRuntime) -> Result<(), Fail> {
 fn a_reply_from_elsewhere_is_dropped(rt: HostRuntime) -> Result<(), Fail> {
     for (address, port) in [([127, 0, 0, 1], 2814), ([127, 0, 0, 2], 2813)] {
         let elsewhere = Endpoint { address, port };
-        let mut works = Works::new(rt.alloc(), None)?;
+        let mut works = Works::new(rt.alloc(), "", None)?;
         works.forward(&rt);
         works.lane.comes(elsewhere, &REPLY);
         assert_eq!(rt; works.lane(&rt, 1), Some(tally(1, 1, 0, 0)));
@@ -161,7 +164,7 @@ fn a_reply_from_elsewhere_is_dropped(rt: HostRuntime) -> Result<(), Fail> {
 
 #[test]
 fn a_failed_send_is_sent_again(rt: HostRuntime) -> Result<(), Fail> {
-    let mut works = Works::new(rt.alloc(), None)?;
+    let mut works = Works::new(rt.alloc(), "", None)?;
     works.front.comes(CLIENT, &REQUEST);
     assert_eq!(rt; works.front(&rt, 1), tally(1, 1, 0, 0));
     works.lane.fails = true;
@@ -175,7 +178,7 @@ fn a_failed_send_is_sent_again(rt: HostRuntime) -> Result<(), Fail> {
 
 #[test]
 fn the_front_answers_and_drops(rt: HostRuntime) -> Result<(), Fail> {
-    let mut works = Works::new(rt.alloc(), None)?;
+    let mut works = Works::new(rt.alloc(), "", None)?;
     works.front.comes(CLIENT, &STATUS);
     assert_eq!(rt; works.front(&rt, 1), tally(1, 1, 1, 0));
     assert!(rt; works.front.sent(CLIENT, &STATUS_ANSWER));
@@ -189,12 +192,24 @@ fn the_front_answers_and_drops(rt: HostRuntime) -> Result<(), Fail> {
 
 #[test]
 fn a_gate_stops_each_worker(rt: HostRuntime) -> Result<(), Fail> {
-    let mut works = Works::new(rt.alloc(), Some(Call::Take))?;
+    let mut works = Works::new(rt.alloc(), "", Some(Call::Take))?;
     assert_eq!(rt; works.front(&rt, 9), tally(1, 0, 0, 0));
     works.forward(&rt);
-    let mut works = Works::new(rt.alloc(), Some(Call::Step))?;
+    let mut works = Works::new(rt.alloc(), "", Some(Call::Step))?;
     works.forward(&rt);
     assert!(rt; works.lane.is_quiet());
     assert_eq!(rt; works.lane(&rt, 9), Some(tally(1, 0, 0, 0)));
+    Ok(())
+}
+
+#[test]
+fn a_half_full_book_is_cut(rt: HostRuntime) -> Result<(), Fail> {
+    let mut works = Works::new(rt.alloc(), "book = 2\nspan = 0", None)?;
+    works.forward(&rt);
+    assert_eq!(rt; works.lane(&rt, 1), Some(tally(1, 0, 0, 0)));
+    assert_eq!(rt; works.gate.told(), Some(Note::Accepted(0, 0)));
+    works.lane.comes(HOME, &REPLY);
+    assert_eq!(rt; works.lane(&rt, 1), Some(tally(1, 1, 0, 0)));
+    assert_eq!(rt; works.gate.told(), Some(Note::Cut(1)));
     Ok(())
 }

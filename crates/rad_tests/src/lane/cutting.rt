@@ -8,9 +8,7 @@ use super::requests::{reply_to, request};
 use super::running::checked;
 use super::script::moment;
 use super::test_lane::{RANDOM, TestLane};
-use rad_lane::{
-    Action, Answered, Event, Given, GivenAnswer, Heard, Stamp, TurnFault, Volume, run,
-};
+use rad_lane::{Action, Answered, Event, Given, GivenAnswer, Heard, Stamp, TurnFault, Volume, run};
 use rad_packet::Datagram;
 use rad_realms::Config;
 use std::alloc::Global;

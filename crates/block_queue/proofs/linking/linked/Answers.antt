@@ -1,4 +1,4 @@
-use Rattle.std.proofs.Common.{ap, subst, sym}
+use Rattle.std.proofs.Common.{subst, sym}
 use Rattle.block_queue.specs.Blocks.{IsChain, IsJoined}
 use Rattle.block_queue.specs.Chain.{joined}
 use Rattle.block_queue.proofs.Ends.{linked_both, linked_none, none_linked}

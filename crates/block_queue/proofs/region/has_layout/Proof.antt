@@ -1,5 +1,5 @@
 -- `has_layout` reads the size of a value. Assumes `Logic`.
-use Rattle.std.proofs.Common.{◌≡◌, ℕ, ◌*◌, ◌^◌, ◌<◌, Bool, true, ltb, ltb-true, List, [], ◌∷◌, refl, arith, lit<, w64}
+use Rattle.std.proofs.Common.{◌≡◌, ℕ, ◌^◌, ◌<◌, Bool, true, ltb, ltb-true, List, [], ◌∷◌, refl, arith, lit<, w64}
 use base.Logic.{SProp, emp, via, guard_i}
 use base.Fml.{ftrue}
 use mir.Syntax.{a_type}

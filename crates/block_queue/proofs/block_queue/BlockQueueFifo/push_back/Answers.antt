@@ -1,4 +1,4 @@
-use Rattle.std.proofs.Common.{◌≤◌, ◌+◌, ◌++◌, [], ◌∷◌, ◌∙◌, sym, ap, subst, arith}
+use Rattle.std.proofs.Common.{◌≤◌, ◌++◌, [], ◌∷◌, ◌∙◌, sym, ap, subst, arith}
 use Rattle.block_queue.specs.Chain.{joined}
 use Rattle.block_queue.proofs.Blocks.{queue_pushed}
 use Rattle.block_queue.proofs.block_queue.BlockQueueFifo.push_back.Goals as goal

@@ -1,4 +1,4 @@
-use Rattle.std.proofs.Common.{◌≡◌, [], ◌∷◌, ◌++◌, Some, None, sym, ap, ◌∙◌}
+use Rattle.std.proofs.Common.{◌∷◌, ◌++◌, sym, ap, ◌∙◌}
 use Rattle.block_queue.specs.Chain.{elems}
 use Rattle.block_queue.proofs.Cells.{begins_at, held_first, one_cell, read_is, parted_on, none_after, elems_of, elems_none}
 use Rattle.block_queue.proofs.chain.Chain.split.Goals as goal

@@ -1,4 +1,4 @@
-use Rattle.std.proofs.Common.{◌≡◌, ◌∙◌, [], sym, ap, subst, Option, None, refl, arith}
+use Rattle.std.proofs.Common.{◌∙◌, sym, subst, Option, arith}
 use Rattle.std.specs.Borrow.{Bor}
 use Rattle.std.specs.Map.Iter.{TakesFirst, deref}
 use Rattle.block_queue.proofs.Cells.{none_at, some_at, shown_at}

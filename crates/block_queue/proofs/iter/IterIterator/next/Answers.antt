@@ -1,8 +1,8 @@
-use Rattle.std.proofs.Common.{Some, None, Option, ◌++◌, ◌∙◌, sym, ap, subst}
+use Rattle.std.proofs.Common.{Some, Option, ◌++◌, ◌∙◌, sym, ap, subst}
 use Rattle.std.specs.Borrow.{Bor}
 use Rattle.std.specs.Map.Iter.{TakesFirst, deref}
 use Rattle.std_collections.proofs.IterRuns.{first_progress}
-use Rattle.block_queue.specs.Blocks.{items_of, left_in, IsChain}
+use Rattle.block_queue.specs.Blocks.{items_of, left_in}
 use Rattle.block_queue.proofs.Blocks.{taken_here, none_here, none_left, next_shown, next_chained}
 use Rattle.block_queue.proofs.iter.IterIterator.next.Goals as goal
 

@@ -1,4 +1,4 @@
-use Rattle.std.proofs.Common.{◌≡◌, ◌<◌, ◌++◌, [], ◌∷◌, ◌∙◌, sym, ap, subst, length}
+use Rattle.std.proofs.Common.{◌<◌, ◌++◌, [], ◌∷◌, ◌∙◌, sym, ap, subst, length}
 use Rattle.block_queue.specs.Blocks.{items_of, room_of, IsChain}
 use Rattle.block_queue.specs.Chain.{joined}
 use Rattle.block_queue.proofs.Ends.{first_filled, first_popped, room_popped}

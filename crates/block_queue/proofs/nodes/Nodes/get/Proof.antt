@@ -1,5 +1,5 @@
 -- `get` shows one node. Assumes `Logic`.
-use mathlib.Core.Path.{◌≡◌, refl, ap}
+use mathlib.Core.Path.{refl, ap}
 use Prim.Native.Nat.{ℕ}
 use mathlib.Core.List.{List, [], ◌∷◌}
 use base.Logic.{SProp, emp, never, id⊢}

@@ -1,6 +1,6 @@
 -- `join` hands over what the others own. Assumes `Logic`.
 use mathlib.Core.Path.{◌≡◌, refl, sym}
-use mathlib.Core.List.{List, [], ◌∷◌, ◌++◌}
+use mathlib.Core.List.{[], ◌∷◌, ◌++◌}
 use base.Logic.{SProp, emp}
 use mir.Val.{Val}
 use mir.MapTy.{inst_fn}

@@ -1,35 +1,34 @@
 -- `take_first` parts the first node from the others. Assumes `Logic`.
-use mathlib.Core.Path.{◌≡◌, refl, sym, ap, subst, ◌∙◌}
+use mathlib.Core.Path.{◌≡◌, refl, ap}
 use mathlib.Core.List.{List, [], ◌∷◌, ◌++◌}
 use base.Logic.{SProp, emp}
-use mir.Syntax.{Ty, ty_ptr, ty_struct, tcons, tnil}
+use mir.Syntax.{ty_ptr, ty_struct, tcons, tnil}
 use mir.Val.{Val}
 use mir.MapTy.{inst_fn}
 use contract.Monad.{fact, fact_i}
 use contract.Running.{tables}
-use types.Kit.{‵, raw, ◌⊛◌, ◌$◌, ◌∵◌, !, qed, by, move, keep, drop, use0, use1, use2, split, join, rewrite, fsplit, fsplit3, fjoin}
+use types.Kit.{‵, raw, ◌⊛◌, ◌$◌, ◌∵◌, !, qed, by, move, keep, use0, use2, split, join, rewrite, fsplit, fsplit3, fjoin}
 use types.Part.{whole, sub, agg}
 use types.Run.{stop, fld, no_more, and_then, of_opd, returns, enter}
 use types.ByLocal.{alloc_all, pass_all, free_all, look_at, get, get_in, is, sets, env}
 use denote.Exit.{no}
-use denote.RattleType.{RattleType, owns}
-use denote.RawPtr.{Ptr, block_ptr, ptr_val, InBlock}
+use denote.RattleType.{owns}
+use denote.RawPtr.{Ptr, block_ptr, ptr_val}
 use denote.Signature.{plain, types_at}
 use denote.Steps.{heard, nothing}
 use denote.Struct.Tuple.{Tuple}
 use denote.Triple.Entry.{alive}
 use denote.Triple.Walked.{Stays, stay_dropped, walk_of, Goes-dropped}
-use Rattle.std.specs.Prelude.{Option, Some}
+use Rattle.std.specs.Prelude.{Some}
 use Rattle.std.proofs.raw_atomic.Walks.{proved, leaves}
 use Rattle.std_alloc.proofs.Pairs.{pair_of, pair_val, pair_Typed}
-use Rattle.core.proofs.mem.Param.{El, R, el_x}
-use Rattle.core.proofs.alloc.Calls.{Al, token}
+use Rattle.core.proofs.mem.Param.{El, el_x}
+use Rattle.core.proofs.alloc.Calls.{Al}
 use Rattle.core.proofs.slots.Leases.{args}
-use Rattle.block_queue.specs.Nodes.{IsHeld, BeginsAt, EndsAt, cell_at}
-use Rattle.block_queue.specs.Region.{region_owns}
+use Rattle.block_queue.specs.Nodes.{IsHeld, BeginsAt, cell_at}
 use Rattle.block_queue.specs.contracts.nodes.Place as Spot
-use Rattle.block_queue.proofs.Regions.{Rg, D, region_val, region_told, region_good}
-use Rattle.block_queue.proofs.NodeSteps.{Nr, N, Held, nodes_val, nodes_ty, nodes_good, nodes_told, nodes_had, nodes_made, nodes_parted, place_val, place_ty, place_good, place_told, place_made, ptr_good, node_of, node_out}
+use Rattle.block_queue.proofs.Regions.{Rg, D, region_val, region_good}
+use Rattle.block_queue.proofs.NodeSteps.{Nr, N, Held, nodes_val, nodes_ty, nodes_good, nodes_told, nodes_had, nodes_made, place_val, place_good, place_told, node_out}
 use Rattle.block_queue.specs.contracts.nodes.Nodes.take_first.{ended, clauses}
 use Rattle.block_queue.specs.contracts.nodes.Nodes.take_first.Key.{name as #self}
 use Rattle.block_queue.proofs.nodes.Nodes.take_first.Statement.{statement}

@@ -3,7 +3,6 @@ use mathlib.Core.List.{[], ◌++◌}
 use base.Fml.{Incl-trans}
 use contract.BorrowLft.{meet_⊑_left}
 use denote.RattleType.{RattleType}
-use denote.RawPtr.{RawPtr}
 use denote.Param.Laws.{Laws}
 use denote.Param.Shared.{copy_shared}
 use denote.Struct.Field.{RawPtr-field}

@@ -4,7 +4,7 @@ use denote.Struct.Struct.{exits_of}
 use denote.Struct.Owning.{shape, fields, to}
 use denote.Param.Send.{IsSend, Frees, AllSend, owning_send, struct_send, sendable}
 use Rattle.core.specs.declared.alloc.Allocator.{Ghosts}
-use Rattle.std_alloc.proofs.SendSync.{FreesAnywhere, quiet}
+use Rattle.std_alloc.proofs.SendSync.{quiet}
 use Rattle.block_queue.specs.contracts.region.Region as C
 use Rattle.block_queue.proofs.Sending.{region-Keyless}
 

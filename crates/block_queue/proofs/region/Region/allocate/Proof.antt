@@ -1,5 +1,5 @@
 -- `allocate` asks for memory, and answers the region of empty places that it is. Assumes `Logic`.
-use Rattle.std.proofs.Common.{◌≡◌, ℕ, ◌*◌, ◌^◌, ◌<◌, true, false, [], ◌∷◌, sym, refl, ap, subst, arith, lit<, w64, Ok, Err}
+use Rattle.std.proofs.Common.{ℕ, ◌*◌, ◌^◌, ◌<◌, true, false, [], ◌∷◌, sym, refl, ap, subst, arith, lit<, w64, Ok, Err}
 use mir.Syntax.{Ty, named}
 use mir.Val.{Val, vint, vptr, WT}
 use mir.MapTy.{inst_fn}

@@ -1,8 +1,8 @@
 -- `get` shows the value of one place. Assumes `Logic`.
-use mathlib.Core.Path.{◌≡◌, refl, sym, subst, ◌∙◌}
+use mathlib.Core.Path.{◌≡◌, refl}
 use Prim.Native.Nat.{ℕ, ◌+◌, ◌*◌, ◌<◌, ◌^◌}
 use native.Mathlib.Omega.{arith}
-use mathlib.Core.List.{List, [], ◌∷◌, ◌++◌}
+use mathlib.Core.List.{List, [], ◌∷◌}
 use lib.ListN.{length, get_or}
 use base.Logic.{SProp, never, id⊢}
 use base.Fml.{Fml, ftrue, fsep, fhide, flft}

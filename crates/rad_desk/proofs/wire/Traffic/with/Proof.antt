@@ -1,6 +1,6 @@
 -- It takes no octets, and the list is the earlier one with the datagram behind it.
 use mathlib.Core.Path.{refl}
-use mathlib.Core.List.{List, [], ◌∷◌, ◌++◌}
+use mathlib.Core.List.{[], ◌∷◌, ◌++◌}
 use seplogic.Ra.Ura.{Ura}
 use mir.Syntax.{named}
 use mir.Val.{Val, vptr, vstruct, vnil}
@@ -28,7 +28,7 @@ use denote.Triple.Entry.{on_entry, alive, Args}
 use denote.Triple.Spec.{triple_of}
 use denote.Triple.Table.{entered}
 use denote.Triple.Walked.{says, stay_none_ref, stay_none_slice, Stays, walk_of, ends_at, walked, Goes-none_ref, Goes-none_slice, walk_Meets}
-use Rattle.std.proofs.Common.{ℕ, ◌<◌, ◌^◌, length}
+use Rattle.std.proofs.Common.{◌<◌, ◌^◌, length}
 use Rattle.rad_desk.specs.declared.wire.Traffic.{Traffic}
 use Rattle.rad_desk.specs.Traffic.{passage}
 use Rattle.rad_desk.specs.contracts.wire.Traffic.with.Key.{name as key}
