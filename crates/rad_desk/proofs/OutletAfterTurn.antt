@@ -1,5 +1,5 @@
 -- A cut takes answers away, and leaves the responses that were given.
-use Rattle.std.proofs.Common.{◌≡◌, ℕ, sym, subst}
+use Rattle.std.proofs.Common.{◌≡◌, ℕ, ◌≤◌, sym, subst}
 use Rattle.std.specs.Prelude.{List, not, Result, Ok, Err}
 use Rattle.std.proofs.lemmas.List.Elements.{All-filter}
 use Rattle.rad_lane.specs.declared.outgoing.Outgoing.{Outgoing}
@@ -20,3 +20,9 @@ outlet_turned old new moment (Ok volume) given t outlet =
     })
 outlet_turned old new moment (Err NothingToTurn) given t outlet = subst (λ book. IsOutlet book given) (sym t.1) outlet
 outlet_turned old new moment (Err OutOfMemory) given t outlet = subst (λ book. IsOutlet book given) (sym t.4) outlet
+
+-- The lane's limits stay.
+pub bounded_turned : (old new : Book) (moment : ℕ) (result : Result Volume TurnFault) → Turns old moment result new → old.setup.limits.queue ≤ 65536 → new.setup.limits.queue ≤ 65536
+bounded_turned old new moment (Ok volume) t h = subst (λ (book : Book). book.setup.limits.queue ≤ 65536) (sym t.5) h
+bounded_turned old new moment (Err NothingToTurn) t h = subst (λ (book : Book). book.setup.limits.queue ≤ 65536) (sym t.1) h
+bounded_turned old new moment (Err OutOfMemory) t h = subst (λ (book : Book). book.setup.limits.queue ≤ 65536) (sym t.4) h
