@@ -35,14 +35,19 @@ from sides import Findings, Home, Nas
 ENDINGS = ["calm", "away", "drain"]
 REQUESTS, SEED = 1500, 1
 REFUSED = 5000, 6000
-IN_FLIGHT, MOST_A_SECOND = 300, 400
+IN_FLIGHT, MOST_A_SECOND = 450, 500
 LEFT_OVER = 20
+IDENTIFIERS = 256
 PATIENCE, AFTERWARDS = 120, 0.3
 SPARE_LINES = 1000
 LINGER = {"calm": 5000, "away": 500, "drain": 60_000}
-WINDOWS = [254, 4, 40]
-LIMITS = ["ring = 256", "queue = 20\nring = 3", "ring = 40\ntries = 1"]
-ROUNDS = "first_wait = 200\nprobe_every = 1000\ndown_wait = 1500\nspan = 60000\nbook = 1000000"
+WINDOWS, PORTS = [300, 4, 40], [2, 1, 1]
+LIMITS = [
+    "ring = 256\nspan = 60000\nbook = 1000000",
+    "queue = 20\nring = 3\nspan = 60000\nbook = 1000000",
+    "ring = 40\ntries = 1\nspan = 20000\nbook = 1500",
+]
+ROUNDS = "first_wait = 200\nprobe_every = 1000\ndown_wait = 1500"
 STATE = re.compile(r"lane (\d+) \S+ (?:up|down) \w+ accepted (\d+) queued (\d+) outstanding (\d+) answered (\d+) opening (\d+)")
 
 
@@ -127,7 +132,8 @@ class Soak:
         parts += [f'[[client]]\naddress = "{nas.port.address[0]}"\nsecret = "{nas.secret.decode()}"' for nas in self.nases]
         parts += [
             f'[[home]]\nname = "{home.name}"\naddress = "127.0.0.1:{home.port.address[1]}"\n'
-            f'secret = "{home.secret.decode()}"\nwindow = {home.window}\n{LIMITS[home.lane]}\n{ROUNDS}'
+            f'secret = "{home.secret.decode()}"\n'
+            f'window = {home.window}\nports = {PORTS[home.lane]}\n{LIMITS[home.lane]}\n{ROUNDS}'
             for home in self.homes
         ]
         parts += [f'[[realm]]\nname = "{home.realm}"\nhome = "{home.name}"' for home in self.homes]
@@ -148,7 +154,7 @@ class Soak:
         self.credit = min(self.credit + MOST_A_SECOND / 100, 50)
         while self.is_asking and self.credit >= 1 and self.out() < IN_FLIGHT:
             self.credit -= 1
-            self.ask(self.chance.choices(self.homes, [6, 1, 2])[0])
+            self.ask(self.chance.choices(self.homes, [8, 1, 1])[0])
         if self.is_asking:
             if self.chance.random() < 0.05:
                 self.chance.choice(self.nases).ask_status()
@@ -233,6 +239,9 @@ class Soak:
             counts["requests whose order is known"] += len(numbers)
             if numbers != sorted(numbers):
                 self.findings.fault(f"{home.name}: requests of one sending each were not accepted in the order of sending")
+            ports = len({known.identity[0] for known in home.log.values()})
+            if ports > PORTS[home.lane] or ports < PORTS[home.lane] and len(home.log) > IDENTIFIERS:
+                self.findings.fault(f"{home.name}: requests came from {ports} source ports")
             if self.ending != "away" and sorted(home.sessions) != list(range(len(home.sessions))):
                 self.findings.fault(f"{home.name}: a request was accepted that never came")
         log = self.log.read_bytes()

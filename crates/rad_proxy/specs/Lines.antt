@@ -8,10 +8,13 @@ use Rattle.rad_lane.specs.declared.stepping.Action.TheVariants.{Sent, Resent, Pr
 use Rattle.rad_lane.specs.declared.outgoing.Outgoing.{Outgoing}
 use Rattle.rad_realms.specs.Printed.{dropped_text}
 use Rattle.rad_proxy.specs.Names.{address_text, endpoint_text, desk_fault_name, refusal_name, watch_name, mode_name}
-use Rattle.rad_proxy.specs.PacketText.{head_text, packet_text}
+use Rattle.rad_proxy.specs.PacketText.{packet_text, sent_head_text, sent_text}
 use Rattle.rad_desk.specs.declared.hearing.DeskFault.{DeskFault}
 use Rattle.rad_desk.specs.declared.hearing.Told.{Told}
 use Rattle.rad_desk.specs.declared.hearing.Told.TheVariants.{Answer, ProbeAnswered}
+use Rattle.rad_lane.specs.declared.turning.TurnFault.{TurnFault}
+use Rattle.rad_lane.specs.declared.turning.TurnFault.TheVariants.{NothingToTurn, OutOfMemory}
+use Rattle.rad_proxy.specs.declared.lines.Cut.{Cut}
 use Rattle.rad_proxy.specs.declared.lines.DrainLine.{DrainLine}
 use Rattle.rad_proxy.specs.declared.lines.StateLine.{StateLine}
 use Rattle.rad_proxy.specs.declared.lines.EndLine.{EndLine}
@@ -36,15 +39,15 @@ nas_line (Ok (Taken lane (Again number))) written =
 nas_line (Err (Dropped reason)) written = codes "nas: dropped " ++ dropped_text reason
 nas_line (Err (Refused reason)) written = codes "nas: refused " ++ refusal_name reason
 
--- What a step did, with the octets of the packet that it gave to be sent.
-abbrev pub step_line : Action → List ℕ → List ℕ
-step_line (Sent number slot) sent = codes "step: sent " ++ packet_text sent
-step_line (Resent number slot) sent = codes "step: resent " ++ packet_text sent
-step_line (Probed slot) sent = codes "step: probed " ++ head_text sent
-step_line WentDown sent = codes "step: down"
-step_line WentUp sent = codes "step: up"
-step_line (Idle None) sent = codes "step: idle"
-step_line (Idle (Some next)) sent = codes "step: idle " ++ decimal next
+-- What a step did, with the source port that is told and the octets of the packet that the step gave to be sent.
+abbrev pub step_line : Action → Option ℕ → List ℕ → List ℕ
+step_line (Sent number slot) port sent = codes "step: sent " ++ sent_text port sent
+step_line (Resent number slot) port sent = codes "step: resent " ++ sent_text port sent
+step_line (Probed slot) port sent = codes "step: probed " ++ sent_head_text port sent
+step_line WentDown port sent = codes "step: down"
+step_line WentUp port sent = codes "step: up"
+step_line (Idle None) port sent = codes "step: idle"
+step_line (Idle (Some next)) port sent = codes "step: idle " ++ decimal next
 
 -- What became of a datagram of a lane's home server.
 abbrev pub home_line : ℕ → Result Told DeskFault → List ℕ
@@ -61,6 +64,13 @@ abbrev pub take_line : Option Outgoing → List ℕ
 take_line None = codes "take: none"
 take_line (Some response) =
     codes "take: " ++ receiver_text response.client response.port ++ codes " " ++ packet_text response.reply.response
+
+-- What became of cutting off the front of a lane's book.
+abbrev pub turn_line : ℕ → Result Cut TurnFault → List ℕ
+turn_line lane (Ok cut) =
+    codes "turn: " ++ decimal lane ++ codes " " ++ decimal cut.count ++ codes " " ++ decimal cut.opening
+turn_line lane (Err NothingToTurn) = codes "turn: refused NothingToTurn"
+turn_line lane (Err OutOfMemory) = codes "turn: refused OutOfMemory"
 
 abbrev pub drain_line : DrainLine → List ℕ
 drain_line line = codes "drain: " ++ decimal line.lane ++ codes " " ++ decimal line.count

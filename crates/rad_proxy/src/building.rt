@@ -20,8 +20,8 @@ const STATUS_AUTHENTICATOR: [u8; 16] = [0xa5; 16];
 pub enum Sender<'a> {
     /// A NAS, with its client's secret, where its address is a client's.
     Nas(Option<&'a Secret>),
-    /// A home server, with its secret, which answers what its lane sent last.
-    Home(&'a Secret, &'a LastSent),
+    /// A home server, with its secret, which answers what its lane sent last from a source port, where the lane has it.
+    Home(&'a Secret, Option<&'a LastSent>),
 }
 
 impl Sender<'_> {
@@ -41,7 +41,10 @@ impl Sender<'_> {
             Sender::Nas(None) => [0; 16],
             Sender::Nas(Some(secret)) => request_authenticator(packet, secret),
             Sender::Home(secret, sent) => {
-                let answered = sent.authenticator(packet.identifier());
+                let answered = match sent {
+                    Some(sent) => sent.authenticator(packet.identifier()),
+                    None => [0; 16],
+                };
                 response_authenticator(packet, &answered, secret)
             }
         }

@@ -16,9 +16,10 @@ pub enum Event<'a> {
         port: u16,
         packet: Packet<'a>,
     },
-    /// A datagram comes from the home server of a lane.
+    /// A datagram comes from the home server of a lane to this source port.
     Home {
         lane: u16,
+        port: u16,
         packet: Packet<'a>,
     },
     /// The first response that waits at a lane is taken.
@@ -27,6 +28,10 @@ pub enum Event<'a> {
     },
     /// A lane is to do its next step.
     Step {
+        lane: u16,
+    },
+    /// A lane is to cut off the front of its book.
+    Turn {
         lane: u16,
     },
     /// The events from now on happen at this moment.
@@ -97,6 +102,9 @@ impl<'a> Event<'a> {
             b"step" => Event::Step {
                 lane: parse_u16(words.next()?)?,
             },
+            b"turn" => Event::Turn {
+                lane: parse_u16(words.next()?)?,
+            },
             b"at" => Event::At {
                 milliseconds: parse_usize(words.next()?)? as u64,
             },
@@ -125,10 +133,24 @@ fn parse_nas<'a>(words: &mut Pieces<'a>) -> Option<Event<'a>> {
 
 /// Reads the words behind `home`. A home server sends no Status-Server.
 fn parse_home<'a>(words: &mut Pieces<'a>) -> Option<Event<'a>> {
-    let lane = parse_u16(words.next()?)?;
+    let (lane, port) = parse_source(words.next()?)?;
     match parse_packet(words)? {
         Packet::Made(Template::Status { .. }, _) => None,
-        packet => Some(Event::Home { lane, packet }),
+        packet => Some(Event::Home { lane, port, packet }),
+    }
+}
+
+/// Reads a lane, and behind a dot its source port, which is else the first.
+fn parse_source(word: &[u8]) -> Option<(u16, u16)> {
+    let mut numbers = Pieces::new(word, b'.');
+    let lane = parse_u16(numbers.next()?)?;
+    let port = match numbers.next() {
+        Some(port) => parse_u16(port)?,
+        None => 0,
+    };
+    match numbers.next() {
+        Some(_) => None,
+        None => Some((lane, port)),
     }
 }
 

@@ -3,11 +3,11 @@
 ghost use Rattle.std.specs.Prelude.{◌≡◌, ◌≤◌, length};
 
 use crate::names::{AddressText, DeskFaultText, EndpointText, mode_name, refusal_name, watch_name};
-use crate::packet_text::PacketText;
+use crate::packet_text::{PacketText, SentText};
 use crate::path::{Given, PathFault};
 use rad_auth::Reply;
 use rad_desk::{DeskFault, Told};
-use rad_lane::{Action, Counts, Outgoing, Taken};
+use rad_lane::{Action, Counts, Outgoing, Taken, TurnFault, Volume};
 use rad_realms::Endpoint;
 use std::fmt;
 
@@ -24,7 +24,7 @@ pub struct NasLine<'a> {
 pub struct StepLine<'a> {
     pub action: Action,
     /// The packet that the step gave to be sent.
-    pub sent: PacketText<'a>,
+    pub sent: SentText<'a>,
 }
 
 /// What became of a datagram of a lane's home server.
@@ -38,6 +38,22 @@ pub struct HomeLine {
 #[derive(Drop)]
 pub struct TakeLine {
     pub taken: Option<Outgoing>,
+}
+
+/// What became of cutting off the front of a lane's book.
+#[derive(Clone, Copy)]
+pub struct TurnLine {
+    pub lane: u16,
+    pub outcome: Result<Cut, TurnFault>,
+}
+
+/// How much was cut off.
+#[derive(Clone, Copy)]
+pub struct Cut {
+    /// How many requests.
+    pub count: usize,
+    /// The number of the first request that the book holds from then on.
+    pub opening: u64,
 }
 
 /// That a lane takes no more requests.
@@ -127,7 +143,7 @@ impl fmt::Display for StepLine<'_> {
     ghost use Rattle.std.specs.Prelude.{Some};
     ghost use Rattle.rad_proxy.specs.Lines.{step_line};
 
-    ghost output = { λ line. Some (step_line line.action line.sent.octets.now) };
+    ghost output = { λ line. Some (step_line line.action line.sent.port line.sent.packet.octets.now) };
 
     fn fmt<W: fmt::Write>(&self, f: &mut fmt::Formatter<W>) -> fmt::Result {
         let sent = self.sent;
@@ -194,6 +210,37 @@ fn response_of(reply: &Reply) -> &[u8]
 {
     let _head = reply.head();
     reply.response()
+}
+
+impl Cut {
+    ghost use Rattle.std.specs.Prelude.{◌≡◌, length};
+
+    /// How much this volume is.
+    pub fn of(volume: &Volume) -> Cut
+        ensures { result.count ≡ length volume.now.stamps }
+    {
+        let count = volume.stamps.as_slice().len();
+        Cut {
+            count,
+            opening: volume.opening.saturating_add(count as u64),
+        }
+    }
+}
+
+impl fmt::Display for TurnLine {
+    ghost use Rattle.std.specs.Prelude.{Some};
+    ghost use Rattle.rad_proxy.specs.Lines.{turn_line};
+
+    ghost output = { λ line. Some (turn_line line.lane line.outcome) };
+
+    fn fmt<W: fmt::Write>(&self, f: &mut fmt::Formatter<W>) -> fmt::Result {
+        let lane = self.lane;
+        match self.outcome {
+            Ok(Cut { count, opening }) => write!(f, "turn: {lane} {count} {opening}"),
+            Err(TurnFault::NothingToTurn) => write!(f, "turn: refused NothingToTurn"),
+            Err(TurnFault::OutOfMemory) => write!(f, "turn: refused OutOfMemory"),
+        }
+    }
 }
 
 impl fmt::Display for DrainLine {

@@ -4,12 +4,15 @@ use crate::building::{Sender, build};
 use crate::events::{Event, Packet};
 use crate::faults::{Fault, Halt};
 use crate::left_over::close;
-use crate::lines::{DrainLine, EndLine, HomeLine, NasLine, StateLine, StepLine, TakeLine};
-use crate::packet_text::PacketText;
+use crate::lines::{
+    Cut, DrainLine, EndLine, HomeLine, NasLine, StateLine, StepLine, TakeLine, TurnLine,
+};
+use crate::packet_text::{PacketText, SentText};
 use crate::path::{Arrival, take_in};
 use crate::pieces::Pieces;
-use crate::sent::{LastSent, keep_sent};
+use crate::sent::{LastSent, keep_sent, source_port};
 use rad_desk::{Inlet, OpenFault, Proxy, open};
+use rad_lane::Action;
 use rad_packet::Datagram;
 use rad_realms::Config;
 use rad_tables::Moment;
@@ -17,9 +20,6 @@ use std::alloc::{AllocError, Global};
 use std::fmt::Display;
 use std::io::Write;
 use std::sync::Wait;
-
-/// The source port that a home server's datagrams come to.
-const SOURCE_PORT: u16 = 0;
 
 /// The octets that every step gets in place of random ones.
 const RANDOM: [u8; 16] = [0x5a; 16];
@@ -32,8 +32,8 @@ pub struct Script {
     proxy: Proxy,
     /// One for each home server, in the order of the configuration.
     inlets: Vec<Inlet>,
-    /// What each lane sent last.
-    sent: Vec<LastSent>,
+    /// What each source port of each lane sent last.
+    sent: Vec<Vec<LastSent>>,
     moment: Moment,
     datagram: Vec<u8>,
 }
@@ -50,8 +50,9 @@ impl Script {
             Err(OpenFault::OutOfMemory) => return Err(AllocError),
         };
         let mut sent = Vec::with_capacity(alloc, inlets.len())?;
-        for _ in &inlets {
-            sent.push(LastSent::new(alloc)?)?;
+        for home in config.homes() {
+            let ports = home.limits().numbers().ports;
+            sent.push(new_ports(alloc, ports)?)?;
         }
         Ok(Script {
             alloc,
@@ -105,9 +106,12 @@ impl Script {
                     packet,
                 },
             ) => self.nas(rt, address, port, &packet, output),
-            Some(Event::Home { lane, packet }) => self.home(rt, lane, &packet, output),
+            Some(Event::Home { lane, port, packet }) => {
+                self.home(rt, lane, port, &packet, output)
+            }
             Some(Event::Take { lane }) => self.take(lane, output),
             Some(Event::Step { lane }) => self.step(rt, lane, output),
+            Some(Event::Turn { lane }) => self.turn(rt, lane, output),
             Some(Event::At { milliseconds }) => self.set_moment(milliseconds),
             Some(Event::Drain) => self.drain(rt, output),
             Some(Event::State) => self.state(rt, output),
@@ -166,9 +170,28 @@ impl Script {
         }
         let mut sent = Datagram::new();
         let action = self.proxy.step(rt, lane, self.moment, RANDOM, &mut sent);
-        keep_sent(&mut self.sent, lane, &action, &sent);
-        let sent = PacketText::new(sent.bytes());
+        let port = source_port(&action);
+        if let Some(port) = port {
+            self.keep(lane, port, &action, &sent);
+        }
+        let told = if self.has_ports(lane) { port } else { None };
+        let sent = SentText::new(PacketText::new(sent.bytes()), told);
         print(output, &StepLine { action, sent })
+    }
+
+    /// Keeps what a source port of a lane sent.
+    fn keep(&mut self, lane: u16, port: u16, action: &Action, sent: &Datagram) {
+        if let Some(ports) = self.sent.get_mut(usize::from(lane)) {
+            keep_sent(ports.as_mut_slice(), port, action, sent);
+        }
+    }
+
+    /// Whether a lane has several source ports, so that the lines tell them.
+    fn has_ports(&self, lane: u16) -> bool {
+        match self.config.homes().get(usize::from(lane)) {
+            Some(home) => home.limits().numbers().ports > 1,
+            None => false,
+        }
     }
 
     /// Writes what a datagram of a lane's home server comes to.
@@ -176,6 +199,7 @@ impl Script {
         &mut self,
         rt: &R,
         lane: u16,
+        port: u16,
         packet: &Packet<'_>,
         output: &mut W,
     ) -> Result<(), Halt> {
@@ -183,9 +207,10 @@ impl Script {
         let Some(home) = self.config.homes().get(place) else {
             return Err(Halt::Malformed);
         };
-        let Some(sent) = self.sent.get(place) else {
+        let Some(ports) = self.sent.get(place) else {
             return Err(Halt::Malformed);
         };
+        let sent = ports.get(usize::from(port));
         build(
             packet,
             Sender::Home(home.secret(), sent),
@@ -199,7 +224,7 @@ impl Script {
             self.alloc,
             lane,
             self.moment,
-            SOURCE_PORT,
+            port,
             self.datagram.as_slice(),
         );
         print(output, &HomeLine { lane, outcome })
@@ -212,6 +237,18 @@ impl Script {
         };
         let taken = inlet.take();
         print(output, &TakeLine { taken })
+    }
+
+    /// Cuts off the front of a lane's book, and writes how much that was.
+    fn turn<R: Wait, W: Write>(&mut self, rt: &R, lane: u16, output: &mut W) -> Result<(), Halt> {
+        if lane >= self.proxy.lanes() {
+            return Err(Halt::Malformed);
+        }
+        let outcome = match self.proxy.turn(rt, self.alloc, lane, self.moment) {
+            Ok(volume) => Ok(Cut::of(&volume)),
+            Err(fault) => Err(fault),
+        };
+        print(output, &TurnLine { lane, outcome })
     }
 
     /// Drains each lane, and writes how many requests it had accepted.
@@ -240,6 +277,15 @@ impl Script {
         }
         Ok(())
     }
+}
+
+/// So many source ports that have sent nothing.
+fn new_ports(alloc: Global, count: u32) -> Result<Vec<LastSent>, AllocError> {
+    let mut ports = Vec::with_capacity(alloc, count as usize)?;
+    for _ in 0..count {
+        ports.push(LastSent::new(alloc)?)?;
+    }
+    Ok(ports)
 }
 
 /// Writes a line.

@@ -1,7 +1,7 @@
-//! The packets that each lane sent last, as far as a script needs them.
+//! The packets that each source port of a lane sent last, as far as a script needs them.
 
 ghost use Rattle.std.specs.Prelude.{◌≡◌};
-ghost use Rattle.rad_proxy.specs.Sent.{KeepsSent, sends as the_sends};
+ghost use Rattle.rad_proxy.specs.Sent.{KeepsSent, sends as the_sends, port_of};
 
 use rad_lane::Action;
 use rad_packet::Datagram;
@@ -11,7 +11,7 @@ use std::marker::Model;
 /// How many Identifiers there are.
 const IDENTIFIERS: usize = 256;
 
-/// The Authenticators of the packets that a lane sent last, one for each Identifier: zeros where none was sent.
+/// The Authenticators of the packets that a source port sent last, one for each Identifier: zeros where none was sent.
 #[derive(Drop)]
 pub struct LastSent {
     authenticators: Vec<[u8; 16]>,
@@ -32,7 +32,7 @@ impl LastSent {
     ghost use Rattle.rad_packet.specs.Packet.{IsPacketText};
     ghost use Rattle.rad_proxy.specs.Sent.{with_sent};
 
-    /// A lane that has sent nothing.
+    /// A source port that has sent nothing.
     ///
     /// # Errors
     ///
@@ -65,11 +65,11 @@ impl LastSent {
     }
 }
 
-/// Keeps the packet that a lane's step gave to be sent, where it gave one.
-pub fn keep_sent(sent: &mut [LastSent], lane: u16, action: &Action, packet: &Datagram)
-    ensures { KeepsSent sent.old lane action.now packet.now sent.new }
+/// Keeps the packet that a step gave to be sent from a source port, where it gave one.
+pub fn keep_sent(sent: &mut [LastSent], port: u16, action: &Action, packet: &Datagram)
+    ensures { KeepsSent sent.old port action.now packet.now sent.new }
 {
-    let place = usize::from(lane);
+    let place = usize::from(port);
     if place < sent.len() && sends(action) {
         let sent = &mut sent[place];
         sent.keep(packet.bytes());
@@ -84,4 +84,14 @@ fn sends(action: &Action) -> bool
         action,
         Action::Sent(..) | Action::Resent(..) | Action::Probed(_)
     )
+}
+
+/// The source port that a step's packet goes out from, where the step gave one.
+pub fn source_port(action: &Action) -> Option<u16>
+    ensures { result ≡ port_of action.now }
+{
+    match action {
+        Action::Sent(_, slot) | Action::Resent(_, slot) | Action::Probed(slot) => Some(slot.port),
+        Action::WentDown | Action::WentUp | Action::Idle(_) => None,
+    }
 }
