@@ -16,7 +16,7 @@ import sys
 
 sys.dont_write_bytecode = True
 
-from model import Replay, answer, attribute, request, rows, signed, status
+from model import Replay, answer, attribute, request, rows, signed, status, user_name
 
 DATAGRAMS, SEED = 20_000, 1
 SCRIPT = 400
@@ -24,8 +24,10 @@ PATIENCE = 300
 OF_EACH_ROW = 12
 CLIENT, STRANGER = "10.0.0.1", "10.0.0.9"
 NAS_SECRET = b"nas-secret"
-LIMITS = "window = 6\nqueue = 4\nring = 3\nbook = 20\ntries = 2\nspan = 5000\nprobe_every = 3000\ndown_wait = 9000\n"
+LIMITS = "window = 6\nqueue = 4\nring = 3\nbook = 12\ntries = 2\nspan = 5000\nprobe_every = 3000\ndown_wait = 9000\n"
 CONFIGURATION = (rows.ROWS / "two-homes.toml").read_text("utf-8").replace("[[home]]", f"[[home]]\n{LIMITS}")
+CONFIGURATION = CONFIGURATION.replace('name = "h2"', 'name = "h2"\nports = 2')
+REALMS = [b"example.org", b"example.net"]
 FAULTS = ["Unread Short", "Unread BadLength", "Unread Truncated", "Unread BadAttribute", "WrongCode", "BadAuthenticator"]
 FAULTS += ["MessageAuthenticatorHere"]
 ANSWERS = {
@@ -108,6 +110,23 @@ class Conversation:
             self.tell(f"step {chance.randrange(2)}")
         if chance.random() < 0.2:
             self.tell(f"take {chance.randrange(2)}")
+        if chance.random() < 0.03:
+            self.tell(f"turn {chance.randrange(2)}")
+
+    def go_round(self, lane, count):
+        """Requests of a lane that are each answered and forgotten before the next, so that its identifiers go on."""
+        attributes = user_name(b"bob@" + REALMS[lane.number]).hex()
+        for place in range(count):
+            self.tell(f"at {self.moment}")
+            self.tell(f"nas {CLIENT} 40000 make 4 {place % 256} {attributes}")
+            self.tell(f"step {lane.number}")
+            sent = lane.under[lane.place]
+            port = f".{lane.place // 256}" if lane.place >= 256 else ""
+            self.tell(f"home {lane.number}{port} make 5 {sent[1]} {sent[-12:].hex()}")
+            self.tell(f"take {lane.number}")
+            self.moment += lane.limits["span"]
+            self.tell(f"at {self.moment}")
+            self.tell(f"turn {lane.number}")
 
     def answered(self):
         """The requests that were answered, the last one last."""
@@ -115,7 +134,7 @@ class Conversation:
         return [request.request.octets for request in sorted(known, key=lambda request: request.answered)]
 
     def request_of_nas(self):
-        """A packet as the NAS sends it, and how it is signed."""
+        """A packet as the NAS sends it, how it is signed, and from where it comes."""
         chance = self.chance
         identifier, kind = chance.randrange(8), chance.random()
         if self.made and kind < 0.2:
@@ -126,18 +145,20 @@ class Conversation:
         else:
             made = request(identifier, chance.choice(self.asked), NAS_SECRET)
             self.made.append(made)
-        return made, lambda octets: signed(octets[0], octets[1], bytes(16), octets[20:], NAS_SECRET)
+        head = f"nas {CLIENT if chance.random() < 0.98 else STRANGER} {40000 + chance.randrange(2)}"
+        return made, lambda octets: signed(octets[0], octets[1], bytes(16), octets[20:], NAS_SECRET), head
 
     def reply_of_home(self, lane):
-        """A packet as a lane's home server sends it, and how it is signed."""
+        """A packet as a lane's home server sends it, how it is signed, and to which port."""
         chance = self.chance
         known = lane.out if lane.out and chance.random() < 0.8 else lane.under
-        identifier = chance.choice(sorted(known)) if known else chance.randrange(256)
-        sent = lane.under.get(identifier, bytes(20))
+        place = chance.choice(sorted(known)) if known else chance.randrange(lane.places)
+        port, identifier, sent = place // 256, place % 256, lane.under.get(place, bytes(20))
         own, others = sent[-12:], chance.choice(self.replied)
         attributes = chance.choice([own, others + own, own + others, others])[: 4096 - 20]
         made = answer(sent, identifier, attributes, lane.secret)
-        return made, lambda octets: signed(octets[0], octets[1], sent[4:20], octets[20:], lane.secret)
+        head = f"home {lane.number}.{port if chance.random() < 0.95 else chance.randrange(4)}"
+        return made, lambda octets: signed(octets[0], octets[1], sent[4:20], octets[20:], lane.secret), head
 
     def spoiled(self, made, sign, other):
         """A packet that was changed once or more; some are signed again."""
@@ -151,19 +172,20 @@ class Conversation:
     def one_datagram(self):
         """Tells one datagram, right or spoiled, and what the book is after it."""
         chance, lane = self.chance, self.chance.choice(self.proxy.lanes)
-        from_nas, from_home = self.request_of_nas(), self.reply_of_home(lane)
-        is_of_nas = chance.random() < 0.5
-        (made, sign), (other, _) = (from_nas, from_home) if is_of_nas else (from_home, from_nas)
+        sides = [self.request_of_nas(), self.reply_of_home(lane)]
+        chance.shuffle(sides)
+        (made, sign, head), (other, _, _) = sides
         if chance.random() < 0.7:
             made = self.spoiled(made, sign, chance.choice([made, other]))
-        client = CLIENT if chance.random() < 0.98 else STRANGER
-        head = f"nas {client} {40000 + chance.randrange(2)}" if is_of_nas else f"home {lane.number}"
         line = self.tell(f"{head} raw {made.hex() or '-'}")[0]
         self.answers[next((known for known in ANSWERS if line.startswith(known)), line)] += 1
         self.tell("state")
 
     def run(self, datagrams):
-        """Makes the whole script, which drains near its end."""
+        """Makes the whole script, which drains near its end; in some the identifiers have gone round before."""
+        if self.chance.random() < 0.2:
+            for lane in self.proxy.lanes:
+                self.go_round(lane, self.chance.randrange(lane.places - 20, lane.places))
         for count in range(datagrams):
             self.go_on()
             if count == datagrams * 9 // 10:

@@ -42,8 +42,12 @@ PATIENCE, AFTERWARDS = 120, 0.3
 SPARE_LINES = 1000
 LINGER = {"calm": 5000, "away": 500, "drain": 60_000}
 WINDOWS, PORTS = [300, 4, 40], [2, 1, 1]
-LIMITS = ["ring = 256", "queue = 20\nring = 3", "ring = 40\ntries = 1"]
-ROUNDS = "first_wait = 200\nprobe_every = 1000\ndown_wait = 1500\nspan = 60000\nbook = 1000000"
+LIMITS = [
+    "ring = 256\nspan = 60000\nbook = 1000000",
+    "queue = 20\nring = 3\nspan = 60000\nbook = 1000000",
+    "ring = 40\ntries = 1\nspan = 20000\nbook = 1500",
+]
+ROUNDS = "first_wait = 200\nprobe_every = 1000\ndown_wait = 1500"
 STATE = re.compile(r"lane (\d+) \S+ (?:up|down) \w+ accepted (\d+) queued (\d+) outstanding (\d+) answered (\d+) opening (\d+)")
 
 

@@ -66,6 +66,7 @@ impl<T> Block<T> {
     }
 
     /// How many places there are behind the last item.
+    #[inline]
     pub(crate) fn room(&self) -> usize
         ensures room { result ≡ self.now.room }
         ensures most { result ≤ 32 }
@@ -73,6 +74,7 @@ impl<T> Block<T> {
         PLACES - (self.start + self.count)
     }
 
+    #[inline]
     pub(crate) fn len(&self) -> usize
         ensures { result ≡ length self.now.items }
     {
@@ -80,6 +82,7 @@ impl<T> Block<T> {
     }
 
     /// Puts an item behind the others.
+    #[inline]
     pub(crate) fn push(&mut self, item: T)
         requires { 1 ≤ self.old.room }
         ensures { self.new ≡ record {
@@ -92,6 +95,7 @@ impl<T> Block<T> {
     }
 
     /// Takes the first item out.
+    #[inline]
     pub(crate) fn pop(&mut self) -> T
         requires { 0 < length self.old.items }
         ensures items { self.old.items ≡ result ∷ self.new.items }
@@ -104,6 +108,7 @@ impl<T> Block<T> {
     }
 
     /// The first item.
+    #[inline]
     pub(crate) fn first(&self) -> Option<&T>
         ensures { option_copied result ≡ oldest self.now.items }
     {
@@ -113,6 +118,7 @@ impl<T> Block<T> {
         Some(self.get(0))
     }
 
+    #[inline]
     pub(crate) fn is_empty(&self) -> bool
         ensures { result ≡ has_none self.now.items }
     {
@@ -123,6 +129,7 @@ impl<T> Block<T> {
     }
 
     /// The item at an index, if there is one.
+    #[inline]
     pub(crate) fn at(&self, index: usize) -> Option<&T>
         ensures item { option_copied result ≡ slice_get self.now.items index }
         ensures within { IsSome result → index < 32 }
@@ -134,6 +141,7 @@ impl<T> Block<T> {
     }
 
     /// The item at an index.
+    #[inline]
     fn get(&self, index: usize) -> &T
         requires { index < length self.now.items }
         ensures { slice_get self.now.items index ≡ Some result.now }

@@ -49,6 +49,7 @@ impl<T> Fifo<T> for BlockQueue<T> {
         }
     }
 
+    #[inline]
     fn reserve_one(&mut self) -> Result<(), AllocError> {
         if self.spare() > 0 {
             return Ok(());
@@ -59,15 +60,18 @@ impl<T> Fifo<T> for BlockQueue<T> {
         linking::add(&mut self.blocks, &mut self.kept, self.alloc)
     }
 
+    #[inline]
     fn spare(&self) -> usize {
         linking::spare(&self.blocks)
     }
 
+    #[inline]
     fn push_back(&mut self, item: T) {
         linking::push(&mut self.blocks, item);
         self.count += 1;
     }
 
+    #[inline]
     fn pop_front(&mut self) -> Option<T> {
         if self.count == 0 {
             return None;
@@ -76,14 +80,17 @@ impl<T> Fifo<T> for BlockQueue<T> {
         Some(linking::pop(&mut self.blocks, &mut self.kept))
     }
 
+    #[inline]
     fn front(&self) -> Option<&T> {
         linking::first_item(&self.blocks)
     }
 
+    #[inline]
     fn len(&self) -> usize {
         self.count
     }
 
+    #[inline]
     fn is_empty(&self) -> bool {
         self.count == 0
     }

@@ -210,6 +210,7 @@ impl<'a, E> Model for Steps<'a, E> {
 
 impl<'a, E> Steps<'a, E> {
     /// The next element, if there is one more.
+    #[inline]
     pub(crate) fn next(&mut self) -> Option<&'a E>
         ensures { TakesFirst deref self.old result self.new }
     {

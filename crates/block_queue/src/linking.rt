@@ -1,8 +1,8 @@
 //! The blocks of a queue: the first and the last at hand, and those between them in a chain.
-ghost use Rattle.std.specs.Prelude.{◌≡◌, ◌^◌, ◌<◌, ◌≤◌, ◌⊎◌, true, false, [], ◌∷◌, ◌++◌, OnOk, OnErr, IfOk, IfSome, drop as without, length, option_copied, slice_set};
+ghost use Rattle.std.specs.Prelude.{◌≡◌, ◌^◌, ◌<◌, ◌≤◌, ◌⊎◌, true, false, ◌+◌, [], ◌∷◌, ◌++◌, OnOk, OnErr, IfOk, IfSome, drop as without, length, option_copied, slice_set};
 ghost use Rattle.std.specs.Map.Iter.{TakesFirst, deref};
 ghost use Rattle.block_queue.specs.Queue.{oldest};
-ghost use Rattle.block_queue.specs.Blocks.{items_of, room_of, pushed, begins_empty, AllHaveItems, IsChain, IsJoined};
+ghost use Rattle.block_queue.specs.Blocks.{items_of, room_of, pushed, begins_empty, first_count, AllHaveItems, IsChain, IsJoined};
 ghost use Rattle.block_queue.specs.Chain.{joined};
 
 use crate::block::Block;
@@ -215,6 +215,7 @@ impl<T> Blocks<T> {
     }
 
     /// How many places the last block has behind its items.
+    #[inline]
     fn room(&self) -> usize
         ensures { result ≡ room_of self.now }
     {
@@ -222,6 +223,7 @@ impl<T> Blocks<T> {
     }
 
     /// Puts an item into the last block.
+    #[inline]
     fn push(&mut self, item: T)
         requires { 1 ≤ room_of self.old }
         ensures { self.new ≡ pushed self.old item }
@@ -230,12 +232,14 @@ impl<T> Blocks<T> {
     }
 
     /// Takes the oldest item out of the first block.
+    #[inline]
     fn pop(&mut self) -> T
         requires shape { IsChain self.old }
         requires filled { 0 < length (items_of self.old) }
         ensures items { items_of self.old ≡ result ∷ items_of self.new }
         ensures rest { without 1 self.new ≡ without 1 self.old }
         ensures room { room_of self.new ≡ room_of self.old }
+        ensures first { first_count self.old ≡ first_count self.new + 1 }
     {
         match &mut self.front {
             Some(front) => front.first.block.pop(),
@@ -244,6 +248,7 @@ impl<T> Blocks<T> {
     }
 
     /// The first block.
+    #[inline]
     fn first(&self) -> &Block<T>
         ensures { self.now ≡ result.now ∷ without 1 self.now }
     {
@@ -354,6 +359,7 @@ impl<'a, T> Rest<'a, T> {
 
 /// Links an empty block behind the others: the kept one, if there is one. An error means that
 /// memory was refused.
+#[inline(never)]
 pub(crate) fn add<T>(
     blocks: &mut Option<Blocks<T>>,
     kept: &mut Option<Load<T>>,
@@ -385,6 +391,7 @@ fn added<T>(blocks: Option<Blocks<T>>, load: Load<T>) -> (Option<Blocks<T>>, ())
 }
 
 /// How many places the last block has behind its items.
+#[inline]
 pub(crate) fn spare<T>(blocks: &Option<Blocks<T>>) -> usize
     ensures { result ≡ room_of (joined blocks.now) }
 {
@@ -395,6 +402,7 @@ pub(crate) fn spare<T>(blocks: &Option<Blocks<T>>) -> usize
 }
 
 /// Puts an item into the last block.
+#[inline]
 pub(crate) fn push<T>(blocks: &mut Option<Blocks<T>>, item: T)
     requires { 1 ≤ room_of (joined blocks.old) }
     ensures { joined blocks.new ≡ pushed (joined blocks.old) item }
@@ -407,7 +415,26 @@ pub(crate) fn push<T>(blocks: &mut Option<Blocks<T>>, item: T)
 
 /// Takes the oldest item out of the first block, and the block away if that was its last item and
 /// others follow.
+#[inline]
 pub(crate) fn pop<T>(blocks: &mut Option<Blocks<T>>, kept: &mut Option<Load<T>>) -> T
+    requires shape { IsChain (joined blocks.old) }
+    requires filled { 0 < length (items_of (joined blocks.old)) }
+    requires kept { IfSome kept.old (λ load. load.block.items ≡ []) }
+    ensures items { items_of (joined blocks.old) ≡ result ∷ items_of (joined blocks.new) }
+    ensures shape { IsChain (joined blocks.new) }
+    ensures room { (room_of (joined blocks.new) ≡ room_of (joined blocks.old)) ⊎ ((items_of (joined blocks.new) ≡ []) × (room_of (joined blocks.new) ≡ 32)) }
+    ensures kept { IfSome kept.new (λ load. load.block.items ≡ []) }
+{
+    let count = first_len(blocks);
+    if count > 1 {
+        return pop_first(blocks);
+    }
+    pop_last(blocks, kept)
+}
+
+/// [`pop`], whether an item is left in the first block or not.
+#[inline(never)]
+fn pop_last<T>(blocks: &mut Option<Blocks<T>>, kept: &mut Option<Load<T>>) -> T
     requires shape { IsChain (joined blocks.old) }
     requires filled { 0 < length (items_of (joined blocks.old)) }
     requires kept { IfSome kept.old (λ load. load.block.items ≡ []) }
@@ -421,12 +448,25 @@ pub(crate) fn pop<T>(blocks: &mut Option<Blocks<T>>, kept: &mut Option<Load<T>>)
     item
 }
 
+/// How many items the first block has.
+#[inline]
+fn first_len<T>(blocks: &Option<Blocks<T>>) -> usize
+    ensures { result ≡ first_count (joined blocks.now) }
+{
+    match blocks {
+        Some(blocks) => blocks.first().len(),
+        None => 0,
+    }
+}
+
+#[inline]
 fn pop_first<T>(blocks: &mut Option<Blocks<T>>) -> T
     requires shape { IsChain (joined blocks.old) }
     requires filled { 0 < length (items_of (joined blocks.old)) }
     ensures items { items_of (joined blocks.old) ≡ result ∷ items_of (joined blocks.new) }
     ensures rest { without 1 (joined blocks.new) ≡ without 1 (joined blocks.old) }
     ensures room { room_of (joined blocks.new) ≡ room_of (joined blocks.old) }
+    ensures first { first_count (joined blocks.old) ≡ first_count (joined blocks.new) + 1 }
 {
     match blocks {
         Some(blocks) => blocks.pop(),
@@ -452,6 +492,7 @@ fn shed_first<T>(blocks: &mut Option<Blocks<T>>, kept: &mut Option<Load<T>>)
 
 /// Has the first block begin again if it is the only one, and else takes it away. So no more than
 /// one empty block is held.
+#[inline(never)]
 fn shed_empty<T>(blocks: &mut Option<Blocks<T>>, kept: &mut Option<Load<T>>)
     requires empty { begins_empty (joined blocks.old) ≡ true }
     requires shape { IsChain (without 1 (joined blocks.old)) }
@@ -545,6 +586,7 @@ fn let_go<T>(kept: &mut Option<Load<T>>)
     }
 }
 
+#[inline]
 fn starts_empty<T>(blocks: &Option<Blocks<T>>) -> bool
     ensures { result ≡ begins_empty (joined blocks.now) }
 {
@@ -555,6 +597,7 @@ fn starts_empty<T>(blocks: &Option<Blocks<T>>) -> bool
 }
 
 /// The oldest item.
+#[inline]
 pub(crate) fn first_item<T>(blocks: &Option<Blocks<T>>) -> Option<&T>
     requires { IsChain (joined blocks.now) }
     ensures { option_copied result ≡ oldest (items_of (joined blocks.now)) }

@@ -89,6 +89,7 @@ impl<T, A: Allocator> Nodes<T, A> {
     }
 
     /// The node at an index, which lies there.
+    #[inline]
     pub(crate) fn get(&self, _index: usize, place: Place) -> &T
         requires { LiesAt self.now.cells _index place.at }
         ensures { IsShownAt self.now.cells _index place.at result.now }

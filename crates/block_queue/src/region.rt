@@ -96,6 +96,7 @@ impl<T, A: Allocator> Region<T, A> {
     }
 
     /// Moves a value into an empty place.
+    #[inline]
     pub(crate) fn write(&mut self, index: usize, item: T)
         requires { (index < length self.old.places) × (get_or self.old.places index None ≡ None) }
         ensures { (self.new.places ≡ slice_set self.old.places index (Some item)) × (self.new.heap ≡ self.old.heap) × (self.new.first ≡ self.old.first) }
@@ -104,6 +105,7 @@ impl<T, A: Allocator> Region<T, A> {
     }
 
     /// Moves the value of a place out, which leaves the place empty.
+    #[inline]
     pub(crate) fn read(&mut self, index: usize) -> T
         requires { IsFilled self.old.places index }
         ensures value { get_or self.old.places index None ≡ Some result }
@@ -113,6 +115,7 @@ impl<T, A: Allocator> Region<T, A> {
     }
 
     /// The value of a place.
+    #[inline]
     pub(crate) fn get(&self, index: usize) -> &T
         requires { IsFilled self.now.places index }
         ensures { get_or self.now.places index None ≡ Some result.now }

@@ -131,7 +131,11 @@ impl<'a, G: Gate, L: Log> Attendant<'a, G, L> {
             return;
         };
         if known.is_down.swap(is_down, Ordering::SeqCst) != is_down {
-            let note = if is_down { Note::WentDown } else { Note::WentUp };
+            let note = if is_down {
+                Note::WentDown
+            } else {
+                Note::WentUp
+            };
             tell(self.log, self.config, worker, note);
         }
     }

@@ -1,7 +1,7 @@
 //! What is left at the end, of all lanes.
 
-ghost use Rattle.std.specs.Prelude.{◌≡◌, IfOk};
-ghost use Rattle.rad_proxy.specs.LeftOver.{outstanding_at, CountsUntaken, Tells, IsLeftOver};
+ghost use Rattle.std.specs.Prelude.{◌≡◌, IfOk, MatchOption};
+ghost use Rattle.rad_proxy.specs.LeftOver.{outstanding_at, IsKnown, known_count, CountsUntaken, Tells, IsLeftOver};
 ghost use Rattle.rad_proxy.specs.Totals.{count_in_all};
 
 use crate::faults::Fault;
@@ -53,10 +53,17 @@ fn count_untaken(ends: &[LaneEnd]) -> Option<usize>
 {
     let mut count = 0_usize;
     for end in ends {
-        let Rest::Known(rest) = &end.rest else {
-            return None;
-        };
-        count = count.saturating_add(rest.as_slice().len());
+        count = count.saturating_add(count_rest(&end.rest)?);
     }
     Some(count)
+}
+
+/// How many responses of a lane were not taken, where that is known.
+fn count_rest(rest: &Rest) -> Option<usize>
+    ensures { MatchOption result (¬ IsKnown rest.now) (λ n. IsKnown rest.now × (n ≡ known_count rest.now)) }
+{
+    match rest {
+        Rest::Known(rest) => Some(rest.as_slice().len()),
+        Rest::Unknown => None,
+    }
 }

@@ -98,15 +98,7 @@ where
 {
     let config = load(rt, alloc, file)?;
     let log = Logged::new((), Level::Info, ErrorLines::new(rt));
-    let end = serving::run(
-        rt,
-        alloc,
-        &config,
-        &Open,
-        &log,
-        rt.reader(),
-        io::writer(rt),
-    )?;
+    let end = serving::run(rt, alloc, &config, &Open, &log, rt.reader(), io::writer(rt))?;
     Ok(status_at(&end))
 }
 

@@ -82,7 +82,15 @@ where
     };
     print(&mut writer, &listening)?;
     serve(
-        rt, alloc, config, wires, bells.as_slice(), gate, log, reader, writer,
+        rt,
+        alloc,
+        config,
+        wires,
+        bells.as_slice(),
+        gate,
+        log,
+        reader,
+        writer,
     )
 }
 
@@ -235,16 +243,7 @@ where
     };
     let lane = lane as u16;
     if lane < proxy.lanes() {
-        let _ = lane_worker(
-            rt,
-            alloc,
-            proxy,
-            lane,
-            home,
-            &mut wire,
-            attendant,
-            u64::MAX,
-        );
+        let _ = lane_worker(rt, alloc, proxy, lane, home, &mut wire, attendant, u64::MAX);
     }
     attendant.ended(Worker::Lane(lane));
 }

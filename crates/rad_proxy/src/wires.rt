@@ -262,8 +262,7 @@ impl<R: Clock> Wire for UdpWire<'_, R> {
                 socket,
                 count,
             } => {
-                self.traffic
-                    .came(socket, address, port, &datagram[..count]);
+                self.traffic.came(socket, address, port, &datagram[..count]);
                 Received::Got {
                     address,
                     port,

@@ -133,7 +133,10 @@ fn a_failed_read_ends_the_service(rt: HostRuntime) -> std::result::Result<(), Fa
     };
     let ran = run(&rt, alloc, &config, &Open, &Discard, reader, writer);
     assert!(rt; matches!(ran, Err(Fault::Input)));
-    assert_eq!(rt; taken.as_slice(), b"listening 127.0.0.1:1815\nunknown\n".as_slice());
+    assert_eq!(rt;
+        taken.as_slice(),
+        b"listening 127.0.0.1:1815\nunknown\n".as_slice()
+    );
     Ok(())
 }
 
@@ -350,7 +353,10 @@ struct Looking<'a> {
 
 impl Write for Looking<'_> {
     fn write(&mut self, buf: &[u8]) -> Result<usize> {
-        if buf.windows(11).any(|part| part == b"accepted 1 ".as_slice()) {
+        if buf
+            .windows(11)
+            .any(|part| part == b"accepted 1 ".as_slice())
+        {
             self.is_accepted.set(true);
         }
         Ok(buf.len())
