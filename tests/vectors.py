@@ -196,11 +196,25 @@ def of_rad_desk():
     }
 
 
+def of_rad_proxy():
+    client, home, second_home = b"nas-secret", b"home-secret", b"home2-secret"
+    other = user_name(b"bob@example.net")
+    forwarded = request(0, SESSION + mark(0, 0), home)
+    other_forwarded = request(0, other + mark(1, 0), second_home)
+    return {
+        "REQUEST": request(7, SESSION, client),
+        "OTHER_REQUEST": request(9, other, client),
+        "REPLY": answer(forwarded, 0, mark(0, 0), home),
+        "OTHER_REPLY": answer(other_forwarded, 0, mark(1, 0), second_home),
+    }
+
+
 MADE = {
     "rad_auth": of_rad_auth(),
     "rad_realms": of_rad_realms(),
     "rad_tests": {**of_lanes(), **sums_of_lanes()},
     "rad_desk": of_rad_desk(),
+    "rad_proxy": of_rad_proxy(),
 }
 
 SUM = re.compile(r"const (\w+): u64 = 0x([0-9a-f_]+);")
