@@ -166,6 +166,8 @@ struct Scripted<'a, R> {
     clock: &'a R,
     from: Endpoint,
     gives: &'a [&'a [u8]],
+    /// The place of the one that it gives next.
+    next: usize,
     waits_for: u64,
     sent: &'a AtomicU64,
     traffic: Traffic,
@@ -187,10 +189,11 @@ impl<R: Clock> Wire for Scripted<'_, R> {
         if self.sent.load(Ordering::SeqCst) < self.waits_for {
             return Received::Nothing;
         }
-        let Some((given, rest)) = self.gives.split_first() else {
+        let gives = self.gives;
+        let Some(given) = gives.get(self.next) else {
             return Received::Nothing;
         };
-        self.gives = rest;
+        self.next = self.next.saturating_add(1);
         let count = given.len().min(4096);
         datagram[..count].copy_from_slice(&given[..count]);
         let Endpoint { address, port } = self.from;
@@ -263,6 +266,7 @@ fn lanes_have_threads_of_their_own(rt: HostRuntime) -> std::result::Result<(), F
         clock: &rt,
         from,
         gives,
+        next: 0,
         waits_for,
         sent,
         traffic: Traffic::new(),
