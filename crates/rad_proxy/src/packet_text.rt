@@ -70,7 +70,7 @@ impl<'a> SentText<'a> {
 
     /// Prints a packet that goes out from this source port, where that is to be printed.
     pub fn new(packet: PacketText<'a>, port: Option<u16>) -> Self
-        ensures packet { result.packet ≡ packet }
+        ensures packet { result.packet ≡ packet.entry }
         ensures port { result.port ≡ port }
     {
         SentText { packet, port }
