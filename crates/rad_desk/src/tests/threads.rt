@@ -4,7 +4,7 @@ use super::packets::{reply_to, request};
 use super::test_desk::{RANDOM, at, config};
 use super::through_locks::accept;
 use crate::laws::agrees;
-use crate::{DeskFault, Inlet, Proxy, Report, Rest, Told, open};
+use crate::{DeskFault, Inlet, LaneEnd, Proxy, Rest, Told, open};
 use rad_lane::{Action, Answered, Outgoing, Stamp, Taken};
 use rad_packet::Datagram;
 use rad_realms::Config;
@@ -13,6 +13,7 @@ use std::process::Abort;
 use std::sync::Wait;
 use std::test::Fail;
 use std::thread;
+use std::thread::Threads;
 use std::time::{Clock, Duration};
 
 /// A ring of four places.
@@ -115,10 +116,36 @@ fn compare_requests(rt: &impl Abort, accepted: &[Stamp], numbers: &[u64]) {
     }
 }
 
-/// What is left of the only lane.
-fn end_of(alloc: Global, proxy: Proxy, mut inlets: Vec<Inlet>, inlet: Inlet) -> Option<Report> {
-    inlets.push(inlet).ok()?;
-    proxy.close(alloc, inlets).ok()
+/// What the two threads gave: the numbers of the requests, and the inlet with what was taken.
+type Both = (Option<Vec<u64>>, Option<(Inlet, Vec<Outgoing>)>);
+
+/// Answers all requests in one thread, while another takes most of the responses.
+fn in_threads<R: Clock + Threads + Wait + Sync>(
+    rt: &R,
+    alloc: Global,
+    proxy: &Proxy,
+    config: &Config,
+    inlet: Inlet,
+) -> Both {
+    thread::join(
+        rt,
+        || answer_all(rt, alloc, proxy, config),
+        || take_most(rt, alloc, inlet),
+    )
+}
+
+/// Compares what was taken, and what was left, with what the only lane kept.
+fn compare(rt: &impl Abort, taken: &[Outgoing], end: &LaneEnd, numbers: &[u64]) {
+    match &end.rest {
+        Rest::Known(rest) => {
+            let rest = rest.as_slice();
+            assert_eq!(rt; taken.len(), TAKEN);
+            assert_eq!(rt; rest.len(), usize::from(REQUESTS) - TAKEN);
+            compare_responses(rt, taken, rest, end.answered.as_slice());
+        }
+        Rest::Unknown => assert!(rt; false, "the rest is known"),
+    }
+    compare_requests(rt, end.accepted.as_slice(), numbers);
 }
 
 #[test]
@@ -127,24 +154,14 @@ fn each_response_goes_through_once(rt: HostRuntime) -> Result<(), Fail> {
     let config = config(alloc, FOUR_PLACES)?;
     let (proxy, mut inlets) = open(alloc, &config)?;
     let inlet = inlets.pop().ok_or("an inlet")?;
-    let (numbers, took) = thread::join(
-        &rt,
-        || answer_all(&rt, alloc, &proxy, &config),
-        || take_most(&rt, alloc, inlet),
-    );
+    let (numbers, took) = in_threads(&rt, alloc, &proxy, &config, inlet);
     let numbers = numbers.ok_or("an answer to each request")?;
     let (inlet, taken) = took.ok_or("responses")?;
-    let report = end_of(alloc, proxy, inlets, inlet).ok_or("memory")?;
-    let end = report.ends.as_slice().first().ok_or("an end")?;
-    let Rest::Known(rest) = &end.rest else {
-        return Err(Fail::from("the rest"));
+    inlets.push(inlet)?;
+    let Ok(report) = proxy.close(alloc, inlets) else {
+        return Err(Fail::from("memory"));
     };
-    let (taken, rest) = (taken.as_slice(), rest.as_slice());
-    assert_eq!(rt;
-        (taken.len(), rest.len()),
-        (TAKEN, usize::from(REQUESTS) - TAKEN)
-    );
-    compare_responses(&rt, taken, rest, end.answered.as_slice());
-    compare_requests(&rt, end.accepted.as_slice(), numbers.as_slice());
+    let end = report.ends.as_slice().first().ok_or("an end")?;
+    compare(&rt, taken.as_slice(), end, numbers.as_slice());
     Ok(())
 }
