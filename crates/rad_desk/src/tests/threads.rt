@@ -4,14 +4,16 @@ use super::packets::{reply_to, request};
 use super::test_desk::{RANDOM, at, config};
 use super::through_locks::accept;
 use crate::laws::agrees;
-use crate::{DeskFault, Inlet, Proxy, Rest, Told, open};
-use rad_lane::{Action, Outgoing, Taken};
+use crate::{DeskFault, Inlet, LaneEnd, Proxy, Rest, Told, open};
+use rad_lane::{Action, Answered, Outgoing, Stamp, Taken};
 use rad_packet::Datagram;
 use rad_realms::Config;
 use std::alloc::Global;
+use std::process::Abort;
 use std::sync::Wait;
 use std::test::Fail;
 use std::thread;
+use std::thread::Threads;
 use std::time::{Clock, Duration};
 
 /// A ring of four places.
@@ -83,17 +85,76 @@ fn take_most<R: Clock>(rt: &R, alloc: Global, mut inlet: Inlet) -> Option<(Inlet
     None
 }
 
+/// Compares the responses, those taken and then the rest, with the answers.
+fn compare_responses(
+    rt: &impl Abort,
+    taken: &[Outgoing],
+    rest: &[Outgoing],
+    answered: &[Answered],
+) {
+    assert_eq!(rt; answered.len(), usize::from(REQUESTS));
+    for (place, response) in taken.iter().chain(rest).enumerate() {
+        assert_eq!(rt; response.serial, place as u64);
+        let answer = answered.get(place).expect(rt, "an answer");
+        assert!(rt; agrees(answer, response));
+    }
+}
+
+/// Compares the requests that were accepted with those that were made, and the numbers that they got.
+fn compare_requests(rt: &impl Abort, accepted: &[Stamp], numbers: &[u64]) {
+    assert_eq!(rt; accepted.len(), usize::from(REQUESTS));
+    for count in 0..REQUESTS {
+        let place = usize::from(count);
+        let stamp = accepted.get(place).expect(rt, "a stamp");
+        let number = numbers.get(place).expect(rt, "a number");
+        assert_eq!(rt;
+            (stamp.number, *number),
+            (u64::from(count), u64::from(count))
+        );
+        let made = request(count).expect(rt, "a request");
+        assert!(rt; stamp.authenticator == made.packet().authenticator());
+    }
+}
+
+/// What the two threads gave: the numbers of the requests, and the inlet with what was taken.
+type Both = (Option<Vec<u64>>, Option<(Inlet, Vec<Outgoing>)>);
+
+/// Answers all requests in one thread, while another takes most of the responses.
+fn in_threads<R: Clock + Threads + Wait + Sync>(
+    rt: &R,
+    alloc: Global,
+    proxy: &Proxy,
+    config: &Config,
+    inlet: Inlet,
+) -> Both {
+    thread::join(
+        rt,
+        || answer_all(rt, alloc, proxy, config),
+        || take_most(rt, alloc, inlet),
+    )
+}
+
+/// Compares what was taken, and what was left, with what the only lane kept.
+fn compare(rt: &impl Abort, taken: &[Outgoing], end: &LaneEnd, numbers: &[u64]) {
+    match &end.rest {
+        Rest::Known(rest) => {
+            let rest = rest.as_slice();
+            assert_eq!(rt; taken.len(), TAKEN);
+            assert_eq!(rt; rest.len(), usize::from(REQUESTS) - TAKEN);
+            compare_responses(rt, taken, rest, end.answered.as_slice());
+        }
+        Rest::Unknown => assert!(rt; false, "the rest is known"),
+    }
+    compare_requests(rt, end.accepted.as_slice(), numbers);
+}
+
 #[test]
 fn each_response_goes_through_once(rt: HostRuntime) -> Result<(), Fail> {
     let alloc = rt.alloc();
     let config = config(alloc, FOUR_PLACES)?;
     let (proxy, mut inlets) = open(alloc, &config)?;
     let inlet = inlets.pop().ok_or("an inlet")?;
-    let (numbers, took) = thread::join(
-        &rt,
-        || answer_all(&rt, alloc, &proxy, &config),
-        || take_most(&rt, alloc, inlet),
-    );
+    let (numbers, took) = in_threads(&rt, alloc, &proxy, &config, inlet);
     let numbers = numbers.ok_or("an answer to each request")?;
     let (inlet, taken) = took.ok_or("responses")?;
     inlets.push(inlet)?;
@@ -101,26 +162,6 @@ fn each_response_goes_through_once(rt: HostRuntime) -> Result<(), Fail> {
         return Err(Fail::from("memory"));
     };
     let end = report.ends.as_slice().first().ok_or("an end")?;
-    let Rest::Known(rest) = &end.rest else {
-        return Err(Fail::from("the rest"));
-    };
-    let answered = end.answered.as_slice();
-    let mut count = 0;
-    for (response, answer) in taken.iter().chain(rest.as_slice()).zip(answered) {
-        assert_eq!(rt; (response.serial, answer.serial()), (count, count));
-        assert!(rt; agrees(answer, response));
-        count += 1;
-    }
-    assert_eq!(rt; count, u64::from(REQUESTS));
-    assert_eq!(rt; taken.len() + rest.as_slice().len(), usize::from(REQUESTS));
-    let mut asked = 0;
-    for (stamp, number) in end.accepted.as_slice().iter().zip(numbers.as_slice()) {
-        assert_eq!(rt; (stamp.number, *number), (asked, asked));
-        let request = request(asked as u16).ok_or("a request")?;
-        assert_eq!(rt; stamp.authenticator, request.packet().authenticator());
-        asked += 1;
-    }
-    assert_eq!(rt; asked, u64::from(REQUESTS));
-    assert_eq!(rt; end.accepted.as_slice().len(), usize::from(REQUESTS));
+    compare(&rt, taken.as_slice(), end, numbers.as_slice());
     Ok(())
 }
