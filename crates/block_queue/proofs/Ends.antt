@@ -42,6 +42,14 @@ module _ {T : Type 0} where
   still_begins bs [] e more = absurd (omega arith)
   still_begins bs (c ∷ cs) e more = some_left c.items (omega arith)
 
+  -- the only block has room, and stays
+  pub stays_chain : (bs cs : List (Queue T)) → drop 1 cs ≡ drop 1 bs → length bs ≡ 1 → 0 < room_of bs → room_of cs ≡ room_of bs → IsChain cs
+  unfolding IsChain room_of
+  stays_chain bs [] e one room same = tt
+  stays_chain bs (c ∷ []) e one room same = inr (omega arith)
+  stays_chain [] (c ∷ d ∷ ds) e one room same = absurd (omega arith)
+  stays_chain (b ∷ bs) (c ∷ d ∷ ds) e one room same = let n = ap length e in absurd (omega arith)
+
   pub counts_first : (bs rest : List (Queue T)) (first : Queue T) → bs ≡ first ∷ rest → length first.items ≡ first_count bs
   unfolding first_count
   counts_first bs rest first e = ap first_count (sym e)

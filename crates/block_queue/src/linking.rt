@@ -259,6 +259,7 @@ impl<T> Blocks<T> {
     }
 
     /// Whether there is one block only.
+    #[inline]
     fn is_one(&self) -> bool
         ensures one { result ≡ true → length self.now ≡ 1 }
         ensures more { result ≡ false → 2 ≤ length self.now }
@@ -429,6 +430,10 @@ pub(crate) fn pop<T>(blocks: &mut Option<Blocks<T>>, kept: &mut Option<Load<T>>)
     if count > 1 {
         return pop_first(blocks);
     }
+    let stays = has_room_alone(blocks);
+    if stays {
+        return pop_first(blocks);
+    }
     pop_last(blocks, kept)
 }
 
@@ -446,6 +451,22 @@ fn pop_last<T>(blocks: &mut Option<Blocks<T>>, kept: &mut Option<Load<T>>) -> T
     let item = pop_first(blocks);
     shed_first(blocks, kept);
     item
+}
+
+/// Whether there is one block only, and places are left behind its items.
+#[inline]
+fn has_room_alone<T>(blocks: &Option<Blocks<T>>) -> bool
+    ensures { result ≡ true → (length (joined blocks.now) ≡ 1) × (0 < room_of (joined blocks.now)) }
+{
+    match blocks {
+        Some(blocks) => {
+            if blocks.is_one() {
+                return blocks.room() > 0;
+            }
+            false
+        }
+        None => false,
+    }
 }
 
 /// How many items the first block has.
