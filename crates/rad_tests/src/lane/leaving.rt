@@ -7,14 +7,14 @@ use super::script::Gives::Step as Did;
 use super::script::{answer, at, pair, puts, sent, slot};
 use super::test_lane::TestLane;
 use super::waiting::accept_each;
-use block_queue::{Fifo, PlainQueue};
+use block_queue::{BlockQueue, Fifo};
 use rad_lane::{Action, Answered, Entry, Leftover, Record};
 use std::process::Abort;
 use std::test::Fail;
 
 /// Whether two lanes left the same: the stamps, the answers with their octets, under each pair of four
 /// source ports what is outstanding, with its octets, its due and how often it was sent, and the queue.
-pub fn is_same(one: &Leftover<PlainQueue<Record>>, other: &Leftover<PlainQueue<Record>>) -> bool {
+pub fn is_same(one: &Leftover<BlockQueue<Record>>, other: &Leftover<BlockQueue<Record>>) -> bool {
     one.lane() == other.lane()
         && one.opening() == other.opening()
         && one.accepted() == other.accepted()

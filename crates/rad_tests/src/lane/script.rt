@@ -2,7 +2,7 @@
 
 use super::leaving::is_same;
 use super::test_lane::{CLIENT, CLIENT_PORT, TestLane};
-use block_queue::PlainQueue;
+use block_queue::BlockQueue;
 use rad_lane::{Action, Counts, HearFault, Leftover, Record, Refusal, Stamp, Taken};
 use rad_tables::{Moment, Slot};
 use std::alloc::Global;
@@ -100,7 +100,7 @@ fn leave(
     alloc: Global,
     more: &str,
     script: &[Row<'_>],
-) -> Result<Leftover<PlainQueue<Record>>, Fail> {
+) -> Result<Leftover<BlockQueue<Record>>, Fail> {
     let mut lane = TestLane::new(alloc, more)?;
     lane.play(rt, script);
     Ok(lane.close())

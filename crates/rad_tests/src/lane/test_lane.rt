@@ -1,5 +1,5 @@
 use super::script::{Call, Gives, Row, Told, moment};
-use block_queue::PlainQueue;
+use block_queue::BlockQueue;
 use rad_lane::{HearFault, Heard, Lane, Leftover, Record, Refusal, Setup, Taken};
 use rad_packet::{Datagram, read};
 use rad_realms::{Config, Incoming, check_in, read_config};
@@ -37,7 +37,7 @@ pub const RANDOM: [u8; 16] = [0xa5; 16];
 pub struct TestLane {
     pub alloc: Global,
     pub config: Config,
-    pub lane: Lane<PlainQueue<Record>>,
+    pub lane: Lane<BlockQueue<Record>>,
     datagram: Datagram,
 }
 
@@ -134,7 +134,7 @@ impl TestLane {
     pub fn end(self) {}
 
     /// Closes the lane.
-    pub fn close(self) -> Leftover<PlainQueue<Record>> {
+    pub fn close(self) -> Leftover<BlockQueue<Record>> {
         self.lane.close()
     }
 }
