@@ -5,6 +5,7 @@ pub mod Forwards
 pub mod Marks
 pub mod OneKind
 pub mod Packets
+pub mod Parted
 pub mod Returns
 pub mod Signing
 pub mod Statuses

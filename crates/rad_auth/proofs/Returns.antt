@@ -1,15 +1,16 @@
 -- The mark that a reply returns, and the response without it.
-use Rattle.std.proofs.Common.{◌≡◌, ◌≢◌, ℕ, ◌+◌, ◌-◌, ◌≤◌, List, [], ◌∷◌, ◌++◌, length, take, drop, slice_range, refl, sym, ap, ◌∙◌, subst, Bool, false, Option, Some, None, is_some, MatchOption, Decides, eqb, arith, length-append, length-drop}
+use Rattle.std.proofs.Common.{◌≡◌, ◌≢◌, ℕ, ◌+◌, ◌-◌, ◌<◌, ◌≤◌, List, [], ◌∷◌, ◌++◌, length, take, drop, slice_range, refl, sym, ap, ◌∙◌, subst, Bool, false, Option, Some, None, is_some, MatchOption, Decides, eqb, arith, length-append, length-drop, length-take}
 use Rattle.std.specs.List.{AllByRecursion}
 use Rattle.std.proofs.lemmas.List.{append-nil, same_from_push, take_rest}
 use Rattle.std.proofs.lemmas.Bool.Decides.{Decides-eqb}
 use Rattle.std.proofs.lemmas.Slice.Eq.{slice_eq-Decides}
 use Rattle.std.specs.Cmp.Lexicographic.{pointwise}
 use Rattle.rad_packet.specs.Attribute.{Attribute, IsAttribute, attribute_text, joined, of_kind, attributes_of, AreAttributes}
-use Rattle.rad_packet.specs.Packet.{IsPacketText, code_of, identifier_of, authenticator_of, packet_attributes, packet_text, with_attributes}
+use Rattle.rad_packet.specs.Packet.{AreOctets, IsPacketText, code_of, identifier_of, authenticator_of, packet_attributes}
 use Rattle.rad_packet.specs.Place.{StandsAt, IsLastAt}
 use Rattle.rad_packet.proofs.Each.{AllByRecursion-left, AllByRecursion-right, packet_attributes-each}
 use Rattle.rad_packet.proofs.Joined.{attributes_of-joined}
+use Rattle.rad_packet.proofs.Parts.{AreOctets-append, AreOctets-take, AreOctets-drop, AreAttributes-append}
 use Rattle.rad_packet.proofs.Walk.{joined-append}
 use Rattle.rad_auth.specs.Answers.{Answers}
 use Rattle.rad_auth.specs.Authenticator.{IsRightResponse, accounting_response}
@@ -21,8 +22,7 @@ use Rattle.rad_auth.specs.declared.reply.RequestHead.{RequestHead}
 use Rattle.rad_auth.proofs.Cuts.{attributes_parted, from_here, cut_here, cut_after, cut_before, cut_fits}
 use Rattle.rad_auth.proofs.Marks.{length-mark_value}
 use Rattle.rad_auth.proofs.OneKind.{same_last}
-use Rattle.rad_auth.proofs.Packets.{with_attributes-packet_text, length-packet_text}
-use Rattle.rad_auth.proofs.Signing.{code_of-accounting_response, identifier_of-accounting_response, attribute_octets-accounting_response, IsRightResponse-accounting_response}
+use Rattle.rad_auth.proofs.Signing.{code_of-accounting_response, identifier_of-accounting_response, attribute_octets-accounting_response, IsRightResponse-accounting_response, IsPacketText-accounting_response}
 
 attribute_of_parts : (a b : Attribute) → a.kind ≡ b.kind → a.value ≡ b.value → a ≡ b
 attribute_of_parts a b k v =
@@ -141,20 +141,18 @@ module _ (text octets : List ℕ) (place len : ℕ) (same : octets ≡ text) (p 
   unfolding octets_without
   read-others = ap (λ xs. xs ++ take (length octets - (place + len)) (drop (place + len) octets)) before_read ∙ ap (λ xs. slice_range text 20 place ++ xs) after_read
 
--- the response as it is written, before it is signed
-pub response_first : (identifier : ℕ) (authenticator before begun first : List ℕ) → length authenticator ≡ 16 → begun ≡ packet_text 5 identifier authenticator [] → first ≡ with_attributes begun before → first ≡ packet_text 5 identifier authenticator before
-response_first identifier authenticator before begun first n b f =
-    f ∙ ap (λ t. with_attributes t before) b ∙ with_attributes-packet_text 5 identifier authenticator [] n before
-
-pub length-response_first : (identifier : ℕ) (authenticator before begun first : List ℕ) → length authenticator ≡ 16 → begun ≡ packet_text 5 identifier authenticator [] → first ≡ with_attributes begun before → length first ≡ 20 + length before
-length-response_first identifier authenticator before begun first n b f =
-    ap length (response_first identifier authenticator before begun first n b f) ∙ length-packet_text 5 identifier authenticator before n
-
-pub response_second : (identifier : ℕ) (authenticator before after without begun first second : List ℕ) → length authenticator ≡ 16 → begun ≡ packet_text 5 identifier authenticator [] → first ≡ with_attributes begun before → second ≡ with_attributes first after → before ++ after ≡ without → second ≡ packet_text 5 identifier authenticator without
-response_second identifier authenticator before after without begun first second n b f s e =
-    s ∙ ap (λ t. with_attributes t after) (response_first identifier authenticator before begun first n b f)
-    ∙ with_attributes-packet_text 5 identifier authenticator before n after
-    ∙ ap (packet_text 5 identifier authenticator) e
+-- the response without that attribute is a packet
+pub response-packet : (text : List ℕ) (place len identifier : ℕ) (authenticator secret : List ℕ) → IsPacketText text → HasAttributeAt text place len → identifier < 256 → IsPacketText (accounting_response identifier authenticator (octets_without text place len) secret)
+unfolding octets_without
+response-packet text place len identifier authenticator secret p h i =
+    let before : List ℕ = slice_range text 20 place in
+    let after : List ℕ = drop (place + len) text in
+    let octets : AreOctets (before ++ after) =
+    AreOctets-append before after (AreOctets-take (place - 20) (drop 20 text) (AreOctets-drop 20 text p.octets)) (AreOctets-drop (place + len) text p.octets) in
+    let most : length (before ++ after) ≤ 4076 =
+    omega (arith, place_fits text place len p h, p.most, p.least, h.stands.offset, length-append before after, length-take (place - 20) (drop 20 text), length-drop 20 text, length-drop (place + len) text) in
+    IsPacketText-accounting_response identifier authenticator (before ++ after) secret i octets most
+    (AreAttributes-append before after (AreAttributes-before text place len p h) (AreAttributes-after text place len p h))
 
 -- where nothing was found
 pub none_found : {X : Type 0} (o : Option X) (P : Type 0) (Q : X → Type 0) → is_some o ≡ false → MatchOption o P Q → P
@@ -163,13 +161,13 @@ none_found (Some x) P Q n m = cc
 
 -- the response that is made answers the request
 pub Answers-made : (head : RequestHead) (sending reply client home response : List ℕ) (place len : ℕ)
-    → length head.authenticator ≡ 16
+    → length head.authenticator ≡ 16 → head.identifier < 256
     → IsPacketText reply → code_of reply ≡ 5 → identifier_of reply ≡ identifier_of sending
     → IsRightResponse home (authenticator_of sending) reply → of_kind 80 (packet_attributes reply) ≡ []
     → IsReturnedAt sending reply place len
-    → IsPacketText response → response ≡ accounting_response head.identifier head.authenticator (octets_without reply place len) client
+    → response ≡ accounting_response head.identifier head.authenticator (octets_without reply place len) client
     → Answers head sending reply client home response
-Answers-made head sending reply client home response place len sixteen p code identifier right none at q made =
+Answers-made head sending reply client home response place len sixteen small p code identifier right none at made =
     let h : HasAttributeAt reply place len = record { before = at.before; attribute = mark_attribute at.mark; after = at.after; stands = at.stands } in
     let xs : List ℕ = octets_without reply place len in
     let a : List ℕ = head.authenticator in
@@ -183,7 +181,7 @@ Answers-made head sending reply client home response place len sixteen p code id
       before = at.before;
       after = at.after;
       returned = at.returned;
-      response_packet = q;
+      response_packet = rw made (response-packet reply place len head.identifier a client p h small);
       response_code = ap code_of made ∙ code_of-accounting_response head.identifier a xs client;
       response_identifier = ap identifier_of made ∙ identifier_of-accounting_response head.identifier a xs client;
       response_attributes =

@@ -1,5 +1,5 @@
 -- Packets that are signed: each is right by its authenticator, and has the parts that it was made of.
-use Rattle.std.proofs.Common.{◌≡◌, ℕ, ◌+◌, ◌<◌, ◌≤◌, List, ◌∷◌, ◌++◌, length, set, take, drop, replicate, ◌/◌, ◌%◌, refl, sym, ap, ◌∙◌, lit<}
+use Rattle.std.proofs.Common.{◌≡◌, ℕ, ◌+◌, ◌<◌, ◌≤◌, List, [], ◌∷◌, ◌++◌, length, set, take, drop, replicate, ◌/◌, ◌%◌, refl, sym, ap, ◌∙◌, lit<, length-append, append_assoc, arith}
 use Rattle.std.proofs.lemmas.List.{drop_at}
 use borrow.Rule.Slice.PartMut.{put_mid}
 use Rattle.md5.specs.Md5.{md5}
@@ -93,6 +93,34 @@ module _ (identifier : ℕ) (authenticator attributes secret : List ℕ) where
       let n = length-response_authenticator secret authenticator (packet_text 5 identifier authenticator attributes) in
       authenticator_of-packet_text 5 identifier _ attributes n
       ∙ response_authenticator-placed secret authenticator 5 identifier authenticator _ attributes m n
+
+  pub IsPacketText-accounting_response : identifier < 256 → AreOctets attributes → length attributes ≤ 4076 → AreAttributes attributes → IsPacketText (accounting_response identifier authenticator attributes secret)
+  unfolding accounting_response
+  IsPacketText-accounting_response i octets most are =
+      packet_text-is 5 identifier _ attributes (lit< tt) i (AreOctets-response_authenticator secret authenticator _) (length-response_authenticator secret authenticator _) octets most are
+
+-- The response that is put together: its first four octets, the digest of its parts, and its attributes in two parts.
+module _ (identifier : ℕ) (authenticator before after attributes secret signature : List ℕ) (count : ℕ)
+    (sixteen : length authenticator ≡ 16) (counted : count ≡ 20 + length before + length after) (both : before ++ after ≡ attributes)
+    (signed : signature ≡ md5 ((5 ∷ identifier ∷ (count / 256) ∷ (count % 256) ∷ []) ++ authenticator ++ before ++ after ++ secret)) where
+  all_octets : count ≡ 20 + length attributes
+  all_octets = omega (arith, ap length both, length-append before after)
+
+  all_parts : (a : List ℕ) → (5 ∷ identifier ∷ (count / 256) ∷ (count % 256) ∷ []) ++ a ++ before ++ after ≡ packet_text 5 identifier a attributes
+  all_parts a =
+      ap (λ xs. 5 ∷ identifier ∷ (count / 256) ∷ (count % 256) ∷ xs) (append_assoc a before after ∙ ap (λ xs. a ++ xs) both)
+      ∙ ap (λ n. 5 ∷ identifier ∷ (n / 256) ∷ (n % 256) ∷ (a ++ attributes)) all_octets
+
+  signature-is : signature ≡ response_authenticator secret authenticator (packet_text 5 identifier authenticator attributes)
+  unfolding response_authenticator
+  signature-is =
+      signed
+      ∙ ap (λ xs. md5 (xs ++ secret)) (all_parts authenticator)
+      ∙ ap (λ xs. md5 (5 ∷ identifier ∷ ((20 + length attributes) / 256) ∷ ((20 + length attributes) % 256) ∷ (authenticator ++ xs ++ secret))) (sym (drop_at authenticator attributes 16 sixteen))
+
+  pub accounting_response-put : (5 ∷ identifier ∷ (count / 256) ∷ (count % 256) ∷ []) ++ signature ++ before ++ after ≡ accounting_response identifier authenticator attributes secret
+  unfolding accounting_response
+  accounting_response-put = all_parts signature ∙ ap (λ a. packet_text 5 identifier a attributes) signature-is
 
 -- What a function does that signs: it takes the digest of the packet with these octets in place of the
 -- Authenticator, and puts it there.

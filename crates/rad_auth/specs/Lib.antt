@@ -5,6 +5,7 @@ pub mod Faults
 pub mod Forwarding
 pub mod Hmac
 pub mod Mark
+pub mod Parted
 pub mod Refusing
 pub mod Replied
 pub mod Returning

@@ -75,10 +75,25 @@ pub(crate) fn digest(packet: &[u8], authenticator: &[u8; 16], secret: &Secret) -
     requires { 20 ≤ length packet.now }
     ensures { result ≡ md5 (take 4 packet.now ++ authenticator.now ++ drop 20 packet.now ++ secret.now) }
 {
+    digest_of_parts(&packet[..4], authenticator, &packet[20..], &[], secret)
+}
+
+/// The same of a packet in parts: the octets before its Authenticator, those in place of that, and the attributes
+/// in two parts.
+pub(crate) fn digest_of_parts(
+    start: &[u8],
+    authenticator: &[u8; 16],
+    before: &[u8],
+    after: &[u8],
+    secret: &Secret,
+) -> [u8; 16]
+    ensures { result ≡ md5 (start.now ++ authenticator.now ++ before.now ++ after.now ++ secret.now) }
+{
     let mut hasher = Md5::new();
-    hasher.update(&packet[..4]);
+    hasher.update(start);
     hasher.update(authenticator);
-    hasher.update(&packet[20..]);
+    hasher.update(before);
+    hasher.update(after);
     hasher.update(secret.octets());
     hasher.finalize()
 }

@@ -18,20 +18,23 @@ pub struct RequestHead {
 /// A response that answers a request, with all that it rests on: the head of the request, the packet that
 /// was sent to the home server, the home server's reply to it, and the secrets of the client and of the
 /// home. Made by `respond` and `copy` alone.
+///
+/// All but the head stands in one list of octets, so that a reply is one allocation.
 #[derive(Drop)]
 pub struct Reply {
+    /// One behind the other: the packet that goes to the client, the packet that was sent to the home server, the
+    /// home server's reply to it without padding, the client's secret and the home's.
+    octets: Octets,
+    /// Where the response ends, and the sending begins.
+    response_end: u16,
+    /// Where the sending ends, and the reply begins.
+    sending_end: u16,
+    /// Where the reply ends, and the client's secret begins.
+    reply_end: u16,
+    /// How many octets the client's secret has. The home's is what is left.
+    client_count: u8,
     /// The head of the request that is answered.
     head: RequestHead,
-    /// The packet that was sent to the home server.
-    sending: Octets,
-    /// The home server's reply to it, without padding.
-    reply: Octets,
-    /// The secret that is shared with the client.
-    client: Secret,
-    /// The secret that is shared with the home server.
-    home: Secret,
-    /// The packet that goes to the client.
-    response: Octets,
 }
 
 impl Model for Reply {
@@ -39,11 +42,11 @@ impl Model for Reply {
 
     ghost Value = { Replied };
 
-    ghost use Rattle.rad_auth.specs.Answers.{Answers};
+    ghost use Rattle.rad_auth.specs.Parted.{parted, IsParted};
 
-    ghost view = { λ r. record { head = r.head; sending = r.sending; reply = r.reply; client = r.client; home = r.home; response = r.response } };
+    ghost view = { λ r. parted r.head r.octets r.response_end r.sending_end r.reply_end r.client_count };
 
-    ghost invariant = { λ r. Answers r.head r.sending r.reply r.client r.home r.response };
+    ghost invariant = { λ r. IsParted r.head r.octets r.response_end r.sending_end r.reply_end r.client_count };
 }
 
 impl Reply {
@@ -51,34 +54,41 @@ impl Reply {
     ghost use Rattle.rad_auth.specs.Answers.{Answers};
     ghost use Rattle.rad_auth.specs.Replied.{IsAnswer};
 
-    /// Keeps copies of the three packets.
+    /// Keeps a response, with copies of what it rests on behind it. Where there is room for those, it takes no memory.
     ///
     /// # Errors
     ///
-    /// Where memory is refused.
+    /// Where memory is needed and refused.
     pub(crate) fn keep(
-        alloc: Global,
         head: RequestHead,
+        response: Vec<u8>,
         sending: &PacketRef<'_>,
         reply: &PacketRef<'_>,
         client: &Secret,
         home: &Secret,
-        response: &[u8],
     ) -> Result<Reply, AllocError>
-        requires { Answers head sending.now reply.now client.now home.now response.now }
-        ensures { IfOk result (λ kept. kept ≡ record { head = head; sending = sending.now; reply = reply.now; client = client.now; home = home.now; response = response.now }) }
+        requires { Answers head sending.now reply.now client.now home.now response.items }
+        ensures { IfOk result (λ kept. kept ≡ record { head = head; sending = sending.now; reply = reply.now; client = client.now; home = home.now; response = response.items }) }
     {
+        let mut octets = response;
+        let response_end = octets.len() as u16;
+        octets.extend_from_slice(sending.octets())?;
+        let sending_end = octets.len() as u16;
+        octets.extend_from_slice(reply.octets())?;
+        let reply_end = octets.len() as u16;
+        octets.extend_from_slice(client.octets())?;
+        octets.extend_from_slice(home.octets())?;
         Ok(Reply {
+            octets: Octets::from_vec(octets),
+            response_end,
+            sending_end,
+            reply_end,
+            client_count: client.octets().len() as u8,
             head,
-            sending: Octets::copy_of(alloc, sending.octets())?,
-            reply: Octets::copy_of(alloc, reply.octets())?,
-            client: *client,
-            home: *home,
-            response: Octets::copy_of(alloc, response)?,
         })
     }
 
-    /// A copy, of the three packets too.
+    /// A copy, of all octets too.
     ///
     /// # Errors
     ///
@@ -87,12 +97,12 @@ impl Reply {
         ensures { IfOk result (λ copy. copy ≡ self.now) }
     {
         Ok(Reply {
+            octets: Octets::copy_of(alloc, self.octets.as_slice())?,
+            response_end: self.response_end,
+            sending_end: self.sending_end,
+            reply_end: self.reply_end,
+            client_count: self.client_count,
             head: self.head,
-            sending: Octets::copy_of(alloc, self.sending.as_slice())?,
-            reply: Octets::copy_of(alloc, self.reply.as_slice())?,
-            client: self.client,
-            home: self.home,
-            response: Octets::copy_of(alloc, self.response.as_slice())?,
         })
     }
 
@@ -108,20 +118,20 @@ impl Reply {
     pub fn sending(&self) -> &[u8]
         ensures { result.now ≡ self.now.sending }
     {
-        self.sending.as_slice()
+        &self.octets.as_slice()[usize::from(self.response_end)..usize::from(self.sending_end)]
     }
 
     /// The octets of the home server's reply, without padding.
     pub fn reply(&self) -> &[u8]
         ensures { result.now ≡ self.now.reply }
     {
-        self.reply.as_slice()
+        &self.octets.as_slice()[usize::from(self.sending_end)..usize::from(self.reply_end)]
     }
 
     /// The octets of the response to the client.
     pub fn response(&self) -> &[u8]
         ensures { result.now ≡ self.now.response }
     {
-        self.response.as_slice()
+        &self.octets.as_slice()[..usize::from(self.response_end)]
     }
 }

@@ -10,12 +10,12 @@ ghost use Rattle.rad_auth.specs.Returning.{HasAttributeAt, IsReturnedAt, octets_
 ghost use Rattle.rad_auth.specs.Refusing.{RefusesReply, ReturnsItsMark};
 ghost use Rattle.rad_auth.specs.declared.mark.Mark.{Mark};
 
-use crate::authenticators::{check_response, sign_datagram};
+use crate::authenticators::{check_response, digest_of_parts};
 use crate::mark::MARK_LENGTH;
 use crate::reply::{Reply, RequestHead};
 use crate::secret::Secret;
 use crate::{ACCOUNTING_RESPONSE, MESSAGE_AUTHENTICATOR, PROXY_STATE};
-use rad_packet::{AttributePlace, Datagram, HEADER_LENGTH, PacketRef};
+use rad_packet::{AttributePlace, HEADER_LENGTH, PacketRef};
 use std::alloc::{AllocError, Global};
 use std::error::Error;
 use std::fmt;
@@ -64,7 +64,8 @@ impl From<AllocError> for ReplyFault {
 
 /// The response to a request after the home server's reply to its sending (RFC 2866 section 2.1, Proxy): the
 /// reply without its last Proxy-State, under the request's Identifier and the client's secret. Hashes the
-/// reply and the response once each; keeps a copy of the three packets.
+/// reply and the response once each. Writes the response where it is kept, with copies of the two other packets
+/// and of the secrets behind it, in one allocation.
 ///
 /// # Errors
 ///
@@ -93,10 +94,9 @@ pub fn respond(
     let Some(mark) = returned_mark(sending, reply) else {
         return Err(ReplyFault::NoProxyState);
     };
-    let mut response = Datagram::new();
-    write_response(head, reply, mark, client, &mut response);
-    let bytes = response.bytes();
-    Ok(Reply::keep(alloc, head, sending, reply, client, home, bytes)?)
+    let room = room_behind(sending, reply, client, home);
+    let response = write_response(alloc, head, reply, mark, client, room)?;
+    Ok(Reply::keep(head, response, sending, reply, client, home)?)
 }
 
 /// Where the reply's last Proxy-State stands, if it is the sending's mark: what `forward` added is the last
@@ -131,22 +131,48 @@ fn attributes_around<'a>(packet: &PacketRef<'a>, at: AttributePlace) -> (&'a [u8
     )
 }
 
-/// Writes the response: the reply's attributes but the one at this place, under the request's Identifier.
+/// How many octets a reply keeps behind its response.
+fn room_behind(
+    sending: &PacketRef<'_>,
+    reply: &PacketRef<'_>,
+    client: &Secret,
+    home: &Secret,
+) -> usize
+    ensures value { result ≡ length sending.now + length reply.now + length client.now + length home.now }
+    ensures most { result ≤ 8448 }
+{
+    let packets = sending.octets().len() + reply.octets().len();
+    packets + client.octets().len() + home.octets().len()
+}
+
+/// Writes the response: the reply's attributes but the one at this place, under the request's Identifier. It makes
+/// room for this many octets more.
 fn write_response(
+    alloc: Global,
     head: RequestHead,
     reply: &PacketRef<'_>,
     mark: AttributePlace,
     client: &Secret,
-    response: &mut Datagram,
-)
-    requires { HasAttributeAt reply.now mark.place mark.length }
+    room: usize,
+) -> Result<Vec<u8>, AllocError>
+    requires place { HasAttributeAt reply.now mark.place mark.length }
+    requires few { room ≤ 8448 }
     ensures reply { IsPacketText reply.now }
-    ensures made { response.new ≡ accounting_response head.identifier head.authenticator (octets_without reply.now mark.place mark.length) client.now }
+    ensures made { IfOk result (λ octets. octets.items ≡ accounting_response head.identifier head.authenticator (octets_without reply.now mark.place mark.length) client.now) }
 {
     let (before, after) = attributes_around(reply, mark);
-    response.begin(ACCOUNTING_RESPONSE, head.identifier, head.authenticator);
-    // Both fit, since they were in the reply.
-    response.push_all(before).unwrap();
-    response.push_all(after).unwrap();
-    sign_datagram(response, &head.authenticator, client);
+    let count = HEADER_LENGTH + before.len() + after.len();
+    let start = [
+        ACCOUNTING_RESPONSE,
+        head.identifier,
+        (count / 256) as u8,
+        (count % 256) as u8,
+    ];
+    let signature = digest_of_parts(&start, &head.authenticator, before, after, client);
+    let mut octets = Vec::with_capacity(alloc, count + room)?;
+    octets.extend_from_slice(&start)?;
+    octets.extend_from_slice(&signature)?;
+    octets.extend_from_slice(before)?;
+    octets.extend_from_slice(after)?;
+    Ok(octets)
 }

@@ -1,6 +1,6 @@
-use Rattle.std.proofs.Common.{◌≡◌, ◌∙◌, sym, subst, length, arith, List, ℕ, []}
+use Rattle.std.proofs.Common.{◌≡◌, ◌∙◌, ◌<◌, sym, subst, length, arith, List, ℕ, []}
 use Rattle.rad_packet.specs.Attribute.{of_kind}
-use Rattle.rad_packet.specs.Packet.{packet_attributes, authenticator_of, IsPacketText}
+use Rattle.rad_packet.specs.Packet.{packet_attributes, authenticator_of}
 use Rattle.rad_auth.specs.Authenticator.{IsRightResponse}
 use Rattle.rad_auth.proofs.Returns.{Answers-made, none_found}
 use Rattle.rad_auth.proofs.responding.respond.Goals as goal
@@ -13,6 +13,6 @@ keep-requires c =
     subst P c.authenticator.ensures (c.check_response.ensures.0 c.if-not-check_response.false) in
     let none : of_kind 80 (packet_attributes c.args.reply.now) ≡ [] =
     none_found c.first_of.result _ _ (sym c.is_some.ensures ∙ c.if-is_some.false) c.first_of.ensures.found in
-    let packet : IsPacketText c.bytes-bytes.result.now = let P : List ℕ → Type 0 = λ t. IsPacketText t in subst P (sym c.bytes-bytes.ensures.value) c.bytes-bytes.ensures.packet in
-    Answers-made c.args.head c.args.sending.now c.args.reply.now c.args.client.now c.args.home.now c.bytes-bytes.result.now c.in-Some.mark.place c.in-Some.mark.length
-    sixteen c.write_response.ensures.reply c.requires.code c.requires.identifier right none c.in-Some.ensures packet (c.bytes-bytes.ensures.value ∙ c.write_response.ensures.made)
+    let small : c.args.head.identifier < 256 = omega arith in
+    Answers-made c.args.head c.args.sending.now c.args.reply.now c.args.client.now c.args.home.now _ c.in-Some.mark.place c.in-Some.mark.length
+    sixteen small c.write_response.ensures.reply c.requires.code c.requires.identifier right none c.in-Some.ensures c.in_ok-response.ensures.made

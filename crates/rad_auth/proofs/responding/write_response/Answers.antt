@@ -1,24 +1,21 @@
-use Rattle.std.proofs.Common.{◌≡◌, ◌+◌, ◌≤◌, length, arith}
-use Rattle.std.proofs.lemmas.Grind.{common_steps}
-use Rattle.rad_auth.proofs.Returns.{length-response_first, response_second}
-use Rattle.rad_auth.proofs.Signing.{accounting_response-made}
+use Rattle.std.proofs.Common.{◌≡◌, ℕ, ◌+◌, ◌/◌, ◌%◌, List, [], ◌∷◌, ◌++◌, length, ap, arith, ◌∙◌}
+use Rattle.rad_auth.proofs.Signing.{accounting_response-put}
 use Rattle.rad_auth.proofs.responding.write_response.Goals as goal
-
-pub unwrap-requires-2 : goal.unwrap-requires-2
-unwrap-requires-2 c =
-    let sixteen : length c.args.head.authenticator ≡ 16 = omega arith in
-    let first = rw c.unwrap.ensures at c.push_all.ensures.added in
-    let counted : length c.push_all.new.self ≡ 20 + length c.attributes_around.result.0.now =
-    length-response_first c.args.head.identifier c.args.head.authenticator c.attributes_around.result.0.now c.begin.new.self c.push_all.new.self sixteen c.begin.ensures first in
-    let room : length c.push_all.new.self + length c.attributes_around.result.1.now ≤ 4096 = omega (arith, c.attributes_around.ensures.fits) in
-    grind (arith, common_steps)
 
 pub returns-clause-made : goal.returns-clause-made
 returns-clause-made c =
     let sixteen : length c.args.head.authenticator ≡ 16 = omega arith in
-    let a = c.args.head.authenticator in
-    let text = c.push_all-2.new.self in
-    let first = rw c.unwrap.ensures at c.push_all.ensures.added in
-    let second = rw c.unwrap-2.ensures at c.push_all-2.ensures.added in
-    let written = response_second c.args.head.identifier a c.attributes_around.result.0.now c.attributes_around.result.1.now _ c.begin.new.self c.push_all.new.self text sixteen c.begin.ensures first second c.attributes_around.ensures.others in
-    accounting_response-made c.args.head.identifier a _ c.args.client.now text c.sign_datagram.new.datagram sixteen written c.sign_datagram.ensures
+    let before : List ℕ = c.attributes_around.result.0.now in
+    let after : List ℕ = c.attributes_around.result.1.now in
+    let signature : List ℕ = c.digest_of_parts-signature.result in
+    let count : ℕ = 20 + length before + length after in
+    let counted : count ≡ 20 + length before + length after = omega arith in
+    let start : List ℕ = 5 ∷ c.args.head.identifier ∷ (count / 256) ∷ (count % 256) ∷ [] in
+    let whole : c.extend_from_slice-4.new.self.items ≡ start ++ signature ++ before ++ after =
+    c.in_ok-extend_from_slice-4.ensures.items
+    ∙ ap (λ xs. xs ++ after) c.in_ok-extend_from_slice-3.ensures.items
+    ∙ ap (λ xs. xs ++ before ++ after) c.in_ok-extend_from_slice-2.ensures.items
+    ∙ ap (λ xs. xs ++ signature ++ before ++ after) c.in_ok-extend_from_slice.ensures.items
+    ∙ ap (λ xs. xs ++ start ++ signature ++ before ++ after) c.in_ok-octets.ensures.items in
+    whole
+    ∙ accounting_response-put c.args.head.identifier c.args.head.authenticator before after _ c.args.client.now signature count sixteen counted c.attributes_around.ensures.others c.digest_of_parts-signature.ensures

@@ -1,0 +1,23 @@
+-- A reply as it is kept (own): its packets and secrets one behind the other, in one list of octets.
+use Rattle.std.specs.Prelude.{ℕ, ◌+◌, ◌≤◌, List, length, take, drop, slice_range}
+use Rattle.rad_auth.specs.Replied.{Replied, IsAnswer}
+use Rattle.rad_auth.specs.declared.reply.RequestHead.{RequestHead}
+
+-- The response ends at the first of these places, the sending at the second, and the reply at the third; the
+-- client's secret has so many octets, and the home's is the rest.
+abbrev pub parted : RequestHead → List ℕ → ℕ → ℕ → ℕ → ℕ → Replied
+parted head octets response sending reply client = record {
+  head = head;
+  sending = slice_range octets response sending;
+  reply = slice_range octets sending reply;
+  client = slice_range octets reply (reply + client);
+  home = drop (reply + client) octets;
+  response = take response octets;
+}
+
+-- The places are in order and among the octets, and the parts are an answer.
+pub record IsParted (head : RequestHead) (octets : List ℕ) (response sending reply client : ℕ) : Type 0 where
+  pub first : response ≤ sending
+  pub second : sending ≤ reply
+  pub within : reply ≤ length octets
+  pub answers : IsAnswer (parted head octets response sending reply client)
