@@ -1,8 +1,13 @@
-use Rattle.std.proofs.Common.{ap, sym, ◌∙◌, subst, List, ℕ}
+use Rattle.std.proofs.Common.{◌≡◌, ◌≤◌, ap, sym, ◌∙◌, subst, arith, List, ℕ}
+use Rattle.rad_auth.specs.Forwarding.{forwarded}
 use Rattle.rad_auth.specs.Mark.{EndsWithMark}
+use Rattle.rad_auth.specs.Replied.{Replied, IsAnswer}
 use Rattle.rad_auth.specs.declared.mark.Mark.{Mark}
+use Rattle.rad_auth.specs.declared.reply.RequestHead.{RequestHead}
 use Rattle.rad_auth.proofs.Forwards.{forwarded-ends}
-use Rattle.rad_lane.specs.Outstanding.{Outstanding}
+use Rattle.rad_lane.specs.declared.stamp.Stamp.{Stamp}
+use Rattle.rad_lane.specs.Outstanding.{Outstanding, IsForwarded, IsAnswered}
+use Rattle.rad_lane.specs.Stamp.{Recorded, IsRecord}
 use Rattle.rad_lane.proofs.sending.Sending.answer.Goals as goal
 
 pub respond-requires-clause-mark : goal.respond-requires-clause-mark
@@ -11,3 +16,39 @@ respond-requires-clause-mark c =
     let mark : Mark = record { lane = i.lane; number = c.self.inside.request.recorded.stamp.number } in
     let same = c.packet.ensures ∙ ap (λ (o : Outstanding). o.octets) (sym c.self.view_is) ∙ i.octets in
     (mark, subst (λ (text : List ℕ). EndsWithMark mark text) (sym same) (forwarded-ends _ _ i.identifier _ i.is_record.packet))
+
+-- what answers a sending
+answers_sending : (o : Outstanding) (stamp : Stamp) (now serial : ℕ) (made : Replied) → IsForwarded o → IsAnswer made
+    → stamp ≡ o.request.stamp → made.head.identifier ≡ stamp.identifier → made.head.authenticator ≡ stamp.authenticator
+    → made.sending ≡ o.octets → made.client ≡ o.request.client_secret → made.home ≡ o.home → stamp.moment ≤ now
+    → IsAnswered (record { stamp = stamp; moment = now; serial = serial; reply = made })
+answers_sending o stamp now serial made f answers same identifier authenticator sending client home since =
+    let recorded : Recorded = record { stamp = stamp; text = o.request.text; client_secret = made.client } in
+    let here : o.request ≡ recorded = λ i. record { stamp = (sym same) i; text = o.request.text; client_secret = (sym client) i } in
+    record {
+      head_identifier = identifier;
+      head_authenticator = authenticator;
+      answers = answers;
+      text = o.request.text;
+      is_record = let P : Recorded → Type 0 = λ r. IsRecord r in subst P here f.is_record;
+      lane = f.lane;
+      identifier = f.identifier;
+      sending =
+          sending ∙ f.octets
+          ∙ ap (λ (s : Stamp). forwarded o.request.text (record { lane = f.lane; number = s.number }) f.identifier o.home) (sym same)
+          ∙ ap (λ (secret : List ℕ). forwarded o.request.text (record { lane = f.lane; number = stamp.number }) f.identifier secret) (sym home);
+      since = since;
+    }
+
+pub new-requires : goal.new-requires
+new-requires c =
+    let made = c.in_ok-reply.ensures.made in
+    let stamp : c.stamp-stamp.result ≡ c.args.self.now.request.stamp = c.stamp-stamp.ensures.value ∙ ap (λ (o : Outstanding). o.request.stamp) c.self.view_is in
+    let sent : c.in_ok-reply.reply.sending ≡ c.args.self.now.octets = made.1 ∙ c.packet.ensures in
+    let client : c.in_ok-reply.reply.client ≡ c.args.self.now.request.client_secret =
+    made.3 ∙ c.client_secret-client.ensures ∙ ap (λ (o : Outstanding). o.request.client_secret) c.self.view_is in
+    let home : c.in_ok-reply.reply.home ≡ c.args.self.now.home = made.4 ∙ ap (λ (o : Outstanding). o.home) c.self.view_is in
+    let since : c.stamp-stamp.result.moment ≤ c.args.now = omega (arith, ap (λ (s : Stamp). s.moment) stamp, c.requires.since) in
+    let forwarded_here : IsForwarded c.args.self.now = let P : Outstanding → Type 0 = λ o. IsForwarded o in subst P c.self.view_is c.self.invariant in
+    answers_sending c.args.self.now c.stamp-stamp.result c.args.now c.args.serial c.in_ok-reply.reply forwarded_here c.in_ok-reply.ensures.answers stamp
+    (ap (λ (h : RequestHead). h.identifier) made.0) (ap (λ (h : RequestHead). h.authenticator) made.0) sent client home since
