@@ -2,6 +2,7 @@
 """Tries the wrong bodies that the gate leaves out, and says of each whether the prover refused it.
 
 usage: edits.py [CRATE ..]
+       edits.py --check     tries none, and says which edits of must-fail/ and wrong-bodies/ can't be applied
 
 The edits are crates/CRATE/wrong-bodies/*.edit, of every crate where none is named. They are dealt into shares of one
 crate each. A share is tried by `rt must-fail` in a copy of the repository in which it stands as the crate's
@@ -128,6 +129,48 @@ def try_share(uses, name, edits, room):
     return refused
 
 
+def applied(crate, edit):
+    """The texts of the files that an edit changes, by path, as it makes them, or why it can't be applied."""
+    texts, path, old = {}, None, None
+    for line in edit.read_text("utf-8").splitlines():
+        head, _, rest = line.partition(":")
+        rest = rest.removeprefix(" ")
+        if not line:
+            continue
+        if head == "file":
+            path = rest
+            if not (crate / path).is_file():
+                return None, f"there is no file {path}"
+            texts.setdefault(path, (crate / path).read_text("utf-8"))
+        elif head == "old":
+            old = rest
+        elif head == "new" and path and old:
+            count = texts[path].count(old)
+            if count != 1:
+                return None, f"an old: text stands in {path} {count} times, and not once"
+            texts[path], old = texts[path].replace(old, rest), None
+        else:
+            return None, f"this line is of no known form, or out of place: {line[:60]}"
+    return (texts, "") if texts and old is None else (None, "it has no old: with a new: behind it")
+
+
+def check():
+    """Says which edits can't be applied, or make the same as another one of their crate."""
+    passed, failed = 0, 0
+    for name in crates():
+        crate, made = TOP / "crates" / name, {}
+        for edit in sorted([*crate.glob("must-fail/*.edit"), *crate.glob("wrong-bodies/*.edit")]):
+            texts, why = applied(crate, edit)
+            same = texts and made.setdefault(tuple(sorted(texts.items())), edit)
+            if same and same != edit:
+                why = f"it makes the same as {same.stem}"
+            passed, failed = passed + (not why), failed + bool(why)
+            if why:
+                print(f"{name}/{edit.parent.name}/{edit.stem}: {why}", flush=True)
+    print(f"{passed} passed, {failed} failed")
+    sys.exit(1 if failed or not passed else 0)
+
+
 def stop(*_):
     """Ends what this run started, so that its temporary copies can be removed."""
     STOPPED.set()
@@ -140,6 +183,8 @@ def stop(*_):
 
 
 def main():
+    if sys.argv[1:] == ["--check"]:
+        check()
     uses = crates()
     names = sys.argv[1:] or list(uses)
     if unknown := [it for it in names if it not in uses]:

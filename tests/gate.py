@@ -1,7 +1,7 @@
 #!/usr/bin/env python3
-"""The whole gate: what `rt ci` proves, refuses and runs, then the octets that the tests expect, as another
-implementation makes them, and then the program that `rt ci` built: over the rows and the examples, with growths refused in
-turn, with spoiled datagrams, and over UDP and a network that loses.
+"""The whole gate: what `rt ci` proves, refuses and runs; then that each wrong body can be applied, and the octets that the
+tests expect, as another implementation makes them; and then the program that `rt ci` built: over the rows and the examples,
+with growths refused in turn, with spoiled datagrams, and over UDP and a network that loses.
 
 usage: gate.py PROGRAM
 
@@ -23,6 +23,7 @@ import progress
 TOP = pathlib.Path(__file__).resolve().parent.parent
 RT = os.environ.get("RT", "rt").split()
 SCRIPTS = {
+    "wrong-bodies": ("edits.py", "--check"),
     "vectors": ("vectors.py", "--check"),
     "model": ("hostile/model.py", "--check"),
     "rows": ("rows/run.py", "PROGRAM"),

@@ -46,6 +46,7 @@ use Rattle.rad_auth.specs.declared.responding.ReplyFault.{ReplyFault}
 use Rattle.rad_auth.specs.declared.responding.ReplyFault.TheVariants as reply
 use Rattle.rad_auth.proofs.Forwards.{forwarded-identifier}
 use Rattle.rad_lane.proofs.HeldLemmas.{stamps_in, sending_leaves}
+use Rattle.rad_lane.proofs.RealmForwarded.{or_none}
 use Rattle.rad_lane.proofs.VerifiedLater.{passed_later, verified_more}
 
 pub eqb_flips : (a b : ℕ) → eqb a b ≡ eqb b a
@@ -76,10 +77,6 @@ get_set_other (y ∷ xs) zero zero x h = absurd (h refl)
 get_set_other (y ∷ xs) zero (suc j) x h = refl
 get_set_other (y ∷ xs) (suc i) zero x h = refl
 get_set_other (y ∷ xs) (suc i) (suc j) x h = get_set_other xs i j x (λ e. h (ap suc e))
-
-or_none : {X : Type 0} (o : Option X) → option_or o None ≡ o
-or_none None = refl
-or_none (Some x) = refl
 
 -- an item more that is above all rises
 rises : (numbers : List ℕ) (next : ℕ) → IsStrictlyIncreasing numbers → All (λ n. n < next) numbers → IsStrictlyIncreasing (numbers ++ next ∷ [])

@@ -12,7 +12,8 @@ use Rattle.rad_auth.proofs.Forwards.{forwarded-attributes}
 use Rattle.rad_realms.specs.Realm.{user_name, realm_of_packet, realm_in}
 use Rattle.rad_lane.specs.Setup.{LaneSetup, LeadsHere, IsOfItsRealms}
 
-or_none : {X : Type 0} (o : Option X) → option_or o None ≡ o
+-- a choice with none behind it
+pub or_none : {X : Type 0} (o : Option X) → option_or o None ≡ o
 or_none None = refl
 or_none (Some x) = refl
 

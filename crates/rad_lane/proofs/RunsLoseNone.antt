@@ -1,18 +1,12 @@
 -- A run loses no request between its volumes and its book.
-use Rattle.std.proofs.Common.{◌≡◌, ℕ, max, List, [], ◌∷◌, ◌++◌, Option, Some, None, Result, Ok, Err, refl, sym, ap, ◌∙◌, append_assoc}
+use Rattle.std.proofs.Common.{◌≡◌, ℕ, List, [], ◌∷◌, ◌++◌, Option, Some, None, Ok, Err, refl, sym, ap, ◌∙◌, append_assoc}
 use Rattle.std.proofs.lemmas.List.{append-nil}
 use Rattle.rad_tables.specs.declared.slots.Slot.{Slot}
-use Rattle.rad_lane.specs.declared.stamp.Stamp.{Stamp}
-use Rattle.rad_lane.specs.declared.accepting.Taken.{Taken}
 use Rattle.rad_lane.specs.declared.accepting.Taken.TheVariants.{New, Waiting, Again}
-use Rattle.rad_lane.specs.declared.accepting.Refusal.{Refusal}
 use Rattle.rad_lane.specs.declared.stepping.Action.{Action}
 use Rattle.rad_lane.specs.declared.stepping.Action.TheVariants.{Sent, Resent, Probed, WentDown, WentUp, Idle}
-use Rattle.rad_lane.specs.declared.hearing.Heard.{Heard}
 use Rattle.rad_lane.specs.declared.hearing.Heard.TheVariants.{Answer, ProbeAnswered}
-use Rattle.rad_lane.specs.declared.hearing.HearFault.{HearFault}
 use Rattle.rad_lane.specs.declared.turning.Volume.{Volume}
-use Rattle.rad_lane.specs.declared.turning.TurnFault.{TurnFault}
 use Rattle.rad_lane.specs.declared.turning.TurnFault.TheVariants.{NothingToTurn, OutOfMemory}
 use Rattle.rad_lane.specs.declared.running.Event.{Event}
 use Rattle.rad_lane.specs.declared.running.Event.TheVariants.{Accept as accept, Step as step, Hear as hear, Drain as drain, Turn as turn}
@@ -21,14 +15,11 @@ use Rattle.rad_lane.specs.declared.running.GivenAnswer.TheVariants.{Accept as ac
 use Rattle.rad_lane.specs.declared.running.Given.{Given}
 use Rattle.rad_lane.specs.declared.watch.Watch.{Watch}
 use Rattle.rad_lane.specs.declared.watch.Watch.TheVariants.{Up as up, Down as down}
-use Rattle.rad_realms.specs.Checking.{Request}
-use Rattle.rad_lane.specs.Book.{Book, moment_in, next_number}
+use Rattle.rad_lane.specs.Book.{Book, moment_in}
 use Rattle.rad_lane.specs.Datagrams.{Datagrams}
-use Rattle.rad_lane.specs.Accepts.{Accepts, stamp_of}
+use Rattle.rad_lane.specs.Accepts.{stamp_of}
 use Rattle.rad_lane.specs.Steps.{StepsWhileUp, StepsWhileDown, StepsBy}
 use Rattle.rad_lane.specs.Watch.{GoesUpIfDown}
-use Rattle.rad_lane.specs.Hears.{Hears}
-use Rattle.rad_lane.specs.Volumes.{Turns}
 use Rattle.rad_lane.specs.Runs.{Gives, Runs}
 use Rattle.rad_lane.specs.LosesNone.{last_after, new_stamp, new_stamps, stamps_cut, volume_stamps, LosesNone}
 

@@ -1,5 +1,5 @@
 -- What a volume has, and what the book has without it.
-use Rattle.std.proofs.Common.{◌≡◌, ℕ, ◌≤◌, List, ◌++◌, length, take, drop, sym, ap, ◌∙◌, subst, arith}
+use Rattle.std.proofs.Common.{◌≡◌, ℕ, ◌≤◌, List, ◌++◌, sym, ap, ◌∙◌, subst}
 use Rattle.std.specs.Prelude.{map as each}
 use Rattle.std.specs.List.Sorted.{IsPermutation}
 use Rattle.rad_tables.specs.declared.duplicates.Key.{Key}

@@ -8,11 +8,17 @@ use std::marker::Model;
 /// outstanding.
 #[derive(Drop)]
 pub struct Leftover<Q: Fifo<Record>> {
+    /// The lane's number.
     lane: u16,
+    /// The number of the first request that is still held.
     opening: u64,
+    /// The stamps of the requests, in order: first those that were sent, then those that are queued.
     accepted: ReservedList<Stamp>,
+    /// The answers, in order.
     answered: ReservedList<Answered>,
+    /// What was sent and not answered, under its pairs. There is no probe among them.
     outstanding: Slots<Entry>,
+    /// The records that were never sent, in order.
     queued: Q,
 }
 

@@ -9,8 +9,11 @@ use std::marker::Model;
 /// secret.
 #[derive(Drop)]
 pub struct Record {
+    /// Who sent it, and when it was accepted.
     stamp: Stamp,
+    /// The packet's octets, without padding.
     text: Octets,
+    /// The secret under which they are right.
     client_secret: Secret,
     /// Where the octets that go out will stand, until they are sent.
     spare: Option<Buffer>,

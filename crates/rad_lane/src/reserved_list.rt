@@ -6,6 +6,7 @@ use std::marker::Model;
 /// go of, at most half of it.
 #[derive(Drop)]
 pub(crate) struct ReservedList<T> {
+    /// The row, with what was let go of at its front.
     items: Vec<T>,
     /// Where those begin that the list has.
     start: usize,

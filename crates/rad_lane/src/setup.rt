@@ -67,6 +67,7 @@ impl Setup {
         }
     }
 
+    /// The lane's number: the place of its home server in the configuration, counted from 0.
     pub fn lane(&self) -> u16
         ensures { result ≡ self.now.lane }
     {

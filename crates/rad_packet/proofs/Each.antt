@@ -1,7 +1,7 @@
 -- What holds of each attribute of a list. Proofs of the crates above cite these.
 use Rattle.std.proofs.Common.{ℕ, List, [], ◌∷◌, ◌++◌, drop}
 use Rattle.std.specs.List.{AllByRecursion}
-use Rattle.rad_packet.specs.Attribute.{Attribute, IsAttribute}
+use Rattle.rad_packet.specs.Attribute.{IsAttribute}
 use Rattle.rad_packet.specs.Packet.{IsPacketText, packet_attributes}
 use Rattle.rad_packet.proofs.Joined.{attributes_of-is}
 

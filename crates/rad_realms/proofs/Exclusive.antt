@@ -1,10 +1,10 @@
 -- No datagram is dropped for two reasons, and none that is taken is dropped.
-use Rattle.std.proofs.Common.{◌≡◌, ℕ, List, Option, Some, None, refl, sym, ap, subst, ◌∙◌, ◌⊎◌, inl, inr, arith, ◌<◌, length, take}
-use Rattle.std.proofs.lemmas.List.{take_at, get_or_append_left}
-use Rattle.rad_packet.specs.Packet.{code_of, length_of}
-use Rattle.rad_packet.specs.Reading.{ReadsAs, Refuses}
+use Rattle.std.proofs.Common.{◌≡◌, ℕ, List, Option, Some, None, refl, sym, ap, subst, ◌∙◌, ◌⊎◌, inl, inr, arith}
+use Rattle.rad_packet.specs.Packet.{code_of}
+use Rattle.rad_packet.specs.Reading.{Refuses}
 use Rattle.rad_packet.specs.declared.faults.ReadFault.{ReadFault}
 use Rattle.rad_packet.proofs.Exclusive.{read_or_refused, one_fault}
+use Rattle.rad_packet.proofs.OneReading.{one_packet}
 use Rattle.rad_realms.specs.declared.checking.Dropped.{Dropped}
 use Rattle.rad_realms.specs.declared.checking.Dropped.TheVariants.{UnknownClient, Unread, WrongCode, BadAuthenticator, BadMessageAuthenticator, MessageAuthenticatorHere, NoRealm}
 use Rattle.rad_realms.specs.Configuration.{ClientEntry, Configuration}
@@ -14,22 +14,6 @@ use Rattle.rad_realms.specs.declared.checking.Incoming.TheVariants as incoming
 use Rattle.rad_realms.specs.Realm.{client_of, lane_of_packet}
 use Rattle.rad_realms.specs.Checking.{IsRequest, DropsPacket, DropsArrived, Drops}
 use Rattle.rad_realms.specs.Incoming.{TakesPacket, Takes}
-
--- a datagram that reads as a packet has its Length, and the packet at its front
-read_length : (datagram packet : List ℕ) → ReadsAs datagram packet → length_of datagram ≡ length packet
-read_length datagram packet r =
-    let high : 2 < length packet = omega (arith, r.is_packet.least) in
-    let low : 3 < length packet = omega (arith, r.is_packet.least) in
-    ap length_of r.whole ∙ rw (get_or_append_left packet r.padding 0 2 high, get_or_append_left packet r.padding 0 3 low) r.is_packet.counted
-
-front : (datagram packet : List ℕ) → ReadsAs datagram packet → packet ≡ take (length packet) datagram
-front datagram packet r = sym (ap (take (length packet)) r.whole ∙ take_at packet r.padding (length packet) refl)
-
--- a datagram reads as one packet at most
-one_packet : (datagram p q : List ℕ) → ReadsAs datagram p → ReadsAs datagram q → p ≡ q
-one_packet datagram p q a b =
-    let as_long : length p ≡ length q = sym (read_length datagram p a) ∙ read_length datagram q b in
-    front datagram p a ∙ ap (λ (n : ℕ). take n datagram) as_long ∙ sym (front datagram q b)
 
 two_codes : (n : ℕ) → n ≡ 4 → n ≡ 12 → ⊥
 two_codes n a b = absurd (omega arith)

@@ -34,11 +34,17 @@ pub enum Incoming<'a> {
 /// configuration.
 #[derive(Drop)]
 pub struct Checked<'a> {
+    /// The packet, without padding.
     packet: PacketRef<'a>,
+    /// The configuration that it was checked by.
     config: &'a Config,
+    /// The client of that configuration that sent it.
     client: &'a Client,
+    /// The UDP port that it came from.
     port: u16,
+    /// The realm of its User-Name, where it has one.
     realm: Option<&'a [u8]>,
+    /// The lane that it leads to.
     lane: u16,
 }
 
@@ -108,7 +114,9 @@ impl<'a> Checked<'a> {
 /// borrows the datagram and the configuration.
 #[derive(Drop)]
 pub struct CheckedStatus<'a> {
+    /// The packet, without padding.
     packet: PacketRef<'a>,
+    /// The secret of the client that sent it.
     secret: &'a Secret,
 }
 

@@ -13,7 +13,9 @@ use std::marker::Model;
 /// A client (RFC 2865 section 1.2, NAS): its address, and the secret that it shares with this proxy.
 #[derive(Drop)]
 pub struct Client {
+    /// The IPv4 address that its datagrams come from.
     address: [u8; 4],
+    /// What it shares with this proxy.
     secret: Secret,
 }
 
@@ -52,7 +54,9 @@ impl Client {
 /// Clients in the order of the configuration, found by their addresses.
 #[derive(Drop)]
 pub(crate) struct Clients {
+    /// The clients in their order.
     items: Vec<Client>,
+    /// The place of each address's client among them.
     places: BTreeMap<[u8; 4], usize>,
 }
 

@@ -10,11 +10,17 @@ use std::marker::Model;
 /// to them.
 #[derive(Drop)]
 pub struct Config {
+    /// Where the clients' datagrams are received.
     listen: Endpoint,
+    /// How long to wait for open requests at the end, in milliseconds.
     linger: u32,
+    /// The clients, 1 to 256, by address.
     clients: Clients,
+    /// The home servers, 1 to 64, by place: the lanes.
     homes: Homes,
+    /// The realms, at most 256, by name.
     realms: Realms,
+    /// The lane of what has no realm, where there is one.
     default_lane: Option<u16>,
 }
 

@@ -10,9 +10,13 @@ use std::marker::Model;
 /// A home server (RFC 2866 section 2.1, the remote server), which is one lane.
 #[derive(Drop)]
 pub struct Home {
+    /// What the configuration calls it.
     name: Name,
+    /// Where requests are sent to.
     endpoint: Endpoint,
+    /// What it shares with this proxy.
     secret: Secret,
+    /// The limits of its lane.
     limits: Limits,
 }
 
@@ -77,6 +81,7 @@ impl Home {
 /// Home servers in the order of the configuration: the lanes.
 #[derive(Drop)]
 pub(crate) struct Homes {
+    /// The home servers in their order, at most 64.
     items: Vec<Home>,
 }
 

@@ -18,7 +18,9 @@ pub(crate) const LONGEST_REALM: usize = 252;
 /// A realm (RFC 7542 section 2.2), and the lane that it leads to.
 #[derive(Drop)]
 pub struct Realm {
+    /// Its name as the configuration has it.
     name: Name,
+    /// The lane that it leads to.
     lane: u16,
 }
 
@@ -57,7 +59,9 @@ impl Realm {
 /// Realms in the order of the configuration, found by their names.
 #[derive(Drop)]
 pub(crate) struct Realms {
+    /// The realms in their order.
     items: Vec<Realm>,
+    /// The lane of each name, which stands there in lower case.
     by_name: BTreeMap<Vec<u8>, u16>,
 }
 
