@@ -38,10 +38,8 @@ STATUS_SERVER, MESSAGE_AUTHENTICATOR = 12, 80
 
 def status_server(identifier):
     """A Status-Server (RFC 5997 section 3) of a client."""
-    def with_digest(digest):
-        return struct.pack("!BBH16sBB16s", STATUS_SERVER, identifier, 38, bytes(range(16)), MESSAGE_AUTHENTICATOR, 18, digest)
-
-    return with_digest(hmac.new(CLIENT_SECRET.encode(), with_digest(bytes(16)), hashlib.md5).digest())
+    head = struct.pack("!BBH", STATUS_SERVER, identifier, 38) + bytes(range(16)) + bytes([MESSAGE_AUTHENTICATOR, 18])
+    return head + hmac.new(CLIENT_SECRET.encode(), head + bytes(16), hashlib.md5).digest()
 
 
 class Bench:
@@ -120,12 +118,12 @@ class Bench:
     def load(self, subject, process, homes=1, **options):
         """Warms a subject, has the generator ask it, and gives the figures with what it took."""
         self.generate(subject, homes, warming=True, **WARMING)
-        lost, before = readings.datagrams_lost(), process and readings.processor_seconds(process.pid)
+        lost, meter = readings.datagrams_lost(), process and readings.Meter(process.pid)
         told, _ = self.generate(subject, homes, **options)
         told["datagrams_lost"] = readings.datagrams_lost() - lost
         if process:
-            took = readings.processor_seconds(process.pid) - before
-            told |= {"cpu_us": 1e6 * took / max(1, told["answered"]), "resident_kb": readings.resident_kilobytes(process.pid)}
+            told["cpu_us"] = 1e6 * meter.seconds() / max(1, told["answered"])
+            told["resident_kb"] = readings.resident_kilobytes(process.pid)
         return told
 
     # The measures, each for one subject in one round.
@@ -167,10 +165,9 @@ class Bench:
         with self.serving(subject, MANY_HOMES) as process:
             self.generate(subject, MANY_HOMES, warming=True, **WARMING)
             time.sleep(1)
-            took, switched = -readings.exact_processor_seconds(process.pid), -readings.switches(process.pid)
+            meter, before = readings.Meter(process.pid), readings.switches(process.pid)
             time.sleep(self.plan.seconds)
-            took += readings.exact_processor_seconds(process.pid)
-            switched += readings.switches(process.pid)
+            took, switched = meter.seconds(), readings.switches(process.pid) - before
             count = readings.threads(process.pid)
         self.keep("idle", subject.name, round=number, homes=MANY_HOMES, threads=count,
                   cpu_us_a_second=1e6 * took / self.plan.seconds, switches_a_second=switched / self.plan.seconds)
@@ -181,9 +178,9 @@ class Bench:
         with self.serving(subject, span=600_000, book=BOOK) as process:
             self.generate(subject, warming=True, window=GROWTH_WINDOW, count=BOOK_BEGINS, seconds=10)
             for held in range(BOOK_BEGINS, BOOK, BOOK_STEP):
-                before = readings.exact_processor_seconds(process.pid)
+                meter = readings.Meter(process.pid)
                 told, _ = self.generate(subject, window=GROWTH_WINDOW, count=BOOK_STEP, seconds=60)
-                took = readings.exact_processor_seconds(process.pid) - before
+                took = meter.seconds()
                 answered = max(1, told["answered"])
                 self.keep("growth", subject.name, round=number, held=held, unanswered=told["unanswered"],
                           time_us=1e6 * told["seconds"] / answered, cpu_us=1e6 * took / answered,
@@ -196,10 +193,10 @@ class Bench:
         book = min(BOOK, max(1000, self.plan.rate * span // 600))
         with self.serving(subject, span=span, book=book) as process:
             self.generate(subject, warming=True, **WARMING)
-            before = readings.processor_seconds(process.pid)
+            meter = readings.Meter(process.pid)
             options = {"rate": self.plan.rate, "seconds": self.plan.long, "sockets": SOCKETS_OF_A_RATE, "by_second": True}
             told, seconds = self.generate(subject, count=self.plan.rate * self.plan.long, **options)
-            took = readings.processor_seconds(process.pid) - before
+            took = meter.seconds()
             resident = readings.resident_kilobytes(process.pid)
         for second in seconds:
             self.keep("second", subject.name, **second)

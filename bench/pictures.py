@@ -148,12 +148,15 @@ def of_latency(figures):
     rates = figures.each("rate", "latency")
     panels = []
     for title, key, out in (("p50", "p50_us", 0.5), ("p99", "p99_us", 0.01), ("p99.9", "p999_us", 0.001)):
-        lines = {name: [(rate, value) for rate, value in points if lost_share(figures, "latency", subject=name, rate=rate) < out]
-                 for name, points in middles(figures, key, "latency", "rate").items()}
+        lines = {}
+        for name, points in middles(figures, key, "latency", "rate").items():
+            lost = {rate: lost_share(figures, "latency", subject=name, rate=rate) for rate in rates}
+            lines[name] = [(rate, value) for rate, value in points if lost[rate] < out]
         panels.append((title, {name: points for name, points in lines.items() if points}))
     across = Axis("requests a second", rates[0] / 1.2, rates[-1] * 1.2, True, rates)
     up = log_axis("time to the answer, µs", [value for _, lines in panels for value in values_of(lines)])
-    return picture("Time to the answer by the rate of requests", [Panel(title, across, up, lines) for title, lines in panels])
+    drawn = [Panel(title, across, up, lines) for title, lines in panels]
+    return picture("Time to the answer by the rate of requests", drawn)
 
 
 def of_cpu(figures):
@@ -167,7 +170,8 @@ def of_cpu(figures):
 def of_growth(figures):
     """Time and memory over the book, of the middle round."""
     panels = []
-    for title, label, key, unit in (("Time", "time a request, µs", "time_us", 1), ("Memory", "resident, MB", "resident_kb", 1024)):
+    shown = ("Time", "time a request, µs", "time_us", 1), ("Memory", "resident, MB", "resident_kb", 1024)
+    for title, label, key, unit in shown:
         lines = {name: [(held, value / unit) for held, value in points]
                  for name, points in middles(figures, key, "growth", "held").items()}
         across = Axis("requests in the book", 0, 1_000_000)

@@ -9,15 +9,30 @@ TICK = 1 / os.sysconf("SC_CLK_TCK")
 SECONDS_OF_A_LOOK = 2
 
 
-def processor_seconds(process):
-    """Processor time of a process so far, that of its ended threads too, to a hundredth of a second."""
+class Meter:
+    """The processor time that a process takes from now on: to a nanosecond, or where one of its threads ended meanwhile, to
+    a hundredth of a second."""
+
+    def __init__(self, process):
+        self.process, self.before, self.ticks_before = process, by_thread(process), ticks(process)
+
+    def seconds(self):
+        now = by_thread(self.process)
+        if self.before.keys() <= now.keys():
+            return (sum(now.values()) - sum(self.before.values())) / 1e9
+        return (ticks(self.process) - self.ticks_before) * TICK
+
+
+def by_thread(process):
+    """Nanoseconds that each thread has had a processor."""
+    files = pathlib.Path(f"/proc/{process}/task").glob("*/schedstat")
+    return {file.parent.name: int(file.read_text().split()[0]) for file in files}
+
+
+def ticks(process):
+    """Processor time of a process so far, that of its ended threads too."""
     fields = pathlib.Path(f"/proc/{process}/stat").read_text().rpartition(")")[2].split()
-    return (int(fields[11]) + int(fields[12])) * TICK
-
-
-def exact_processor_seconds(process):
-    """The same of the threads that there are now, to a nanosecond."""
-    return sum(int(file.read_text().split()[0]) for file in pathlib.Path(f"/proc/{process}/task").glob("*/schedstat")) / 1e9
+    return int(fields[11]) + int(fields[12])
 
 
 def switches(process):

@@ -59,7 +59,7 @@ def check_home(folder, port):
             with socket.socket(socket.AF_INET, socket.SOCK_DGRAM) as asking:
                 asking.connect(("127.0.0.1", port))
                 asking.settimeout(0.2)
-                wait_for_port(asking, status)
+                wait_for(home, asking, status)
                 expect("a home server answers a request",
                        ask(asking, request) == packet(ACCOUNTING_RESPONSE, 7, request[4:20], b"".join(states)))
                 expect("a home server answers a Status-Server",
@@ -68,20 +68,21 @@ def check_home(folder, port):
                 expect("a home server drops half a packet", ask(asking, request[:30]) is None)
         finally:
             home.terminate()
-            told = json.loads(home.communicate(timeout=10)[0])
+            line = home.communicate(timeout=10)[0]
+    told = json.loads(line)
     expect("a home server counts", (told["answered"], told["dropped"]) == (1, 2))
 
 
-def wait_for_port(asking, octets):
-    """Until something comes back from the port."""
+def wait_for(home, asking, octets):
+    """Until a home server answers these octets."""
     until = time.monotonic() + SECONDS_TO_ANSWER
-    while time.monotonic() < until:
+    while time.monotonic() < until and home.poll() is None:
         try:
             if ask(asking, octets):
                 return
         except ConnectionRefusedError:
             time.sleep(0.01)
-    raise RuntimeError("self-test: a home server does not answer")
+    raise RuntimeError("self-test: a home server does not answer; other ports can be chosen")
 
 
 def answer_by_turns(answering, seen):

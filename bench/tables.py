@@ -7,7 +7,7 @@ from statistics import median
 NAMES = ["no proxy", "rad_proxy", "radsecproxy", "FreeRADIUS"]
 OURS, PEER = "rad_proxy", "radsecproxy"
 CPU_WINDOW = 64
-ENDS = 3
+BOOK, ENDS = 1_000_000, 3
 
 
 class Figures:
@@ -93,7 +93,8 @@ def times_of(figures, name, rate):
     wanted = {"subject": name, "rate": rate}
     lost = lost_share(figures, "latency", **wanted)
     keys = [("p50_us", 0.5), ("p99_us", 0.01), ("p999_us", 0.001)]
-    return [number(figures.middle(key, "latency", **wanted)) if lost < out else f"{100 * lost:.1f} % lost" for key, out in keys]
+    told = f"{100 * lost:.1f} % lost"
+    return [number(figures.middle(key, "latency", **wanted)) if lost < out else told for key, out in keys]
 
 
 def of_latency(figures):
@@ -144,15 +145,16 @@ def of_idle(figures):
 
 def of_growth(figures):
     helds = figures.each("held", "growth")
-    shown = [helds[0], *[min(helds, key=lambda held: abs(held - wanted)) for wanted in range(100_000, 1_000_000, 100_000)],
-             helds[-1]]
+    tenths = [min(helds, key=lambda held: abs(held - wanted)) for wanted in range(BOOK // 10, BOOK, BOOK // 10)]
+    shown = [helds[0], *tenths, helds[-1]]
     rows = []
     for held in dict.fromkeys(shown):
         keys = [("time_us", 1), ("cpu_us", 1), ("longest_us", 0)]
         found = [number(figures.middle(key, "growth", held=held), places) for key, places in keys]
         rows.append([number(held), *found, number(figures.middle("resident_kb", "growth", held=held) / 1024)])
     ratios = [rise(figures, key, helds) for key in ("time_us", "cpu_us")]
-    rows.append([f"the last {ENDS} of {len(helds)} stretches to the first {ENDS}", *[number(ratio, 2) for ratio in ratios], "", ""])
+    ends = f"the last {ENDS} of {len(helds)} stretches to the first {ENDS}"
+    rows.append([ends, *[number(ratio, 2) for ratio in ratios], "", ""])
     return table(["in the book", "time a request, µs", "processor time, µs", "longest answer, µs", "resident, MB"], rows)
 
 
