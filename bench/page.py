@@ -25,7 +25,7 @@ def with_tables(text, made):
     """The page with each table of the run in its place."""
     def put(found):
         begin, name, end = found.groups()
-        return begin + made[name] + end if name in made else found.group()
+        return f"{begin}\n{made[name]}\n{end}" if name in made else found.group()
 
     return MARKED.sub(put, text)
 

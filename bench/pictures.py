@@ -3,7 +3,7 @@ import math
 from dataclasses import dataclass
 from html import escape
 
-from tables import NAMES, Figures, lost_share
+from tables import NAMES, TIMES, Figures, lost_share
 
 COLOURS = dict(zip(NAMES, ["#8a8a8a", "#0060a8", "#d35400", "#1b8a5a"]))
 DASHES = dict(zip(NAMES, ["2 4", "", "8 4", "12 3 2 3"]))
@@ -147,7 +147,7 @@ def of_latency(figures):
     """Times up to the rate where a subject loses more requests than a time leaves out."""
     rates = figures.each("rate", "latency")
     panels = []
-    for title, key, out in (("p50", "p50_us", 0.5), ("p99", "p99_us", 0.01), ("p99.9", "p999_us", 0.001)):
+    for title, (key, out) in zip(("p50", "p99", "p99.9"), TIMES):
         lines = {}
         for name, points in middles(figures, key, "latency", "rate").items():
             lost = {rate: lost_share(figures, "latency", subject=name, rate=rate) for rate in rates}

@@ -6,6 +6,9 @@ from statistics import median
 
 NAMES = ["no proxy", "rad_proxy", "radsecproxy", "FreeRADIUS"]
 OURS, PEER = "rad_proxy", "radsecproxy"
+BETWEEN = f"{OURS} to {PEER}"
+# The times of a load, and which part of the requests each leaves out.
+TIMES = [("p50_us", 0.5), ("p99_us", 0.01), ("p999_us", 0.001)]
 CPU_WINDOW = 64
 BOOK, ENDS = 1_000_000, 3
 
@@ -85,16 +88,15 @@ def of_throughput(figures):
                 found = [number(figures.middle("per_second", "throughput", subject=name, **wanted)) for name in subjects]
                 ratio = number(figures.ratio("per_second", "throughput", **wanted), 2)
                 rows.append([f"{window}", f"{homes}", *found, ratio])
-    return table(["out at once", "home servers", *subjects, f"{OURS} to {PEER}"], rows)
+    return table(["out at once", "home servers", *subjects, BETWEEN], rows)
 
 
 def times_of(figures, name, rate):
     """The three times of a subject at a rate. A time isn't told where more requests had no answer than it leaves out."""
     wanted = {"subject": name, "rate": rate}
     lost = lost_share(figures, "latency", **wanted)
-    keys = [("p50_us", 0.5), ("p99_us", 0.01), ("p999_us", 0.001)]
     told = f"{100 * lost:.1f} % lost"
-    return [number(figures.middle(key, "latency", **wanted)) if lost < out else told for key, out in keys]
+    return [number(figures.middle(key, "latency", **wanted)) if lost < out else told for key, out in TIMES]
 
 
 def of_latency(figures):
@@ -103,6 +105,8 @@ def of_latency(figures):
     for rate in figures.each("rate", "latency"):
         for name in subjects:
             rows.append([number(rate), name, *times_of(figures, name, rate)])
+        ratios = [number(figures.ratio(key, "latency", rate=rate), 2) for key, _ in TIMES]
+        rows.append([number(rate), BETWEEN, *ratios])
     return table(["a second", "", "p50", "p99", "p99.9"], rows)
 
 
@@ -113,6 +117,9 @@ def of_cpu(figures):
         full = figures.middle("cpu_us", "throughput", subject=name, window=CPU_WINDOW, homes=1)
         rows.append([name, number(full, 1),
                      *[number(figures.middle("cpu_us", "latency", subject=name, rate=rate), 1) for rate in rates]])
+    ratios = [figures.ratio("cpu_us", "throughput", window=CPU_WINDOW, homes=1),
+              *[figures.ratio("cpu_us", "latency", rate=rate) for rate in rates]]
+    rows.append([BETWEEN, *[number(ratio, 2) for ratio in ratios]])
     return table(["", f"{CPU_WINDOW} out at once", *[f"{number(rate)} a second" for rate in rates]], rows)
 
 
