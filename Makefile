@@ -13,7 +13,7 @@ DATAGRAMS ?= 100000
 SECONDS ?= 60
 SEED ?= 1
 
-.PHONY: build run test edits growths spoiled soak
+.PHONY: build run test edits growths spoiled soak bench figures
 
 # Proves and builds the program, over what earlier checks kept, and runs it as stored.
 build:
@@ -46,6 +46,21 @@ spoiled:
 # The program over UDP and a network that loses, for SECONDS; the gate has short runs of a fixed count of requests.
 soak:
 	@python3 tests/hostile/soak.py $(PROGRAM) --seconds $(SECONDS) $(SEED)
+
+# Measures the program that was built, and radsecproxy and FreeRADIUS where they are installed; docs/performance.md says how.
+bench: ROUNDS = 5
+bench: SECONDS = 3
+bench: RATE = 20000
+bench: OCTETS = 60
+bench: PORT = 23000
+bench:
+	@test -x $(PROGRAM) || { echo "there is no $(PROGRAM): run make build first" >&2; exit 1; }
+	@python3 bench/run.py $(PROGRAM) --rounds $(ROUNDS) --seconds $(SECONDS) --rate $(RATE) --octets $(OCTETS) --port $(PORT) \
+		$(if $(LONG),--long $(LONG)) $(if $(ONLY),--only "$(ONLY)") $(if $(SUBJECTS),--subjects "$(SUBJECTS)")
+
+# Puts the figures of the last `make bench` into docs/performance.md.
+figures:
+	@python3 bench/page.py out/bench
 
 # Where `make install` puts things. DESTDIR stands before each of them.
 VERSION = 0.1.0

@@ -1,0 +1,200 @@
+"""The proxies that are measured: how each is told the same configuration, how it is started, and how it is ended."""
+import ctypes
+import pathlib
+import shutil
+import signal
+import subprocess
+from dataclasses import dataclass, field
+
+CLIENT_SECRET, HOME_SECRET = "bench-client-secret", "bench-home-secret"
+SECONDS_TO_END = 10
+DEATH_OF_PARENT = 1
+
+libc = ctypes.CDLL(None, use_errno=True)
+
+
+def end_with_parent():
+    """Has the process that is being started end when this one does, however that ends."""
+    libc.prctl(DEATH_OF_PARENT, signal.SIGTERM)
+
+
+@dataclass
+class Setting:
+    """What a proxy is configured with. Home servers are ports of 127.0.0.1, and the realms are dealt out among them."""
+
+    listen: int
+    homes: list
+    realms: int
+    clients: int = 1
+    lane: dict = field(default_factory=dict)
+
+    def addresses(self):
+        """The clients' addresses, of which the first is the one that asks."""
+        return ["127.0.0.1"] + [f"127.0.{1 + number // 250}.{1 + number % 250}" for number in range(self.clients - 1)]
+
+    def led(self):
+        """Each realm with the number of its home server."""
+        return [(f"r{number:02}.bench" if number < 100 else f"r{number}.bench", number % len(self.homes))
+                for number in range(self.realms)]
+
+
+class Direct:
+    """No proxy at all: the generator asks the home server itself, which shows how much of a figure is the measure's."""
+
+    name, is_proxy = "no proxy", False
+
+    def is_there(self):
+        return True
+
+    def version(self):
+        return "-"
+
+
+class RadProxy:
+    """The program that was built. Its standard input stays open, and is ended to end it."""
+
+    name, is_proxy = "rad_proxy", True
+    # Limits so wide that none is met: the book lets go of nothing before a request's span is over.
+    LANE = {"window": 254, "queue": 65536, "book": 1_000_000, "ring": 4096}
+
+    def __init__(self, program):
+        self.program = pathlib.Path(program).resolve()
+
+    def is_there(self):
+        return self.program.is_file()
+
+    def version(self):
+        head = subprocess.run(["git", "-C", pathlib.Path(__file__).parent, "describe", "--always", "--dirty", "--tags"],
+                              capture_output=True, text=True, check=False)
+        return head.stdout.strip() or "no git here"
+
+    def words(self, folder, setting):
+        lane = "".join(f"{key} = {value}\n" for key, value in (self.LANE | setting.lane).items())
+        parts = [f'listen = "127.0.0.1:{setting.listen}"\n']
+        parts += [f'[[client]]\naddress = "{address}"\nsecret = "{CLIENT_SECRET}"\n' for address in setting.addresses()]
+        parts += [f'[[home]]\nname = "h{number}"\naddress = "127.0.0.1:{port}"\nsecret = "{HOME_SECRET}"\n{lane}'
+                  for number, port in enumerate(setting.homes)]
+        parts += [f'[[realm]]\nname = "{realm}"\nhome = "h{home}"\n' for realm, home in setting.led()]
+        file = folder / "rad_proxy.toml"
+        file.write_text("\n".join(parts))
+        return [str(self.program), "run", str(file)]
+
+
+class Radsecproxy:
+    """radsecproxy, which logs no request, and watches its home servers by Status-Server too."""
+
+    name, is_proxy = "radsecproxy", True
+
+    def is_there(self):
+        return shutil.which("radsecproxy") is not None
+
+    def version(self):
+        return first_line(["radsecproxy", "-v"])
+
+    def words(self, folder, setting):
+        parts = [f"LogLevel 3\nListenUDP 127.0.0.1:{setting.listen}\nSourceUDP 127.0.0.1\n"]
+        parts += [f"client {address} {{\n\ttype udp\n\tsecret {CLIENT_SECRET}\n}}\n" for address in setting.addresses()]
+        parts += [f"server h{number} {{\n\ttype udp\n\thost 127.0.0.1\n\tport {port}\n\tsecret {HOME_SECRET}\n"
+                  "\tStatusServer on\n}\n" for number, port in enumerate(setting.homes)]
+        parts += [f"realm {realm} {{\n\taccountingServer h{home}\n}}\n" for realm, home in setting.led()]
+        file = folder / "radsecproxy.conf"
+        file.write_text("\n".join(parts))
+        return ["radsecproxy", "-f", "-d", "3", "-c", str(file)]
+
+
+FREERADIUS_HEAD = """prefix = /usr
+libdir = {modules}
+logdir = {folder}
+run_dir = {folder}
+pidfile = {folder}/pid
+hostname_lookups = no
+max_request_time = 30
+cleanup_delay = 5
+max_requests = 65536
+log {{
+	destination = files
+	file = {folder}/log
+}}
+security {{
+	status_server = yes
+}}
+thread pool {{
+	start_servers = 5
+	max_servers = 32
+	min_spare_servers = 3
+	max_spare_servers = 10
+	max_requests_per_server = 0
+}}
+proxy_requests = yes
+modules {{
+	realm suffix {{
+		format = suffix
+		delimiter = "@"
+	}}
+}}
+server bench {{
+	listen {{
+		type = acct
+		ipaddr = 127.0.0.1
+		port = {listen}
+	}}
+	preacct {{
+		suffix
+	}}
+	accounting {{
+	}}
+}}
+"""
+
+
+class FreeRadius:
+    """FreeRADIUS as a proxy and nothing else: no module but the one that finds the realm, and nothing is written down."""
+
+    name, is_proxy = "FreeRADIUS", True
+
+    def program(self):
+        return shutil.which("freeradius") or shutil.which("radiusd")
+
+    def is_there(self):
+        return self.program() is not None and self.modules() is not None
+
+    def version(self):
+        return first_line([self.program(), "-v"])
+
+    def modules(self):
+        found = [path for place in ("/usr/lib", "/usr/lib64", "/usr/local/lib") for path in
+                 pathlib.Path(place).glob("**/rlm_realm.so")]
+        return found[0].parent if found else None
+
+    def words(self, folder, setting):
+        parts = [FREERADIUS_HEAD.format(folder=folder, modules=self.modules(), listen=setting.listen)]
+        parts += [f"client c{number} {{\n\tipaddr = {address}\n\tsecret = {CLIENT_SECRET}\n}}\n"
+                  for number, address in enumerate(setting.addresses())]
+        parts += [f"home_server h{number} {{\n\ttype = acct\n\tipaddr = 127.0.0.1\n\tport = {port}\n"
+                  f"\tsecret = {HOME_SECRET}\n\tstatus_check = status-server\n}}\n"
+                  f"home_server_pool p{number} {{\n\ttype = fail-over\n\thome_server = h{number}\n}}\n"
+                  for number, port in enumerate(setting.homes)]
+        parts += [f"realm {realm} {{\n\tacct_pool = p{home}\n\tnostrip\n}}\n" for realm, home in setting.led()]
+        (folder / "radiusd.conf").write_text("\n".join(parts))
+        return [self.program(), "-f", "-d", str(folder)]
+
+
+def first_line(words):
+    """What a program says of its version. Some say it on standard error."""
+    ran = subprocess.run(words, capture_output=True, text=True, check=False)
+    return ((ran.stdout + ran.stderr).strip().splitlines() or ["unknown"])[0].strip()
+
+
+def end(process):
+    """Ends a process that was started here: its input, then by asking it, and at last without."""
+    if process.stdin:
+        process.stdin.close()
+    else:
+        process.terminate()
+    for asked in (process.terminate, process.kill, None):
+        try:
+            return process.wait(SECONDS_TO_END)
+        except subprocess.TimeoutExpired:
+            if asked:
+                asked()
+    return None
