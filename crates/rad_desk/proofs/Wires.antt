@@ -1,6 +1,6 @@
 -- What goes out is what a lawful book has.
-use Rattle.std.proofs.Common.{◌≡◌, ℕ, ◌+◌, List, [], ◌∷◌, Option, Some, None, Bool, true, false, ◌∙◌, subst}
-use Rattle.std.specs.Prelude.{⊤, find, All, IfSome, nat_lt, Result, Ok, Err, cond}
+use Rattle.std.proofs.Common.{◌≡◌, ℕ, ◌+◌, List, [], ◌∷◌, Option, Some, None, Bool, true, false, ◌∙◌, refl, subst}
+use Rattle.std.specs.Prelude.{⊤, length, find, All, IfSome, nat_lt, Result, Ok, Err, cond}
 use Rattle.std.proofs.lemmas.List.Elements.{All-head, All-tail}
 use Rattle.rad_realms.specs.Checking.{Request}
 use Rattle.rad_tables.specs.declared.duplicates.Key.{Key}
@@ -42,22 +42,22 @@ departs_up old new now (Idle (Some next)) d lawful s = s.6
 departs_up old new now (Probed slot) d lawful s = absurd s
 departs_up old new now WentUp d lawful s = absurd s
 
-departs_down : (old new : Book) (now : ℕ) (random : List ℕ) (until next : ℕ) (out : Option Slot) (action : Action) (d : Datagrams) → StepsWhileDown old now random until next out action d new → Departs action d
-departs_down old new now random until next out (Probed slot) d s =
-    record { identifier = slot.identifier; authenticator = random; secret = old.setup.home_secret; asks = s.2.1 }
-departs_down old new now random until next out WentUp d s = s.1
-departs_down old new now random until next out (Idle (Some later)) d s = s.3
-departs_down old new now random until next out (Idle None) d s = absurd s
-departs_down old new now random until next out (Sent number slot) d s = absurd s
-departs_down old new now random until next out (Resent number slot) d s = absurd s
-departs_down old new now random until next out WentDown d s = absurd s
+departs_down : (old new : Book) (now : ℕ) (random : List ℕ) (until next : ℕ) (out : Option Slot) (action : Action) (d : Datagrams) → length random ≡ 16 → StepsWhileDown old now random until next out action d new → Departs action d
+departs_down old new now random until next out (Probed slot) d sixteen s =
+    record { identifier = slot.identifier; authenticator = random; sixteen = sixteen; secret = old.setup.home_secret; asks = s.2.1 }
+departs_down old new now random until next out WentUp d sixteen s = s.1
+departs_down old new now random until next out (Idle (Some later)) d sixteen s = s.3
+departs_down old new now random until next out (Idle None) d sixteen s = absurd s
+departs_down old new now random until next out (Sent number slot) d sixteen s = absurd s
+departs_down old new now random until next out (Resent number slot) d sixteen s = absurd s
+departs_down old new now random until next out WentDown d sixteen s = absurd s
 
-departs_by : (watch : Watch) (old new : Book) (now : ℕ) (random : List ℕ) (action : Action) (d : Datagrams) → IsLawful old → StepsBy watch old now random action d new → Departs action d
-departs_by up old new now random action d lawful s = departs_up old new now action d lawful s
-departs_by (down until next out) old new now random action d lawful s = departs_down old new now random until next out action d s
+departs_by : (watch : Watch) (old new : Book) (now : ℕ) (random : List ℕ) (action : Action) (d : Datagrams) → length random ≡ 16 → IsLawful old → StepsBy watch old now random action d new → Departs action d
+departs_by up old new now random action d sixteen lawful s = departs_up old new now action d lawful s
+departs_by (down until next out) old new now random action d sixteen lawful s = departs_down old new now random until next out action d sixteen s
 
-pub departs : (old new : Book) (moment : ℕ) (random : List ℕ) (action : Action) (d : Datagrams) → IsLawful old → Steps old moment random action d new → Departs action d
-departs old new moment random action d lawful s = departs_by old.watch old new (moment_in old moment) random action d lawful s
+pub departs : (old new : Book) (moment : ℕ) (random : List ℕ) (action : Action) (d : Datagrams) → length random ≡ 16 → IsLawful old → Steps old moment random action d new → Departs action d
+departs old new moment random action d sixteen lawful s = departs_by old.watch old new (moment_in old moment) random action d sixteen lawful s
 
 -- What a repeat of an answered request finds.
 abbrev IsAgain : Repeats → Type 0
@@ -96,7 +96,7 @@ is_again book key now all = again_last book now (last_of (of_key key book.accept
 has_response : (book : Book) → IsLawful book → All HasResponse book.answered
 has_response book lawful = λ k d within.
     let verified = lawful.answers_verified k d within in
-    record { head = _; sending = _; reply = _; client = _; home = _; answers = verified.answered.answers }
+    record { answer = _; answered = verified.answered; response = refl }
 
 pub returns : (old new : Book) (request : Request) (moment : ℕ) (result : Result Taken Refusal) (d : Datagrams) → IsLawful old → Accepts old request moment result d new → Returns result d
 returns old new request moment (Ok (New number)) d lawful a = a.4

@@ -1,7 +1,5 @@
 -- What goes onto a wire (own): whatever the lane, nothing is given to be sent but one of these.
-use Rattle.std.specs.Prelude.{◌≡◌, ℕ, List, Result, Ok, Err}
-use Rattle.rad_auth.specs.declared.reply.RequestHead.{RequestHead}
-use Rattle.rad_auth.specs.Answers.{Answers}
+use Rattle.std.specs.Prelude.{◌≡◌, ℕ, List, length, Result, Ok, Err}
 use Rattle.rad_auth.specs.Forwarding.{forwarded}
 use Rattle.rad_auth.specs.Status.{status_server}
 use Rattle.rad_lane.specs.declared.accepting.Taken.{Taken}
@@ -10,6 +8,7 @@ use Rattle.rad_lane.specs.declared.accepting.Refusal.{Refusal}
 use Rattle.rad_lane.specs.declared.stepping.Action.{Action}
 use Rattle.rad_lane.specs.declared.stepping.Action.TheVariants.{Sent, Resent, Probed, WentDown, WentUp, Idle}
 use Rattle.rad_lane.specs.Stamp.{Recorded, IsRecord}
+use Rattle.rad_lane.specs.Outstanding.{AnswerKept, IsAnswered}
 use Rattle.rad_lane.specs.Datagrams.{Datagrams}
 
 -- The forwarded packet of a right record, with the mark of a lane, under a secret.
@@ -21,10 +20,11 @@ pub record ForwardsARecord (octets : List ℕ) : Type 0 where
   pub secret : List ℕ
   pub forwards : octets ≡ forwarded recorded.text (record { lane = lane; number = recorded.stamp.number }) identifier secret
 
--- A Status-Server, under a secret.
+-- A Status-Server of some sixteen octets as Authenticator, under a secret.
 pub record IsStatusServer (octets : List ℕ) : Type 0 where
   pub identifier : ℕ
   pub authenticator : List ℕ
+  pub sixteen : length authenticator ≡ 16
   pub secret : List ℕ
   pub asks : octets ≡ status_server identifier authenticator secret
 
@@ -37,14 +37,12 @@ Departs WentDown d = d.after ≡ d.before
 Departs WentUp d = d.after ≡ d.before
 Departs (Idle moment) d = d.after ≡ d.before
 
--- A response that answers a request, after a verified reply to what was sent for it.
+-- A response that is an answer: it answers the request of a right record, after a verified reply to the forwarded packet
+-- of that record.
 pub record IsVerifiedResponse (octets : List ℕ) : Type 0 where
-  pub head : RequestHead
-  pub sending : List ℕ
-  pub reply : List ℕ
-  pub client : List ℕ
-  pub home : List ℕ
-  pub answers : Answers head sending reply client home octets
+  pub answer : AnswerKept
+  pub answered : IsAnswered answer
+  pub response : octets ≡ answer.reply.response
 
 -- What taking a request leaves in the datagram: what is to be sent to the client, or what was there.
 abbrev pub Returns : Result Taken Refusal → Datagrams → Type 0

@@ -104,7 +104,7 @@ fn hear<W: Wire, G: Gate>(
     shift.made(Call::Hear);
     match told {
         Ok(Told::Answer(serial)) => shift.note(Note::Answered(lane, serial)),
-        Ok(Told::ProbeAnswered) => {}
+        Ok(Told::ProbeAnswered) => shift.note(Note::WentUp),
         Err(fault) => shift.note(Note::Unheard(fault)),
     }
     true

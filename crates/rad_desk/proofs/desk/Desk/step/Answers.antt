@@ -1,3 +1,4 @@
+use Rattle.std.proofs.Common.{◌≡◌, length, arith}
 use Rattle.rad_desk.proofs.Answers.{same_by_step}
 use Rattle.rad_desk.proofs.Outlets.{outlet_same, bounded_same}
 use Rattle.rad_desk.proofs.Wires.{departs}
@@ -9,4 +10,6 @@ invariant_of-self c =
     record { outlet = outlet_same _ _ _ same c.args.self.now.outlet; bounded = bounded_same c.args.self.now.lane c.step.new.self same c.args.self.now.bounded }
 
 pub returns-clause-departs : goal.returns-clause-departs
-returns-clause-departs c = departs _ _ _ _ _ _ c.keep_law.ensures c.step.ensures.steps
+returns-clause-departs c =
+    let sixteen : length c.args.random ≡ 16 = omega arith in
+    departs _ _ _ _ _ _ sixteen c.keep_law.ensures c.step.ensures.steps
