@@ -177,13 +177,15 @@ static uint64_t due(const struct run *run, uint64_t number)
 	return run->start + number / run->plan.rate * SECOND + number % run->plan.rate * SECOND / run->plan.rate;
 }
 
+/* Begins requests up to the window, or to a send that failed. */
 static void fill_window(struct run *run)
 {
-	while (run->outstanding < run->plan.window && may_begin(run, now())) {
-		uint64_t before = run->counts.unanswered;
+	struct place *place;
 
-		send_one(run, circle_first(&run->free));
-		if (run->counts.unanswered > before)
+	while (run->outstanding < run->plan.window && may_begin(run, now()) &&
+	       (place = circle_first(&run->free)) != NULL) {
+		send_one(run, place);
+		if (!place->is_out)
 			return;
 	}
 }

@@ -42,7 +42,7 @@ static uint32_t little_endian(const uint8_t *octets)
 }
 
 /* What a step mixes in of the words b, c and d, by its round. */
-static uint32_t mixed(int round, uint32_t b, uint32_t c, uint32_t d)
+static uint32_t mixed(unsigned round, uint32_t b, uint32_t c, uint32_t d)
 {
 	switch (round) {
 	case 0:
@@ -57,7 +57,7 @@ static uint32_t mixed(int round, uint32_t b, uint32_t c, uint32_t d)
 }
 
 /* Which word of the block a step takes, by its round. */
-static unsigned taken(int round, unsigned step)
+static unsigned taken(unsigned round, unsigned step)
 {
 	static const uint8_t factor[4] = { 1, 5, 3, 7 }, first[4] = { 0, 1, 5, 0 };
 
@@ -65,7 +65,7 @@ static unsigned taken(int round, unsigned step)
 }
 
 /* One of the four rounds. It is compiled once for each, since in all calls `round` is a constant. */
-static inline __attribute__((always_inline)) void mix_round(int round, uint32_t now[4], const uint32_t words[16])
+static inline __attribute__((always_inline)) void mix_round(unsigned round, uint32_t now[4], const uint32_t words[16])
 {
 	uint32_t a = now[0], b = now[1], c = now[2], d = now[3];
 
