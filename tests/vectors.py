@@ -182,6 +182,8 @@ def of_rad_desk():
     asked = request(8, second, client)
     forwarded = request(1, second + mark(0, 1), home)
     other = user_name(b"bob@other.org") + attribute(ACCT_STATUS_TYPE, bytes([0, 0, 0, 1])) + attribute(ACCT_SESSION_ID, b"S2")
+    other_asked, other_home = request(9, other, client), b"other-secret"
+    other_forwarded = request(0, other + mark(1, 0), other_home)
     return {
         **{name: lanes[name] for name in ["REQUEST", "FORWARDED", "REPLY", "RESPONSE"]},
         "SECOND_REQUEST": asked,
@@ -190,7 +192,10 @@ def of_rad_desk():
         "SECOND_RESPONSE": answer(asked, 8, b"", client),
         "PROBE": lanes["SECOND_PROBE"],
         "PROBE_ANSWER": lanes["SECOND_PROBE_ANSWER"],
-        "OTHER_REQUEST": request(9, other, client),
+        "OTHER_REQUEST": other_asked,
+        "OTHER_FORWARDED": other_forwarded,
+        "OTHER_REPLY": answer(other_forwarded, 0, mark(1, 0), other_home),
+        "OTHER_RESPONSE": answer(other_asked, 9, b"", client),
         "STATUS": status(9, bytes([0xA5] * 16), b"", b"", client),
         "STATUS_ANSWER": answer(status(9, bytes([0xA5] * 16), b"", b"", client), 9, b"", client),
     }

@@ -1,7 +1,9 @@
 //! What no clause says: that a desk takes requests, sends them and hears of them where memory is ample, what it says
 //! when its ring is full, that a call through a lock reaches its own lane, and the octets of another implementation.
 
+mod ample;
 mod closing;
+mod homes;
 mod memory;
 mod octets;
 mod packets;

@@ -6,7 +6,7 @@ ghost use Rattle.rad_desk.specs.Inlet.{AreOfOneRing};
 use super::octets::{FORWARDED, REQUEST, SECOND_FORWARDED, SECOND_REQUEST};
 use crate::laws::Desk;
 use crate::{DeskFault, Inlet, Told};
-use rad_lane::{Action, Refusal, Setup, Taken};
+use rad_lane::{Action, Refusal, Setup, Taken, TurnFault, Volume};
 use rad_packet::Datagram;
 use rad_realms::{Config, Incoming, check_in, read_config};
 use rad_tables::{Moment, Slot};
@@ -31,13 +31,13 @@ tries = 1
 "#;
 
 /// A ring of one place.
-const ONE_PLACE: &str = "ring = 1\n";
+pub const ONE_PLACE: &str = "ring = 1\n";
 
 /// A second home server, and its realm.
 pub const OTHER_HOME: &str = r#"
 [[home]]
 name = "h2"
-address = "127.0.0.1:2814"
+address = "127.0.0.2:2814"
 secret = "other-secret"
 [[realm]]
 name = "other.org"
@@ -103,6 +103,10 @@ impl TestDesk {
         self.desk.hear(self.alloc, at(moment), 0, reply)
     }
 
+    pub fn turn(&mut self, moment: u32) -> Result<usize, TurnFault> {
+        count_of(self.desk.turn(self.alloc, at(moment)))
+    }
+
     /// How many responses wait in the ring.
     pub fn waiting(&mut self) -> usize {
         self.desk.waiting(&mut self.inlet)
@@ -132,6 +136,14 @@ fn pair(alloc: Global, config: &Config) -> Result<(Desk, Inlet), Fail>
         return Err(Fail::from("a home server"));
     }
     Ok(Desk::pair(alloc, Setup::of(alloc, config, 0)?)?)
+}
+
+/// How many requests were cut off.
+pub fn count_of(turned: Result<Volume, TurnFault>) -> Result<usize, TurnFault> {
+    match turned {
+        Ok(volume) => Ok(volume.stamps.as_slice().len()),
+        Err(fault) => Err(fault),
+    }
 }
 
 pub fn slot(identifier: u8) -> Slot {

@@ -1,7 +1,7 @@
 //! What the workers do in a turn, over wires in memory: what each counts and tells, and where what it sends goes.
 
 use super::memory::{MemoryWire, TestGate};
-use super::octets::{FORWARDED, REPLY, REQUEST, RESPONSE};
+use super::octets::{FORWARDED, PROBE, PROBE_ANSWER, REPLY, REQUEST, RESPONSE, SECOND_REQUEST};
 use super::test_desk::CLIENT_PORT;
 use crate::{Call, Inlet, Note, Proxy, Tally, front_worker, lane_worker, open};
 use rad_realms::{Config, Dropped, Endpoint, read_config};
@@ -199,6 +199,23 @@ fn a_gate_stops_each_worker(rt: HostRuntime) -> Result<(), Fail> {
     works.forward(&rt);
     assert!(rt; works.lane.is_quiet());
     assert_eq!(rt; works.lane(&rt, 9), Some(tally(1, 0, 0, 0)));
+    Ok(())
+}
+
+#[test]
+fn a_probes_answer_takes_a_lane_up(rt: HostRuntime) -> Result<(), Fail> {
+    let mut works = Works::new(rt.alloc(), "tries = 1", None)?;
+    works.forward(&rt);
+    works.front.comes(CLIENT, &SECOND_REQUEST);
+    let _ = works.front(&rt, 1);
+    assert_eq!(rt; works.lane(&rt, 2), Some(tally(2, 0, 1, 0)));
+    assert_eq!(rt; works.gate.told(), Some(Note::WentDown));
+    assert_eq!(rt; works.lane(&rt, 1), Some(tally(1, 0, 1, 0)));
+    assert!(rt; works.lane.sent(HOME, &PROBE));
+    works.lane.comes(HOME, &PROBE_ANSWER);
+    assert_eq!(rt; works.lane(&rt, 1), Some(tally(1, 1, 1, 0)));
+    assert_eq!(rt; works.gate.told(), Some(Note::WentUp));
+    assert!(rt; works.lane.sent(HOME, &FORWARDED));
     Ok(())
 }
 
