@@ -12,13 +12,14 @@ A row is a file FOLDER/NAME.row. It reads as a conversation, with what goes in a
     answers: PATH    a file of what stands before the lines of standard output
     output: full     standard output is a device that is full
     < LINE           a line of the input
+    + LINE           a line of standard input, where the input is a file
     > LINE           a line of standard output
     ! LINE           a line of standard error
     status: N        how the program ends (without this line: 0)
 
 Where a word is FILE, the input is the file of that name in the folder in which the program runs, and else it is
-standard input. In place of a line there may be a Python expression for it, behind `<=`, `>=` or `!=`: the octets, or
-the text in UTF-8, that it gives, with no line feed added. In it `lines` makes one text of many lines, and `before` is
+standard input. In place of a line there may be a Python expression for it, behind `<=`, `+=`, `>=` or `!=`: the octets,
+or the text in UTF-8, that it gives, with no line feed added. In it `lines` makes one text of many lines, and `before` is
 what stands before it on the same side. A line that begins with two spaces continues the one above it. The last line
 is `N passed, M failed`.
 """
@@ -43,7 +44,7 @@ class Row:
     def __init__(self, name):
         text = (ROWS / f"{name}.row").read_text("utf-8")
         self.words, self.status, self.is_full = ["replay"], 0, False
-        self.streams = {"<": b"", ">": b"", "!": b""}
+        self.streams = {"<": b"", "+": b"", ">": b"", "!": b""}
         if not text.startswith("# "):
             raise ValueError("the first line does not say what the row shows")
         for line in re.sub(r"\n  +", " ", text).split("\n"):
@@ -75,7 +76,7 @@ class Row:
             given = self.streams["<"]
             if "FILE" in self.words:
                 pathlib.Path(folder, "FILE").write_bytes(given)
-                given = b""
+                given = self.streams["+"]
             with open("/dev/full", "wb") as full:
                 output = full if self.is_full else subprocess.PIPE
                 how = {"stdout": output, "stderr": subprocess.PIPE, "cwd": folder, "timeout": SECONDS}

@@ -1,3 +1,4 @@
 pub mod Among
+pub mod CommandLemmas
 pub mod HexLemmas
 pub mod LastSent

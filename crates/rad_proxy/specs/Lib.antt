@@ -1,3 +1,4 @@
+pub mod Commands
 pub mod Configurations
 pub mod Faults
 pub mod Hex

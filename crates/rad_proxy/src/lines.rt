@@ -213,11 +213,12 @@ fn response_of(reply: &Reply) -> &[u8]
 }
 
 impl Cut {
-    ghost use Rattle.std.specs.Prelude.{◌≡◌, length};
+    ghost use Rattle.std.specs.Prelude.{◌≡◌, ◌+◌, ◌-◌, ◌^◌, length, min};
 
     /// How much this volume is.
     pub fn of(volume: &Volume) -> Cut
-        ensures { result.count ≡ length volume.now.stamps }
+        ensures count { result.count ≡ length volume.now.stamps }
+        ensures opening { result.opening ≡ min (volume.now.opening + length volume.now.stamps) (2 ^ 64 - 1) }
     {
         let count = volume.stamps.as_slice().len();
         Cut {

@@ -10,6 +10,7 @@ mod configuration;
 mod events;
 mod faults;
 mod hex;
+mod interrupting;
 mod left_over;
 mod lines;
 mod loading;
@@ -33,6 +34,7 @@ mod words;
 use attending::Open;
 use check_command::check_file;
 use faults::Fault;
+use libc::STDIN_FILENO;
 use lines::EndLine;
 use loading::load;
 use log::{Level, Logged};
@@ -98,7 +100,9 @@ where
 {
     let config = load(rt, alloc, file)?;
     let log = Logged::new((), Level::Info, ErrorLines::new(rt));
-    let end = serving::run(rt, alloc, &config, &Open, &log, rt.reader(), io::writer(rt))?;
+    let (reader, writer) = (rt.reader(), io::writer(rt));
+    let input = Some(STDIN_FILENO);
+    let end = serving::run(rt, alloc, &config, &Open, &log, reader, input, writer)?;
     Ok(status_at(&end))
 }
 

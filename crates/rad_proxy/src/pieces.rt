@@ -60,7 +60,7 @@ impl<'a> Iterator for Pieces<'a> {
 }
 
 /// Where an octet stands first in a text.
-fn find_first(text: &[u8], wanted: u8) -> Option<usize>
+pub fn find_first(text: &[u8], wanted: u8) -> Option<usize>
     ensures { MatchOption result (All (λ octet. octet ≢ wanted) text.now) (λ place. IsFirstAt text.now wanted place) }
 {
     text.iter().position(|octet| *octet == wanted)

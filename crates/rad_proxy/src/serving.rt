@@ -5,6 +5,7 @@ ghost use denote.Param.Send.{IsSend, IsSync};
 use crate::attending::Attendant;
 use crate::commands::{Command, Commands};
 use crate::faults::Fault;
+use crate::interrupting::Interruptible;
 use crate::left_over::close;
 use crate::lines::{DrainLine, EndLine, ListeningLine, StateLine};
 use crate::names::EndpointText;
@@ -16,8 +17,9 @@ use rad_desk::{Gate, Inlet, OpenFault, Proxy, Wire, Worker, front_worker, lane_w
 use rad_realms::Config;
 use std::alloc::{AllocError, Global};
 use std::fmt::Display;
-use std::io::{BufWriter, ErrorKind, Read, Write};
+use std::io::{BufWriter, Error, ErrorKind, Read, Write};
 use std::net::{Net, UdpSocket};
+use std::os::fd::RawFd;
 use std::random::RandomSource;
 use std::sync::{Arc, Wait, WaitMethods};
 use std::thread::{self, Scope, Threads};
@@ -51,7 +53,8 @@ impl<R, G, L> Clone for Service<'_, R, G, L> {
 
 impl<R, G, L> Copy for Service<'_, R, G, L> {}
 
-/// Serves a configuration until the reader ends: binds its sockets, says where it listens, and serves.
+/// Serves a configuration until the reader ends: binds its sockets, says where it listens, and serves. Where the reader
+/// reads from a descriptor and so may wait, a worker that ends ends its wait.
 ///
 /// # Errors
 ///
@@ -63,6 +66,7 @@ pub fn run<R, G, L, I, O>(
     gate: &G,
     log: &L,
     reader: I,
+    descriptor: Option<RawFd>,
     writer: O,
 ) -> Result<EndLine, Fault>
 where
@@ -76,7 +80,8 @@ where
         return Err(Fault::Memory);
     };
     let sockets = Sockets::bind(rt, alloc, config)?;
-    let (wires, bells) = make_wires(rt, alloc, config, sockets)?;
+    let (wires, mut bells) = make_wires(rt, alloc, config, sockets)?;
+    let reader = make_reader(rt, alloc, reader, descriptor, &mut bells)?;
     let listening = ListeningLine {
         endpoint: config.listen(),
     };
@@ -95,13 +100,14 @@ where
 }
 
 /// Serves a configuration over these wires until the reader ends, then drains the lanes, waits until they are done or
-/// have lingered, and says what is left. The bells are those of the wires, the front's first. The gate is asked before
-/// each call of a worker.
+/// have lingered, and says what is left. The bells are those of the wires, the front's first, and then that of the reader,
+/// where there is one. The gate is asked before each call of a worker. A worker that ends by itself stops the others.
 ///
 /// # Errors
 ///
 /// `Input` and `Output` where the reader or the writer fails, `Threads` where a worker can't be started or ends by
 /// itself, `Memory` where a growth was refused. The workers have ended then, and the lanes were not drained.
+/// A reader that is `Interrupted` is read again, where all workers go on.
 pub fn serve<R, W, G, L, I, O>(
     rt: &R,
     alloc: Global,
@@ -264,16 +270,16 @@ where
 {
     let mut commands = Commands::new(reader);
     for _ in service.rt.forever() {
-        let Ok(command) = commands.next() else {
-            return Err(Fault::Input);
-        };
-        let Some(command) = command else {
-            break;
-        };
+        let command = commands.next();
         if service.attendant.is_stopped() {
             return Err(Fault::Threads);
         }
-        obey(service, command, &mut writer)?;
+        match command {
+            Ok(Some(command)) => obey(service, command, &mut writer)?,
+            Ok(None) => break,
+            Err(error) if error.kind() == ErrorKind::Interrupted => {}
+            Err(_) => return Err(Fault::Input),
+        }
     }
     for lane in 0..service.proxy.lanes() {
         service.proxy.drain(service.rt, lane);
@@ -407,6 +413,31 @@ fn make_wires<'a, R: Clock + Net + RandomSource>(
     ))
 }
 
+/// A reader that a ring of its bell interrupts. The bell is added to the others.
+///
+/// # Errors
+///
+/// `Memory` where a growth was refused, else `Input`.
+fn make_reader<I: Read + Drop>(
+    net: &impl Net,
+    alloc: Global,
+    reader: I,
+    descriptor: Option<RawFd>,
+    bells: &mut Vec<Arc<Bell>>,
+) -> Result<Interruptible<I>, Fault> {
+    let reader = match Interruptible::new(net, alloc, reader, descriptor) {
+        Ok(reader) => reader,
+        Err(error) => return Err(fault_at(&error, Fault::Input)),
+    };
+    let Ok(bell) = reader.bell() else {
+        return Err(Fault::Memory);
+    };
+    match bells.push(bell) {
+        Ok(()) => Ok(reader),
+        Err(_) => Err(Fault::Memory),
+    }
+}
+
 /// A wire over these sockets. Its bell is added to the others.
 ///
 /// # Errors
@@ -422,12 +453,7 @@ fn make_wire<'a, R: Clock + Net + RandomSource>(
 ) -> Result<UdpWire<'a, R>, Fault> {
     let wire = match UdpWire::new(alloc, rt, start, sockets) {
         Ok(wire) => wire,
-        Err(error) => {
-            return Err(match error.kind() {
-                ErrorKind::OutOfMemory => Fault::Memory,
-                _ => fault,
-            });
-        }
+        Err(error) => return Err(fault_at(&error, fault)),
     };
     let Ok(bell) = wire.bell() else {
         return Err(Fault::Memory);
@@ -435,6 +461,14 @@ fn make_wire<'a, R: Clock + Net + RandomSource>(
     match bells.push(bell) {
         Ok(()) => Ok(wire),
         Err(_) => Err(Fault::Memory),
+    }
+}
+
+/// `Memory` where a growth was refused, and else this fault.
+fn fault_at(error: &Error, fault: Fault) -> Fault {
+    match error.kind() {
+        ErrorKind::OutOfMemory => Fault::Memory,
+        _ => fault,
     }
 }
 

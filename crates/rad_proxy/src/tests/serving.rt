@@ -19,10 +19,10 @@ use std::thread;
 use std::time::{Clock, Duration};
 
 /// The most looks at what another thread does, a millisecond apart.
-const LOOKS: u32 = 10_000;
+pub(super) const LOOKS: u32 = 10_000;
 
 /// One client and two home servers.
-const TWO_HOMES: &str = r#"
+pub(super) const TWO_HOMES: &str = r#"
 listen = "127.0.0.1:1813"
 [[client]]
 address = "10.0.0.1"
@@ -59,7 +59,7 @@ name = "example.org"
 home = "h1"
 "#;
 
-fn pause(clock: &impl Clock) {
+pub(super) fn pause(clock: &impl Clock) {
     thread::sleep(clock, Duration::from_millis(1));
 }
 
@@ -107,7 +107,7 @@ fn commands_are_answered(rt: HostRuntime) -> std::result::Result<(), Fail> {
         taken: &mut taken,
         room: 1000,
     };
-    let end = run(&rt, alloc, &config, &Open, &Discard, reader, writer)?;
+    let end = run(&rt, alloc, &config, &Open, &Discard, reader, None, writer)?;
     assert!(rt; end.is_clean());
     let printed = "listening 127.0.0.1:1813\n\
          lane 0 h1 up open accepted 0 queued 0 outstanding 0 answered 0 opening 0\n\
@@ -131,7 +131,7 @@ fn a_failed_read_ends_the_service(rt: HostRuntime) -> std::result::Result<(), Fa
         taken: &mut taken,
         room: 1000,
     };
-    let ran = run(&rt, alloc, &config, &Open, &Discard, reader, writer);
+    let ran = run(&rt, alloc, &config, &Open, &Discard, reader, None, writer);
     assert!(rt; matches!(ran, Err(Fault::Input)));
     assert_eq!(rt;
         taken.as_slice(),
@@ -162,15 +162,15 @@ impl<R: Clock> Read for Asking<'_, R> {
 
 /// A wire in memory: it gives datagrams in order, once it sent as many as it waits for.
 #[derive(Drop)]
-struct Scripted<'a, R> {
-    clock: &'a R,
-    from: Endpoint,
-    gives: &'a [&'a [u8]],
+pub(super) struct Scripted<'a, R> {
+    pub(super) clock: &'a R,
+    pub(super) from: Endpoint,
+    pub(super) gives: &'a [&'a [u8]],
     /// The place of the one that it gives next.
-    next: usize,
-    waits_for: u64,
-    sent: &'a AtomicU64,
-    traffic: Traffic,
+    pub(super) next: usize,
+    pub(super) waits_for: u64,
+    pub(super) sent: &'a AtomicU64,
+    pub(super) traffic: Traffic,
 }
 
 impl<R: Clock> Wire for Scripted<'_, R> {
@@ -387,7 +387,7 @@ fn what_lingers_is_left_over(rt: HostRuntime) -> std::result::Result<(), Fail> {
     let writer = Looking {
         is_accepted: &is_accepted,
     };
-    let end = run(&rt, alloc, &config, &Open, &Discard, reader, writer)?;
+    let end = run(&rt, alloc, &config, &Open, &Discard, reader, None, writer)?;
     assert!(rt; is_accepted.get());
     assert_eq!(rt; end.queued.saturating_add(end.outstanding), 1);
     assert!(rt; !end.is_clean());
