@@ -11,6 +11,7 @@ A row is a file FOLDER/NAME.row. It reads as a conversation, with what goes in a
     over: PATH       a file, by its path from the top of the repository, which stands before the input
     answers: PATH    a file of what stands before the lines of standard output
     output: full     standard output is a device that is full
+    environment: NAME=VALUE ..   variables beside those that there are, as a shell splits them
     < LINE           a line of the input
     + LINE           a line of standard input, where the input is a file
     > LINE           a line of standard output
@@ -23,6 +24,7 @@ or the text in UTF-8, that it gives, with no line feed added. In it `lines` make
 what stands before it on the same side. A line that begins with two spaces continues the one above it. The last line
 is `N passed, M failed`.
 """
+import os
 import pathlib
 import re
 import shlex
@@ -44,6 +46,7 @@ class Row:
     def __init__(self, name):
         text = (ROWS / f"{name}.row").read_text("utf-8")
         self.words, self.status, self.is_full = ["replay"], 0, False
+        self.environment = {}
         self.streams = {"<": b"", "+": b"", ">": b"", "!": b""}
         if not text.startswith("# "):
             raise ValueError("the first line does not say what the row shows")
@@ -65,6 +68,8 @@ class Row:
             self.streams[">"] += (TOP / rest).read_bytes()
         elif line == "output: full":
             self.is_full = True
+        elif head == "environment:":
+            self.environment.update(setting.split("=", 1) for setting in shlex.split(rest))
         elif head == "status:":
             self.status = int(rest)
         elif line and head != "#":
@@ -80,6 +85,7 @@ class Row:
             with open("/dev/full", "wb") as full:
                 output = full if self.is_full else subprocess.PIPE
                 how = {"stdout": output, "stderr": subprocess.PIPE, "cwd": folder, "timeout": SECONDS}
+                how["env"] = {**os.environ, **self.environment}
                 return subprocess.run([program, *self.words], input=given, **how)
 
 

@@ -1,5 +1,6 @@
 //! What the program does as the workers ask and tell: it stops them, wakes them, counts what the front took, and logs.
 
+use crate::counters::Watch;
 use crate::telling::{tell, worker_name};
 use crate::waking::Bell;
 use log::{Log, error};
@@ -21,6 +22,10 @@ impl Gate for Open {
     fn after(&self, _worker: Worker, _call: Call) {}
 }
 
+impl Watch for Open {
+    fn sent(&self, _worker: Worker, _octets: &[u8]) {}
+}
+
 /// What is known of a lane from what the workers told.
 #[derive(Drop)]
 struct Known {
@@ -30,7 +35,8 @@ struct Known {
     is_down: AtomicBool,
 }
 
-/// Attends to the workers. Another gate is asked and told first.
+/// Attends to the workers. Another gate is asked and told too; that a home server went down or up it is told where that
+/// is news.
 #[derive(Drop)]
 pub struct Attendant<'a, G, L> {
     outer: &'a G,
@@ -122,7 +128,7 @@ impl<'a, G: Gate, L: Log> Attendant<'a, G, L> {
         }
     }
 
-    /// A lane's home server is down or up from now on, which is logged where it is news.
+    /// A lane's home server is down or up from now on, which is logged and passed on where it is news.
     fn mark(&self, worker: Worker, is_down: bool) {
         let Worker::Lane(lane) = worker else {
             return;
@@ -136,6 +142,7 @@ impl<'a, G: Gate, L: Log> Attendant<'a, G, L> {
             } else {
                 Note::WentUp
             };
+            self.outer.note(worker, note);
             tell(self.log, self.config, worker, note);
         }
     }
@@ -154,24 +161,28 @@ impl<G: Gate, L: Log> Gate for Attendant<'_, G, L> {
     }
 
     fn note(&self, worker: Worker, note: Note) {
-        self.outer.note(worker, note);
         match note {
-            Note::Accepted(lane, _) => self.ring(Worker::Lane(lane)),
-            Note::Answered(..) => {
-                self.mark(worker, false);
-                self.ring(Worker::Front);
-            }
             // Going down or up is all that this step did, and there is more to do.
             Note::WentDown => {
                 self.mark(worker, true);
                 self.ring(worker);
+                return;
             }
             Note::WentUp => {
                 self.mark(worker, false);
                 self.ring(worker);
+                return;
+            }
+            Note::Accepted(lane, _) => self.ring(Worker::Lane(lane)),
+            // An answer takes a home server up without a step.
+            Note::Answered(..) => {
+                self.mark(worker, false);
+                self.ring(Worker::Front);
             }
             Note::Took(lane, _) => self.count_taken(lane),
-            _ => tell(self.log, self.config, worker, note),
+            _ => {}
         }
+        self.outer.note(worker, note);
+        tell(self.log, self.config, worker, note);
     }
 }

@@ -1,17 +1,22 @@
 //! A RADIUS accounting proxy (RFC 2866 section 2.1).
 #![tactic(auto)]
 
+ghost use denote.Param.Send.{IsSync};
+
 mod attending;
 mod bounded;
 mod building;
 mod check_command;
 mod commands;
 mod configuration;
+mod counters;
 mod events;
 mod faults;
 mod hex;
 mod interrupting;
+mod kinds;
 mod left_over;
+mod levels;
 mod lines;
 mod loading;
 mod logging;
@@ -20,6 +25,8 @@ mod packet_text;
 mod path;
 mod pieces;
 mod replaying;
+mod report_lines;
+mod reporting;
 mod script;
 mod sent;
 mod serving;
@@ -28,32 +35,38 @@ mod telling;
 #[cfg(test)]
 mod tests;
 mod waking;
+mod watching;
 mod wires;
 mod words;
 
-use attending::Open;
 use check_command::check_file;
+use counters::Counters;
 use faults::Fault;
+use levels::read_level;
 use libc::STDIN_FILENO;
 use lines::EndLine;
 use loading::load;
-use log::{Level, Logged};
+use log::{LevelFilter, Log, Logged, warn};
 use logging::ErrorLines;
 use replaying::replay;
+use reporting::{CounterFile, Ending, Keep, Reporter, report};
 use std::alloc::{AllocGlobal, Global};
-use std::env;
-use std::env::Env;
-use std::io::{self, ErrorKind};
+use std::env::{self, Env, VarError};
+use std::io::{self, ErrorKind, Read, Write};
 use std::net::Net;
 use std::process::ExitCode;
 use std::random::RandomSource;
 use std::rt::Runtime;
 use std::sync::Wait;
-use std::thread::Threads;
+use std::thread::{self, Scope, Threads};
+use std::time::Clock;
 use words::{Task, read_words};
 
 /// The status that a run ends with where something is left over.
 const LEFT_OVER: u8 = 3;
+
+/// The variable that names the file for the counters.
+const COUNTERS: &str = "RAD_PROXY_COUNTERS";
 
 fn main(rt: HostRuntime) -> ExitCode {
     let status = match obey_words(&rt) {
@@ -99,11 +112,86 @@ where
     R::File: Drop,
 {
     let config = load(rt, alloc, file)?;
-    let log = Logged::new((), Level::Info, ErrorLines::new(rt));
-    let (reader, writer) = (rt.reader(), io::writer(rt));
-    let input = Some(STDIN_FILENO);
-    let end = serving::run(rt, alloc, &config, &Open, &log, reader, input, writer)?;
+    let level = read_level(rt);
+    let log = Logged::new((), level.unwrap_or(LevelFilter::Info), ErrorLines::new(rt));
+    if level.is_none() {
+        warn!(log; "event=no-such-level reason=\"RAD_PROXY_LOG is none of off, error, warn, info, debug, trace\"");
+    }
+    let path = find_counter_path(rt, &log)?;
+    let Ok(file) = CounterFile::new(rt, alloc, path) else {
+        return Err(Fault::Memory);
+    };
+    let Ok(counters) = Counters::new(alloc, config.homes().len()) else {
+        return Err(Fault::Memory);
+    };
+    let reporter = Reporter {
+        config: &config,
+        counters: &counters,
+        log: &log,
+        file: &file,
+    };
+    let end = serve_and_report(rt, alloc, reporter, rt.reader(), io::writer(rt))?;
     Ok(status_at(&end))
+}
+
+/// Serves a configuration, while a thread of its own reports what is counted.
+fn serve_and_report<R, L, K, I, O>(
+    rt: &R,
+    alloc: Global,
+    reporter: Reporter<'_, L, K>,
+    reader: I,
+    writer: O,
+) -> Result<EndLine, Fault>
+where
+    R: Clock + Net + RandomSource + Threads + Wait + Sync,
+    L: Log + Sync,
+    K: Keep + Sync,
+    I: Read + Drop,
+    O: Write + Drop,
+{
+    let ending = Ending::new();
+    let ending = &ending;
+    let Reporter {
+        config,
+        counters,
+        log,
+        file: _,
+    } = reporter;
+    thread::scope(
+        thread::scope_env(),
+        rt,
+        move |scope| -> Result<EndLine, Fault>
+            requires { IsSync R.row × IsSync L.row × IsSync K.row }
+        {
+            if scope
+                .spawn(move || report(rt, alloc, reporter, ending))
+                .is_err()
+            {
+                return Err(Fault::Threads);
+            }
+            let input = Some(STDIN_FILENO);
+            let end = serving::run(rt, alloc, config, counters, log, reader, input, writer);
+            ending.end();
+            end
+        },
+    )
+}
+
+/// The path of the file that the environment names for the counters, if any.
+fn find_counter_path<R, L>(rt: &R, log: &L) -> Result<Option<String>, Fault>
+where
+    R: Env + AllocGlobal,
+    L: Log,
+{
+    match env::var(rt, COUNTERS) {
+        Ok(path) => Ok(Some(path)),
+        Err(VarError::NotPresent) => Ok(None),
+        Err(VarError::OutOfMemory) => Err(Fault::Memory),
+        Err(VarError::NotUnicode) => {
+            warn!(log; "event=counters-fault");
+            Ok(None)
+        }
+    }
 }
 
 /// The status of a run that came to its end.

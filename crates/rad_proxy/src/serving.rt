@@ -4,6 +4,7 @@ ghost use denote.Param.Send.{IsSend, IsSync};
 
 use crate::attending::Attendant;
 use crate::commands::{Command, Commands};
+use crate::counters::Watch;
 use crate::faults::Fault;
 use crate::interrupting::Interruptible;
 use crate::left_over::close;
@@ -11,6 +12,7 @@ use crate::lines::{DrainLine, EndLine, ListeningLine, StateLine};
 use crate::names::EndpointText;
 use crate::sockets::Sockets;
 use crate::waking::Bell;
+use crate::watching::watch;
 use crate::wires::UdpWire;
 use log::Log;
 use rad_desk::{Gate, Inlet, OpenFault, Proxy, Wire, Worker, front_worker, lane_worker, open};
@@ -71,7 +73,7 @@ pub fn run<R, G, L, I, O>(
 ) -> Result<EndLine, Fault>
 where
     R: Clock + Net + RandomSource + Threads + Wait + Sync,
-    G: Gate + Sync,
+    G: Watch + Sync,
     L: Log + Sync,
     I: Read + Drop,
     O: Write + Drop,
@@ -82,6 +84,9 @@ where
     let sockets = Sockets::bind(rt, alloc, config)?;
     let (wires, mut bells) = make_wires(rt, alloc, config, sockets)?;
     let reader = make_reader(rt, alloc, reader, descriptor, &mut bells)?;
+    let Ok(wires) = watch(alloc, config, gate, log, wires) else {
+        return Err(Fault::Memory);
+    };
     let listening = ListeningLine {
         endpoint: config.listen(),
     };

@@ -1,5 +1,6 @@
 //! What no contract says: the octets that a run writes, whatever reads and writes do.
 
+mod counting;
 mod ending;
 mod octets;
 mod serving;

@@ -1,0 +1,39 @@
+//! How much is logged: the word of the environment that says it.
+
+ghost use Rattle.std.specs.Prelude.{◌≡◌};
+ghost use Rattle.log.specs.Level.{parse_filter};
+
+use log::LevelFilter;
+use std::env::{Env, FillError};
+use std::str;
+
+/// The variable that names the level.
+const LEVEL: &str = "RAD_PROXY_LOG";
+
+/// How many octets of it are looked at: more than any level has.
+const ROOM: usize = 16;
+
+/// The level that a word names: `off`, `error`, `warn`, `info`, `debug` or `trace`, in letters of either case.
+pub fn level_of(word: &str) -> Option<LevelFilter>
+    ensures { result ≡ parse_filter word.now }
+{
+    match word.parse::<LevelFilter>() {
+        Ok(level) => Some(level),
+        Err(_) => None,
+    }
+}
+
+/// The level that the environment names, and `Info` where it names none. It is none where the variable is no level. It
+/// takes no memory.
+pub fn read_level(env: &impl Env) -> Option<LevelFilter> {
+    let mut room = [0; ROOM];
+    let count = match env.var(LEVEL, &mut room) {
+        Ok(count) => count,
+        Err(FillError::NotPresent) => return Some(LevelFilter::Info),
+        Err(FillError::TooLong) => return None,
+    };
+    match str::from_utf8(room.get(..count)?) {
+        Ok(word) => level_of(word),
+        Err(_) => None,
+    }
+}

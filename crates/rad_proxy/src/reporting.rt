@@ -1,0 +1,298 @@
+//! Once a second, by a thread of its own: what is new of each kind as log lines, and all counters into a file.
+
+use crate::counters::{Counters, News};
+use crate::kinds::{Family, KINDS, Kind};
+use crate::report_lines::{ClientNews, CounterLine, FamilyLine, FaultNews, HomeNews, Labels};
+use crate::telling::worker_name;
+use log::{Log, info, warn};
+use rad_desk::Worker;
+use rad_realms::Config;
+use std::alloc::{AllocError, Global};
+use std::fs::{self, Files};
+use std::io::{self, Write};
+use std::sync::atomic::{AtomicU64, Ordering};
+use std::sync::{Wait, WaitMethods};
+use std::time::{Clock, Duration, Instant};
+
+/// How long it is from one report to the next, in milliseconds.
+const PERIOD: u64 = 1000;
+
+/// The families, in the order in which their counters are written.
+const FAMILIES: [Family; 9] = [
+    Family::Dropped,
+    Family::Refused,
+    Family::Unheard,
+    Family::SendFault,
+    Family::ReceiveFault,
+    Family::WentDown,
+    Family::WentUp,
+    Family::Sent,
+    Family::Probed,
+];
+
+/// Where the text of the counters is kept.
+pub trait Keep {
+    /// Whether it is wanted at all.
+    fn is_wanted(&self) -> bool;
+
+    /// Keeps the text in place of the one before. It answers whether it could.
+    fn keep(&self, text: &[u8]) -> bool;
+}
+
+/// A file in which the text of the counters is kept.
+#[derive(Drop)]
+pub struct CounterFile<'a, R> {
+    files: &'a R,
+    /// The file that others read, and the one that is written and then takes its place.
+    paths: Option<(String, String)>,
+}
+
+impl<'a, R> CounterFile<'a, R> {
+    /// The file of this path, or none.
+    ///
+    /// # Errors
+    ///
+    /// Where memory is refused.
+    pub fn new(
+        files: &'a R,
+        alloc: Global,
+        path: Option<String>,
+    ) -> Result<CounterFile<'a, R>, AllocError> {
+        let Some(path) = path else {
+            return Ok(CounterFile { files, paths: None });
+        };
+        let mut new = String::from_str(alloc, path.as_str())?;
+        new.push_str(".new")?;
+        Ok(CounterFile {
+            files,
+            paths: Some((path, new)),
+        })
+    }
+}
+
+impl<R: Files> Keep for CounterFile<'_, R> {
+    fn is_wanted(&self) -> bool {
+        self.paths.is_some()
+    }
+
+    fn keep(&self, text: &[u8]) -> bool {
+        let Some((path, new)) = &self.paths else {
+            return true;
+        };
+        fs::write(self.files, new.as_str(), text).is_ok()
+            && fs::rename(self.files, new.as_str(), path.as_str()).is_ok()
+    }
+}
+
+/// What a reporter and the others share: whether it is to end.
+#[derive(Drop)]
+pub struct Ending {
+    has_ended: AtomicU64,
+}
+
+impl Ending {
+    pub fn new() -> Ending {
+        Ending {
+            has_ended: AtomicU64::new(0),
+        }
+    }
+
+    /// Has the reporter report once more and end.
+    pub fn end(&self) {
+        self.has_ended.store(1, Ordering::SeqCst);
+        self.has_ended.wake_all();
+    }
+
+    fn is_near(&self) -> bool {
+        self.has_ended.load(Ordering::SeqCst) != 0
+    }
+
+    /// Waits until the period is over or the end is near.
+    fn wait<R: Clock + Wait>(&self, rt: &R) {
+        let Ok(start) = Instant::now(rt) else {
+            return;
+        };
+        for _ in rt.forever() {
+            let Ok(passed) = start.elapsed(rt) else {
+                return;
+            };
+            let Some(left) = Duration::from_millis(PERIOD).checked_sub(passed) else {
+                return;
+            };
+            if left.is_zero() || self.is_near() {
+                return;
+            }
+            self.has_ended.park_timeout(rt, 0, left);
+        }
+    }
+}
+
+/// What a reporter reports, and how.
+pub struct Reporter<'a, L, K> {
+    pub config: &'a Config,
+    pub counters: &'a Counters,
+    pub log: &'a L,
+    /// Where the counters are written to.
+    pub file: &'a K,
+}
+
+impl<L, K> Clone for Reporter<'_, L, K> {
+    fn clone(&self) -> Result<Self, AllocError> {
+        Ok(*self)
+    }
+}
+
+impl<L, K> Copy for Reporter<'_, L, K> {}
+
+/// Reports once a period until the end is near, and then once more.
+pub fn report<R, L, K>(rt: &R, alloc: Global, reporter: Reporter<'_, L, K>, ending: &Ending)
+where
+    R: Clock + Wait,
+    L: Log,
+    K: Keep,
+{
+    let mut text = Vec::new(alloc);
+    let mut is_kept = true;
+    for _ in rt.forever() {
+        let is_last = ending.is_near();
+        reporter.tell();
+        is_kept = reporter.keep(&mut text, is_kept);
+        if is_last {
+            return;
+        }
+        ending.wait(rt);
+    }
+}
+
+impl<L: Log, K: Keep> Reporter<'_, L, K> {
+    /// Logs what is new, a line for each worker and kind that has news.
+    pub fn tell(&self) {
+        self.tell_of(Worker::Front);
+        for lane in 0..self.config.homes().len() {
+            self.tell_of(lane_of(lane));
+        }
+    }
+
+    fn tell_of(&self, worker: Worker) {
+        for kind in KINDS {
+            if let Some(news) = self.counters.tell(worker, kind) {
+                tell_news(self.log, worker_name(self.config, worker), kind, news);
+            }
+        }
+    }
+
+    /// Keeps the counters where that is wanted, by way of a text that is made anew. It answers whether they are kept;
+    /// where they were and no longer are, that is logged.
+    fn keep(&self, text: &mut Vec<u8>, was_kept: bool) -> bool {
+        if !self.file.is_wanted() {
+            return true;
+        }
+        text.clear();
+        let is_kept = self.write(text).is_ok() && self.file.keep(text.as_slice());
+        if was_kept && !is_kept {
+            warn!(self.log; "event=counters-fault");
+        }
+        is_kept
+    }
+
+    /// Writes all counters, a family after the other.
+    ///
+    /// # Errors
+    ///
+    /// The writer's own.
+    pub fn write<W: Write>(&self, writer: &mut W) -> io::Result<()> {
+        for family in FAMILIES {
+            writeln!(writer, "{}", FamilyLine(family))?;
+            self.write_front(writer, family)?;
+            for (lane, home) in self.config.homes().iter().enumerate() {
+                self.write_lane(writer, family, lane, home.name())?;
+            }
+        }
+        Ok(())
+    }
+
+    /// Writes the front's counters of a family, where it has some.
+    fn write_front<W: Write>(&self, writer: &mut W, family: Family) -> io::Result<()> {
+        for kind in KINDS {
+            if kind.family() == family {
+                let labels = match family {
+                    Family::Dropped | Family::Refused => Labels::Reason(kind.reason()),
+                    Family::SendFault | Family::ReceiveFault => Labels::Clients,
+                    _ => return Ok(()),
+                };
+                let count = self.counters.get(Worker::Front, kind);
+                let line = CounterLine {
+                    family,
+                    labels,
+                    count,
+                };
+                writeln!(writer, "{line}")?;
+            }
+        }
+        Ok(())
+    }
+
+    /// Writes a lane's counters of a family, where it has some.
+    fn write_lane<W: Write>(
+        &self,
+        writer: &mut W,
+        family: Family,
+        lane: usize,
+        home: &str,
+    ) -> io::Result<()> {
+        for kind in KINDS {
+            if kind.family() == family {
+                let labels = match family {
+                    Family::Dropped | Family::Refused => return Ok(()),
+                    Family::Unheard => Labels::HomeReason(lane, home, kind.reason()),
+                    _ => Labels::Home(lane, home),
+                };
+                let count = self.counters.get(lane_of(lane), kind);
+                let line = CounterLine {
+                    family,
+                    labels,
+                    count,
+                };
+                writeln!(writer, "{line}")?;
+            }
+        }
+        Ok(())
+    }
+}
+
+/// The worker of a lane.
+fn lane_of(lane: usize) -> Worker {
+    Worker::Lane(u16::try_from(lane).unwrap_or(u16::MAX))
+}
+
+/// Logs what is new of a kind. A home server that went down or up is told as it does, and what is sent is not told.
+fn tell_news<L: Log>(log: &L, name: &str, kind: Kind, news: News) {
+    let family = kind.family();
+    let event = family.event();
+    let reason = kind.reason();
+    let News { count, last } = news;
+    let client = ClientNews {
+        event,
+        reason,
+        count,
+        client: last,
+    };
+    let home = HomeNews {
+        event,
+        home: name,
+        reason,
+        count,
+    };
+    let fault = FaultNews {
+        event,
+        worker: name,
+        count,
+    };
+    match family {
+        Family::Dropped => info!(log; "{client}"),
+        Family::Refused => warn!(log; "{client}"),
+        Family::Unheard => info!(log; "{home}"),
+        Family::SendFault | Family::ReceiveFault => warn!(log; "{fault}"),
+        Family::WentDown | Family::WentUp | Family::Sent | Family::Probed => {}
+    }
+}
