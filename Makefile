@@ -47,6 +47,11 @@ spoiled:
 soak:
 	@python3 tests/hostile/soak.py $(PROGRAM) --seconds $(SECONDS) $(SEED)
 
+# What a push and a pop of the chain of blocks cost beside those of std's `VecDeque`, and what memory a long queue takes.
+.PHONY: bench-queue
+bench-queue:
+	@python3 bench/queue/run.py
+
 # Where `make install` puts things. DESTDIR stands before each of them.
 VERSION = 0.1.0
 PREFIX ?= /usr/local
