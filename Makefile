@@ -13,7 +13,7 @@ DATAGRAMS ?= 100000
 SECONDS ?= 60
 SEED ?= 1
 
-.PHONY: build run test edits growths spoiled soak bench figures
+.PHONY: build run test edits growths spoiled soak bench figures bench-queue
 
 # Proves and builds the program, over what earlier checks kept, and runs it as stored.
 build:
@@ -61,6 +61,10 @@ bench:
 # Puts the figures of the last `make bench` into docs/performance.md.
 figures:
 	@python3 bench/page.py out/bench
+
+# What a push and a pop of the chain of blocks cost beside those of std's `VecDeque`, and what memory a long queue takes.
+bench-queue:
+	@python3 bench/queue/run.py
 
 # Where `make install` puts things. DESTDIR stands before each of them.
 VERSION = 0.1.0
