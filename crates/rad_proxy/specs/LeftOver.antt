@@ -43,3 +43,7 @@ pub record IsLeftOver (lanes : ℕ) (inlets : List Inlet) (end : EndLine) : Type
   pub report : Report
   pub report_of : IsReportOf lanes inlets report
   pub told : Tells report end
+
+-- What is left of so many lanes, with some inlets.
+abbrev pub IsLeftOverOf : ℕ → EndLine → Type 0
+IsLeftOverOf lanes end = (inlets : List Inlet) × IsLeftOver lanes inlets end

@@ -1,5 +1,7 @@
 //! `run`: the proxy over UDP, with a thread for the clients and one for each lane.
 
+ghost use Rattle.std.specs.Prelude.{length, IfOk};
+ghost use Rattle.rad_proxy.specs.LeftOver.{IsLeftOverOf};
 ghost use denote.Param.Send.{IsSend, IsSync};
 
 use crate::attending::Attendant;
@@ -77,6 +79,7 @@ where
     L: Log + Sync,
     I: Read + Drop,
     O: Write + Drop,
+    ensures { IfOk result (IsLeftOverOf (length config.now.homes)) }
 {
     let Ok(mut writer) = BufWriter::new(alloc, writer) else {
         return Err(Fault::Memory);
@@ -131,6 +134,7 @@ where
     L: Log + Sync,
     I: Read + Drop,
     O: Write + Drop,
+    ensures { IfOk result (IsLeftOverOf (length config.now.homes)) }
 {
     let (proxy, inlets) = match open(alloc, config) {
         Ok(opened) => opened,
