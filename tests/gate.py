@@ -1,7 +1,8 @@
 #!/usr/bin/env python3
 """The whole gate: what `rt ci` proves, refuses and runs; then that each wrong body can be applied, and the octets that the
 tests expect, as another implementation makes them; and then the program that `rt ci` built: over the rows and the examples,
-with growths refused in turn, with spoiled datagrams, and over UDP and a network that loses.
+with growths refused in turn, with spoiled datagrams, with home servers that are killed or not there, and over UDP and a network
+that loses.
 
 usage: gate.py PROGRAM
 
@@ -30,6 +31,7 @@ SCRIPTS = {
     "examples": ("examples.py", "PROGRAM"),
     "growths": ("hostile/growths.py", "PROGRAM"),
     "mutations": ("hostile/mutations.py", "PROGRAM"),
+    "unreachable": ("hostile/unreachable.py", "PROGRAM"),
     "soak": ("hostile/soak.py", "PROGRAM"),
 }
 COUNTS = re.compile(r"(\d+) passed, (\d+) failed")

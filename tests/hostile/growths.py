@@ -9,11 +9,13 @@ that follow refused too. `replay` has to end in `configuration: OutOfMemory` or 
 without the refusal, or it goes on: then each event whose growth was refused says so and has changed nothing, and every
 other line and the end are what model.py answers. `run` ends in one of these two or in `threads: failed`. Where one
 allocation alone is refused, the program may also do with a smaller one and answer all; where all that follow are refused
-too, `replay` may not.
+too, `replay` may not. The row each-call-is-made-twice makes each call that takes memory twice, so that the second one shows
+what is there after a refusal; what-takes-no-memory has to come to its end with every growth refused from some event on.
 
 TESTS are programs of tests, as `rt test` leaves them in crates/CRATE/out/CRATE_tests. With one growth refused, each test has
-to pass or to fail by itself, and not by a fault of memory; beyond the first FIRST ones only some are refused. The last line
-is `N passed, M failed`.
+to pass or to fail by itself, and not by a fault of memory; beyond the first FIRST ones only some are refused. A test whose
+name ends in AGAIN makes each call again that was refused, and no assertion of it may fail. The last line is `N passed, M
+failed`.
 """
 import os
 import pathlib
@@ -31,14 +33,17 @@ sys.dont_write_bytecode = True
 from model import answers, rows
 
 HERE = pathlib.Path(__file__).resolve().parent
+QUIET = "refusals/what-takes-no-memory"
 ROWS = ["lane/answers-one-request", "draining/drains", "responses/untaken-of-two-homes", "watch/comes-up-by-probe"]
-REFUSALS = ["nas: refused OutOfMemory", "home: dropped OutOfMemory"]
+ROWS += ["refusals/each-call-is-made-twice", QUIET]
+REFUSALS = ["nas: refused OutOfMemory", "home: dropped OutOfMemory", "turn: refused OutOfMemory"]
 ENDINGS = {"configuration: OutOfMemory": 2, "memory: refused": 4}
 ENDINGS_OF_RUN = {**ENDINGS, "threads: failed": 4}
 COMMANDS = b"state\ndrain\n"
 STATE = "lane 0 h1 up open accepted 0 queued 0 outstanding 0 answered 0 opening 0"
 TEST_FAILED = 101
 FIRST, LATER = 200, 20
+AGAIN = "again_after_a_refused_growth"
 MOST_ALLOCATIONS = 1_000_000
 SECONDS = 60
 
@@ -72,13 +77,17 @@ class Refuser:
 
 @dataclass
 class Subject:
-    """What is run: its words and its input, and what says of a run, and of whether one growth alone was refused, its fault."""
+    """What is run: its words and its input, and what says of a run, and of whether one growth alone was refused, its fault.
+
+    Some run where all growths are refused from one on has to print just the lines `quiet`. Of a test not each growth is
+    refused."""
 
     name: str
     words: list
     given: bytes
     fault_of: Callable
-    is_alone_enough: bool = False
+    is_test: bool = False
+    quiet: list | None = None
 
 
 def told_by(ran):
@@ -110,11 +119,11 @@ def fault_of_run(wanted, ran, _):
     return fault_of_ending(wanted, told, ran.returncode, ENDINGS_OF_RUN.get(error), ran.stderr)
 
 
-def fault_of_test(ran, _):
-    """What is wrong with a test that was run: an assertion of its own may stop it, and nothing else."""
+def fault_of_test(may_stop, ran, _):
+    """What is wrong with a test that was run: an assertion of its own may stop it, if that may be, and nothing else."""
     text = (ran.stdout + ran.stderr).decode("utf-8", "replace")
     is_stopped = ran.returncode == -signal.SIGABRT and "test stopped at" in text
-    if ran.returncode in (0, TEST_FAILED) or is_stopped:
+    if ran.returncode in (0, TEST_FAILED) or is_stopped and may_stop:
         return None
     return f"it ended with status {ran.returncode}: {text[-400:]}"
 
@@ -138,7 +147,8 @@ def subjects(program, folder):
     """All that is run."""
     for name in ROWS:
         script = rows.Row(name).streams["<"]
-        yield Subject(name, [program, "replay"], script, partial(fault_of_replay, script.decode()))
+        quiet = answers(script.decode())[0][:-1] if name == QUIET else None
+        yield Subject(name, [program, "replay"], script, partial(fault_of_replay, script.decode()), quiet=quiet)
     with socket.socket(socket.AF_INET, socket.SOCK_DGRAM) as free:
         free.bind(("127.0.0.1", 0))
         listen = f"127.0.0.1:{free.getsockname()[1]}"
@@ -152,7 +162,8 @@ def tests_of(program):
     """The tests of a program of tests."""
     listed = subprocess.run([program, "--list"], capture_output=True, text=True, check=True).stdout.splitlines()
     for name in (line.removesuffix(": test") for line in listed if line.endswith(": test")):
-        yield Subject(f"{pathlib.Path(program).name} {name}", [program, name], b"", fault_of_test, is_alone_enough=True)
+        fault_of = partial(fault_of_test, not name.endswith(AGAIN))
+        yield Subject(f"{pathlib.Path(program).name} {name}", [program, name], b"", fault_of, is_test=True)
 
 
 def refused_in_turn(refuser, subject, is_alone):
@@ -163,22 +174,25 @@ def refused_in_turn(refuser, subject, is_alone):
         if ran is None:
             return
         yield number, ran
-        number += 1 if number < FIRST else number // LATER
+        number += 1 if number < FIRST or not subject.is_test else number // LATER
 
 
 def tried(refuser, subject, is_alone, seen):
     """How many runs of a subject passed and failed; how they ended goes to `seen`."""
-    endings, failed = [], 0
+    endings, failed, is_loud = [], 0, subject.quiet is not None and not is_alone
     how = "alone" if is_alone else "with all that follow"
     for number, ran in refused_in_turn(refuser, subject, is_alone):
         endings.append(ending_of(ran))
+        is_loud = is_loud and told_by(ran)[0] != subject.quiet
         fault = subject.fault_of(ran, is_alone)
         if fault is not None:
             failed += 1
             print(f"{subject.name}, allocation {number} refused {how}: {fault}")
     print(f"{subject.name}: {len(endings)} allocations refused {how}, {endings.count(None)} of them did no harm", flush=True)
+    if is_loud:
+        print(f"{subject.name}: what takes no memory did not come to its end without it")
     seen.update(endings)
-    return len(endings) - failed, failed if endings or subject.is_alone_enough else 1
+    return len(endings) - failed, failed + is_loud + (not endings and not subject.is_test)
 
 
 def main():
@@ -188,7 +202,7 @@ def main():
     with tempfile.TemporaryDirectory() as folder:
         refuser = Refuser(folder)
         for subject in (*subjects(program, folder), *(test for name in tests for test in tests_of(name))):
-            for is_alone in (True,) if subject.is_alone_enough else (True, False):
+            for is_alone in (True,) if subject.is_test else (True, False):
                 counts.append(tried(refuser, subject, is_alone, seen))
     unseen = {*REFUSALS, *ENDINGS} - seen
     if unseen:

@@ -2,7 +2,7 @@
 """Runs the program over UDP, between NASes and home servers of its own and over a network that loses.
 
 usage: soak.py PROGRAM                       short runs of a fixed count of requests, one for each ending and one more
-       soak.py PROGRAM --seconds N SEED      one run of N seconds, by a seed
+       soak.py PROGRAM --seconds N SEED      one run of N seconds, by a seed; SIGTERM ends it earlier, and all is compared
 
 The network drops, doubles, delays and spoils datagrams in both directions, and home servers go away and come back, silent
 or with their ports closed. At the end both sides' logs are compared: each acknowledged request is at its home server, with
@@ -20,10 +20,12 @@ has to hold. The last line is `N passed, M failed`, of acknowledged requests and
 import pathlib
 import random
 import re
+import signal
 import socket
 import subprocess
 import sys
 import tempfile
+import time
 from dataclasses import dataclass
 
 sys.dont_write_bytecode = True
@@ -263,6 +265,7 @@ def free_address():
 
 def ran(program, seed, ending, is_enough, seconds, is_refusing=False):
     """One run: how many requests were acknowledged, and how many faults were found."""
+    begin = time.monotonic()
     with tempfile.TemporaryDirectory() as folder:
         soak = Soak(program, folder, seed, ending, Refuser(folder) if is_refusing else None)
         try:
@@ -273,7 +276,7 @@ def ran(program, seed, ending, is_enough, seconds, is_refusing=False):
     counts, faults = soak.findings.counts, soak.findings.faults
     how = f"{ending}, growths refused" if is_refusing else ending
     told = ", ".join(f"{name} {count}" for name, count in (*counts.items(), *soak.network.counts.items()))
-    print(f"seed {seed}, {how}: {told}", *faults, sep="\n  ", flush=True)
+    print(f"seed {seed}, {how}, {time.monotonic() - begin:.0f} seconds: {told}", *faults, sep="\n  ", flush=True)
     return counts["acknowledged"], counts["faults"]
 
 
@@ -287,7 +290,9 @@ def main():
         runs = [(SEED, ending, has_made_enough, PATIENCE) for ending in ENDINGS]
         runs.append((SEED, "calm", has_made_enough, PATIENCE, True))
     elif len(words) == 4 and words[1] == "--seconds":
-        runs = [(int(words[3]), ENDINGS[int(words[3]) % len(ENDINGS)], lambda soak: False, int(words[2]))]
+        ended = []
+        signal.signal(signal.SIGTERM, lambda *_: ended.append(True))
+        runs = [(int(words[3]), ENDINGS[int(words[3]) % len(ENDINGS)], lambda soak: bool(ended), int(words[2]))]
     else:
         sys.exit(__doc__)
     program = str(pathlib.Path(words[0]).resolve())

@@ -3,6 +3,7 @@
 
 mod ample;
 mod closing;
+mod failing;
 mod homes;
 mod memory;
 mod octets;
