@@ -105,8 +105,9 @@ def of_latency(figures):
     for rate in figures.each("rate", "latency"):
         for name in subjects:
             rows.append([number(rate), name, *times_of(figures, name, rate)])
-        ratios = [number(figures.ratio(key, "latency", rate=rate), 2) for key, _ in TIMES]
-        rows.append([number(rate), BETWEEN, *ratios])
+        if {OURS, PEER} <= set(subjects):
+            ratios = [number(figures.ratio(key, "latency", rate=rate), 2) for key, _ in TIMES]
+            rows.append([number(rate), BETWEEN, *ratios])
     return table(["a second", "", "p50", "p99", "p99.9"], rows)
 
 
