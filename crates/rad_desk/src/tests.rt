@@ -2,6 +2,7 @@
 //! when its ring is full, that a call through a lock reaches its own lane, and the octets of another implementation.
 
 mod closing;
+mod failing;
 mod memory;
 mod octets;
 mod packets;
