@@ -49,7 +49,7 @@ use loading::load;
 use log::{LevelFilter, Log, Logged, warn};
 use logging::ErrorLines;
 use replaying::replay;
-use reporting::{CounterFile, Ending, Keep, Reporter, report};
+use reporting::{CounterFile, Ending, Keep, Keeper, Reporter, report};
 use std::alloc::{AllocGlobal, Global};
 use std::env::{self, Env, VarError};
 use std::io::{self, ErrorKind, Read, Write};
@@ -69,7 +69,8 @@ const LEFT_OVER: u8 = 3;
 const COUNTERS: &str = "RAD_PROXY_COUNTERS";
 
 fn main(rt: HostRuntime) -> ExitCode {
-    let status = match obey_words(&rt) {
+    let keeper = Keeper::new(&rt);
+    let status = match obey_words(&rt, &keeper) {
         Ok(status) => status,
         Err(fault) => {
             if !matches!(fault, Fault::Output) {
@@ -82,10 +83,11 @@ fn main(rt: HostRuntime) -> ExitCode {
 }
 
 /// Does what the words ask for, and gives the status.
-fn obey_words<R>(rt: &R) -> Result<u8, Fault>
+fn obey_words<R, K>(rt: &R, keeper: &K) -> Result<u8, Fault>
 where
     R: Runtime + AllocGlobal + Net + RandomSource + Threads + Wait + Sync,
     R::File: Drop,
+    K: Keep + Sync,
 {
     let alloc = rt.alloc();
     let words = read_arguments(rt)?;
@@ -101,15 +103,16 @@ where
                 Err(_) => Err(Fault::Output),
             }
         }
-        Task::Run(file) => serve_file(rt, alloc, file.as_str()),
+        Task::Run(file) => serve_file(rt, keeper, alloc, file.as_str()),
     }
 }
 
 /// Serves the configuration in a file until standard input ends, and gives the status.
-fn serve_file<R>(rt: &R, alloc: Global, file: &str) -> Result<u8, Fault>
+fn serve_file<R, K>(rt: &R, keeper: &K, alloc: Global, file: &str) -> Result<u8, Fault>
 where
     R: Runtime + AllocGlobal + Net + RandomSource + Threads + Wait + Sync,
     R::File: Drop,
+    K: Keep + Sync,
 {
     let config = load(rt, alloc, file)?;
     let level = read_level(rt);
@@ -117,10 +120,7 @@ where
     if level.is_none() {
         warn!(log; "event=no-such-level reason=\"RAD_PROXY_LOG is none of off, error, warn, info, debug, trace\"");
     }
-    let path = find_counter_path(rt, &log)?;
-    let Ok(file) = CounterFile::new(rt, alloc, path) else {
-        return Err(Fault::Memory);
-    };
+    let file = find_counter_file(rt, alloc, &log)?;
     let Ok(counters) = Counters::new(alloc, config.homes().len()) else {
         return Err(Fault::Memory);
     };
@@ -129,6 +129,7 @@ where
         counters: &counters,
         log: &log,
         file: &file,
+        keeper,
     };
     let end = serve_and_report(rt, alloc, reporter, rt.reader(), io::writer(rt))?;
     Ok(status_at(&end))
@@ -156,6 +157,7 @@ where
         counters,
         log,
         file: _,
+        keeper: _,
     } = reporter;
     thread::scope(
         thread::scope_env(),
@@ -177,20 +179,24 @@ where
     )
 }
 
-/// The path of the file that the environment names for the counters, if any.
-fn find_counter_path<R, L>(rt: &R, log: &L) -> Result<Option<String>, Fault>
+/// The file that the environment names for the counters, if any.
+fn find_counter_file<R, L>(rt: &R, alloc: Global, log: &L) -> Result<Option<CounterFile>, Fault>
 where
     R: Env + AllocGlobal,
     L: Log,
 {
-    match env::var(rt, COUNTERS) {
-        Ok(path) => Ok(Some(path)),
-        Err(VarError::NotPresent) => Ok(None),
-        Err(VarError::OutOfMemory) => Err(Fault::Memory),
+    let path = match env::var(rt, COUNTERS) {
+        Ok(path) => path,
+        Err(VarError::NotPresent) => return Ok(None),
+        Err(VarError::OutOfMemory) => return Err(Fault::Memory),
         Err(VarError::NotUnicode) => {
             warn!(log; "event=counters-fault");
-            Ok(None)
+            return Ok(None);
         }
+    };
+    match CounterFile::new(alloc, path) {
+        Ok(file) => Ok(Some(file)),
+        Err(_) => Err(Fault::Memory),
     }
 }
 

@@ -30,57 +30,49 @@ const FAMILIES: [Family; 9] = [
     Family::Probed,
 ];
 
-/// Where the text of the counters is kept.
+/// Replaces files.
 pub trait Keep {
-    /// Whether it is wanted at all.
-    fn is_wanted(&self) -> bool;
-
-    /// Keeps the text in place of the one before. It answers whether it could.
-    fn keep(&self, text: &[u8]) -> bool;
+    /// Writes a text to a new file, which then takes the other's place. It answers whether it could.
+    fn replace(&self, path: &str, new: &str, text: &[u8]) -> bool;
 }
 
-/// A file in which the text of the counters is kept.
+/// Replaces the files of a runtime.
 #[derive(Drop)]
-pub struct CounterFile<'a, R> {
+pub struct Keeper<'a, R> {
     files: &'a R,
-    /// The file that others read, and the one that is written and then takes its place.
-    paths: Option<(String, String)>,
 }
 
-impl<'a, R> CounterFile<'a, R> {
-    /// The file of this path, or none.
+impl<'a, R> Keeper<'a, R> {
+    pub fn new(files: &'a R) -> Keeper<'a, R> {
+        Keeper { files }
+    }
+}
+
+impl<R: Files> Keep for Keeper<'_, R> {
+    fn replace(&self, path: &str, new: &str, text: &[u8]) -> bool {
+        fs::write(self.files, new, text).is_ok() && fs::rename(self.files, new, path).is_ok()
+    }
+}
+
+/// The file in which the text of the counters is kept.
+#[derive(Drop)]
+pub struct CounterFile {
+    /// What others read.
+    path: String,
+    /// What is written, and then takes its place.
+    new: String,
+}
+
+impl CounterFile {
+    /// The file of this path.
     ///
     /// # Errors
     ///
     /// Where memory is refused.
-    pub fn new(
-        files: &'a R,
-        alloc: Global,
-        path: Option<String>,
-    ) -> Result<CounterFile<'a, R>, AllocError> {
-        let Some(path) = path else {
-            return Ok(CounterFile { files, paths: None });
-        };
+    pub fn new(alloc: Global, path: String) -> Result<CounterFile, AllocError> {
         let mut new = String::from_str(alloc, path.as_str())?;
         new.push_str(".new")?;
-        Ok(CounterFile {
-            files,
-            paths: Some((path, new)),
-        })
-    }
-}
-
-impl<R: Files> Keep for CounterFile<'_, R> {
-    fn is_wanted(&self) -> bool {
-        self.paths.is_some()
-    }
-
-    fn keep(&self, text: &[u8]) -> bool {
-        let Some((path, new)) = &self.paths else {
-            return true;
-        };
-        fs::write(self.files, new.as_str(), text).is_ok()
-            && fs::rename(self.files, new.as_str(), path.as_str()).is_ok()
+        Ok(CounterFile { path, new })
     }
 }
 
@@ -132,8 +124,10 @@ pub struct Reporter<'a, L, K> {
     pub config: &'a Config,
     pub counters: &'a Counters,
     pub log: &'a L,
-    /// Where the counters are written to.
-    pub file: &'a K,
+    /// Where the counters are written to, if anywhere.
+    pub file: &'a Option<CounterFile>,
+    /// What writes them there.
+    pub keeper: &'a K,
 }
 
 impl<L, K> Clone for Reporter<'_, L, K> {
@@ -184,11 +178,14 @@ impl<L: Log, K: Keep> Reporter<'_, L, K> {
     /// Keeps the counters where that is wanted, by way of a text that is made anew. It answers whether they are kept;
     /// where they were and no longer are, that is logged.
     fn keep(&self, text: &mut Vec<u8>, was_kept: bool) -> bool {
-        if !self.file.is_wanted() {
+        let Some(file) = self.file else {
             return true;
-        }
+        };
         text.clear();
-        let is_kept = self.write(text).is_ok() && self.file.keep(text.as_slice());
+        let is_kept = self.write(text).is_ok()
+            && self
+                .keeper
+                .replace(file.path.as_str(), file.new.as_str(), text.as_slice());
         if was_kept && !is_kept {
             warn!(self.log; "event=counters-fault");
         }

@@ -43,11 +43,7 @@ impl Env for Given<'_> {
 struct Nowhere;
 
 impl Keep for Nowhere {
-    fn is_wanted(&self) -> bool {
-        false
-    }
-
-    fn keep(&self, _text: &[u8]) -> bool {
+    fn replace(&self, _path: &str, _new: &str, _text: &[u8]) -> bool {
         false
     }
 }
@@ -153,7 +149,8 @@ fn counters_are_written(rt: HostRuntime) -> Result<(), Fail> {
         config: &config,
         counters: &counters,
         log: &Discard,
-        file: &Nowhere,
+        file: &None,
+        keeper: &Nowhere,
     };
     reporter.write(&mut text)?;
     assert!(rt; text.starts_with(HEAD.as_bytes()));
