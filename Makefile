@@ -25,9 +25,9 @@ run: build
 	@echo "--- $(PROGRAM) replay < $(EXAMPLE)"
 	@$(PROGRAM) replay < $(EXAMPLE)
 
-# The whole gate: all proofs from nothing, the edits of must-fail/, the tests, the stored run, then the octets that the tests
-# expect, and the program that was built: the rows, the examples, growths refused in turn, spoiled datagrams, and UDP over a
-# network that loses. The last line counts it all.
+# The whole gate: all proofs from nothing, the edits of must-fail/, the tests, the stored run; then that each wrong body can be
+# applied, and the octets that the tests expect; and the program that was built: the rows, the examples, growths refused in
+# turn, spoiled datagrams, home servers that are killed, and UDP over a network that loses. The last line counts it all.
 test:
 	@python3 tests/gate.py $(PROGRAM)
 
@@ -104,8 +104,7 @@ install:
 	install -m 644 man/man8/rad_proxy.8 man/man8/rad_proxyctl.8 $(DESTDIR)$(MANDIR)/man8
 	install -m 644 man/man5/rad_proxy.toml.5 $(DESTDIR)$(MANDIR)/man5
 	install -m 644 README.md LICENSE $(DESTDIR)$(DOCDIR)
-	install -m 644 docs/*.md $(DESTDIR)$(DOCDIR)/docs
-	cp -R examples $(DESTDIR)$(DOCDIR)
+	cp -R docs examples $(DESTDIR)$(DOCDIR)
 	chmod -R u=rwX,go=rX $(DESTDIR)$(DOCDIR)
 
 # Takes away what `make install` put, and leaves the configuration.
