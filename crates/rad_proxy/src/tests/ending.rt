@@ -2,6 +2,7 @@
 
 use super::serving::{LOOKS, Scripted, TWO_HOMES, pause};
 use super::{Narrow, Slow};
+use crate::counters::Watch;
 use crate::faults::Fault;
 use crate::interrupting::Interruptible;
 use crate::serving::{Wires, run, serve};
@@ -41,6 +42,10 @@ impl Gate for Ending {
     }
 
     fn after(&self, _worker: Worker, _call: Call) {}
+}
+
+impl Watch for Ending {
+    fn sent(&self, _worker: Worker, _octets: &[u8]) {}
 }
 
 /// Gives no line for a long time, and then fails.
