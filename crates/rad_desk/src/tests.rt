@@ -3,7 +3,6 @@
 
 mod ample;
 mod closing;
-mod failing;
 mod homes;
 mod memory;
 mod octets;
