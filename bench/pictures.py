@@ -200,5 +200,4 @@ PICTURES = {
 
 def draw(results):
     """Each picture that the run has figures for, by its file's name."""
-    figures = Figures(results)
-    return {name: make(figures) for name, (measure, make) in PICTURES.items() if figures.of(measure)}
+    return Figures(results).made(PICTURES)

@@ -32,6 +32,10 @@ class Figures:
         """The values of a key, in order."""
         return sorted({one[key] for one in self.of(measure)})
 
+    def made(self, kinds):
+        """Each kind of text that there are measurements for, by its name: kinds tell of which measure it is made, and how."""
+        return {name: make(self) for name, (measure, make) in kinds.items() if self.of(measure)}
+
     def subjects(self, measure):
         there = {one["subject"] for one in self.of(measure)}
         return [name for name in NAMES if name in there]
@@ -201,8 +205,7 @@ TABLES = {
 
 def made(results):
     """Each table that the run has figures for, by its name."""
-    figures = Figures(results)
-    return {name: make(figures) for name, (measure, make) in TABLES.items() if figures.of(measure)}
+    return Figures(results).made(TABLES)
 
 
 def as_text(results):
