@@ -162,7 +162,7 @@ impl<G: Gate, L: Log> Gate for Attendant<'_, G, L> {
 
     fn note(&self, worker: Worker, note: Note) {
         match note {
-            // Going down or up is all that this step did, and there is more to do.
+            // There is more to do: going down is all that a step did, and so is going up, but where an answer took it up.
             Note::WentDown => {
                 self.mark(worker, true);
                 self.ring(worker);
