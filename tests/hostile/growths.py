@@ -57,9 +57,9 @@ class Refuser:
         subprocess.run([*compiler, "-O2", "-shared", "-fPIC", "-o", self.library, HERE / "refuse.c"], check=True)
 
     def settings(self, first, last):
-        """The environment in which the allocations from `first` to `last` are refused."""
+        """The environment in which the allocations from `first` to `last` are refused; `run` logs so much that it takes all."""
         numbers = {"REFUSE_FIRST": str(first), "REFUSE_LAST": str(last), "REFUSE_NOTE": str(self.note)}
-        return {**os.environ, **numbers, "LD_PRELOAD": str(self.library)}
+        return {**os.environ, **numbers, "LD_PRELOAD": str(self.library), "RAD_PROXY_LOG": "debug"}
 
     def has_refused(self):
         return self.note.exists()

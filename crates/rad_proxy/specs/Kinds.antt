@@ -1,126 +1,62 @@
 -- Which notes are counted, as what, and how each kind is told (own).
 use Rattle.std.specs.Prelude.{ℕ, ◌==◌, List, codes, Option, Some, None, if◌then◌else◌}
-use Rattle.rad_realms.specs.declared.checking.Dropped.{Dropped}
 use Rattle.rad_realms.specs.declared.checking.Dropped.TheVariants as dropped
-use Rattle.rad_lane.specs.declared.accepting.Refusal.{Refusal}
-use Rattle.rad_lane.specs.declared.accepting.Refusal.TheVariants as refusal
-use Rattle.rad_lane.specs.declared.hearing.HearFault.{HearFault}
+use Rattle.rad_realms.specs.Printed.{dropped_text}
 use Rattle.rad_lane.specs.declared.hearing.HearFault.TheVariants as fault
 use Rattle.rad_desk.specs.declared.hearing.DeskFault.TheVariants as desk
 use Rattle.rad_desk.specs.declared.gate.Note.{Note}
 use Rattle.rad_desk.specs.declared.gate.Note.TheVariants as note
 use Rattle.rad_proxy.specs.declared.kinds.Kind.{Kind}
-use Rattle.rad_proxy.specs.declared.kinds.Kind.TheVariants.{UnknownClient, Unread, WrongCode, BadAuthenticator, BadMessageAuthenticator, MessageAuthenticatorHere, NoRealm, Draining, BookFull, QueueFull, TooLong, OutOfMemory, WrongLane, NotHome, RingFull, ReplyUnread, ReplyWrongCode, ReplyUnknown, ReplyBadAuthenticator, ReplyMessageAuthenticatorHere, ReplyNoProxyState, ReplyOutOfMemory, SendFault, ReceiveFault, WentDown, WentUp, Sent, Probed}
+use Rattle.rad_proxy.specs.declared.kinds.Kind.TheVariants as kind
 use Rattle.rad_proxy.specs.declared.kinds.Family.{Family}
 use Rattle.rad_proxy.specs.declared.kinds.Family.TheVariants as family
+use Rattle.rad_proxy.specs.Names.{refusal_name, desk_fault_name}
 
-abbrev pub drop_kind : Dropped → Kind
-drop_kind dropped.UnknownClient = UnknownClient
-drop_kind (dropped.Unread reason) = Unread
-drop_kind dropped.WrongCode = WrongCode
-drop_kind dropped.BadAuthenticator = BadAuthenticator
-drop_kind dropped.BadMessageAuthenticator = BadMessageAuthenticator
-drop_kind dropped.MessageAuthenticatorHere = MessageAuthenticatorHere
-drop_kind dropped.NoRealm = NoRealm
-
-abbrev pub refusal_kind : Refusal → Kind
-refusal_kind refusal.Draining = Draining
-refusal_kind refusal.BookFull = BookFull
-refusal_kind refusal.QueueFull = QueueFull
-refusal_kind refusal.TooLong = TooLong
-refusal_kind refusal.OutOfMemory = OutOfMemory
-refusal_kind refusal.WrongLane = WrongLane
-
-abbrev pub fault_kind : HearFault → Kind
-fault_kind (fault.Unread reason) = ReplyUnread
-fault_kind fault.WrongCode = ReplyWrongCode
-fault_kind fault.Unknown = ReplyUnknown
-fault_kind fault.BadAuthenticator = ReplyBadAuthenticator
-fault_kind fault.MessageAuthenticatorHere = ReplyMessageAuthenticatorHere
-fault_kind fault.NoProxyState = ReplyNoProxyState
-fault_kind fault.OutOfMemory = ReplyOutOfMemory
-
--- The kind of a note; what goes well is not counted.
+-- The kind of a note; what goes well is not counted. What is no packet is of one kind, whatever is wrong with it.
 abbrev pub kind_of : Note → Option Kind
-kind_of (note.Dropped from reason) = Some (drop_kind reason)
-kind_of (note.Refused from reason) = Some (refusal_kind reason)
+kind_of (note.Dropped from (dropped.Unread reason)) = Some kind.Unread
+kind_of (note.Dropped from reason) = Some (kind.Dropped reason)
+kind_of (note.Refused from reason) = Some (kind.Refused reason)
 kind_of (note.Accepted lane number) = None
-kind_of (note.NotHome from) = Some NotHome
-kind_of (note.Unheard desk.RingFull) = Some RingFull
-kind_of (note.Unheard (desk.Lane reason)) = Some (fault_kind reason)
+kind_of (note.NotHome from) = Some kind.NotHome
+kind_of (note.Unheard (desk.Lane (fault.Unread reason))) = Some kind.ReplyUnread
+kind_of (note.Unheard reason) = Some (kind.Unheard reason)
 kind_of (note.Answered lane serial) = None
-kind_of note.WentDown = Some WentDown
-kind_of note.WentUp = Some WentUp
+kind_of note.WentDown = Some kind.WentDown
+kind_of note.WentUp = Some kind.WentUp
 kind_of (note.Took lane serial) = None
 kind_of (note.Cut count) = None
-kind_of note.ReceiveFault = Some ReceiveFault
-kind_of (note.SendFault to) = Some SendFault
+kind_of note.ReceiveFault = Some kind.ReceiveFault
+kind_of (note.SendFault to) = Some kind.SendFault
 
 -- The kind of what a home server is sent: an Accounting-Request or a Status-Server.
 abbrev pub code_kind : ℕ → Option Kind
-code_kind code = if code == 4 then Some Sent else (if code == 12 then Some Probed else None)
+code_kind code = if code == 4 then Some kind.Sent else (if code == 12 then Some kind.Probed else None)
 
 -- The family of a kind.
 abbrev pub family_of : Kind → Family
-family_of UnknownClient = family.Dropped
-family_of Unread = family.Dropped
-family_of WrongCode = family.Dropped
-family_of BadAuthenticator = family.Dropped
-family_of BadMessageAuthenticator = family.Dropped
-family_of MessageAuthenticatorHere = family.Dropped
-family_of NoRealm = family.Dropped
-family_of Draining = family.Refused
-family_of BookFull = family.Refused
-family_of QueueFull = family.Refused
-family_of TooLong = family.Refused
-family_of OutOfMemory = family.Refused
-family_of WrongLane = family.Refused
-family_of NotHome = family.Unheard
-family_of RingFull = family.Unheard
-family_of ReplyUnread = family.Unheard
-family_of ReplyWrongCode = family.Unheard
-family_of ReplyUnknown = family.Unheard
-family_of ReplyBadAuthenticator = family.Unheard
-family_of ReplyMessageAuthenticatorHere = family.Unheard
-family_of ReplyNoProxyState = family.Unheard
-family_of ReplyOutOfMemory = family.Unheard
-family_of SendFault = family.SendFault
-family_of ReceiveFault = family.ReceiveFault
-family_of WentDown = family.WentDown
-family_of WentUp = family.WentUp
-family_of Sent = family.Sent
-family_of Probed = family.Probed
+family_of kind.Sent = family.Sent
+family_of kind.Probed = family.Probed
+family_of kind.Unread = family.Dropped
+family_of (kind.Dropped reason) = family.Dropped
+family_of (kind.Refused reason) = family.Refused
+family_of kind.NotHome = family.Unheard
+family_of kind.ReplyUnread = family.Unheard
+family_of (kind.Unheard reason) = family.Unheard
+family_of kind.SendFault = family.SendFault
+family_of kind.ReceiveFault = family.ReceiveFault
+family_of kind.WentDown = family.WentDown
+family_of kind.WentUp = family.WentUp
 
--- The reason of a kind, within its family.
-abbrev pub reason_of : Kind → List ℕ
-reason_of UnknownClient = codes "UnknownClient"
-reason_of Unread = codes "Unread"
-reason_of WrongCode = codes "WrongCode"
-reason_of BadAuthenticator = codes "BadAuthenticator"
-reason_of BadMessageAuthenticator = codes "BadMessageAuthenticator"
-reason_of MessageAuthenticatorHere = codes "MessageAuthenticatorHere"
-reason_of NoRealm = codes "NoRealm"
-reason_of Draining = codes "Draining"
-reason_of BookFull = codes "BookFull"
-reason_of QueueFull = codes "QueueFull"
-reason_of TooLong = codes "TooLong"
-reason_of OutOfMemory = codes "OutOfMemory"
-reason_of WrongLane = codes "WrongLane"
-reason_of NotHome = codes "NotHome"
-reason_of RingFull = codes "RingFull"
-reason_of ReplyUnread = codes "Unread"
-reason_of ReplyWrongCode = codes "WrongCode"
-reason_of ReplyUnknown = codes "Unknown"
-reason_of ReplyBadAuthenticator = codes "BadAuthenticator"
-reason_of ReplyMessageAuthenticatorHere = codes "MessageAuthenticatorHere"
-reason_of ReplyNoProxyState = codes "NoProxyState"
-reason_of ReplyOutOfMemory = codes "OutOfMemory"
-reason_of SendFault = codes ""
-reason_of ReceiveFault = codes ""
-reason_of WentDown = codes ""
-reason_of WentUp = codes ""
-reason_of Sent = codes ""
-reason_of Probed = codes ""
+-- The reason by which a kind differs from the others of its family.
+abbrev pub reason_text : Kind → List ℕ
+reason_text kind.Unread = codes "Unread"
+reason_text (kind.Dropped reason) = dropped_text reason
+reason_text (kind.Refused reason) = refusal_name reason
+reason_text kind.NotHome = codes "NotHome"
+reason_text kind.ReplyUnread = codes "Unread"
+reason_text (kind.Unheard reason) = desk_fault_name reason
+reason_text k = codes ""
 
 -- The event of a log line.
 abbrev pub event_of : Family → List ℕ

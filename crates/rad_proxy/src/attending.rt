@@ -1,9 +1,10 @@
 //! What the program does as the workers ask and tell: it stops them, wakes them, counts what the front took, and logs.
 
 use crate::counters::Watch;
-use crate::telling::{tell, worker_name};
+use crate::telling::Teller;
 use crate::waking::Bell;
-use log::{Log, error};
+use crate::workers::worker_place;
+use log::Log;
 use rad_desk::{Call, Gate, Go, Note, Worker};
 use rad_realms::Config;
 use std::alloc::{AllocError, Global};
@@ -40,8 +41,7 @@ struct Known {
 #[derive(Drop)]
 pub struct Attendant<'a, G, L> {
     outer: &'a G,
-    log: &'a L,
-    config: &'a Config,
+    teller: &'a Teller<'a, L>,
     /// The bell of the front, then those of the lanes in order.
     bells: &'a [Arc<Bell>],
     /// What is known of each lane, in order.
@@ -60,7 +60,7 @@ impl<'a, G: Gate, L: Log> Attendant<'a, G, L> {
         alloc: Global,
         config: &'a Config,
         outer: &'a G,
-        log: &'a L,
+        teller: &'a Teller<'a, L>,
         bells: &'a [Arc<Bell>],
     ) -> Result<Attendant<'a, G, L>, AllocError> {
         let mut lanes = Vec::with_capacity(alloc, config.homes().len())?;
@@ -72,8 +72,7 @@ impl<'a, G: Gate, L: Log> Attendant<'a, G, L> {
         }
         Ok(Attendant {
             outer,
-            log,
-            config,
+            teller,
             bells,
             lanes,
             stops: AtomicBool::new(false),
@@ -96,8 +95,7 @@ impl<'a, G: Gate, L: Log> Attendant<'a, G, L> {
     /// A worker ended. Where it was not told to, the others stop too.
     pub fn ended(&self, worker: Worker) {
         if !self.is_stopped() {
-            let name = worker_name(self.config, worker);
-            error!(self.log; "event=stopped worker={name} reason=\"ended by itself\"");
+            self.teller.tell_end(worker);
             self.stop();
         }
     }
@@ -112,11 +110,7 @@ impl<'a, G: Gate, L: Log> Attendant<'a, G, L> {
 
     /// Rings the bell of a worker.
     fn ring(&self, worker: Worker) {
-        let place = match worker {
-            Worker::Front => 0,
-            Worker::Lane(lane) => usize::from(lane) + 1,
-        };
-        if let Some(bell) = self.bells.get(place) {
+        if let Some(bell) = self.bells.get(worker_place(worker)) {
             bell.ring();
         }
     }
@@ -143,7 +137,7 @@ impl<'a, G: Gate, L: Log> Attendant<'a, G, L> {
                 Note::WentUp
             };
             self.outer.note(worker, note);
-            tell(self.log, self.config, worker, note);
+            self.teller.tell(worker, note);
         }
     }
 }
@@ -183,6 +177,6 @@ impl<G: Gate, L: Log> Gate for Attendant<'_, G, L> {
             _ => {}
         }
         self.outer.note(worker, note);
-        tell(self.log, self.config, worker, note);
+        self.teller.tell(worker, note);
     }
 }

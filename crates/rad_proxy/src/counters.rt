@@ -3,6 +3,7 @@
 ghost use Rattle.std.specs.Prelude.{◌≡◌, ◌-◌};
 
 use crate::kinds::{KINDS, Kind};
+use crate::workers::worker_place;
 use rad_desk::{Call, Gate, Go, Note, Worker};
 use rad_realms::Endpoint;
 use std::alloc::{AllocError, Global};
@@ -57,7 +58,8 @@ impl Counters {
 
     /// The counter of a worker and a kind.
     fn counter(&self, worker: Worker, kind: Kind) -> Option<&Counter> {
-        self.counters.get(place_of(worker, kind))
+        let row = worker_place(worker) * KINDS.len();
+        self.counters.get(row + kind.place()?)
     }
 
     /// Counts a note.
@@ -127,15 +129,6 @@ fn push_row(counters: &mut Vec<Counter>) -> Result<(), AllocError> {
         })?;
     }
     Ok(())
-}
-
-/// Where the counter of a worker and a kind stands.
-fn place_of(worker: Worker, kind: Kind) -> usize {
-    let row = match worker {
-        Worker::Front => 0,
-        Worker::Lane(lane) => usize::from(lane) + 1,
-    };
-    row * KINDS.len() + kind as usize
 }
 
 /// How much a count rose.

@@ -1,7 +1,7 @@
 //! The kinds of what the workers note, as far as they are counted and summed up.
 
 ghost use Rattle.std.specs.Prelude.{◌≡◌};
-ghost use Rattle.rad_proxy.specs.Kinds.{kind_of, code_kind, drop_kind, refusal_kind, fault_kind, family_of, reason_of, event_of, family_name};
+ghost use Rattle.rad_proxy.specs.Kinds.{kind_of, code_kind, family_of, event_of, family_name};
 
 use rad_desk::{DeskFault, Note};
 use rad_lane::{HearFault, Refusal};
@@ -10,39 +10,26 @@ use rad_realms::Dropped;
 /// A kind of note that is counted.
 #[derive(Clone, Copy, Debug, PartialEq, Eq)]
 pub enum Kind {
-    /// A client's datagram was dropped, for this reason and the six after it.
-    UnknownClient,
-    Unread,
-    WrongCode,
-    BadAuthenticator,
-    BadMessageAuthenticator,
-    MessageAuthenticatorHere,
-    NoRealm,
-    /// A request was refused, for this reason and the five after it.
-    Draining,
-    BookFull,
-    QueueFull,
-    TooLong,
-    OutOfMemory,
-    WrongLane,
-    /// A datagram at a home server's sockets was dropped, for this reason and the eight after it.
-    NotHome,
-    RingFull,
-    ReplyUnread,
-    ReplyWrongCode,
-    ReplyUnknown,
-    ReplyBadAuthenticator,
-    ReplyMessageAuthenticatorHere,
-    ReplyNoProxyState,
-    ReplyOutOfMemory,
-    SendFault,
-    ReceiveFault,
-    WentDown,
-    WentUp,
     /// An Accounting-Request went to the home server, for the first time or again.
     Sent,
     /// A Status-Server went to the home server.
     Probed,
+    /// A client's datagram was dropped, which is no packet.
+    Unread,
+    /// A client's datagram was dropped for this other reason.
+    Dropped(Dropped),
+    /// A request was refused for this reason.
+    Refused(Refusal),
+    /// A datagram at a home server's sockets was dropped, since it came from elsewhere.
+    NotHome,
+    /// A home server's datagram was dropped, which is no packet.
+    ReplyUnread,
+    /// A home server's datagram was dropped for this other reason.
+    Unheard(DeskFault),
+    SendFault,
+    ReceiveFault,
+    WentDown,
+    WentUp,
 }
 
 /// Kinds that differ by their reason alone.
@@ -62,36 +49,36 @@ pub enum Family {
     Probed,
 }
 
-/// Each kind, in its place.
+/// Each kind, in its place: what is counted most stands first, and the kinds of a family in the order of their reasons.
 pub const KINDS: [Kind; 28] = [
-    Kind::UnknownClient,
+    Kind::Sent,
+    Kind::Probed,
+    Kind::Dropped(Dropped::UnknownClient),
     Kind::Unread,
-    Kind::WrongCode,
-    Kind::BadAuthenticator,
-    Kind::BadMessageAuthenticator,
-    Kind::MessageAuthenticatorHere,
-    Kind::NoRealm,
-    Kind::Draining,
-    Kind::BookFull,
-    Kind::QueueFull,
-    Kind::TooLong,
-    Kind::OutOfMemory,
-    Kind::WrongLane,
+    Kind::Dropped(Dropped::WrongCode),
+    Kind::Dropped(Dropped::BadAuthenticator),
+    Kind::Dropped(Dropped::BadMessageAuthenticator),
+    Kind::Dropped(Dropped::MessageAuthenticatorHere),
+    Kind::Dropped(Dropped::NoRealm),
+    Kind::Refused(Refusal::Draining),
+    Kind::Refused(Refusal::BookFull),
+    Kind::Refused(Refusal::QueueFull),
+    Kind::Refused(Refusal::TooLong),
+    Kind::Refused(Refusal::OutOfMemory),
+    Kind::Refused(Refusal::WrongLane),
     Kind::NotHome,
-    Kind::RingFull,
+    Kind::Unheard(DeskFault::RingFull),
     Kind::ReplyUnread,
-    Kind::ReplyWrongCode,
-    Kind::ReplyUnknown,
-    Kind::ReplyBadAuthenticator,
-    Kind::ReplyMessageAuthenticatorHere,
-    Kind::ReplyNoProxyState,
-    Kind::ReplyOutOfMemory,
+    Kind::Unheard(DeskFault::Lane(HearFault::WrongCode)),
+    Kind::Unheard(DeskFault::Lane(HearFault::Unknown)),
+    Kind::Unheard(DeskFault::Lane(HearFault::BadAuthenticator)),
+    Kind::Unheard(DeskFault::Lane(HearFault::MessageAuthenticatorHere)),
+    Kind::Unheard(DeskFault::Lane(HearFault::NoProxyState)),
+    Kind::Unheard(DeskFault::Lane(HearFault::OutOfMemory)),
     Kind::SendFault,
     Kind::ReceiveFault,
     Kind::WentDown,
     Kind::WentUp,
-    Kind::Sent,
-    Kind::Probed,
 ];
 
 impl Kind {
@@ -100,11 +87,12 @@ impl Kind {
         ensures { result ≡ kind_of note }
     {
         match note {
-            Note::Dropped(_, reason) => Some(Kind::of_drop(reason)),
-            Note::Refused(_, reason) => Some(Kind::of_refusal(reason)),
-            Note::Unheard(DeskFault::RingFull) => Some(Kind::RingFull),
-            Note::Unheard(DeskFault::Lane(fault)) => Some(Kind::of_fault(fault)),
+            Note::Dropped(_, Dropped::Unread(_)) => Some(Kind::Unread),
+            Note::Dropped(_, reason) => Some(Kind::Dropped(reason)),
+            Note::Refused(_, reason) => Some(Kind::Refused(reason)),
             Note::NotHome(_) => Some(Kind::NotHome),
+            Note::Unheard(DeskFault::Lane(HearFault::Unread(_))) => Some(Kind::ReplyUnread),
+            Note::Unheard(fault) => Some(Kind::Unheard(fault)),
             Note::SendFault(_) => Some(Kind::SendFault),
             Note::ReceiveFault => Some(Kind::ReceiveFault),
             Note::WentDown => Some(Kind::WentDown),
@@ -124,45 +112,9 @@ impl Kind {
         }
     }
 
-    fn of_drop(reason: Dropped) -> Kind
-        ensures { result ≡ drop_kind reason }
-    {
-        match reason {
-            Dropped::UnknownClient => Kind::UnknownClient,
-            Dropped::Unread(_) => Kind::Unread,
-            Dropped::WrongCode => Kind::WrongCode,
-            Dropped::BadAuthenticator => Kind::BadAuthenticator,
-            Dropped::BadMessageAuthenticator => Kind::BadMessageAuthenticator,
-            Dropped::MessageAuthenticatorHere => Kind::MessageAuthenticatorHere,
-            Dropped::NoRealm => Kind::NoRealm,
-        }
-    }
-
-    fn of_refusal(reason: Refusal) -> Kind
-        ensures { result ≡ refusal_kind reason }
-    {
-        match reason {
-            Refusal::Draining => Kind::Draining,
-            Refusal::BookFull => Kind::BookFull,
-            Refusal::QueueFull => Kind::QueueFull,
-            Refusal::TooLong => Kind::TooLong,
-            Refusal::OutOfMemory => Kind::OutOfMemory,
-            Refusal::WrongLane => Kind::WrongLane,
-        }
-    }
-
-    fn of_fault(fault: HearFault) -> Kind
-        ensures { result ≡ fault_kind fault }
-    {
-        match fault {
-            HearFault::Unread(_) => Kind::ReplyUnread,
-            HearFault::WrongCode => Kind::ReplyWrongCode,
-            HearFault::Unknown => Kind::ReplyUnknown,
-            HearFault::BadAuthenticator => Kind::ReplyBadAuthenticator,
-            HearFault::MessageAuthenticatorHere => Kind::ReplyMessageAuthenticatorHere,
-            HearFault::NoProxyState => Kind::ReplyNoProxyState,
-            HearFault::OutOfMemory => Kind::ReplyOutOfMemory,
-        }
+    /// The place of the kind among all.
+    pub fn place(self) -> Option<usize> {
+        KINDS.iter().position(|kind| *kind == self)
     }
 
     /// The family that the kind is of.
@@ -170,67 +122,15 @@ impl Kind {
         ensures { result ≡ family_of self }
     {
         match self {
-            Kind::UnknownClient
-            | Kind::Unread
-            | Kind::WrongCode
-            | Kind::BadAuthenticator
-            | Kind::BadMessageAuthenticator
-            | Kind::MessageAuthenticatorHere
-            | Kind::NoRealm => Family::Dropped,
-            Kind::Draining
-            | Kind::BookFull
-            | Kind::QueueFull
-            | Kind::TooLong
-            | Kind::OutOfMemory
-            | Kind::WrongLane => Family::Refused,
-            Kind::NotHome
-            | Kind::RingFull
-            | Kind::ReplyUnread
-            | Kind::ReplyWrongCode
-            | Kind::ReplyUnknown
-            | Kind::ReplyBadAuthenticator
-            | Kind::ReplyMessageAuthenticatorHere
-            | Kind::ReplyNoProxyState
-            | Kind::ReplyOutOfMemory => Family::Unheard,
+            Kind::Unread | Kind::Dropped(_) => Family::Dropped,
+            Kind::Refused(_) => Family::Refused,
+            Kind::NotHome | Kind::ReplyUnread | Kind::Unheard(_) => Family::Unheard,
             Kind::SendFault => Family::SendFault,
             Kind::ReceiveFault => Family::ReceiveFault,
             Kind::WentDown => Family::WentDown,
             Kind::WentUp => Family::WentUp,
             Kind::Sent => Family::Sent,
             Kind::Probed => Family::Probed,
-        }
-    }
-
-    /// The reason by which the kind differs from the others of its family.
-    pub fn reason(self) -> &'static str
-        ensures { result.now ≡ reason_of self }
-    {
-        match self {
-            Kind::UnknownClient => "UnknownClient",
-            Kind::Unread | Kind::ReplyUnread => "Unread",
-            Kind::WrongCode | Kind::ReplyWrongCode => "WrongCode",
-            Kind::BadAuthenticator | Kind::ReplyBadAuthenticator => "BadAuthenticator",
-            Kind::BadMessageAuthenticator => "BadMessageAuthenticator",
-            Kind::MessageAuthenticatorHere | Kind::ReplyMessageAuthenticatorHere => {
-                "MessageAuthenticatorHere"
-            }
-            Kind::NoRealm => "NoRealm",
-            Kind::Draining => "Draining",
-            Kind::BookFull => "BookFull",
-            Kind::QueueFull => "QueueFull",
-            Kind::TooLong => "TooLong",
-            Kind::OutOfMemory | Kind::ReplyOutOfMemory => "OutOfMemory",
-            Kind::WrongLane => "WrongLane",
-            Kind::NotHome => "NotHome",
-            Kind::RingFull => "RingFull",
-            Kind::ReplyUnknown => "Unknown",
-            Kind::ReplyNoProxyState => "NoProxyState",
-            Kind::SendFault
-            | Kind::ReceiveFault
-            | Kind::WentDown
-            | Kind::WentUp
-            | Kind::Sent
-            | Kind::Probed => "",
         }
     }
 }

@@ -3,6 +3,7 @@
 ghost use Rattle.std.specs.Prelude.{◌≡◌};
 ghost use Rattle.rad_proxy.specs.Names.{watch_name as the_watch_name, mode_name as the_mode_name, refusal_name as the_refusal_name};
 
+use crate::kinds::Kind;
 use rad_desk::DeskFault;
 use rad_lane::{Counts, HearFault, Refusal};
 use rad_realms::Endpoint;
@@ -15,6 +16,10 @@ pub struct AddressText(pub [u8; 4]);
 /// Why a home server's datagram is not heard.
 #[derive(Clone, Copy)]
 pub struct DeskFaultText(pub DeskFault);
+
+/// Why what is counted came about, where that tells its kind from others.
+#[derive(Clone, Copy)]
+pub struct ReasonText(pub Kind);
 
 /// An IPv4 address in dotted decimal, with a UDP port.
 #[derive(Clone, Copy, Debug)]
@@ -113,6 +118,32 @@ impl fmt::Display for HearFaultText {
             HearFault::MessageAuthenticatorHere => write!(f, "MessageAuthenticatorHere"),
             HearFault::NoProxyState => write!(f, "NoProxyState"),
             HearFault::OutOfMemory => write!(f, "OutOfMemory"),
+        }
+    }
+}
+
+impl fmt::Display for ReasonText {
+    ghost use Rattle.std.specs.Prelude.{Some};
+    ghost use Rattle.rad_proxy.specs.Kinds.{reason_text};
+
+    ghost output = { λ text. Some (reason_text text.0) };
+
+    fn fmt<W: fmt::Write>(&self, f: &mut fmt::Formatter<W>) -> fmt::Result {
+        match self.0 {
+            Kind::Unread | Kind::ReplyUnread => f.write_str("Unread"),
+            Kind::Dropped(reason) => write!(f, "{reason}"),
+            Kind::Refused(reason) => f.write_str(refusal_name(reason)),
+            Kind::NotHome => f.write_str("NotHome"),
+            Kind::Unheard(fault) => {
+                let fault = DeskFaultText(fault);
+                write!(f, "{fault}")
+            }
+            Kind::Sent
+            | Kind::Probed
+            | Kind::SendFault
+            | Kind::ReceiveFault
+            | Kind::WentDown
+            | Kind::WentUp => Ok(()),
         }
     }
 }

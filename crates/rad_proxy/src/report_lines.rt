@@ -2,16 +2,15 @@
 
 ghost use Rattle.std.specs.Prelude.{◌≡◌};
 
-use crate::kinds::Family;
-use crate::names::AddressText;
+use crate::kinds::{Family, Kind};
+use crate::names::{AddressText, ReasonText};
 use rad_realms::Endpoint;
 use std::fmt;
 
 /// So many datagrams of clients were dropped, or so many requests refused, for one reason.
 #[derive(Clone, Copy)]
-pub struct ClientNews<'a> {
-    pub event: &'a str,
-    pub reason: &'a str,
+pub struct ClientNews {
+    pub kind: Kind,
     pub count: u64,
     /// Whence the last one came.
     pub client: Endpoint,
@@ -20,17 +19,16 @@ pub struct ClientNews<'a> {
 /// So many datagrams at a home server's sockets were dropped, for one reason.
 #[derive(Clone, Copy)]
 pub struct HomeNews<'a> {
-    pub event: &'a str,
+    pub kind: Kind,
     /// The home server's name.
     pub home: &'a str,
-    pub reason: &'a str,
     pub count: u64,
 }
 
 /// So many sends of a worker failed, or so many receives.
 #[derive(Clone, Copy)]
 pub struct FaultNews<'a> {
-    pub event: &'a str,
+    pub kind: Kind,
     pub worker: &'a str,
     pub count: u64,
 }
@@ -40,12 +38,12 @@ pub struct FaultNews<'a> {
 pub enum Labels<'a> {
     /// The clients' side.
     Clients,
-    /// The clients' side, for this reason.
-    Reason(&'a str),
+    /// The clients' side, for the reason of this kind.
+    Reason(Kind),
     /// A lane, and its home server's name.
     Home(usize, &'a str),
-    /// A lane and its home server's name, for this reason.
-    HomeReason(usize, &'a str, &'a str),
+    /// A lane and its home server's name, for the reason of this kind.
+    HomeReason(usize, &'a str, Kind),
 }
 
 /// A counter, as Prometheus reads it.
@@ -60,7 +58,7 @@ pub struct CounterLine<'a> {
 #[derive(Clone, Copy)]
 pub struct FamilyLine(pub Family);
 
-impl fmt::Display for ClientNews<'_> {
+impl fmt::Display for ClientNews {
     ghost use Rattle.std.specs.Prelude.{Some};
     ghost use Rattle.rad_proxy.specs.ReportLines.{client_news};
 
@@ -68,16 +66,17 @@ impl fmt::Display for ClientNews<'_> {
 
     fn fmt<W: fmt::Write>(&self, f: &mut fmt::Formatter<W>) -> fmt::Result {
         let ClientNews {
-            event,
-            reason,
+            kind,
             count,
             client,
         } = *self;
+        let event = kind.family().event();
+        let reason = ReasonText(kind);
         let address = AddressText(client.address);
         let port = client.port;
         write!(
             f,
-            "event={event} reason={reason} count={count} client={address} client_port={port}"
+            "event={event} reason=\"{reason}\" count={count} client={address} client_port={port}"
         )
     }
 }
@@ -89,13 +88,13 @@ impl fmt::Display for HomeNews<'_> {
     ghost output = { λ news. Some (home_news news) };
 
     fn fmt<W: fmt::Write>(&self, f: &mut fmt::Formatter<W>) -> fmt::Result {
-        let HomeNews {
-            event,
-            home,
-            reason,
-            count,
-        } = *self;
-        write!(f, "event={event} home={home} reason={reason} count={count}")
+        let HomeNews { kind, home, count } = *self;
+        let event = kind.family().event();
+        let reason = ReasonText(kind);
+        write!(
+            f,
+            "event={event} home={home} reason=\"{reason}\" count={count}"
+        )
     }
 }
 
@@ -107,10 +106,11 @@ impl fmt::Display for FaultNews<'_> {
 
     fn fmt<W: fmt::Write>(&self, f: &mut fmt::Formatter<W>) -> fmt::Result {
         let FaultNews {
-            event,
+            kind,
             worker,
             count,
         } = *self;
+        let event = kind.family().event();
         write!(f, "event={event} worker={worker} count={count}")
     }
 }
@@ -124,9 +124,13 @@ impl fmt::Display for Labels<'_> {
     fn fmt<W: fmt::Write>(&self, f: &mut fmt::Formatter<W>) -> fmt::Result {
         match *self {
             Labels::Clients => write!(f, "side=\"clients\""),
-            Labels::Reason(reason) => write!(f, "reason=\"{reason}\""),
+            Labels::Reason(kind) => {
+                let reason = ReasonText(kind);
+                write!(f, "reason=\"{reason}\"")
+            }
             Labels::Home(lane, home) => write!(f, "lane=\"{lane}\",home=\"{home}\""),
-            Labels::HomeReason(lane, home, reason) => {
+            Labels::HomeReason(lane, home, kind) => {
+                let reason = ReasonText(kind);
                 write!(f, "lane=\"{lane}\",home=\"{home}\",reason=\"{reason}\"")
             }
         }

@@ -3,7 +3,7 @@
 use crate::counters::{Counters, News};
 use crate::kinds::{Family, KINDS, Kind};
 use crate::report_lines::{ClientNews, CounterLine, FamilyLine, FaultNews, HomeNews, Labels};
-use crate::telling::worker_name;
+use crate::workers::{worker_name, worker_of_lane};
 use log::{Log, info, warn};
 use rad_desk::Worker;
 use rad_realms::Config;
@@ -163,7 +163,7 @@ impl<L: Log, K: Keep> Reporter<'_, L, K> {
     pub fn tell(&self) {
         self.tell_of(Worker::Front);
         for lane in 0..self.config.homes().len() {
-            self.tell_of(lane_of(lane));
+            self.tell_of(worker_of_lane(lane));
         }
     }
 
@@ -213,7 +213,7 @@ impl<L: Log, K: Keep> Reporter<'_, L, K> {
         for kind in KINDS {
             if kind.family() == family {
                 let labels = match family {
-                    Family::Dropped | Family::Refused => Labels::Reason(kind.reason()),
+                    Family::Dropped | Family::Refused => Labels::Reason(kind),
                     Family::SendFault | Family::ReceiveFault => Labels::Clients,
                     _ => return Ok(()),
                 };
@@ -241,10 +241,10 @@ impl<L: Log, K: Keep> Reporter<'_, L, K> {
             if kind.family() == family {
                 let labels = match family {
                     Family::Dropped | Family::Refused => return Ok(()),
-                    Family::Unheard => Labels::HomeReason(lane, home, kind.reason()),
+                    Family::Unheard => Labels::HomeReason(lane, home, kind),
                     _ => Labels::Home(lane, home),
                 };
-                let count = self.counters.get(lane_of(lane), kind);
+                let count = self.counters.get(worker_of_lane(lane), kind);
                 let line = CounterLine {
                     family,
                     labels,
@@ -257,35 +257,25 @@ impl<L: Log, K: Keep> Reporter<'_, L, K> {
     }
 }
 
-/// The worker of a lane.
-fn lane_of(lane: usize) -> Worker {
-    Worker::Lane(u16::try_from(lane).unwrap_or(u16::MAX))
-}
-
 /// Logs what is new of a kind. A home server that went down or up is told as it does, and what is sent is not told.
 fn tell_news<L: Log>(log: &L, name: &str, kind: Kind, news: News) {
-    let family = kind.family();
-    let event = family.event();
-    let reason = kind.reason();
     let News { count, last } = news;
     let client = ClientNews {
-        event,
-        reason,
+        kind,
         count,
         client: last,
     };
     let home = HomeNews {
-        event,
+        kind,
         home: name,
-        reason,
         count,
     };
     let fault = FaultNews {
-        event,
+        kind,
         worker: name,
         count,
     };
-    match family {
+    match kind.family() {
         Family::Dropped => info!(log; "{client}"),
         Family::Refused => warn!(log; "{client}"),
         Family::Unheard => info!(log; "{home}"),

@@ -13,6 +13,7 @@ use crate::left_over::close;
 use crate::lines::{DrainLine, EndLine, ListeningLine, StateLine};
 use crate::names::EndpointText;
 use crate::sockets::Sockets;
+use crate::telling::Teller;
 use crate::waking::Bell;
 use crate::watching::watch;
 use crate::wires::UdpWire;
@@ -87,7 +88,10 @@ where
     let sockets = Sockets::bind(rt, alloc, config)?;
     let (wires, mut bells) = make_wires(rt, alloc, config, sockets)?;
     let reader = make_reader(rt, alloc, reader, descriptor, &mut bells)?;
-    let Ok(wires) = watch(alloc, config, gate, log, wires) else {
+    let Ok(teller) = Teller::new(alloc, config, log) else {
+        return Err(Fault::Memory);
+    };
+    let Ok(wires) = watch(alloc, gate, &teller, wires) else {
         return Err(Fault::Memory);
     };
     let listening = ListeningLine {
@@ -101,7 +105,7 @@ where
         wires,
         bells.as_slice(),
         gate,
-        log,
+        &teller,
         reader,
         writer,
     )
@@ -123,7 +127,7 @@ pub fn serve<R, W, G, L, I, O>(
     wires: Wires<W>,
     bells: &[Arc<Bell>],
     gate: &G,
-    log: &L,
+    teller: &Teller<'_, L>,
     reader: I,
     writer: O,
 ) -> Result<EndLine, Fault>
@@ -140,7 +144,7 @@ where
         Ok(opened) => opened,
         Err(OpenFault::OutOfMemory) => return Err(Fault::Memory),
     };
-    let Ok(attendant) = Attendant::new(alloc, config, gate, log, bells) else {
+    let Ok(attendant) = Attendant::new(alloc, config, gate, teller, bells) else {
         return Err(Fault::Memory);
     };
     let service = Service {

@@ -1,32 +1,34 @@
-//! What the workers note, as log lines: an event and what belongs to it, as `event=down home=h1`.
+//! What the workers note and what passes over their wires, as log lines: an event and what belongs to it, as
+//! `event=down home=h1`.
 
+use crate::latest::Latest;
 use crate::names::{AddressText, DeskFaultText, refusal_name};
-use log::{Level, Log, debug, info, log_enabled, trace, warn};
+use crate::packet_words::PacketWords;
+use crate::workers::worker_name;
+use log::{Level, Log, debug, error, info, log_enabled, trace, warn};
 use rad_desk::{DeskFault, Note, Worker};
-use rad_packet::{PacketRef, read};
+use rad_lane::Refusal;
+use rad_packet::read;
 use rad_realms::{Config, Dropped, Endpoint};
+use std::alloc::{AllocError, Global};
 use std::fmt;
 
-/// The attribute User-Name.
-const USER_NAME: u8 = 1;
-
-/// The attribute Acct-Session-Id.
-const ACCT_SESSION_ID: u8 = 44;
-
-/// Which way a datagram passes.
-#[derive(Clone, Copy)]
-pub enum Way {
-    Came,
-    Went,
+/// Tells what the workers of a configuration note, and what passes over their wires.
+#[derive(Drop)]
+pub struct Teller<'a, L> {
+    log: &'a L,
+    config: &'a Config,
+    /// What the workers received last, where the level is `debug` or lower: what they note of a datagram follows at once.
+    latest: Latest,
 }
-
-/// The octets of a text: those that are printed as they are, and the others by two hexadecimal digits behind a `%`.
-#[derive(Clone, Copy)]
-struct Escaped<'a>(&'a [u8]);
 
 /// An IPv4 address and a UDP port.
 #[derive(Clone, Copy)]
 struct PeerText(Endpoint);
+
+/// A client's IPv4 address and UDP port.
+#[derive(Clone, Copy)]
+struct ClientText(Endpoint);
 
 impl fmt::Display for PeerText {
     fn fmt<W: fmt::Write>(&self, f: &mut fmt::Formatter<W>) -> fmt::Result {
@@ -36,10 +38,6 @@ impl fmt::Display for PeerText {
     }
 }
 
-/// A client's IPv4 address and UDP port.
-#[derive(Clone, Copy)]
-struct ClientText(Endpoint);
-
 impl fmt::Display for ClientText {
     fn fmt<W: fmt::Write>(&self, f: &mut fmt::Formatter<W>) -> fmt::Result {
         let address = AddressText(self.0.address);
@@ -48,123 +46,122 @@ impl fmt::Display for ClientText {
     }
 }
 
-impl fmt::Display for Escaped<'_> {
-    fn fmt<W: fmt::Write>(&self, f: &mut fmt::Formatter<W>) -> fmt::Result {
-        for octet in self.0 {
-            match *octet {
-                b'%' | b'"' | b'=' | 0..=32 | 127..=255 => {
-                    write!(f, "%{:x}{:x}", octet / 16, octet % 16)?;
-                }
-                plain => f.write_char(char::from(plain))?,
+impl<'a, L: Log> Teller<'a, L> {
+    /// Tells it all to a log.
+    ///
+    /// # Errors
+    ///
+    /// Where memory is refused.
+    pub fn new(alloc: Global, config: &'a Config, log: &'a L) -> Result<Teller<'a, L>, AllocError> {
+        let latest = if log_enabled!(log; Level::Debug) {
+            Latest::new(alloc, config.homes().len())?
+        } else {
+            Latest::none(alloc)
+        };
+        Ok(Teller {
+            log,
+            config,
+            latest,
+        })
+    }
+
+    /// Tells that a worker ended, which it was not told to.
+    pub fn tell_end(&self, worker: Worker) {
+        let name = worker_name(self.config, worker);
+        error!(self.log; "event=stopped worker={name} reason=\"ended by itself\"");
+    }
+
+    /// Tells a worker's note, in one line: at once what happens seldom, and each drop, refusal and fault where the level
+    /// is `debug`, each packet where it is `trace`.
+    pub fn tell(&self, worker: Worker, note: Note) {
+        let name = worker_name(self.config, worker);
+        match note {
+            Note::WentDown => warn!(self.log; "event=down home={name}"),
+            Note::WentUp => info!(self.log; "event=up home={name}"),
+            Note::Cut(count) => info!(self.log; "event=cut home={name} count={count}"),
+            Note::ReceiveFault => debug!(self.log; "event=receive-fault worker={name}"),
+            Note::SendFault(to) => {
+                let to = PeerText(to);
+                debug!(self.log; "event=send-fault worker={name} {to}");
+            }
+            Note::NotHome(from) => self.tell_not_home(worker, from),
+            Note::Unheard(fault) => self.tell_unheard(worker, fault),
+            Note::Dropped(from, reason) => self.tell_dropped(worker, from, reason),
+            Note::Refused(from, reason) => self.tell_refused(worker, from, reason),
+            Note::Accepted(lane, number) => self.tell_accepted(worker, lane, number),
+            Note::Answered(_, serial) => {
+                trace!(self.log; "event=answered home={name} serial={serial}");
+            }
+            Note::Took(lane, serial) => {
+                let home = worker_name(self.config, Worker::Lane(lane));
+                trace!(self.log; "event=returned home={home} serial={serial}");
             }
         }
-        Ok(())
     }
-}
 
-/// The name of a worker: a lane's is its home server's.
-pub fn worker_name(config: &Config, worker: Worker) -> &str {
-    match worker {
-        Worker::Front => "front",
-        Worker::Lane(lane) => match config.homes().get(usize::from(lane)) {
-            Some(home) => home.name(),
-            None => "none",
-        },
+    /// Tells that a worker received a datagram, where the level is `trace`.
+    pub fn tell_received(&self, worker: Worker, from: Endpoint, octets: &[u8]) {
+        self.latest.keep(worker, octets);
+        self.tell_datagram("came", worker, from, octets);
     }
-}
 
-/// Logs a worker's note, in one line: at once what happens seldom, and each drop, refusal and fault where the level is
-/// `debug`, each packet where it is `trace`.
-pub fn tell<L: Log>(log: &L, config: &Config, worker: Worker, note: Note) {
-    let name = worker_name(config, worker);
-    match note {
-        Note::WentDown => warn!(log; "event=down home={name}"),
-        Note::WentUp => info!(log; "event=up home={name}"),
-        Note::Cut(count) => info!(log; "event=cut home={name} count={count}"),
-        Note::ReceiveFault => debug!(log; "event=receive-fault worker={name}"),
-        Note::SendFault(to) => {
-            let to = PeerText(to);
-            debug!(log; "event=send-fault worker={name} {to}");
-        }
-        Note::NotHome(from) => {
-            let from = PeerText(from);
-            debug!(log; "event=unheard home={name} {from} reason=NotHome");
-        }
-        Note::Unheard(fault) => tell_unheard(log, name, fault),
-        Note::Dropped(from, reason) => tell_dropped(log, ClientText(from), reason),
-        Note::Refused(from, reason) => {
-            let from = ClientText(from);
-            let reason = refusal_name(reason);
-            debug!(log; "event=refused {from} reason={reason}");
-        }
-        Note::Accepted(lane, number) => {
-            let home = worker_name(config, Worker::Lane(lane));
-            trace!(log; "event=accepted home={home} number={number}");
-        }
-        Note::Answered(_, serial) => trace!(log; "event=answered home={name} serial={serial}"),
-        Note::Took(lane, serial) => {
-            let home = worker_name(config, Worker::Lane(lane));
-            trace!(log; "event=returned home={home} serial={serial}");
-        }
+    /// Tells that a worker sends a datagram, where the level is `trace`.
+    pub fn tell_sent(&self, worker: Worker, to: Endpoint, octets: &[u8]) {
+        self.tell_datagram("went", worker, to, octets);
     }
-}
 
-/// Logs that a datagram of a client was dropped.
-fn tell_dropped<L: Log>(log: &L, from: ClientText, reason: Dropped) {
-    debug!(log; "event=dropped {from} reason=\"{reason}\"");
-}
-
-/// Logs that a datagram of a home server was dropped.
-fn tell_unheard<L: Log>(log: &L, home: &str, fault: DeskFault) {
-    let reason = DeskFaultText(fault);
-    debug!(log; "event=unheard home={home} reason=\"{reason}\"");
-}
-
-/// Logs a datagram that passes, where the level is `trace`: whose it is, and of what is in it the session and the realm.
-pub fn tell_packet<L: Log>(
-    log: &L,
-    config: &Config,
-    worker: Worker,
-    way: Way,
-    peer: Endpoint,
-    octets: &[u8],
-) {
-    if !log_enabled!(log; Level::Trace) {
-        return;
+    fn tell_dropped(&self, worker: Worker, from: Endpoint, reason: Dropped) {
+        let from = ClientText(from);
+        let packet = self.latest.words(worker);
+        debug!(self.log; "event=dropped {from}{packet} reason=\"{reason}\"");
     }
-    let name = worker_name(config, worker);
-    let event = match way {
-        Way::Came => "came",
-        Way::Went => "went",
-    };
-    let peer = PeerText(peer);
-    let Ok(packet) = read(octets) else {
-        let count = octets.len();
-        trace!(log; "event={event} worker={name} {peer} octets={count} reason=Unread");
-        return;
-    };
-    let code = packet.code();
-    let identifier = packet.identifier();
-    let length = packet.octets().len();
-    let session = Escaped(value_of(&packet, ACCT_SESSION_ID));
-    let realm = Escaped(realm_in(value_of(&packet, USER_NAME)));
-    trace!(log; "event={event} worker={name} {peer} code={code} identifier={identifier} length={length} session={session} realm={realm}");
-}
 
-/// The value of the first attribute of a Type, or nothing where there is none.
-fn value_of<'a>(packet: &PacketRef<'a>, kind: u8) -> &'a [u8] {
-    for attribute in packet.attributes() {
-        if attribute.kind == kind {
-            return attribute.value;
+    fn tell_refused(&self, worker: Worker, from: Endpoint, reason: Refusal) {
+        let from = ClientText(from);
+        let packet = self.latest.words(worker);
+        let reason = refusal_name(reason);
+        debug!(self.log; "event=refused {from}{packet} reason=\"{reason}\"");
+    }
+
+    fn tell_accepted(&self, worker: Worker, lane: u16, number: u64) {
+        let home = worker_name(self.config, Worker::Lane(lane));
+        let packet = self.latest.words(worker);
+        trace!(self.log; "event=accepted home={home} number={number}{packet}");
+    }
+
+    fn tell_not_home(&self, worker: Worker, from: Endpoint) {
+        let name = worker_name(self.config, worker);
+        let from = PeerText(from);
+        let packet = self.latest.words(worker);
+        debug!(self.log; "event=unheard home={name} {from}{packet} reason=\"NotHome\"");
+    }
+
+    fn tell_unheard(&self, worker: Worker, fault: DeskFault) {
+        let name = worker_name(self.config, worker);
+        let packet = self.latest.words(worker);
+        let reason = DeskFaultText(fault);
+        debug!(self.log; "event=unheard home={name}{packet} reason=\"{reason}\"");
+    }
+
+    /// Tells of a datagram that passes, where the level is `trace`: whose it is, and of what is in it the session and the
+    /// realm.
+    fn tell_datagram(&self, event: &str, worker: Worker, peer: Endpoint, octets: &[u8]) {
+        if !log_enabled!(self.log; Level::Trace) {
+            return;
         }
-    }
-    &[]
-}
-
-/// What follows the last `@` of a user's name, or nothing where it has none. The user is left out.
-fn realm_in(name: &[u8]) -> &[u8] {
-    match name.iter().rposition(|octet| *octet == b'@') {
-        Some(place) => name.get(place + 1..).unwrap_or(&[]),
-        None => &[],
+        let name = worker_name(self.config, worker);
+        let peer = PeerText(peer);
+        match read(octets) {
+            Ok(packet) => {
+                let code = packet.code();
+                let length = packet.octets().len();
+                let packet = PacketWords(&packet);
+                trace!(self.log; "event={event} worker={name} {peer} code={code} length={length}{packet}");
+            }
+            Err(fault) => {
+                let count = octets.len();
+                trace!(self.log; "event={event} worker={name} {peer} octets={count} reason=\"Unread {fault}\"");
+            }
+        }
     }
 }

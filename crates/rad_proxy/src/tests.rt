@@ -4,6 +4,7 @@ mod counting;
 mod ending;
 mod octets;
 mod serving;
+mod telling;
 
 use crate::check_command::check_text;
 use crate::faults::Fault;

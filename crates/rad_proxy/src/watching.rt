@@ -1,20 +1,21 @@
-//! A wire that tells of each datagram that passes: what went out is counted, and at the level `trace` each is logged.
+//! A wire that tells of each datagram that passes: what went out is counted, what came is there for the note that follows,
+//! and at the level `trace` each is logged.
 
 use crate::counters::Watch;
 use crate::serving::Wires;
-use crate::telling::{Way, tell_packet};
+use crate::telling::Teller;
+use crate::workers::worker_of_lane;
 use log::Log;
 use rad_desk::{Delivery, Received, Wire, Worker};
-use rad_realms::{Config, Endpoint};
+use rad_realms::Endpoint;
 use rad_tables::Moment;
 use std::alloc::{AllocError, Global};
 
 /// What tells of the datagrams of a worker.
 struct Watcher<'a, G, L> {
     worker: Worker,
-    config: &'a Config,
     gate: &'a G,
-    log: &'a L,
+    teller: &'a Teller<'a, L>,
 }
 
 /// The wire of a worker, and what tells of its datagrams.
@@ -34,12 +35,12 @@ impl<G, L> Copy for Watcher<'_, G, L> {}
 
 impl<G: Watch, L: Log> Watcher<'_, G, L> {
     fn came(&self, from: Endpoint, octets: &[u8]) {
-        tell_packet(self.log, self.config, self.worker, Way::Came, from, octets);
+        self.teller.tell_received(self.worker, from, octets);
     }
 
     fn went(&self, to: Endpoint, octets: &[u8]) {
         self.gate.sent(self.worker, octets);
-        tell_packet(self.log, self.config, self.worker, Way::Went, to, octets);
+        self.teller.tell_sent(self.worker, to, octets);
     }
 }
 
@@ -50,22 +51,19 @@ impl<G: Watch, L: Log> Watcher<'_, G, L> {
 /// Where memory is refused.
 pub fn watch<'a, W: Drop, G, L>(
     alloc: Global,
-    config: &'a Config,
     gate: &'a G,
-    log: &'a L,
+    teller: &'a Teller<'a, L>,
     wires: Wires<W>,
 ) -> Result<Wires<WatchedWire<'a, W, G, L>>, AllocError> {
     let Wires { front, lanes } = wires;
     let mut watched = Vec::with_capacity(alloc, lanes.len())?;
     for (lane, wire) in lanes.into_iter().enumerate() {
-        let worker = Worker::Lane(u16::try_from(lane).unwrap_or(u16::MAX));
         watched.push(WatchedWire {
             wire,
             watcher: Watcher {
-                worker,
-                config,
+                worker: worker_of_lane(lane),
                 gate,
-                log,
+                teller,
             },
         })?;
     }
@@ -74,9 +72,8 @@ pub fn watch<'a, W: Drop, G, L>(
             wire: front,
             watcher: Watcher {
                 worker: Worker::Front,
-                config,
                 gate,
-                log,
+                teller,
             },
         },
         lanes: watched,

@@ -290,9 +290,9 @@ fn has_message_authenticator(packet: &PacketRef<'_>) -> bool
     packet.count_of(MESSAGE_AUTHENTICATOR) != 0
 }
 
-/// The realm of a packet, where it has one.
+/// The realm of a packet's User-Name, where it has one. It looks at each attribute up to that once.
 #[tactic(auto, unfolding(crate::specs::Realm::realm_of_packet))]
-fn realm_of_packet<'a>(packet: &PacketRef<'a>) -> Option<&'a [u8]>
+pub fn realm_of_packet<'a>(packet: &PacketRef<'a>) -> Option<&'a [u8]>
     ensures realm { option_copied result ≡ the_realm packet.now }
     ensures packet { IsPacketText packet.now }
 {

@@ -16,7 +16,7 @@ mod name;
 mod reading;
 mod realms;
 
-pub use checking::{Checked, CheckedStatus, Dropped, Incoming, check_in};
+pub use checking::{Checked, CheckedStatus, Dropped, Incoming, check_in, realm_of_packet};
 pub use clients::Client;
 pub use config::Config;
 pub use homes::Home;

@@ -103,18 +103,25 @@ fn what_is_told_is_news_no_more(rt: HostRuntime) -> Result<(), Fail> {
     for _ in 0..3 {
         counters.note(Worker::Front, Note::Dropped(NAS, Dropped::NoRealm));
     }
-    let Some(news) = counters.tell(Worker::Front, Kind::NoRealm) else {
+    let Some(news) = counters.tell(Worker::Front, Kind::Dropped(Dropped::NoRealm)) else {
         return Err(Fail::from("no news"));
     };
     assert_eq!(rt; news.count, 3);
     assert!(rt; news.last == NAS);
-    assert!(rt; counters.tell(Worker::Front, Kind::NoRealm).is_none());
+    assert!(rt;
+        counters
+            .tell(Worker::Front, Kind::Dropped(Dropped::NoRealm))
+            .is_none()
+    );
     counters.note(Worker::Front, Note::Dropped(NAS, Dropped::NoRealm));
-    let Some(news) = counters.tell(Worker::Front, Kind::NoRealm) else {
+    let Some(news) = counters.tell(Worker::Front, Kind::Dropped(Dropped::NoRealm)) else {
         return Err(Fail::from("no news"));
     };
     assert_eq!(rt; news.count, 1);
-    assert_eq!(rt; counters.get(Worker::Front, Kind::NoRealm), 4);
+    assert_eq!(rt;
+        counters.get(Worker::Front, Kind::Dropped(Dropped::NoRealm)),
+        4
+    );
     Ok(())
 }
 
@@ -124,9 +131,18 @@ fn each_worker_has_its_own(rt: HostRuntime) -> Result<(), Fail> {
     counters.note(Worker::Lane(1), Note::Unheard(DeskFault::RingFull));
     counters.note(Worker::Lane(2), Note::WentDown);
     counters.note(Worker::Lane(0), Note::Accepted(0, 0));
-    assert_eq!(rt; counters.get(Worker::Lane(0), Kind::RingFull), 0);
-    assert_eq!(rt; counters.get(Worker::Lane(1), Kind::RingFull), 1);
-    assert_eq!(rt; counters.get(Worker::Front, Kind::RingFull), 0);
+    assert_eq!(rt;
+        counters.get(Worker::Lane(0), Kind::Unheard(DeskFault::RingFull)),
+        0
+    );
+    assert_eq!(rt;
+        counters.get(Worker::Lane(1), Kind::Unheard(DeskFault::RingFull)),
+        1
+    );
+    assert_eq!(rt;
+        counters.get(Worker::Front, Kind::Unheard(DeskFault::RingFull)),
+        0
+    );
     assert_eq!(rt; counters.get(Worker::Lane(2), Kind::WentDown), 0);
     Ok(())
 }

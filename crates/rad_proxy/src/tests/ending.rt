@@ -6,6 +6,7 @@ use crate::counters::Watch;
 use crate::faults::Fault;
 use crate::interrupting::Interruptible;
 use crate::serving::{Wires, run, serve};
+use crate::telling::Teller;
 use log::sink::Discard;
 use rad_desk::{Call, Gate, Go, Traffic, Worker};
 use rad_realms::{Endpoint, read_config};
@@ -67,7 +68,7 @@ impl<R: Clock> Read for Silent<'_, R> {
 }
 
 /// A wire in memory on which nothing comes.
-fn quiet<'a, R: Clock>(clock: &'a R, sent: &'a AtomicU64) -> Scripted<'a, R> {
+pub(super) fn quiet<'a, R: Clock>(clock: &'a R, sent: &'a AtomicU64) -> Scripted<'a, R> {
     Scripted {
         clock,
         from: Endpoint {
@@ -86,6 +87,7 @@ fn quiet<'a, R: Clock>(clock: &'a R, sent: &'a AtomicU64) -> Scripted<'a, R> {
 fn a_worker_that_ends_ends_the_service(rt: HostRuntime) -> std::result::Result<(), Fail> {
     let alloc = rt.alloc();
     let config = read_config(alloc, TWO_HOMES)?;
+    let teller = Teller::new(alloc, &config, &Discard)?;
     let sent = AtomicU64::new(0);
     for worker in [Worker::Front, Worker::Lane(0), Worker::Lane(1)] {
         let mut taken = Vec::new(alloc);
@@ -102,7 +104,7 @@ fn a_worker_that_ends_ends_the_service(rt: HostRuntime) -> std::result::Result<(
             },
             &[],
             &Ending(worker),
-            &Discard,
+            &teller,
             Silent {
                 clock: &rt,
                 looks: LOOKS,

@@ -6,6 +6,7 @@ use crate::attending::Open;
 use crate::commands::{Command, Commands};
 use crate::faults::Fault;
 use crate::serving::{Wires, run, serve};
+use crate::telling::Teller;
 use log::sink::Discard;
 use rad_desk::{Call, Delivery, Gate, Go, Received, Traffic, Wire, Worker};
 use rad_realms::{Config, Endpoint, read_config};
@@ -142,11 +143,11 @@ fn a_failed_read_ends_the_service(rt: HostRuntime) -> std::result::Result<(), Fa
 
 /// Asks how the lanes stand until enough datagrams went out, and then ends.
 #[derive(Drop)]
-struct Asking<'a, R> {
-    clock: &'a R,
-    sent: &'a AtomicU64,
-    enough: u64,
-    looks: u32,
+pub(super) struct Asking<'a, R> {
+    pub(super) clock: &'a R,
+    pub(super) sent: &'a AtomicU64,
+    pub(super) enough: u64,
+    pub(super) looks: u32,
 }
 
 impl<R: Clock> Read for Asking<'_, R> {
@@ -313,7 +314,7 @@ fn lanes_have_threads_of_their_own(rt: HostRuntime) -> std::result::Result<(), F
         wires,
         &[],
         &gate,
-        &Discard,
+        &Teller::new(alloc, &config, &Discard)?,
         reader,
         writer,
     )?;

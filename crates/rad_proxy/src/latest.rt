@@ -1,0 +1,107 @@
+//! What each worker received last, for the lines that tell of a datagram where a note has not the datagram itself.
+
+use crate::packet_words::PacketWords;
+use crate::workers::worker_place;
+use rad_desk::Worker;
+use rad_packet::read;
+use std::alloc::{AllocError, Global};
+use std::fmt;
+use std::sync::Mutex;
+
+/// The datagram that each worker received last: the front's, then those of the lanes in order. It is each worker's own, so
+/// no lock is ever waited for.
+#[derive(Drop)]
+pub struct Latest {
+    received: Vec<Mutex<Received>>,
+}
+
+/// What was received.
+#[derive(Drop)]
+struct Received {
+    octets: [u8; 4096],
+    count: usize,
+}
+
+/// What a line tells of the packet that a worker received last: nothing where that was none.
+#[derive(Clone, Copy)]
+pub struct LatestWords<'a> {
+    latest: &'a Latest,
+    worker: Worker,
+}
+
+impl Latest {
+    /// Keeps nothing of any worker.
+    pub fn none(alloc: Global) -> Latest {
+        Latest {
+            received: Vec::new(alloc),
+        }
+    }
+
+    /// Keeps what the front receives, and so many lanes. It takes no more memory for it later.
+    ///
+    /// # Errors
+    ///
+    /// Where memory is refused.
+    pub fn new(alloc: Global, lanes: usize) -> Result<Latest, AllocError> {
+        let mut received = Vec::new(alloc);
+        received.push(Mutex::new(Received::nothing()))?;
+        for _ in 0..lanes {
+            received.push(Mutex::new(Received::nothing()))?;
+        }
+        Ok(Latest { received })
+    }
+
+    /// Keeps what a worker received, in place of what it received before.
+    pub fn keep(&self, worker: Worker, octets: &[u8]) {
+        if let Some(received) = self.received.get(worker_place(worker)) {
+            if let Some(mut received) = received.try_lock() {
+                received.set(octets);
+            }
+        }
+    }
+
+    /// The words of the packet that a worker received last.
+    pub fn words(&self, worker: Worker) -> LatestWords<'_> {
+        LatestWords {
+            latest: self,
+            worker,
+        }
+    }
+}
+
+impl Received {
+    fn nothing() -> Received {
+        Received {
+            octets: [0; 4096],
+            count: 0,
+        }
+    }
+
+    fn set(&mut self, octets: &[u8]) {
+        let count = octets.len().min(self.octets.len());
+        self.octets[..count].copy_from_slice(&octets[..count]);
+        self.count = count;
+    }
+
+    fn octets(&self) -> &[u8] {
+        self.octets.get(..self.count).unwrap_or(&[])
+    }
+}
+
+impl fmt::Display for LatestWords<'_> {
+    fn fmt<W: fmt::Write>(&self, f: &mut fmt::Formatter<W>) -> fmt::Result {
+        let Some(received) = self.latest.received.get(worker_place(self.worker)) else {
+            return Ok(());
+        };
+        let Some(received) = received.try_lock() else {
+            return Ok(());
+        };
+        match read(received.octets()) {
+            Ok(packet) => {
+                let words = PacketWords(&packet);
+                write!(f, "{words}")
+            }
+            Err(_) => Ok(()),
+        }
+    }
+}

@@ -1,0 +1,53 @@
+//! What a log line tells of a packet.
+
+use rad_packet::PacketRef;
+use rad_realms::realm_of_packet;
+use std::fmt;
+
+/// The Type of an Acct-Session-Id (RFC 2866 section 5.5).
+const ACCT_SESSION_ID: u8 = 44;
+
+/// A packet's Identifier, and its session and its realm where it has them, each behind a space. The user is left out.
+#[derive(Clone, Copy)]
+pub struct PacketWords<'a>(pub &'a PacketRef<'a>);
+
+/// The octets of a text: those that are printed as they are, and the others by two hexadecimal digits behind a `%`.
+#[derive(Clone, Copy)]
+struct Escaped<'a>(&'a [u8]);
+
+impl fmt::Display for PacketWords<'_> {
+    fn fmt<W: fmt::Write>(&self, f: &mut fmt::Formatter<W>) -> fmt::Result {
+        let packet = self.0;
+        let identifier = packet.identifier();
+        write!(f, " identifier={identifier}")?;
+        if let Some(session) = session_of(packet) {
+            let session = Escaped(session);
+            write!(f, " session={session}")?;
+        }
+        if let Some(realm) = realm_of_packet(packet) {
+            let realm = Escaped(realm);
+            write!(f, " realm={realm}")?;
+        }
+        Ok(())
+    }
+}
+
+impl fmt::Display for Escaped<'_> {
+    fn fmt<W: fmt::Write>(&self, f: &mut fmt::Formatter<W>) -> fmt::Result {
+        for octet in self.0 {
+            match *octet {
+                b'%' | b'"' | b'=' | 0..=32 | 127..=255 => {
+                    write!(f, "%{:x}{:x}", octet / 16, octet % 16)?;
+                }
+                plain => f.write_char(char::from(plain))?,
+            }
+        }
+        Ok(())
+    }
+}
+
+/// The Acct-Session-Id of a packet, where it has one.
+fn session_of<'a>(packet: &PacketRef<'a>) -> Option<&'a [u8]> {
+    let session = packet.first_of(ACCT_SESSION_ID)?;
+    packet.octets().get(session.place..)?.get(2..session.length)
+}
