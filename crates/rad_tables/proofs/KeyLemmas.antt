@@ -15,18 +15,18 @@ use Rattle.rad_tables.specs.Keys.{key_cmp}
 -- keys that compare alike are one
 pub exact_keys : CmpEqualImpliesEq key_cmp
 exact_keys a b h =
-    ap (λ (p : List ℕ × (ℕ × (ℕ × List ℕ))). record { client = p.0; port = p.1.0; identifier = p.1.1.0; authenticator = p.1.1.1 })
+    ap (λ (p : List ℕ × (List ℕ × (ℕ × ℕ))). record { authenticator = p.0; client = p.1.0; port = p.1.1.0; identifier = p.1.1.1 })
     (exact_pairs (slice_cmp nat_cmp) _ exact_bytes
-    (exact_pairs nat_cmp _ exact_unsigned (exact_pairs nat_cmp (slice_cmp nat_cmp) exact_unsigned exact_bytes))
-    (a.client, (a.port, (a.identifier, a.authenticator)))
-    (b.client, (b.port, (b.identifier, b.authenticator)))
+    (exact_pairs (slice_cmp nat_cmp) _ exact_bytes (exact_pairs nat_cmp nat_cmp exact_unsigned exact_unsigned))
+    (a.authenticator, (a.client, (a.port, a.identifier)))
+    (b.authenticator, (b.client, (b.port, b.identifier)))
     h)
 
 pub keys_total : IsTotalOrder key_cmp
 keys_total =
-    then_total (on_total (λ k. k.client) nat_list_cmp_total)
-    (then_total (on_total (λ k. k.port) nat_cmp_total)
-    (then_total (on_total (λ k. k.identifier) nat_cmp_total) (on_total (λ k. k.authenticator) nat_list_cmp_total)))
+    then_total (on_total (λ k. k.authenticator) nat_list_cmp_total)
+    (then_total (on_total (λ k. k.client) nat_list_cmp_total)
+    (then_total (on_total (λ k. k.port) nat_cmp_total) (on_total (λ k. k.identifier) nat_cmp_total)))
 
 -- what the entries have at a key, as a search tree finds it
 abbrev pub number_at : List (Key × ℕ) → Key → Option ℕ

@@ -7,18 +7,20 @@ use std::alloc::{AllocError, Global};
 use std::collections::BTreeMap;
 use std::marker::Model;
 
-/// What makes two requests the same one (RFC 2866 section 3, Identifier, for the first three; the
+/// What makes two requests the same one (RFC 2866 section 3, Identifier, for the last three; the
 /// authenticator is own).
+///
+/// Keys are ordered by their authenticators first: two of them mostly differ in their first octet.
 #[derive(Clone, Copy, Debug, PartialEq, Eq, PartialOrd, Ord)]
 pub struct Key {
+    /// The packet's Request Authenticator.
+    pub authenticator: [u8; 16],
     /// The client's IPv4 address.
     pub client: [u8; 4],
     /// The UDP port that it sent from.
     pub port: u16,
     /// The packet's Identifier.
     pub identifier: u8,
-    /// The packet's Request Authenticator.
-    pub authenticator: [u8; 16],
 }
 
 /// The last number of each key.
