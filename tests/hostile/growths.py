@@ -1,5 +1,5 @@
 #!/usr/bin/env python3
-"""Refuses the growths of a program one after the other, and says where what it answers is not what it should.
+"""Refuses the growths of a program one after the other, and its threads, and says where what it answers is not what it should.
 
 usage: growths.py PROGRAM [TESTS ..]
 
@@ -9,7 +9,7 @@ that follow refused too. `replay` has to end in `configuration: OutOfMemory` or 
 without the refusal, or it goes on: then each event whose growth was refused says so and has changed nothing, and every
 other line and the end are what model.py answers. `run` ends in one of these two or in `threads: failed`. Where one
 allocation alone is refused, the program may also do with a smaller one and answer all; where all that follow are refused
-too, `replay` may not. The row each-call-is-made-twice makes each call that takes memory twice, so that the second one shows
+too, `replay` may not. Each thread of `run` is refused in turn as well: then it has to end in `threads: failed`. The row each-call-is-made-twice makes each call that takes memory twice, so that the second one shows
 what is there after a refusal; what-takes-no-memory has to come to its end with every growth refused from some event on.
 
 TESTS are programs of tests, as `rt test` leaves them in crates/CRATE/out/CRATE_tests. With one growth refused, each test has
@@ -38,7 +38,8 @@ ROWS = ["lane/answers-one-request", "draining/drains", "responses/untaken-of-two
 ROWS += ["refusals/each-call-is-made-twice", QUIET]
 REFUSALS = ["nas: refused OutOfMemory", "home: dropped OutOfMemory", "turn: refused OutOfMemory"]
 ENDINGS = {"configuration: OutOfMemory": 2, "memory: refused": 4}
-ENDINGS_OF_RUN = {**ENDINGS, "threads: failed": 4}
+THREADLESS = {"threads: failed": 4}
+ENDINGS_OF_RUN = {**ENDINGS, **THREADLESS}
 COMMANDS = b"state\ndrain\n"
 STATE = "lane 0 h1 up open accepted 0 queued 0 outstanding 0 answered 0 opening 0"
 TEST_FAILED = 101
@@ -56,18 +57,19 @@ class Refuser:
         compiler = os.environ.get("CC", "cc").split()
         subprocess.run([*compiler, "-O2", "-shared", "-fPIC", "-o", self.library, HERE / "refuse.c"], check=True)
 
-    def settings(self, first, last):
-        """The environment in which the allocations from `first` to `last` are refused; `run` logs so much that it takes all."""
-        numbers = {"REFUSE_FIRST": str(first), "REFUSE_LAST": str(last), "REFUSE_NOTE": str(self.note)}
-        return {**os.environ, **numbers, "LD_PRELOAD": str(self.library), "RAD_PROXY_LOG": "debug"}
+    def settings(self, numbers):
+        """The environment in which what has these numbers is refused; `run` logs so much that it takes all its memory."""
+        texts = {f"REFUSE_{name}": str(number) for name, number in numbers.items()}
+        more = {"REFUSE_NOTE": str(self.note), "LD_PRELOAD": str(self.library), "RAD_PROXY_LOG": "debug"}
+        return {**os.environ, **texts, **more}
 
     def has_refused(self):
         return self.note.exists()
 
-    def run(self, words, given, first, last):
-        """What came of a program with the allocations from `first` to `last` refused; none where it made fewer."""
+    def run(self, words, given, **numbers):
+        """What came of a program with what has these numbers refused; none where it has no such."""
         self.note.unlink(missing_ok=True)
-        how = {"input": given, "env": self.settings(first, last), "capture_output": True, "timeout": SECONDS}
+        how = {"input": given, "env": self.settings(numbers), "capture_output": True, "timeout": SECONDS}
         try:
             ran = subprocess.run(words, **how)
         except subprocess.TimeoutExpired as late:
@@ -80,13 +82,14 @@ class Subject:
     """What is run: its words and its input, and what says of a run, and of whether one growth alone was refused, its fault.
 
     Some run where all growths are refused from one on has to print just the lines `quiet`. Of a test not each growth is
-    refused."""
+    refused. Or it is its threads that are refused, and no growth is."""
 
     name: str
     words: list
     given: bytes
     fault_of: Callable
     is_test: bool = False
+    is_threads: bool = False
     quiet: list | None = None
 
 
@@ -117,6 +120,12 @@ def fault_of_run(wanted, ran, _):
     if (ran.returncode, told) == (0, wanted):
         return None
     return fault_of_ending(wanted, told, ran.returncode, ENDINGS_OF_RUN.get(error), ran.stderr)
+
+
+def fault_of_threadless(wanted, ran, _):
+    """The same of `run` with a thread refused, which has to end early."""
+    told, error = told_by(ran)
+    return fault_of_ending(wanted, told, ran.returncode, THREADLESS.get(error), ran.stderr)
 
 
 def fault_of_test(may_stop, ran, _):
@@ -155,7 +164,9 @@ def subjects(program, folder):
     file = pathlib.Path(folder, "one-home.toml")
     file.write_text((rows.ROWS / "one-home.toml").read_text("utf-8").replace("127.0.0.1:1813", listen), "utf-8")
     wanted = [f"listening {listen}", STATE, "drain: 0 0", "end: queued 0 outstanding 0 untaken 0"]
-    yield Subject("run", [program, "run", str(file)], COMMANDS, partial(fault_of_run, wanted))
+    words = [program, "run", str(file)]
+    yield Subject("run", words, COMMANDS, partial(fault_of_run, wanted))
+    yield Subject("run", words, COMMANDS, partial(fault_of_threadless, wanted), is_threads=True)
 
 
 def tests_of(program):
@@ -166,11 +177,18 @@ def tests_of(program):
         yield Subject(f"{pathlib.Path(program).name} {name}", [program, name], b"", fault_of, is_test=True)
 
 
+def numbers_of(subject, number, is_alone):
+    """What is refused where this number is."""
+    if subject.is_threads:
+        return {"THREAD": number}
+    return {"FIRST": number, "LAST": number if is_alone else MOST_ALLOCATIONS}
+
+
 def refused_in_turn(refuser, subject, is_alone):
-    """Each run with one allocation refused, or all from one on: the number of that one, and what came."""
+    """Each run with one allocation or thread refused, or all from one on: the number of that one, and what came."""
     number = 1
     while number < MOST_ALLOCATIONS:
-        ran = refuser.run(subject.words, subject.given, number, number if is_alone else MOST_ALLOCATIONS)
+        ran = refuser.run(subject.words, subject.given, **numbers_of(subject, number, is_alone))
         if ran is None:
             return
         yield number, ran
@@ -180,15 +198,15 @@ def refused_in_turn(refuser, subject, is_alone):
 def tried(refuser, subject, is_alone, seen):
     """How many runs of a subject passed and failed; how they ended goes to `seen`."""
     endings, failed, is_loud = [], 0, subject.quiet is not None and not is_alone
-    how = "alone" if is_alone else "with all that follow"
+    what, how = "thread" if subject.is_threads else "allocation", "alone" if is_alone else "with all that follow"
     for number, ran in refused_in_turn(refuser, subject, is_alone):
         endings.append(ending_of(ran))
         is_loud = is_loud and told_by(ran)[0] != subject.quiet
         fault = subject.fault_of(ran, is_alone)
         if fault is not None:
             failed += 1
-            print(f"{subject.name}, allocation {number} refused {how}: {fault}")
-    print(f"{subject.name}: {len(endings)} allocations refused {how}, {endings.count(None)} of them did no harm", flush=True)
+            print(f"{subject.name}, {what} {number} refused {how}: {fault}")
+    print(f"{subject.name}: {len(endings)} {what}s refused {how}, {endings.count(None)} of them did no harm", flush=True)
     if is_loud:
         print(f"{subject.name}: what takes no memory did not come to its end without it")
     seen.update(endings)
@@ -202,7 +220,7 @@ def main():
     with tempfile.TemporaryDirectory() as folder:
         refuser = Refuser(folder)
         for subject in (*subjects(program, folder), *(test for name in tests for test in tests_of(name))):
-            for is_alone in (True,) if subject.is_test else (True, False):
+            for is_alone in (True,) if subject.is_test or subject.is_threads else (True, False):
                 counts.append(tried(refuser, subject, is_alone, seen))
     unseen = {*REFUSALS, *ENDINGS} - seen
     if unseen:

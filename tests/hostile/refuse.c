@@ -1,12 +1,16 @@
 /*
  * Refuses allocations of the program that it is loaded into (LD_PRELOAD): those from number REFUSE_FIRST to number
  * REFUSE_LAST, counted from 1 on once the libraries have begun. What the loader and they took before that is not counted.
+ * Or it refuses a thread, that of number REFUSE_THREAD, counted from 1 on too.
  * The first refusal makes the file REFUSE_NOTE, so that whoever set the numbers sees whether they were reached.
  *
  * A call that asks for no octets is no growth, and neither is a realloc to nothing.
  */
+#define _GNU_SOURCE
+#include <dlfcn.h>
 #include <errno.h>
 #include <fcntl.h>
+#include <pthread.h>
 #include <stdatomic.h>
 #include <stddef.h>
 #include <stdlib.h>
@@ -17,9 +21,9 @@ extern void *__libc_calloc(size_t count, size_t size);
 extern void *__libc_realloc(void *old, size_t size);
 extern void *__libc_memalign(size_t alignment, size_t size);
 
-static long first, last;
+static long first, last, thread;
 static const char *note;
-static atomic_long counted;
+static atomic_long counted, started;
 
 static long number_in(const char *name)
 {
@@ -30,6 +34,7 @@ static long number_in(const char *name)
 __attribute__((constructor)) static void begin(void)
 {
     note = getenv("REFUSE_NOTE");
+    thread = number_in("REFUSE_THREAD");
     last = number_in("REFUSE_LAST");
     first = number_in("REFUSE_FIRST");
 }
@@ -86,4 +91,14 @@ int posix_memalign(void **place, size_t alignment, size_t size)
     }
     *place = __libc_memalign(alignment, size);
     return *place || !size ? 0 : ENOMEM;
+}
+
+int pthread_create(pthread_t *made, const pthread_attr_t *how, void *(*work)(void *), void *given)
+{
+    int (*create)(pthread_t *, const pthread_attr_t *, void *(*)(void *), void *) = dlsym(RTLD_NEXT, "pthread_create");
+    if (thread && atomic_fetch_add(&started, 1) + 1 == thread) {
+        make_note();
+        return EAGAIN;
+    }
+    return create(made, how, work, given);
 }

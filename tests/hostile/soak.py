@@ -36,7 +36,7 @@ from sides import Findings, Home, Nas
 
 ENDINGS = ["calm", "away", "drain"]
 REQUESTS, SEED = 1500, 1
-REFUSED = 5000, 6000
+REFUSED = {"FIRST": 5000, "LAST": 6000}
 IN_FLIGHT, MOST_A_SECOND = 450, 500
 LEFT_OVER = 20
 IDENTIFIERS = 256
@@ -117,7 +117,7 @@ class Soak:
         file = pathlib.Path(folder, "proxy.toml")
         file.write_text(self.configuration())
         with self.log.open("wb") as log:
-            settings = refuser and refuser.settings(*REFUSED)
+            settings = refuser and refuser.settings(REFUSED)
             self.program = Program(self.loop, [program, "run", str(file)], log, settings)
         self.made, self.credit, self.is_asking = 0, 0, False
 
