@@ -1,7 +1,8 @@
 -- A list of blocks whose first or last one is at hand.
-use Rattle.std.proofs.Common.{◌≡◌, ◌-◌, ◌<◌, ◌≤◌, inl, inr, true, false, List, [], ◌∷◌, ◌++◌, None, refl, sym, ap, ◌∙◌, subst, arith, length, get_or, drop, append-nil, length-append, ◌+◌}
+use Rattle.std.proofs.Common.{◌≡◌, ◌-◌, ◌<◌, ◌≤◌, inl, inr, true, false, List, [], ◌∷◌, ◌++◌, None, refl, sym, ap, ◌∙◌, subst, arith, length, get_or, drop, append-nil, length-append}
+use Rattle.std.specs.Prelude.{Option, Some, IfSome, IsSome}
 use Rattle.block_queue.specs.Queue.{Queue, oldest}
-use Rattle.block_queue.specs.Blocks.{items_of, room_of, pushed, has_none, begins_empty, first_count, AllHaveItems, IsChain, IsJoined}
+use Rattle.block_queue.specs.Blocks.{items_of, room_of, pushed, has_none, begins_empty, AllHaveItems, IsChain, IsJoined}
 use Rattle.block_queue.proofs.Blocks.{none_is, some_is, oldest_first, items_of_joined, room_of_joined, chained, last_room, last_items, freed_first}
 
 module _ {T : Type 0} where
@@ -28,27 +29,31 @@ module _ {T : Type 0} where
   room_popped b left [] e = e
   room_popped b left (c ∷ cs) e = refl
 
-  pub first_less : (b left : Queue T) (bs : List (Queue T)) (item : T) → b.items ≡ item ∷ left.items → first_count (b ∷ bs) ≡ first_count (left ∷ bs) + 1
-  unfolding first_count
-  first_less b left bs item e = let n = ap length e in omega arith
+  -- the first block left, the others have items still
+  pub rest_have : (bs : List (Queue T)) → AllHaveItems bs → AllHaveItems (drop 1 bs)
+  unfolding AllHaveItems
+  rest_have [] all = tt
+  rest_have (b ∷ bs) all = all.1
 
-  some_left : (items : List T) → 0 < length items → has_none items ≡ false
-  unfolding has_none
-  some_left [] some = absurd (omega arith)
-  some_left (item ∷ items) some = refl
+  pub begins_have : (bs : List (Queue T)) → AllHaveItems (drop 1 bs) → begins_empty bs ≡ false → AllHaveItems bs
+  unfolding AllHaveItems begins_empty
+  begins_have [] all e = tt
+  begins_have (b ∷ bs) all e = (some_is b.items e, all)
 
-  pub still_begins : (bs cs : List (Queue T)) → first_count bs ≡ first_count cs + 1 → 1 < first_count bs → begins_empty cs ≡ false
-  unfolding first_count begins_empty has_none
-  still_begins bs [] e more = absurd (omega arith)
-  still_begins bs (c ∷ cs) e more = some_left c.items (omega arith)
+  pub none_have : (bs : List (Queue T)) → bs ≡ [] → AllHaveItems bs
+  unfolding AllHaveItems
+  none_have [] e = tt
+  none_have (b ∷ bs) e = cc
 
-  pub counts_first : (bs rest : List (Queue T)) (first : Queue T) → bs ≡ first ∷ rest → length first.items ≡ first_count bs
-  unfolding first_count
-  counts_first bs rest first e = ap first_count (sym e)
+  pub pushed_have : (bs : List (Queue T)) (item : T) → AllHaveItems bs → AllHaveItems (pushed bs item)
+  unfolding AllHaveItems pushed
+  pushed_have [] item all = tt
+  pushed_have (b ∷ []) item all = (omega (arith, length-append b.items (item ∷ [])), tt)
+  pushed_have (b ∷ c ∷ cs) item all = (all.0, pushed_have (c ∷ cs) item all.1)
 
-  pub counts_none : (bs : List (Queue T)) → bs ≡ [] → 0 ≡ first_count bs
-  unfolding first_count
-  counts_none bs e = ap first_count (sym e)
+  pub no_kept : {K : Type 0} (P : K → Type 0) (kept : Option K) (bs : List (Queue T)) → kept ≡ None → IfSome kept P × (IsSome kept → AllHaveItems bs)
+  no_kept P None bs e = (tt, λ some. cc)
+  no_kept P (Some k) bs e = absurd cc
 
   front_has : (front : List (Queue T)) (q : Queue T) → IsChain (front ++ q ∷ []) → AllHaveItems front
   unfolding IsChain AllHaveItems

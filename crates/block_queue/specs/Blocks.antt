@@ -36,11 +36,6 @@ module _ {T : Type 0} where
   begins_empty [] = false
   begins_empty (block ∷ blocks) = has_none block.items
 
-  -- how many items the first block has
-  unfoldable pub first_count : List (Queue T) → ℕ
-  first_count [] = 0
-  first_count (block ∷ blocks) = length block.items
-
   -- no block is without an item
   unfoldable pub AllHaveItems : List (Queue T) → Type 0
   AllHaveItems [] = Unit {0}

@@ -58,6 +58,7 @@ impl<T> Block<T> {
     }
 
     /// Begins again at the first place, where no item is left.
+    #[inline]
     pub(crate) fn clear(&mut self)
         requires { self.old.items ≡ [] }
         ensures { self.new ≡ record { items = []; room = 32 } }

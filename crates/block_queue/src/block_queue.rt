@@ -13,7 +13,8 @@ const MOST: usize = 0x8000_0000_0000_0000;
 
 /// A queue in a chain of blocks, whose items stay where they are while it grows.
 ///
-/// Each block but the last has an item. At most one empty block is kept, as the last one or apart.
+/// Each block but the last has an item. At most one block is empty: the last one, or one that is
+/// kept apart.
 #[derive(Drop)]
 pub struct BlockQueue<T> {
     blocks: Option<Blocks<T>>,
@@ -24,15 +25,16 @@ pub struct BlockQueue<T> {
 
 impl<T> Model for BlockQueue<T> {
     ghost use Rattle.block_queue.specs.Queue.{Queue};
-    ghost use Rattle.std.specs.Prelude.{◌≡◌, [], IfSome};
-    ghost use Rattle.block_queue.specs.Blocks.{items_of, room_of, IsQueue};
+    ghost use Rattle.std.specs.Prelude.{◌≡◌, [], IfSome, IsSome};
+    ghost use Rattle.block_queue.specs.Blocks.{items_of, room_of, AllHaveItems, IsQueue};
     ghost use Rattle.block_queue.specs.Chain.{joined};
 
     ghost Value = { Queue T };
 
     ghost view = { λ q. record { items = items_of (joined q.blocks); room = room_of (joined q.blocks) } };
 
-    ghost invariant = { λ q. IsQueue q.count (joined q.blocks) × IfSome q.kept (λ load. load.block.items ≡ []) };
+    ghost invariant = { λ q.
+        IsQueue q.count (joined q.blocks) × IfSome q.kept (λ load. load.block.items ≡ []) × (IsSome q.kept → AllHaveItems (joined q.blocks)) };
 }
 
 impl<T> Fifo<T> for BlockQueue<T> {

@@ -1,8 +1,8 @@
 //! The blocks of a queue: the first and the last at hand, and those between them in a chain.
-ghost use Rattle.std.specs.Prelude.{◌≡◌, ◌^◌, ◌<◌, ◌≤◌, ◌⊎◌, true, false, ◌+◌, [], ◌∷◌, ◌++◌, OnOk, OnErr, IfOk, IfSome, drop as without, length, option_copied, slice_set};
+ghost use Rattle.std.specs.Prelude.{◌≡◌, ◌^◌, ◌<◌, ◌≤◌, ◌⊎◌, true, false, ◌+◌, [], ◌∷◌, ◌++◌, None, OnOk, OnErr, IfOk, IfSome, IsSome, drop as without, length, option_copied, slice_set};
 ghost use Rattle.std.specs.Map.Iter.{TakesFirst, deref};
 ghost use Rattle.block_queue.specs.Queue.{oldest};
-ghost use Rattle.block_queue.specs.Blocks.{items_of, room_of, pushed, begins_empty, first_count, AllHaveItems, IsChain, IsJoined};
+ghost use Rattle.block_queue.specs.Blocks.{items_of, room_of, pushed, begins_empty, AllHaveItems, IsChain, IsJoined};
 ghost use Rattle.block_queue.specs.Chain.{joined};
 
 use crate::block::Block;
@@ -214,6 +214,14 @@ impl<T> Blocks<T> {
         }
     }
 
+    /// Whether the last block has no item.
+    fn ends_empty(&self) -> bool
+        requires { IsChain self.now }
+        ensures { result ≡ false → AllHaveItems self.now }
+    {
+        self.last.block.is_empty()
+    }
+
     /// How many places the last block has behind its items.
     #[inline]
     fn room(&self) -> usize
@@ -239,7 +247,6 @@ impl<T> Blocks<T> {
         ensures items { items_of self.old ≡ result ∷ items_of self.new }
         ensures rest { without 1 self.new ≡ without 1 self.old }
         ensures room { room_of self.new ≡ room_of self.old }
-        ensures first { first_count self.old ≡ first_count self.new + 1 }
     {
         match &mut self.front {
             Some(front) => front.first.block.pop(),
@@ -259,6 +266,7 @@ impl<T> Blocks<T> {
     }
 
     /// Whether there is one block only.
+    #[inline]
     fn is_one(&self) -> bool
         ensures one { result ≡ true → length self.now ≡ 1 }
         ensures more { result ≡ false → 2 ≤ length self.now }
@@ -273,6 +281,7 @@ impl<T> Blocks<T> {
     }
 
     /// Has the only block begin again.
+    #[inline]
     fn clear(&mut self)
         requires one { length self.old ≡ 1 }
         requires empty { begins_empty self.old ≡ true }
@@ -368,7 +377,7 @@ pub(crate) fn add<T>(
     requires { IfSome kept.old (λ load. load.block.items ≡ []) }
     ensures ok { OnOk result (joined blocks.new ≡ joined blocks.old ++ record { items = []; room = 32 } ∷ []) }
     ensures refused { OnErr result (joined blocks.new ≡ joined blocks.old) }
-    ensures kept { IfSome kept.new (λ load. load.block.items ≡ []) }
+    ensures kept { kept.new ≡ None }
 {
     let load = match kept.take() {
         Some(mut load) => {
@@ -420,43 +429,16 @@ pub(crate) fn pop<T>(blocks: &mut Option<Blocks<T>>, kept: &mut Option<Load<T>>)
     requires shape { IsChain (joined blocks.old) }
     requires filled { 0 < length (items_of (joined blocks.old)) }
     requires kept { IfSome kept.old (λ load. load.block.items ≡ []) }
+    requires alone { IsSome kept.old → AllHaveItems (joined blocks.old) }
     ensures items { items_of (joined blocks.old) ≡ result ∷ items_of (joined blocks.new) }
     ensures shape { IsChain (joined blocks.new) }
     ensures room { (room_of (joined blocks.new) ≡ room_of (joined blocks.old)) ⊎ ((items_of (joined blocks.new) ≡ []) × (room_of (joined blocks.new) ≡ 32)) }
     ensures kept { IfSome kept.new (λ load. load.block.items ≡ []) }
-{
-    let count = first_len(blocks);
-    if count > 1 {
-        return pop_first(blocks);
-    }
-    pop_last(blocks, kept)
-}
-
-/// [`pop`], whether an item is left in the first block or not.
-#[inline(never)]
-fn pop_last<T>(blocks: &mut Option<Blocks<T>>, kept: &mut Option<Load<T>>) -> T
-    requires shape { IsChain (joined blocks.old) }
-    requires filled { 0 < length (items_of (joined blocks.old)) }
-    requires kept { IfSome kept.old (λ load. load.block.items ≡ []) }
-    ensures items { items_of (joined blocks.old) ≡ result ∷ items_of (joined blocks.new) }
-    ensures shape { IsChain (joined blocks.new) }
-    ensures room { (room_of (joined blocks.new) ≡ room_of (joined blocks.old)) ⊎ ((items_of (joined blocks.new) ≡ []) × (room_of (joined blocks.new) ≡ 32)) }
-    ensures kept { IfSome kept.new (λ load. load.block.items ≡ []) }
+    ensures alone { IsSome kept.new → AllHaveItems (joined blocks.new) }
 {
     let item = pop_first(blocks);
     shed_first(blocks, kept);
     item
-}
-
-/// How many items the first block has.
-#[inline]
-fn first_len<T>(blocks: &Option<Blocks<T>>) -> usize
-    ensures { result ≡ first_count (joined blocks.now) }
-{
-    match blocks {
-        Some(blocks) => blocks.first().len(),
-        None => 0,
-    }
 }
 
 #[inline]
@@ -466,7 +448,6 @@ fn pop_first<T>(blocks: &mut Option<Blocks<T>>) -> T
     ensures items { items_of (joined blocks.old) ≡ result ∷ items_of (joined blocks.new) }
     ensures rest { without 1 (joined blocks.new) ≡ without 1 (joined blocks.old) }
     ensures room { room_of (joined blocks.new) ≡ room_of (joined blocks.old) }
-    ensures first { first_count (joined blocks.old) ≡ first_count (joined blocks.new) + 1 }
 {
     match blocks {
         Some(blocks) => blocks.pop(),
@@ -475,13 +456,16 @@ fn pop_first<T>(blocks: &mut Option<Blocks<T>>) -> T
 }
 
 /// Sees to a first block without items.
+#[inline]
 fn shed_first<T>(blocks: &mut Option<Blocks<T>>, kept: &mut Option<Load<T>>)
     requires shape { IsChain (without 1 (joined blocks.old)) }
     requires kept { IfSome kept.old (λ load. load.block.items ≡ []) }
+    requires alone { IsSome kept.old → AllHaveItems (without 1 (joined blocks.old)) }
     ensures items { items_of (joined blocks.new) ≡ items_of (joined blocks.old) }
     ensures shape { IsChain (joined blocks.new) }
     ensures room { (room_of (joined blocks.new) ≡ room_of (joined blocks.old)) ⊎ ((items_of (joined blocks.new) ≡ []) × (room_of (joined blocks.new) ≡ 32)) }
     ensures kept { IfSome kept.new (λ load. load.block.items ≡ []) }
+    ensures alone { IsSome kept.new → AllHaveItems (joined blocks.new) }
 {
     let empty = starts_empty(blocks);
     if empty {
@@ -490,9 +474,8 @@ fn shed_first<T>(blocks: &mut Option<Blocks<T>>, kept: &mut Option<Load<T>>)
     }
 }
 
-/// Has the first block begin again if it is the only one, and else takes it away. So no more than
-/// one empty block is held.
-#[inline(never)]
+/// Has the first block begin again if it is the only one, and else takes it away.
+#[inline]
 fn shed_empty<T>(blocks: &mut Option<Blocks<T>>, kept: &mut Option<Load<T>>)
     requires empty { begins_empty (joined blocks.old) ≡ true }
     requires shape { IsChain (without 1 (joined blocks.old)) }
@@ -501,6 +484,7 @@ fn shed_empty<T>(blocks: &mut Option<Blocks<T>>, kept: &mut Option<Load<T>>)
     ensures shape { IsChain (joined blocks.new) }
     ensures room { (room_of (joined blocks.new) ≡ room_of (joined blocks.old)) ⊎ ((items_of (joined blocks.new) ≡ []) × (room_of (joined blocks.new) ≡ 32)) }
     ensures kept { IfSome kept.new (λ load. load.block.items ≡ []) }
+    ensures alone { IsSome kept.new → AllHaveItems (joined blocks.new) }
 {
     let one = is_one(blocks);
     if one {
@@ -508,10 +492,29 @@ fn shed_empty<T>(blocks: &mut Option<Blocks<T>>, kept: &mut Option<Load<T>>)
         let_go(kept);
         return;
     }
-    let first = replace_with(blocks, (), parted);
-    replace_with(kept, first, kept_one);
+    part_empty(blocks, kept);
 }
 
+/// Takes a first block without items away from the others, and keeps it unless another block is
+/// without items too.
+#[inline(never)]
+fn part_empty<T>(blocks: &mut Option<Blocks<T>>, kept: &mut Option<Load<T>>)
+    requires empty { begins_empty (joined blocks.old) ≡ true }
+    requires more { 2 ≤ length (joined blocks.old) }
+    requires shape { IsChain (without 1 (joined blocks.old)) }
+    requires kept { IfSome kept.old (λ load. load.block.items ≡ []) }
+    ensures items { items_of (joined blocks.new) ≡ items_of (joined blocks.old) }
+    ensures shape { IsChain (joined blocks.new) }
+    ensures room { room_of (joined blocks.new) ≡ room_of (joined blocks.old) }
+    ensures kept { IfSome kept.new (λ load. load.block.items ≡ []) }
+    ensures alone { IsSome kept.new → AllHaveItems (joined blocks.new) }
+{
+    let first = replace_with(blocks, (), parted);
+    replace_with(kept, first, kept_one);
+    keep_one(blocks, kept);
+}
+
+#[inline]
 fn is_one<T>(blocks: &Option<Blocks<T>>) -> bool
     requires { begins_empty (joined blocks.now) ≡ true }
     ensures one { result ≡ true → length (joined blocks.now) ≡ 1 }
@@ -523,6 +526,7 @@ fn is_one<T>(blocks: &Option<Blocks<T>>) -> bool
     }
 }
 
+#[inline]
 fn clear<T>(blocks: &mut Option<Blocks<T>>)
     requires one { length (joined blocks.old) ≡ 1 }
     requires empty { begins_empty (joined blocks.old) ≡ true }
@@ -576,9 +580,10 @@ pub(crate) fn keep<T>(kept: &mut Option<Load<T>>, load: Option<Load<T>>)
 }
 
 /// Frees the block that is kept, if there is one.
+#[inline]
 fn let_go<T>(kept: &mut Option<Load<T>>)
     requires { IfSome kept.old (λ load. load.block.items ≡ []) }
-    ensures { IfSome kept.new (λ load. load.block.items ≡ []) }
+    ensures { kept.new ≡ None }
 {
     match kept.take() {
         Some(load) => load.free(),
@@ -657,17 +662,28 @@ pub(crate) fn linked_in_front<T>(
     linked(others, blocks)
 }
 
-/// Frees the block that is kept where the last block has no item either.
+/// Frees the block that is kept where the last block has no item either. So no more than one empty
+/// block is held.
 pub(crate) fn keep_one<T>(blocks: &Option<Blocks<T>>, kept: &mut Option<Load<T>>)
-    requires { IfSome kept.old (λ load. load.block.items ≡ []) }
-    ensures { IfSome kept.new (λ load. load.block.items ≡ []) }
+    requires shape { IsChain (joined blocks.now) }
+    requires kept { IfSome kept.old (λ load. load.block.items ≡ []) }
+    ensures kept { IfSome kept.new (λ load. load.block.items ≡ []) }
+    ensures alone { IsSome kept.new → AllHaveItems (joined blocks.now) }
+{
+    let empty = ends_empty(blocks);
+    if empty {
+        let_go(kept);
+        return;
+    }
+}
+
+/// Whether the last block has no item.
+fn ends_empty<T>(blocks: &Option<Blocks<T>>) -> bool
+    requires { IsChain (joined blocks.now) }
+    ensures { result ≡ false → AllHaveItems (joined blocks.now) }
 {
     match blocks {
-        Some(blocks) => {
-            if blocks.last.block.is_empty() {
-                let_go(kept);
-            }
-        }
-        None => {}
+        Some(blocks) => blocks.ends_empty(),
+        None => false,
     }
 }

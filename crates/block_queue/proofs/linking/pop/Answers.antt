@@ -1,12 +1,12 @@
-use Rattle.std.proofs.Common.{◌<◌, sym, subst, arith}
-use Rattle.block_queue.specs.Blocks.{first_count, IsChain}
+use Rattle.std.proofs.Common.{sym, subst}
+use Rattle.block_queue.specs.Blocks.{AllHaveItems, IsChain}
 use Rattle.block_queue.specs.Chain.{joined}
-use Rattle.block_queue.proofs.Blocks.{chained_rest, chain_begins}
-use Rattle.block_queue.proofs.Ends.{still_begins}
+use Rattle.block_queue.proofs.Blocks.{chained_rest}
+use Rattle.block_queue.proofs.Ends.{rest_have}
 use Rattle.block_queue.proofs.linking.pop.Goals as goal
 
-pub returns-then-count-gt1-clause-shape : goal.returns-then-count-gt1-clause-shape
-returns-then-count-gt1-clause-shape g c =
-    let old = joined c.args.blocks.now in let new = joined c.pop_first.new.blocks in let n = c.first_len-count.ensures in let m = c.if-count-gt1.true in
-    let more : 1 < first_count old = omega arith in
-    chain_begins new (subst IsChain (sym c.pop_first.ensures.rest) (chained_rest old c.requires.shape)) (still_begins old new c.pop_first.ensures.first more)
+pub shed_first-requires-clause-shape : goal.shed_first-requires-clause-shape
+shed_first-requires-clause-shape g c = subst IsChain (sym c.pop_first-item.ensures.rest) (chained_rest (joined c.args.blocks.now) c.requires.shape)
+
+pub shed_first-requires-clause-alone : goal.shed_first-requires-clause-alone
+shed_first-requires-clause-alone g c = λ some. subst AllHaveItems (sym c.pop_first-item.ensures.rest) (rest_have (joined c.args.blocks.now) (c.requires.alone some))

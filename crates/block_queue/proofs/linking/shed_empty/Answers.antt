@@ -1,8 +1,7 @@
-use Rattle.std.proofs.Common.{◌∙◌, refl, sym, ap, subst, arith, inl, inr, []}
+use Rattle.std.proofs.Common.{◌∙◌, refl, sym, ap, subst, arith, inr, []}
 use Rattle.block_queue.specs.Blocks.{items_of, room_of, IsChain}
 use Rattle.block_queue.specs.Chain.{joined}
 use Rattle.block_queue.proofs.Blocks.{cleared_items, last_items, last_room, last_chained}
-use Rattle.block_queue.proofs.Ends.{without_first}
 use Rattle.block_queue.proofs.linking.shed_empty.Goals as goal
 
 pub returns-then-one-clause-items : goal.returns-then-one-clause-items
@@ -16,16 +15,3 @@ returns-then-one-clause-shape g c = subst IsChain (sym c.clear.ensures) (last_ch
 pub returns-then-one-clause-room : goal.returns-then-one-clause-room
 returns-then-one-clause-room g c =
     inr (ap items_of c.clear.ensures ∙ last_items (record { items = []; room = 32 }) refl, ap room_of c.clear.ensures ∙ last_room (record { items = []; room = 32 }))
-
-pub replace_with-requires : goal.replace_with-requires
-replace_with-requires g c =
-    let r = c.replace_with-first in
-    ((without_first (joined c.args.blocks.now) (joined r.new.dest) r.result.block r.ensures c.requires.empty (c.is_one-one.ensures.more c.if-one.false)).2, c.requires.kept)
-
-pub returns-clause-items : goal.returns-clause-items
-returns-clause-items g c =
-    let r = c.replace_with-first in (without_first (joined c.args.blocks.now) (joined r.new.dest) r.result.block r.ensures c.requires.empty (c.is_one-one.ensures.more c.if-one.false)).0
-
-pub returns-clause-room : goal.returns-clause-room
-returns-clause-room g c =
-    let r = c.replace_with-first in inl (without_first (joined c.args.blocks.now) (joined r.new.dest) r.result.block r.ensures c.requires.empty (c.is_one-one.ensures.more c.if-one.false)).1

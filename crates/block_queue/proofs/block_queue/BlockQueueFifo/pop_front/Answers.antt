@@ -6,7 +6,7 @@ use Rattle.block_queue.proofs.block_queue.BlockQueueFifo.pop_front.Goals as goal
 
 pub invariant_of-self : goal.invariant_of-self
 invariant_of-self g c =
-    let q = c.self.inside in ((queue_popped q.count (joined q.blocks) _ c.pop.result c.self.invariant.0 c.pop.ensures.items c.pop.ensures.shape c.pop.ensures.room).0, c.pop.ensures.kept)
+    let q = c.self.inside in ((queue_popped q.count (joined q.blocks) _ c.pop.result c.self.invariant.0 c.pop.ensures.items c.pop.ensures.shape c.pop.ensures.room).0, c.pop.ensures.kept, c.pop.ensures.alone)
 
 pub returns-clause-items : goal.returns-clause-items
 returns-clause-items g c = sym (ap (λ v. v.items) c.self.view_is) ∙ c.pop.ensures.items

@@ -1,7 +1,7 @@
-use Rattle.std.proofs.Common.{◌+◌, ◌<◌, ◌++◌, [], ◌∷◌, ◌∙◌, sym, ap, subst, length}
-use Rattle.block_queue.specs.Blocks.{items_of, room_of, first_count, IsChain}
+use Rattle.std.proofs.Common.{◌<◌, ◌++◌, [], ◌∷◌, ◌∙◌, sym, ap, subst, length}
+use Rattle.block_queue.specs.Blocks.{items_of, room_of, IsChain}
 use Rattle.block_queue.specs.Chain.{joined}
-use Rattle.block_queue.proofs.Ends.{first_filled, first_popped, room_popped, first_less}
+use Rattle.block_queue.proofs.Ends.{first_filled, first_popped, room_popped}
 use Rattle.block_queue.proofs.linking.Blocks.pop.Goals as goal
 
 pub pop-requires : goal.pop-requires
@@ -37,15 +37,3 @@ pub returns-in-None-clause-room : goal.returns-in-None-clause-room
 returns-in-None-clause-room g c =
     let b = c.self.inside in let is = sym c.self.view_is ∙ ap (λ o. joined o ++ b.last.block ∷ []) c.in-None.is in
     ap (λ o. room_of (joined o ++ c.pop-in-None.new.self ∷ [])) c.in-None.is ∙ room_popped b.last.block c.pop-in-None.new.self [] c.pop-in-None.ensures.room ∙ ap room_of (sym is)
-
-pub returns-in-Some-clause-first : goal.returns-in-Some-clause-first
-returns-in-Some-clause-first g c =
-    let b = c.self.inside in let f = c.front.inside in
-    let is = sym c.self.view_is ∙ ap (λ o. joined o ++ b.last.block ∷ []) c.in-Some.is ∙ ap (λ l. l ++ b.last.block ∷ []) (sym c.front.view_is) in
-    ap first_count is ∙ first_less f.first.block c.pop.new.self (joined f.middle ++ b.last.block ∷ []) c.pop.result c.pop.ensures.items
-
-pub returns-in-None-clause-first : goal.returns-in-None-clause-first
-returns-in-None-clause-first g c =
-    let b = c.self.inside in let is = sym c.self.view_is ∙ ap (λ o. joined o ++ b.last.block ∷ []) c.in-None.is in
-    ap first_count is ∙ first_less b.last.block c.pop-in-None.new.self [] c.pop-in-None.result c.pop-in-None.ensures.items
-    ∙ ap (λ o. first_count (joined o ++ c.pop-in-None.new.self ∷ []) + 1) (sym c.in-None.is)

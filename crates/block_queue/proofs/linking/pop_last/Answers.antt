@@ -1,8 +1,0 @@
-use Rattle.std.proofs.Common.{sym, subst}
-use Rattle.block_queue.specs.Blocks.{IsChain}
-use Rattle.block_queue.specs.Chain.{joined}
-use Rattle.block_queue.proofs.Blocks.{chained_rest}
-use Rattle.block_queue.proofs.linking.pop_last.Goals as goal
-
-pub shed_first-requires-clause-shape : goal.shed_first-requires-clause-shape
-shed_first-requires-clause-shape g c = subst IsChain (sym c.pop_first-item.ensures.rest) (chained_rest (joined c.args.blocks.now) c.requires.shape)
