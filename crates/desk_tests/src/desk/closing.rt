@@ -5,9 +5,9 @@ use super::octets::{
 };
 use super::test_desk::{OTHER_HOME, RANDOM, at, config, slot};
 use super::through_locks::accept;
-use crate::laws::agrees;
-use crate::{CloseFault, Inlet, Proxy, Report, Rest, Told, open};
 use block_queue::Fifo;
+use rad_desk::laws::agrees;
+use rad_desk::{CloseFault, Inlet, Proxy, Report, Rest, Told, open};
 use rad_lane::{Action, Taken};
 use rad_packet::Datagram;
 use std::alloc::Global;
@@ -80,6 +80,7 @@ fn close_knows_and_take_gives(rt: HostRuntime) -> Result<(), Fail> {
     assert_eq!(rt; (rest.as_slice().len(), answered.len()), (1, 2));
     assert!(rt; rest.as_slice()[0].reply.response() == SECOND_RESPONSE.as_slice());
     assert!(rt; agrees(&answered[1], &rest.as_slice()[0]));
+    assert!(rt; !agrees(&answered[0], &rest.as_slice()[0]));
     assert!(rt; matches!(&ends[1].rest, Rest::Known(rest) if rest.as_slice().is_empty()));
     assert_eq!(rt; ends[1].counts.queued, 1);
     assert_eq!(rt; report.queued.len(), 1);

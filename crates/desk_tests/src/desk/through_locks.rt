@@ -2,7 +2,7 @@
 
 use super::octets::{OTHER_FORWARDED, OTHER_REPLY, OTHER_REQUEST, OTHER_RESPONSE, REQUEST};
 use super::test_desk::{CLIENT_PORT, OTHER_HOME, RANDOM, at, config, count_of, slot};
-use crate::{DeskFault, Proxy, Told, open};
+use rad_desk::{DeskFault, Proxy, Told, open};
 use rad_lane::{Action, HearFault, Refusal, Taken, TurnFault};
 use rad_packet::Datagram;
 use rad_realms::{Config, Incoming, check_in};

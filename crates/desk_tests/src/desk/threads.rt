@@ -3,8 +3,8 @@
 use super::packets::{reply_to, request};
 use super::test_desk::{RANDOM, at, config};
 use super::through_locks::accept;
-use crate::laws::agrees;
-use crate::{DeskFault, Inlet, LaneEnd, Proxy, Rest, Told, open};
+use rad_desk::laws::agrees;
+use rad_desk::{DeskFault, Inlet, LaneEnd, Proxy, Rest, Told, open};
 use rad_lane::{Action, Answered, Outgoing, Stamp, Taken};
 use rad_packet::Datagram;
 use rad_realms::Config;

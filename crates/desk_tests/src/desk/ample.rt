@@ -1,10 +1,9 @@
 //! What each call answers where memory is ample and the ring has a place. A body that always refuses meets its contract.
 
 use super::octets::{FORWARDED, REPLY, REQUEST, RESPONSE};
-use super::take;
-use super::test_desk::{ONE_PLACE, RANDOM, TestDesk, at, config, count_of, slot};
+use super::test_desk::{RANDOM, TestDesk, at, config, count_of, slot};
 use super::through_locks::accept;
-use crate::{Rest, Told, open};
+use rad_desk::{Rest, Told, open};
 use rad_lane::{Action, Taken};
 use rad_packet::Datagram;
 use std::alloc::Global;
@@ -18,7 +17,7 @@ fn without_lock(rt: &impl Abort, alloc: Global) -> Result<(), Fail> {
     assert_eq!(rt; desk.accept(0, &REQUEST), Ok(Taken::New(0)));
     assert_eq!(rt; desk.step(0), Action::Sent(0, slot(0)));
     assert_eq!(rt; desk.hear(0, &REPLY), Ok(Told::Answer(0)));
-    take(rt, &mut desk, 0, &RESPONSE);
+    desk.take(rt, 0, &RESPONSE);
     assert_eq!(rt; desk.turn(30_000), Ok(1));
     desk.end();
     Ok(())
@@ -26,7 +25,7 @@ fn without_lock(rt: &impl Abort, alloc: Global) -> Result<(), Fail> {
 
 /// The same through the lock of a lane; then the proxy is closed, and its ring has nothing left.
 fn with_lock<R: Wait + Abort>(rt: &R, alloc: Global) -> Result<(), Fail> {
-    let config = config(alloc, ONE_PLACE)?;
+    let config = config(alloc, "ring = 1\n")?;
     let (proxy, mut inlets) = open(alloc, &config)?;
     if proxy.lanes() == 0 || inlets.is_empty() {
         return Err(Fail::from("a lane"));
