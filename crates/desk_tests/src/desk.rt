@@ -1,5 +1,6 @@
 //! What no clause says: that a desk takes requests, sends them and hears of them where memory is ample, what it says
-//! when its ring is full, that a call through a lock reaches its own lane, and the octets of another implementation.
+//! when its ring is full, that a call through a lock reaches its own lane, what the workers make of wires that fail and of
+//! datagrams that are spoiled, and the octets of another implementation.
 
 mod again;
 mod ample;
@@ -12,6 +13,7 @@ mod packets;
 mod rings;
 mod spoiled;
 mod test_desk;
+mod test_proxy;
 mod threads;
 mod through_locks;
 mod workers;

@@ -4,9 +4,9 @@ ghost use Rattle.std.specs.Prelude.{◌<◌};
 
 use super::memory::{MemoryWire, TestGate};
 use super::octets::{FORWARDED, OTHER_FORWARDED, OTHER_REQUEST, REQUEST};
-use super::test_desk::{ONE_TRY, OTHER_HOME, config};
-use super::through_locks::accept;
-use rad_desk::{Note, Proxy, lane_worker, open};
+use super::test_desk::{ONE_TRY, OTHER_HOME};
+use super::test_proxy::TestProxy;
+use rad_desk::{Note, Proxy, lane_worker};
 use rad_lane::Taken;
 use rad_realms::{Config, Endpoint, Home};
 use std::alloc::Global;
@@ -15,10 +15,10 @@ use std::sync::Wait;
 use std::test::Fail;
 
 /// Two home servers. One sending without an answer takes the first to be down, and not the second.
-fn two_homes(alloc: Global) -> Result<Config, Fail> {
+fn two_homes(alloc: Global) -> Result<TestProxy, Fail> {
     let mut more = String::from_str(alloc, ONE_TRY)?;
     more.push_str(OTHER_HOME)?;
-    config(alloc, more.as_str())
+    TestProxy::new(alloc, more.as_str())
 }
 
 /// An endpoint on this machine.
@@ -48,7 +48,15 @@ fn three_turns(
     (tally.sent, gate.told(), wire.sent(to, octets))
 }
 
-/// Has a lane of each home server send a request, for longer than the first one's limits have it.
+/// Has the lane of each home server take a request.
+fn accept_both<R: Wait + Abort>(rt: &R, proxy: &TestProxy) {
+    for request in [REQUEST.as_slice(), OTHER_REQUEST.as_slice()] {
+        let taken = proxy.accept(rt, request);
+        assert_eq!(rt; taken, Some(Ok(Taken::New(0))));
+    }
+}
+
+/// Has each lane send its request, for longer than the first one's limits have it.
 fn send_both<R: Wait + Abort>(
     rt: &R,
     alloc: Global,
@@ -61,7 +69,8 @@ fn send_both<R: Wait + Abort>(
     if proxy.lanes() < 2 {
         return Err(Fail::from("two lanes"));
     }
-    let did = three_turns(rt, alloc, proxy, 0, first, local(1, 2813), &FORWARDED);
+    let to = local(1, 2813);
+    let did = three_turns(rt, alloc, proxy, 0, first, to, &FORWARDED);
     assert_eq!(rt; did, (1, Some(Note::WentDown), true));
     let to = local(2, 2814);
     let did = three_turns(rt, alloc, proxy, 1, second, to, &OTHER_FORWARDED);
@@ -71,12 +80,9 @@ fn send_both<R: Wait + Abort>(
 
 #[test]
 fn open_gives_each_lane_its_home(rt: HostRuntime) -> Result<(), Fail> {
-    let alloc = rt.alloc();
-    let config = two_homes(alloc)?;
-    let (proxy, _inlets) = open(alloc, &config)?;
-    for request in [REQUEST.as_slice(), OTHER_REQUEST.as_slice()] {
-        let taken = accept(&rt, alloc, &proxy, &config, request);
-        assert_eq!(rt; taken, Some(Ok(Taken::New(0))));
-    }
-    send_both(&rt, alloc, &proxy, &config)
+    let proxy = two_homes(rt.alloc())?;
+    accept_both(&rt, &proxy);
+    let sent = send_both(&rt, rt.alloc(), &proxy.proxy, &proxy.config);
+    proxy.end();
+    sent
 }
