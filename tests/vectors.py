@@ -175,7 +175,7 @@ def sums_of_lanes():
     return {"SENT": sum_of(forwarded), "RESPONSES": sum_of(responses)}
 
 
-def of_rad_desk():
+def of_desks():
     client, home = b"nas-secret", b"home-secret"
     lanes = of_lanes()
     second = BOB + attribute(ACCT_STATUS_TYPE, bytes([0, 0, 0, 2])) + attribute(ACCT_SESSION_ID, b"S1")
@@ -218,7 +218,7 @@ MADE = {
     "rad_auth": of_rad_auth(),
     "rad_realms": of_rad_realms(),
     "rad_tests": {**of_lanes(), **sums_of_lanes()},
-    "rad_desk": of_rad_desk(),
+    "desk_tests": of_desks(),
     "rad_proxy": of_rad_proxy(),
 }
 

@@ -24,8 +24,6 @@ mod numbered;
 mod proxy;
 mod report;
 mod tally;
-#[cfg(test)]
-mod tests;
 mod turning;
 mod wire;
 mod working;

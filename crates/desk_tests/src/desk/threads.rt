@@ -1,10 +1,10 @@
 //! A lane and the front in threads of their own.
 
 use super::packets::{reply_to, request};
-use super::test_desk::{RANDOM, at, config};
-use super::through_locks::accept;
-use crate::laws::agrees;
-use crate::{DeskFault, Inlet, LaneEnd, Proxy, Rest, Told, open};
+use super::test_desk::{RANDOM, at};
+use super::test_proxy::{TestProxy, accept};
+use rad_desk::laws::agrees;
+use rad_desk::{DeskFault, Inlet, LaneEnd, Proxy, Report, Rest, Told};
 use rad_lane::{Action, Answered, Outgoing, Stamp, Taken};
 use rad_packet::Datagram;
 use rad_realms::Config;
@@ -148,20 +148,28 @@ fn compare(rt: &impl Abort, taken: &[Outgoing], end: &LaneEnd, numbers: &[u64]) 
     compare_requests(rt, end.accepted.as_slice(), numbers);
 }
 
+/// Gives the inlet back, where memory is ample.
+fn give_back(proxy: &mut TestProxy, inlet: Inlet) -> bool {
+    proxy.inlets.push(inlet).is_ok()
+}
+
+/// Compares what the only lane has at the end with what was taken and with the numbers of the requests.
+fn compare_end(rt: &impl Abort, report: &Report, taken: &[Outgoing], numbers: &[u64]) {
+    match report.ends.as_slice() {
+        [end] => compare(rt, taken, end, numbers),
+        _ => assert!(rt; false, "an end"),
+    }
+}
+
 #[test]
 fn each_response_goes_through_once(rt: HostRuntime) -> Result<(), Fail> {
-    let alloc = rt.alloc();
-    let config = config(alloc, FOUR_PLACES)?;
-    let (proxy, mut inlets) = open(alloc, &config)?;
-    let inlet = inlets.pop().ok_or("an inlet")?;
-    let (numbers, took) = in_threads(&rt, alloc, &proxy, &config, inlet);
-    let numbers = numbers.ok_or("an answer to each request")?;
-    let (inlet, taken) = took.ok_or("responses")?;
-    inlets.push(inlet)?;
-    let Ok(report) = proxy.close(alloc, inlets) else {
-        return Err(Fail::from("memory"));
-    };
-    let end = report.ends.as_slice().first().ok_or("an end")?;
-    compare(&rt, taken.as_slice(), end, numbers.as_slice());
+    let mut proxy = TestProxy::new(rt.alloc(), FOUR_PLACES)?;
+    let inlet = proxy.inlets.pop().expect(&rt, "an inlet");
+    let (numbers, took) = in_threads(&rt, rt.alloc(), &proxy.proxy, &proxy.config, inlet);
+    let numbers = numbers.expect(&rt, "an answer to each request");
+    let (inlet, taken) = took.expect(&rt, "responses");
+    assert!(rt; give_back(&mut proxy, inlet));
+    let report = proxy.close().ok().expect(&rt, "memory");
+    compare_end(&rt, &report, taken.as_slice(), numbers.as_slice());
     Ok(())
 }

@@ -4,22 +4,23 @@ ghost use Rattle.std.specs.Prelude.{◌≡◌, [], ◌∷◌, ◌++◌};
 ghost use Rattle.rad_desk.specs.Traffic.{Passage, went, Receives};
 
 use super::test_desk::{RANDOM, at};
-use crate::{Call, Delivery, Gate, Go, Note, Received, Traffic, Wire, Worker};
+use rad_desk::{Call, Delivery, Gate, Go, Note, Received, Traffic, Wire, Worker};
 use rad_realms::Endpoint;
 use rad_tables::Moment;
 use std::alloc::Global;
 use std::cell::Cell;
 
-/// A wire that gives one datagram at most, and keeps what was sent last.
+/// A wire that gives one datagram at most, and keeps what was sent last. One receive or send of it fails, where that is
+/// asked for; what was to be received then comes with the next receive.
 #[derive(Drop)]
 pub struct MemoryWire {
     alloc: Global,
     /// What comes next, and from where.
-    coming: Option<(Endpoint, &'static [u8])>,
+    coming: Option<(Endpoint, Vec<u8>)>,
     /// Where what was sent last went, and its octets.
     gone: Option<(Endpoint, Vec<u8>)>,
-    /// Whether the next send fails.
-    pub fails: bool,
+    /// How many receives and sends pass before the one that fails; none where that is over.
+    passing: Option<u32>,
     /// How many receives there were.
     receives: u32,
     traffic: Traffic,
@@ -31,28 +32,62 @@ impl MemoryWire {
             alloc,
             coming: None,
             gone: None,
-            fails: false,
+            passing: None,
             receives: 0,
             traffic: Traffic::new(),
         }
     }
 
-    /// Has a datagram come next.
-    pub fn comes(&mut self, from: Endpoint, octets: &'static [u8]) {
-        self.coming = Some((from, octets));
+    /// Has a datagram come next; none where memory is refused.
+    pub fn comes(&mut self, from: Endpoint, octets: &[u8]) {
+        self.coming = match octets.to_vec(self.alloc) {
+            Ok(octets) => Some((from, octets)),
+            Err(_) => None,
+        };
     }
 
-    /// Whether these octets went there, as the last that was sent. That is forgotten then.
+    /// Whether these octets went there, as the last that was sent; with none, whether nothing was sent. That is forgotten
+    /// then.
     pub fn sent(&mut self, to: Endpoint, octets: &[u8]) -> bool {
         match self.gone.take() {
             Some((peer, gone)) => peer == to && gone.as_slice() == octets,
-            None => false,
+            None => octets.is_empty(),
         }
     }
 
-    /// Whether nothing was sent since it was last looked.
-    pub fn is_quiet(&self) -> bool {
-        self.gone.is_none()
+    /// The octets that were sent last. They are forgotten then.
+    pub fn take_sent(&mut self) -> Option<Vec<u8>> {
+        match self.gone.take() {
+            Some((_, octets)) => Some(octets),
+            None => None,
+        }
+    }
+
+    /// Has the receive or send fail before which so many pass.
+    pub fn fail_after(&mut self, passing: u32) {
+        self.passing = Some(passing);
+    }
+
+    /// Whether the one that was to fail is still to come.
+    pub fn is_to_fail(&self) -> bool {
+        self.passing.is_some()
+    }
+
+    /// Whether this receive or send is the one that fails.
+    fn fails(&mut self) -> bool
+        ensures { self.new.traffic ≡ self.old.traffic }
+    {
+        match self.passing {
+            Some(0) => {
+                self.passing = None;
+                true
+            }
+            Some(more) => {
+                self.passing = Some(more - 1);
+                false
+            }
+            None => false,
+        }
     }
 }
 
@@ -70,15 +105,15 @@ impl Wire for MemoryWire {
 
     fn receive(&mut self, datagram: &mut [u8; 4096]) -> Received {
         self.receives = self.receives.saturating_add(1);
+        if self.fails() {
+            return Received::Fault;
+        }
         let Some((from, octets)) = self.coming.take() else {
             return Received::Nothing;
         };
-        let (address, port) = (from.address, from.port);
-        if octets.len() > 4096 {
-            return Received::Fault;
-        }
-        let count = octets.len();
-        datagram[..count].copy_from_slice(octets);
+        let Endpoint { address, port } = from;
+        let count = octets.len().min(4096);
+        datagram[..count].copy_from_slice(&octets.as_slice()[..count]);
         self.traffic.came(0, address, port, &datagram[..count]);
         Received::Got {
             address,
@@ -93,8 +128,7 @@ impl Wire for MemoryWire {
         if let Ok(copy) = octets.to_vec(self.alloc) {
             self.gone = Some((Endpoint { address, port }, copy));
         }
-        if self.fails {
-            self.fails = false;
+        if self.fails() {
             Delivery::Fault
         } else {
             Delivery::Sent
@@ -106,14 +140,14 @@ impl Wire for MemoryWire {
 #[derive(Drop)]
 pub struct TestGate {
     told: Cell<Option<Note>>,
-    stops: Option<Call>,
+    pub stops: Option<Call>,
 }
 
 impl TestGate {
-    pub fn new(stops: Option<Call>) -> TestGate {
+    pub fn new() -> TestGate {
         TestGate {
             told: Cell::new(None),
-            stops,
+            stops: None,
         }
     }
 

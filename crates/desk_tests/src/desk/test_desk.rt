@@ -4,9 +4,9 @@ ghost use Rattle.std.specs.Prelude.{IfOk};
 ghost use Rattle.rad_desk.specs.Inlet.{AreOfOneRing};
 
 use super::octets::{FORWARDED, REQUEST, SECOND_FORWARDED, SECOND_REQUEST};
-use crate::laws::Desk;
-use crate::{DeskFault, Inlet, Told};
-use rad_lane::{Action, Refusal, Setup, Taken, TurnFault, Volume};
+use rad_desk::laws::Desk;
+use rad_desk::{DeskFault, Inlet, Told};
+use rad_lane::{Action, Counts, Refusal, Setup, Taken, TurnFault, Volume};
 use rad_packet::Datagram;
 use rad_realms::{Config, Incoming, check_in, read_config};
 use rad_tables::{Moment, Slot};
@@ -14,7 +14,7 @@ use std::alloc::Global;
 use std::process::Abort;
 use std::test::Fail;
 
-/// A client, a realm and its home server. One sending without an answer takes the home server to be down.
+/// A client, a realm and its home server, with the limits that stand where no other is said.
 const TEXT: &str = r#"
 listen = "127.0.0.1:1813"
 [[client]]
@@ -27,11 +27,13 @@ home = "h1"
 name = "h1"
 address = "127.0.0.1:2813"
 secret = "home-secret"
-tries = 1
 "#;
 
-/// A ring of one place.
-pub const ONE_PLACE: &str = "ring = 1\n";
+/// One sending without an answer takes the home server to be down.
+pub const ONE_TRY: &str = "tries = 1\n";
+
+/// The same, and a ring of one place.
+const ONE_TRY_AND_PLACE: &str = "tries = 1\nring = 1\n";
 
 /// A second home server, and its realm.
 pub const OTHER_HOME: &str = r#"
@@ -55,15 +57,15 @@ pub const RANDOM: [u8; 16] = [0xa5; 16];
 pub struct TestDesk {
     alloc: Global,
     config: Config,
-    pub desk: Desk,
-    pub inlet: Inlet,
+    desk: Desk,
+    inlet: Inlet,
     datagram: Datagram,
     ghost one_ring: { AreOfOneRing desk inlet },
 }
 
 impl TestDesk {
     pub fn new(alloc: Global) -> Result<TestDesk, Fail> {
-        let config = config(alloc, ONE_PLACE)?;
+        let config = config(alloc, ONE_TRY_AND_PLACE)?;
         let (desk, inlet) = pair(alloc, &config)?;
         Ok(TestDesk {
             alloc,
@@ -105,6 +107,35 @@ impl TestDesk {
 
     pub fn turn(&mut self, moment: u32) -> Result<usize, TurnFault> {
         count_of(self.desk.turn(self.alloc, at(moment)))
+    }
+
+    pub fn drain(&mut self) -> u64 {
+        self.desk.drain()
+    }
+
+    pub fn is_done(&self) -> bool {
+        self.desk.is_done()
+    }
+
+    pub fn is_draining(&self) -> bool {
+        self.desk.is_draining()
+    }
+
+    pub fn counts(&self) -> Counts {
+        self.desk.counts()
+    }
+
+    /// Takes the next response, and compares it.
+    pub fn take(&mut self, rt: &impl Abort, serial: u64, response: &[u8]) {
+        assert_eq!(rt; self.inlet.lane(), 0);
+        let outgoing = self.inlet.take().expect(rt, "a response");
+        assert_eq!(rt; (outgoing.serial, outgoing.port), (serial, CLIENT_PORT));
+        assert!(rt; outgoing.reply.response() == response);
+    }
+
+    /// Whether there is no response to take.
+    pub fn has_no_response(&mut self) -> bool {
+        self.inlet.take().is_none()
     }
 
     /// How many responses wait in the ring.

@@ -1,0 +1,20 @@
+//! What no clause says: that a desk takes requests, sends them and hears of them where memory is ample, what it says
+//! when its ring is full, that a call through a lock reaches its own lane, what the workers make of wires that fail and of
+//! datagrams that are spoiled, and the octets of another implementation.
+
+mod again;
+mod ample;
+mod closing;
+mod failing;
+mod homes;
+mod memory;
+mod octets;
+mod packets;
+mod rings;
+mod spoiled;
+mod test_desk;
+mod test_proxy;
+mod threads;
+mod through_locks;
+mod workers;
+mod works;

@@ -1,0 +1,91 @@
+//! Calls that are made again where memory was refused: nothing had changed, and they answer as ever.
+
+use super::octets::{REPLY, REQUEST, RESPONSE};
+use super::test_desk::slot;
+use super::test_proxy::TestProxy;
+use super::works::counts;
+use rad_desk::{CloseFault, DeskFault, LaneEnd, Report, Rest, Told};
+use rad_lane::{Action, HearFault, Refusal, Taken, TurnFault};
+use std::alloc::Global;
+use std::process::Abort;
+use std::sync::Wait;
+use std::test::Fail;
+
+/// The answer to the request, which is given once more where memory was refused.
+fn accept<R: Wait + Abort>(rt: &R, proxy: &TestProxy) -> Option<Result<Taken, Refusal>> {
+    let taken = proxy.accept(rt, &REQUEST);
+    if taken != Some(Err(Refusal::OutOfMemory)) {
+        return taken;
+    }
+    assert_eq!(rt; proxy.counts(rt, 0), counts(0, 0, 0, 0));
+    proxy.accept(rt, &REQUEST)
+}
+
+/// The same of the reply.
+fn hear<R: Wait + Abort>(rt: &R, proxy: &TestProxy) -> Option<Result<Told, DeskFault>> {
+    let told = proxy.hear(rt, 0, &REPLY);
+    if told != Some(Err(DeskFault::Lane(HearFault::OutOfMemory))) {
+        return told;
+    }
+    assert_eq!(rt; proxy.counts(rt, 0), counts(1, 0, 1, 0));
+    proxy.hear(rt, 0, &REPLY)
+}
+
+/// The same of a turn.
+fn turn<R: Wait + Abort>(rt: &R, proxy: &TestProxy) -> Option<Result<usize, TurnFault>> {
+    let turned = proxy.turn(rt, 0);
+    if turned != Some(Err(TurnFault::OutOfMemory)) {
+        return turned;
+    }
+    assert_eq!(rt; proxy.counts(rt, 0), counts(1, 0, 0, 1));
+    proxy.turn(rt, 0)
+}
+
+/// The same of the end.
+fn close(rt: &impl Abort, alloc: Global, proxy: TestProxy) -> Option<Report> {
+    match proxy.close() {
+        Ok(report) => Some(report),
+        Err(CloseFault::OutOfMemory(proxy, inlets)) => {
+            assert_eq!(rt; (proxy.lanes(), inlets.as_slice().len()), (1, 1));
+            proxy.close(alloc, inlets.into_vec()).ok()
+        }
+    }
+}
+
+/// Serves the request, and cuts it off.
+fn serve<R: Wait + Abort>(rt: &R, proxy: &mut TestProxy) {
+    assert_eq!(rt; accept(rt, proxy), Some(Ok(Taken::New(0))));
+    assert_eq!(rt; proxy.counts(rt, 0), counts(1, 1, 0, 0));
+    assert_eq!(rt; proxy.step(rt, 0), Some(Action::Sent(0, slot(0))));
+    assert_eq!(rt; hear(rt, proxy), Some(Ok(Told::Answer(0))));
+    assert_eq!(rt; proxy.counts(rt, 0), counts(1, 0, 0, 1));
+    assert_eq!(rt; turn(rt, proxy), Some(Ok(1)));
+}
+
+/// Whether a lane's end knows the one response, which nobody took.
+fn has_the_response(end: &LaneEnd) -> bool {
+    match &end.rest {
+        Rest::Known(rest) => match rest.as_slice() {
+            [outgoing] => outgoing.reply.response() == RESPONSE.as_slice(),
+            _ => false,
+        },
+        Rest::Unknown => false,
+    }
+}
+
+/// Whether the only lane answered the request and cut it off.
+fn is_served(report: &Report) -> bool {
+    match report.ends.as_slice() {
+        [end] => (end.counts.opening, end.counts.answered) == (1, 1) && has_the_response(end),
+        _ => false,
+    }
+}
+
+#[test]
+fn a_call_is_made_again_after_a_refused_growth(rt: HostRuntime) -> Result<(), Fail> {
+    let mut proxy = TestProxy::new(rt.alloc(), "")?;
+    serve(&rt, &mut proxy);
+    let report = close(&rt, rt.alloc(), proxy).ok_or("a report")?;
+    assert!(rt; is_served(&report));
+    Ok(())
+}

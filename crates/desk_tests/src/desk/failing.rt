@@ -1,0 +1,144 @@
+//! What the workers make of wires of which one receive or send fails.
+
+use super::octets::{FORWARDED, REPLY, REQUEST, RESPONSE};
+use super::workers::forward;
+use super::works::{CLIENT, HOME, Works, counts, front, lane, tally};
+use rad_desk::{Note, Worker};
+use std::alloc::Global;
+use std::process::Abort;
+use std::sync::Wait;
+use std::test::Fail;
+
+/// The most turns of a run from a request to its response.
+const TURNS: u32 = 12;
+
+/// The most receives and sends of a run.
+const CALLS: u32 = 9;
+
+/// Whether the request comes to its response: the client sends it in each third turn until then, and the home server
+/// replies to whatever reaches it.
+fn is_answered<R: Wait + Abort>(rt: &R, works: &mut Works) -> bool {
+    for turn in 0..TURNS {
+        if turn % 3 == 0 {
+            works.front.comes(CLIENT, &REQUEST);
+        }
+        if works.front(rt, 1).sent == 1 {
+            return works.front.sent(CLIENT, &RESPONSE);
+        }
+        if works.lane(rt, 1).sent == 1 {
+            assert!(rt; works.lane.sent(HOME, &FORWARDED));
+            works.lane.comes(HOME, &REPLY);
+        }
+    }
+    false
+}
+
+/// A run from a request to its response, in which the receive or send of a worker's wire fails before which so many
+/// pass. It says whether there was one.
+fn meets_fault<R: Wait + Abort>(
+    rt: &R,
+    alloc: Global,
+    worker: Worker,
+    passing: u32,
+) -> Result<bool, Fail> {
+    let mut works = Works::new(alloc, "")?;
+    match worker {
+        Worker::Front => works.front.fail_after(passing),
+        Worker::Lane(_) => works.lane.fail_after(passing),
+    }
+    assert!(rt; is_answered(rt, &mut works), "after {passing}");
+    assert_eq!(rt; works.counts(rt), counts(1, 0, 0, 1), "after {passing}");
+    let is_left = works.front.is_to_fail() || works.lane.is_to_fail();
+    works.end();
+    Ok(!is_left)
+}
+
+/// In how many runs each receive and send of a worker's wire fails in turn, until a run meets no fault.
+fn faults_met<R: Wait + Abort>(rt: &R, alloc: Global, worker: Worker) -> Result<u32, Fail> {
+    for passing in 0..CALLS {
+        if !meets_fault(rt, alloc, worker, passing)? {
+            return Ok(passing);
+        }
+    }
+    Err(Fail::from("a run without a fault"))
+}
+
+#[test]
+fn any_fault_of_the_fronts_wire_is_overcome(rt: HostRuntime) -> Result<(), Fail> {
+    let met = faults_met(&rt, rt.alloc(), Worker::Front)?;
+    assert_eq!(rt; met, 4);
+    Ok(())
+}
+
+#[test]
+fn any_fault_of_the_lanes_wire_is_overcome(rt: HostRuntime) -> Result<(), Fail> {
+    let met = faults_met(&rt, rt.alloc(), Worker::Lane(0))?;
+    assert_eq!(rt; met, 3);
+    Ok(())
+}
+
+#[test]
+fn a_failed_send_is_sent_again(rt: HostRuntime) -> Result<(), Fail> {
+    let mut works = Works::new(rt.alloc(), "")?;
+    works.lane.fail_after(1);
+    let turns = [
+        front(&REQUEST, [1, 0, 0], Some(Note::Accepted(0, 0)), &[]),
+        lane(&[], [0, 0, 1], Some(Note::SendFault(HOME)), &FORWARDED),
+    ];
+    works.play(&rt, &turns);
+    assert_eq!(rt; works.counts(&rt), counts(1, 0, 1, 0));
+    let turns = [
+        lane(&[], [0, 0, 0], None, &[]),
+        lane(&[], [0, 1, 0], None, &FORWARDED),
+    ];
+    works.play(&rt, &turns);
+    assert_eq!(rt; works.counts(&rt), counts(1, 0, 1, 0));
+    works.end();
+    Ok(())
+}
+
+/// The same in one call of the worker.
+#[test]
+fn a_failed_send_counts_once(rt: HostRuntime) -> Result<(), Fail> {
+    let mut works = Works::new(rt.alloc(), "")?;
+    let accepted = Some(Note::Accepted(0, 0));
+    works.play(&rt, &[front(&REQUEST, [1, 0, 0], accepted, &[])]);
+    works.lane.fail_after(1);
+    assert_eq!(rt; works.lane(&rt, 3), tally(3, [0, 1, 1]));
+    assert!(rt; works.lane.sent(HOME, &FORWARDED));
+    works.end();
+    Ok(())
+}
+
+#[test]
+fn a_failed_receive_ends_nothing(rt: HostRuntime) -> Result<(), Fail> {
+    let mut works = Works::new(rt.alloc(), "")?;
+    works.front.fail_after(0);
+    works.lane.fail_after(0);
+    let turns = [
+        front(&REQUEST, [0, 0, 1], Some(Note::ReceiveFault), &[]),
+        lane(&[], [0, 0, 1], Some(Note::ReceiveFault), &[]),
+        front(&[], [1, 0, 0], Some(Note::Accepted(0, 0)), &[]),
+        lane(&[], [0, 1, 0], None, &FORWARDED),
+    ];
+    works.play(&rt, &turns);
+    works.end();
+    Ok(())
+}
+
+#[test]
+fn a_response_that_is_lost_is_given_again(rt: HostRuntime) -> Result<(), Fail> {
+    let mut works = Works::new(rt.alloc(), "")?;
+    forward(&rt, &mut works);
+    works.front.fail_after(1);
+    let turns = [
+        lane(&REPLY, [1, 0, 0], Some(Note::Answered(0, 0)), &[]),
+        front(&[], [0, 0, 1], Some(Note::Took(0, 0)), &RESPONSE),
+        front(&[], [0, 0, 0], None, &[]),
+        front(&REQUEST, [1, 1, 0], None, &RESPONSE),
+    ];
+    works.play(&rt, &turns);
+    assert_eq!(rt; works.counts(&rt), counts(1, 0, 0, 1));
+    works.end();
+    Ok(())
+}

@@ -1,0 +1,122 @@
+//! The lanes behind their locks with their inlets, and the calls that the tests make of them.
+
+use super::test_desk::{CLIENT_PORT, RANDOM, at, config, count_of};
+use rad_desk::{CloseFault, DeskFault, Inlet, Proxy, Report, Told, open};
+use rad_lane::{Action, Counts, Outgoing, Refusal, Taken, TurnFault};
+use rad_packet::Datagram;
+use rad_realms::{Config, Incoming, check_in};
+use std::alloc::Global;
+use std::sync::Wait;
+use std::test::Fail;
+
+/// The proxy of a configuration with its inlets, and the datagram that is handed to its calls. A call by the number of a
+/// lane that is not there answers nothing.
+#[derive(Drop)]
+pub struct TestProxy {
+    pub alloc: Global,
+    pub config: Config,
+    pub proxy: Proxy,
+    pub inlets: Vec<Inlet>,
+    datagram: Datagram,
+}
+
+impl TestProxy {
+    /// Over the configuration that goes on with these lines.
+    pub fn new(alloc: Global, more: &str) -> Result<TestProxy, Fail> {
+        let config = config(alloc, more)?;
+        let (proxy, inlets) = open(alloc, &config)?;
+        Ok(TestProxy {
+            alloc,
+            config,
+            proxy,
+            inlets,
+            datagram: Datagram::new(),
+        })
+    }
+
+    /// The answer to a request at moment 0; nothing where it is none.
+    pub fn accept(&self, rt: &impl Wait, request: &[u8]) -> Option<Result<Taken, Refusal>> {
+        accept(rt, self.alloc, &self.proxy, &self.config, request)
+    }
+
+    /// What a lane does at moment 0.
+    pub fn step(&mut self, rt: &impl Wait, lane: u16) -> Option<Action> {
+        if lane >= self.proxy.lanes() {
+            return None;
+        }
+        Some(self.proxy.step(rt, lane, at(0), RANDOM, &mut self.datagram))
+    }
+
+    /// What the last step put into the datagram.
+    pub fn octets(&self) -> &[u8] {
+        self.datagram.bytes()
+    }
+
+    /// What a lane hears at moment 0.
+    pub fn hear(&self, rt: &impl Wait, lane: u16, reply: &[u8]) -> Option<Result<Told, DeskFault>> {
+        if lane >= self.proxy.lanes() {
+            return None;
+        }
+        Some(self.proxy.hear(rt, self.alloc, lane, at(0), 0, reply))
+    }
+
+    /// How many requests a lane cuts off at moment 30,000.
+    pub fn turn(&self, rt: &impl Wait, lane: u16) -> Option<Result<usize, TurnFault>> {
+        if lane >= self.proxy.lanes() {
+            return None;
+        }
+        let turned = self.proxy.turn(rt, self.alloc, lane, at(30_000));
+        Some(count_of(turned))
+    }
+
+    pub fn drain(&self, rt: &impl Wait, lane: u16) -> Option<u64> {
+        if lane >= self.proxy.lanes() {
+            return None;
+        }
+        Some(self.proxy.drain(rt, lane))
+    }
+
+    pub fn counts(&self, rt: &impl Wait, lane: u16) -> Option<Counts> {
+        if lane >= self.proxy.lanes() {
+            return None;
+        }
+        Some(self.proxy.counts(rt, lane))
+    }
+
+    /// The next response of a lane.
+    pub fn take(&mut self, lane: usize) -> Option<Outgoing> {
+        self.inlets.as_mut_slice().get_mut(lane)?.take()
+    }
+
+    pub fn close(self) -> Result<Report, CloseFault> {
+        self.proxy.close(self.alloc, self.inlets)
+    }
+
+    /// What is left at the end, where memory is ample.
+    pub fn report(self) -> Result<Report, Fail> {
+        match self.close() {
+            Ok(report) => Ok(report),
+            Err(CloseFault::OutOfMemory(..)) => Err(Fail::from("memory")),
+        }
+    }
+
+    /// Lets it go, so that no test has to show that it may.
+    pub fn end(self) {}
+}
+
+/// A proxy's answer to a request that was checked against a configuration, at moment 0; nothing where it is none.
+pub fn accept(
+    rt: &impl Wait,
+    alloc: Global,
+    proxy: &Proxy,
+    config: &Config,
+    request: &[u8],
+) -> Option<Result<Taken, Refusal>> {
+    let mut datagram = Datagram::new();
+    match check_in(config, [10, 0, 0, 1], CLIENT_PORT, request) {
+        Ok(Incoming::Request(request)) => {
+            Some(proxy.accept(rt, alloc, &request, at(0), &mut datagram))
+        }
+        _ => None,
+    }
+}

@@ -1,0 +1,108 @@
+//! What the workers do in a turn, over wires in memory: what each counts and tells, and where what it sends goes.
+
+use super::octets::{
+    FORWARDED, PROBE, PROBE_ANSWER, REPLY, REQUEST, RESPONSE, SECOND_FORWARDED, SECOND_REQUEST,
+    STATUS, STATUS_ANSWER,
+};
+use super::works::{HOME, Works, front, lane, play, tally};
+use rad_desk::{Call, Note};
+use rad_realms::{Dropped, Endpoint};
+use std::alloc::Global;
+use std::process::Abort;
+use std::sync::Wait;
+use std::test::Fail;
+
+#[test]
+fn each_worker_does_its_part(rt: HostRuntime) -> Result<(), Fail> {
+    let turns = [
+        front(&REQUEST, [1, 0, 0], Some(Note::Accepted(0, 0)), &[]),
+        lane(&[], [0, 1, 0], None, &FORWARDED),
+        lane(&REPLY, [1, 0, 0], Some(Note::Answered(0, 0)), &[]),
+        front(&[], [0, 1, 0], Some(Note::Took(0, 0)), &RESPONSE),
+        front(&REQUEST, [1, 1, 0], None, &RESPONSE),
+        lane(&[], [0, 0, 0], None, &[]),
+    ];
+    play(&rt, rt.alloc(), "", &turns)
+}
+
+#[test]
+fn a_reply_from_elsewhere_is_dropped(rt: HostRuntime) -> Result<(), Fail> {
+    for (address, port) in [([127, 0, 0, 1], 2814), ([127, 0, 0, 2], 2813)] {
+        drop_from(&rt, rt.alloc(), Endpoint { address, port })?;
+    }
+    Ok(())
+}
+
+/// Has the reply come from there, which is not the home server.
+fn drop_from<R: Wait + Abort>(rt: &R, alloc: Global, elsewhere: Endpoint) -> Result<(), Fail> {
+    let mut works = Works::new(alloc, "")?;
+    forward(rt, &mut works);
+    works.lane.comes(elsewhere, &REPLY);
+    let turns = [
+        lane(&[], [1, 0, 0], Some(Note::NotHome(elsewhere)), &[]),
+        front(&[], [0, 0, 0], None, &[]),
+    ];
+    works.play(rt, &turns);
+    works.end();
+    Ok(())
+}
+
+/// A turn of each worker, after which the request is with its home server.
+pub fn forward<R: Wait + Abort>(rt: &R, works: &mut Works) {
+    let turns = [
+        front(&REQUEST, [1, 0, 0], Some(Note::Accepted(0, 0)), &[]),
+        lane(&[], [0, 1, 0], None, &FORWARDED),
+    ];
+    works.play(rt, &turns);
+}
+
+#[test]
+fn the_front_answers_and_drops(rt: HostRuntime) -> Result<(), Fail> {
+    let mut works = Works::new(rt.alloc(), "")?;
+    works.play(&rt, &[front(&STATUS, [1, 1, 0], None, &STATUS_ANSWER)]);
+    works.front.comes(HOME, &STATUS);
+    let dropped = Note::Dropped(HOME, Dropped::UnknownClient);
+    works.play(&rt, &[front(&[], [1, 0, 0], Some(dropped), &[])]);
+    works.end();
+    Ok(())
+}
+
+#[test]
+fn a_gate_stops_each_worker(rt: HostRuntime) -> Result<(), Fail> {
+    let mut works = Works::new(rt.alloc(), "")?;
+    works.gate.stops = Some(Call::Take);
+    assert_eq!(rt; works.front(&rt, 9), tally(1, [0, 0, 0]));
+    works.gate.stops = Some(Call::Step);
+    let accepted = Some(Note::Accepted(0, 0));
+    works.play(&rt, &[front(&REQUEST, [1, 0, 0], accepted, &[])]);
+    assert_eq!(rt; works.lane(&rt, 9), tally(1, [0, 0, 0]));
+    assert!(rt; works.lane.sent(HOME, &[]));
+    works.end();
+    Ok(())
+}
+
+#[test]
+fn a_probes_answer_takes_a_lane_up(rt: HostRuntime) -> Result<(), Fail> {
+    let second = Some(Note::Accepted(0, 1));
+    let turns = [
+        front(&REQUEST, [1, 0, 0], Some(Note::Accepted(0, 0)), &[]),
+        lane(&[], [0, 1, 0], None, &FORWARDED),
+        front(&SECOND_REQUEST, [1, 0, 0], second, &[]),
+        lane(&[], [0, 1, 0], None, &SECOND_FORWARDED),
+        lane(&[], [0, 0, 0], Some(Note::WentDown), &[]),
+        lane(&[], [0, 1, 0], None, &PROBE),
+        lane(&PROBE_ANSWER, [1, 1, 0], Some(Note::WentUp), &FORWARDED),
+    ];
+    play(&rt, rt.alloc(), "tries = 1\n", &turns)
+}
+
+#[test]
+fn a_half_full_book_is_cut(rt: HostRuntime) -> Result<(), Fail> {
+    let turns = [
+        front(&REQUEST, [1, 0, 0], Some(Note::Accepted(0, 0)), &[]),
+        lane(&[], [0, 1, 0], None, &FORWARDED),
+        lane(&[], [0, 0, 0], None, &[]),
+        lane(&REPLY, [1, 0, 0], Some(Note::Cut(1)), &[]),
+    ];
+    play(&rt, rt.alloc(), "book = 2\nspan = 0\n", &turns)
+}

@@ -1,0 +1,200 @@
+//! The workers of a home server over wires in memory, and the turns that they take in a test.
+
+use super::memory::{MemoryWire, TestGate};
+use super::test_desk::{CLIENT_PORT, config};
+use rad_desk::{Inlet, Note, Proxy, Tally, Worker, front_worker, lane_worker, open};
+use rad_lane::Counts;
+use rad_realms::{Config, Endpoint};
+use std::alloc::Global;
+use std::process::Abort;
+use std::sync::Wait;
+use std::test::Fail;
+
+pub const CLIENT: Endpoint = Endpoint {
+    address: [10, 0, 0, 1],
+    port: CLIENT_PORT,
+};
+
+pub const HOME: Endpoint = Endpoint {
+    address: [127, 0, 0, 1],
+    port: 2813,
+};
+
+/// A turn of a worker.
+#[derive(Clone, Copy)]
+pub struct Turn<'a> {
+    worker: Worker,
+    /// What comes to it from its peer. Where that is empty, nothing comes but what was to come before.
+    comes: &'a [u8],
+    /// How many datagrams come and are handed over, and how many receives and sends fail.
+    did: [u64; 3],
+    /// What it tells last.
+    tells: Option<Note>,
+    /// What it sends last, which goes to its peer. Where that is empty, it sends nothing.
+    sends: &'a [u8],
+}
+
+/// A turn of the front, whose peer is the client.
+pub fn front<'a>(comes: &'a [u8], did: [u64; 3], tells: Option<Note>, sends: &'a [u8]) -> Turn<'a> {
+    Turn {
+        worker: Worker::Front,
+        comes,
+        did,
+        tells,
+        sends,
+    }
+}
+
+/// A turn of the lane, whose peer is the home server.
+pub fn lane<'a>(comes: &'a [u8], did: [u64; 3], tells: Option<Note>, sends: &'a [u8]) -> Turn<'a> {
+    Turn {
+        worker: Worker::Lane(0),
+        comes,
+        did,
+        tells,
+        sends,
+    }
+}
+
+/// What a worker did: its turns, what came, what was handed over and what failed.
+pub fn tally(turns: u64, did: [u64; 3]) -> Tally {
+    Tally {
+        turns,
+        received: did[0],
+        sent: did[1],
+        faults: did[2],
+    }
+}
+
+/// How many requests a lane accepted, and how many of them wait, are out and were answered. Its home server is up.
+pub fn counts(accepted: u64, queued: usize, outstanding: usize, answered: u64) -> Option<Counts> {
+    Some(Counts {
+        opening: 0,
+        accepted,
+        answered,
+        queued,
+        outstanding,
+        up: true,
+        draining: false,
+    })
+}
+
+/// The workers of one home server, each with its wire, and the gate of both.
+#[derive(Drop)]
+pub struct Works {
+    pub alloc: Global,
+    pub config: Config,
+    pub proxy: Proxy,
+    pub inlets: Vec<Inlet>,
+    pub front: MemoryWire,
+    pub lane: MemoryWire,
+    pub gate: TestGate,
+}
+
+impl Works {
+    /// Over the configuration that goes on with these lines.
+    pub fn new(alloc: Global, more: &str) -> Result<Works, Fail> {
+        let config = config(alloc, more)?;
+        let (proxy, inlets) = open(alloc, &config)?;
+        Ok(Works {
+            alloc,
+            config,
+            proxy,
+            inlets,
+            front: MemoryWire::new(alloc),
+            lane: MemoryWire::new(alloc),
+            gate: TestGate::new(),
+        })
+    }
+
+    /// Turns of the front.
+    pub fn front(&mut self, rt: &impl Wait, turns: u64) -> Tally {
+        front_worker(
+            rt,
+            self.alloc,
+            &self.proxy,
+            &self.config,
+            self.inlets.as_mut_slice(),
+            &mut self.front,
+            &self.gate,
+            turns,
+        )
+    }
+
+    /// Turns of the lane; none where there is no lane.
+    pub fn lane(&mut self, rt: &impl Wait, turns: u64) -> Tally {
+        match self.config.homes().first() {
+            Some(home) if self.proxy.lanes() > 0 => lane_worker(
+                rt,
+                self.alloc,
+                &self.proxy,
+                0,
+                home,
+                &mut self.lane,
+                &self.gate,
+                turns,
+            ),
+            _ => tally(0, [0, 0, 0]),
+        }
+    }
+
+    /// How the lane stands, where there is one.
+    pub fn counts(&self, rt: &impl Wait) -> Option<Counts> {
+        if self.proxy.lanes() == 0 {
+            return None;
+        }
+        Some(self.proxy.counts(rt, 0))
+    }
+
+    /// Has the workers take these turns, and compares what each does, tells and sends.
+    pub fn play<R: Wait + Abort>(&mut self, rt: &R, turns: &[Turn<'_>]) {
+        for (place, turn) in turns.iter().enumerate() {
+            let did = self.take(rt, turn);
+            assert_eq!(rt; did, tally(1, turn.did), "turn {place}");
+            assert_eq!(rt; self.gate.told(), turn.tells, "turn {place}");
+            assert!(rt; self.has_sent(turn), "turn {place}");
+        }
+    }
+
+    /// Has a worker take a turn.
+    fn take(&mut self, rt: &impl Wait, turn: &Turn<'_>) -> Tally {
+        match turn.worker {
+            Worker::Front => {
+                if !turn.comes.is_empty() {
+                    self.front.comes(CLIENT, turn.comes);
+                }
+                self.front(rt, 1)
+            }
+            Worker::Lane(_) => {
+                if !turn.comes.is_empty() {
+                    self.lane.comes(HOME, turn.comes);
+                }
+                self.lane(rt, 1)
+            }
+        }
+    }
+
+    /// Whether a turn has sent what it is to send.
+    fn has_sent(&mut self, turn: &Turn<'_>) -> bool {
+        match turn.worker {
+            Worker::Front => self.front.sent(CLIENT, turn.sends),
+            Worker::Lane(_) => self.lane.sent(HOME, turn.sends),
+        }
+    }
+
+    /// Lets it go, so that no test has to show that it may.
+    pub fn end(self) {}
+}
+
+/// Has workers over the configuration that goes on with these lines take these turns.
+pub fn play<R: Wait + Abort>(
+    rt: &R,
+    alloc: Global,
+    more: &str,
+    turns: &[Turn<'_>],
+) -> Result<(), Fail> {
+    let mut works = Works::new(alloc, more)?;
+    works.play(rt, turns);
+    works.end();
+    Ok(())
+}
