@@ -96,12 +96,10 @@ impl fmt::Display for LatestWords<'_> {
         let Some(received) = received.try_lock() else {
             return Ok(());
         };
-        match read(received.octets()) {
-            Ok(packet) => {
-                let words = PacketWords(&packet);
-                write!(f, "{words}")
-            }
-            Err(_) => Ok(()),
-        }
+        let Ok(packet) = read(received.octets()) else {
+            return Ok(());
+        };
+        let words = PacketWords::of(&packet);
+        write!(f, "{words}")
     }
 }

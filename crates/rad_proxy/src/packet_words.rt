@@ -9,22 +9,38 @@ const ACCT_SESSION_ID: u8 = 44;
 
 /// A packet's Identifier, and its session and its realm where it has them, each behind a space. The user is left out.
 #[derive(Clone, Copy)]
-pub struct PacketWords<'a>(pub &'a PacketRef<'a>);
+pub struct PacketWords<'a> {
+    identifier: u8,
+    session: Option<&'a [u8]>,
+    realm: Option<&'a [u8]>,
+}
 
 /// The octets of a text: those that are printed as they are, and the others by two hexadecimal digits behind a `%`.
 #[derive(Clone, Copy)]
 struct Escaped<'a>(&'a [u8]);
 
+impl<'a> PacketWords<'a> {
+    /// The words of a packet.
+    pub fn of(packet: &PacketRef<'a>) -> PacketWords<'a> {
+        let session = session_of(packet);
+        let realm = realm_of_packet(packet);
+        PacketWords {
+            identifier: packet.identifier(),
+            session,
+            realm,
+        }
+    }
+}
+
 impl fmt::Display for PacketWords<'_> {
     fn fmt<W: fmt::Write>(&self, f: &mut fmt::Formatter<W>) -> fmt::Result {
-        let packet = self.0;
-        let identifier = packet.identifier();
+        let identifier = self.identifier;
         write!(f, " identifier={identifier}")?;
-        if let Some(session) = session_of(packet) {
+        if let Some(session) = self.session {
             let session = Escaped(session);
             write!(f, " session={session}")?;
         }
-        if let Some(realm) = realm_of_packet(packet) {
+        if let Some(realm) = self.realm {
             let realm = Escaped(realm);
             write!(f, " realm={realm}")?;
         }

@@ -8,7 +8,7 @@ use crate::workers::worker_name;
 use log::{Level, Log, debug, error, info, log_enabled, trace, warn};
 use rad_desk::{DeskFault, Note, Worker};
 use rad_lane::Refusal;
-use rad_packet::read;
+use rad_packet::{PacketRef, ReadFault, read};
 use rad_realms::{Config, Dropped, Endpoint};
 use std::alloc::{AllocError, Global};
 use std::fmt;
@@ -143,25 +143,38 @@ impl<'a, L: Log> Teller<'a, L> {
         debug!(self.log; "event=unheard home={name}{packet} reason=\"{reason}\"");
     }
 
-    /// Tells of a datagram that passes, where the level is `trace`: whose it is, and of what is in it the session and the
-    /// realm.
+    /// Tells of a datagram that passes, where the level is `trace`.
     fn tell_datagram(&self, event: &str, worker: Worker, peer: Endpoint, octets: &[u8]) {
         if !log_enabled!(self.log; Level::Trace) {
             return;
         }
+        match read(octets) {
+            Ok(packet) => self.tell_packet(event, worker, peer, &packet),
+            Err(fault) => self.tell_unread(event, worker, peer, octets.len(), fault),
+        }
+    }
+
+    /// Tells of a packet that passes: whose it is, and of what is in it the session and the realm.
+    fn tell_packet(&self, event: &str, worker: Worker, peer: Endpoint, packet: &PacketRef<'_>) {
         let name = worker_name(self.config, worker);
         let peer = PeerText(peer);
-        match read(octets) {
-            Ok(packet) => {
-                let code = packet.code();
-                let length = packet.octets().len();
-                let packet = PacketWords(&packet);
-                trace!(self.log; "event={event} worker={name} {peer} code={code} length={length}{packet}");
-            }
-            Err(fault) => {
-                let count = octets.len();
-                trace!(self.log; "event={event} worker={name} {peer} octets={count} reason=\"Unread {fault}\"");
-            }
-        }
+        let code = packet.code();
+        let length = packet.octets().len();
+        let words = PacketWords::of(packet);
+        trace!(self.log; "event={event} worker={name} {peer} code={code} length={length}{words}");
+    }
+
+    /// Tells of a datagram of so many octets that passes and is no packet.
+    fn tell_unread(
+        &self,
+        event: &str,
+        worker: Worker,
+        peer: Endpoint,
+        count: usize,
+        fault: ReadFault,
+    ) {
+        let name = worker_name(self.config, worker);
+        let peer = PeerText(peer);
+        trace!(self.log; "event={event} worker={name} {peer} octets={count} reason=\"Unread {fault}\"");
     }
 }

@@ -179,7 +179,7 @@ fn each_note_tells_of_what_its_worker_received(rt: HostRuntime) -> Result<(), Fa
 #[test]
 fn odd_octets_are_escaped(rt: HostRuntime) -> Result<(), Fail> {
     let packet = read(&ODD)?;
-    let text = format!(in rt.alloc(); "{}", PacketWords(&packet))?;
+    let text = format!(in rt.alloc(); "{}", PacketWords::of(&packet))?;
     assert_eq!(rt;
         text.as_str(),
         " identifier=1 session=S%201%ff@ realm=e%25x%20%3d%22%7f."
