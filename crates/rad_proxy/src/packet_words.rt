@@ -1,6 +1,6 @@
-//! What a log line tells of a packet.
+//! What a log line tells of a packet, and of a datagram that is one or is none.
 
-use rad_packet::PacketRef;
+use rad_packet::{PacketRef, read};
 use rad_realms::realm_of_packet;
 use std::fmt;
 
@@ -14,6 +14,10 @@ pub struct PacketWords<'a> {
     session: Option<&'a [u8]>,
     realm: Option<&'a [u8]>,
 }
+
+/// A datagram's Code, Length and the words of its packet, or where it is none how many octets it has and why.
+#[derive(Clone, Copy)]
+pub struct DatagramWords<'a>(pub &'a [u8]);
 
 /// The octets of a text: those that are printed as they are, and the others by two hexadecimal digits behind a `%`.
 #[derive(Clone, Copy)]
@@ -45,6 +49,23 @@ impl fmt::Display for PacketWords<'_> {
             write!(f, " realm={realm}")?;
         }
         Ok(())
+    }
+}
+
+impl fmt::Display for DatagramWords<'_> {
+    fn fmt<W: fmt::Write>(&self, f: &mut fmt::Formatter<W>) -> fmt::Result {
+        match read(self.0) {
+            Ok(packet) => {
+                let code = packet.code();
+                let length = packet.octets().len();
+                let words = PacketWords::of(&packet);
+                write!(f, "code={code} length={length}{words}")
+            }
+            Err(fault) => {
+                let count = self.0.len();
+                write!(f, "octets={count} reason=\"Unread {fault}\"")
+            }
+        }
     }
 }
 

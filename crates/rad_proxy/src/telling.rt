@@ -3,12 +3,11 @@
 
 use crate::latest::Latest;
 use crate::names::{AddressText, DeskFaultText, refusal_name};
-use crate::packet_words::PacketWords;
+use crate::packet_words::DatagramWords;
 use crate::workers::worker_name;
 use log::{Level, Log, debug, error, info, log_enabled, trace, warn};
 use rad_desk::{DeskFault, Note, Worker};
 use rad_lane::Refusal;
-use rad_packet::{PacketRef, ReadFault, read};
 use rad_realms::{Config, Dropped, Endpoint};
 use std::alloc::{AllocError, Global};
 use std::fmt;
@@ -29,6 +28,13 @@ struct PeerText(Endpoint);
 /// A client's IPv4 address and UDP port.
 #[derive(Clone, Copy)]
 struct ClientText(Endpoint);
+
+/// Which way a datagram passes.
+#[derive(Clone, Copy)]
+enum Way {
+    Came,
+    Went,
+}
 
 impl fmt::Display for PeerText {
     fn fmt<W: fmt::Write>(&self, f: &mut fmt::Formatter<W>) -> fmt::Result {
@@ -102,12 +108,12 @@ impl<'a, L: Log> Teller<'a, L> {
     /// Tells that a worker received a datagram, where the level is `trace`.
     pub fn tell_received(&self, worker: Worker, from: Endpoint, octets: &[u8]) {
         self.latest.keep(worker, octets);
-        self.tell_datagram("came", worker, from, octets);
+        tell_datagram(self.log, self.config, Way::Came, worker, from, octets);
     }
 
     /// Tells that a worker sends a datagram, where the level is `trace`.
     pub fn tell_sent(&self, worker: Worker, to: Endpoint, octets: &[u8]) {
-        self.tell_datagram("went", worker, to, octets);
+        tell_datagram(self.log, self.config, Way::Went, worker, to, octets);
     }
 
     fn tell_dropped(&self, worker: Worker, from: Endpoint, reason: Dropped) {
@@ -142,39 +148,23 @@ impl<'a, L: Log> Teller<'a, L> {
         let reason = DeskFaultText(fault);
         debug!(self.log; "event=unheard home={name}{packet} reason=\"{reason}\"");
     }
+}
 
-    /// Tells of a datagram that passes, where the level is `trace`.
-    fn tell_datagram(&self, event: &str, worker: Worker, peer: Endpoint, octets: &[u8]) {
-        if !log_enabled!(self.log; Level::Trace) {
-            return;
-        }
-        match read(octets) {
-            Ok(packet) => self.tell_packet(event, worker, peer, &packet),
-            Err(fault) => self.tell_unread(event, worker, peer, octets.len(), fault),
-        }
-    }
-
-    /// Tells of a packet that passes: whose it is, and of what is in it the session and the realm.
-    fn tell_packet(&self, event: &str, worker: Worker, peer: Endpoint, packet: &PacketRef<'_>) {
-        let name = worker_name(self.config, worker);
-        let peer = PeerText(peer);
-        let code = packet.code();
-        let length = packet.octets().len();
-        let words = PacketWords::of(packet);
-        trace!(self.log; "event={event} worker={name} {peer} code={code} length={length}{words}");
-    }
-
-    /// Tells of a datagram of so many octets that passes and is no packet.
-    fn tell_unread(
-        &self,
-        event: &str,
-        worker: Worker,
-        peer: Endpoint,
-        count: usize,
-        fault: ReadFault,
-    ) {
-        let name = worker_name(self.config, worker);
-        let peer = PeerText(peer);
-        trace!(self.log; "event={event} worker={name} {peer} octets={count} reason=\"Unread {fault}\"");
-    }
+/// Tells of a datagram that passes, where the level is `trace`.
+fn tell_datagram<L: Log>(
+    log: &L,
+    config: &Config,
+    way: Way,
+    worker: Worker,
+    peer: Endpoint,
+    octets: &[u8],
+) {
+    let event = match way {
+        Way::Came => "came",
+        Way::Went => "went",
+    };
+    let name = worker_name(config, worker);
+    let peer = PeerText(peer);
+    let datagram = DatagramWords(octets);
+    trace!(log; "event={event} worker={name} {peer} {datagram}");
 }
