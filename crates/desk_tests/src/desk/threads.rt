@@ -85,6 +85,27 @@ fn take_most<R: Clock>(rt: &R, alloc: Global, mut inlet: Inlet) -> Option<(Inlet
     None
 }
 
+/// The response of this place, of those taken and then the rest.
+fn response_at<'a>(
+    taken: &'a [Outgoing],
+    rest: &'a [Outgoing],
+    place: usize,
+) -> Option<&'a Outgoing> {
+    if place < taken.len() {
+        taken.get(place)
+    } else {
+        rest.get(place - taken.len())
+    }
+}
+
+/// Whether a response has this serial, and agrees with the answer.
+fn is_given(answer: &Answered, serial: u64, response: Option<&Outgoing>) -> bool {
+    match response {
+        Some(response) => response.serial == serial && agrees(answer, response),
+        None => false,
+    }
+}
+
 /// Compares the responses, those taken and then the rest, with the answers.
 fn compare_responses(
     rt: &impl Abort,
@@ -93,26 +114,34 @@ fn compare_responses(
     answered: &[Answered],
 ) {
     assert_eq!(rt; answered.len(), usize::from(REQUESTS));
-    for (place, response) in taken.iter().chain(rest).enumerate() {
-        assert_eq!(rt; response.serial, place as u64);
-        let answer = answered.get(place).expect(rt, "an answer");
-        assert!(rt; agrees(answer, response));
+    for (serial, answer) in (0..REQUESTS).zip(answered) {
+        let response = response_at(taken, rest, usize::from(serial));
+        assert!(rt;
+            is_given(answer, u64::from(serial), response),
+            "serial {serial}"
+        );
+    }
+}
+
+/// Whether a request was accepted as the one of this count.
+fn is_of(stamp: &Stamp, count: u16) -> bool {
+    match request(count) {
+        Some(made) => {
+            stamp.number == u64::from(count) && stamp.authenticator == made.packet().authenticator()
+        }
+        None => false,
     }
 }
 
 /// Compares the requests that were accepted with those that were made, and the numbers that they got.
 fn compare_requests(rt: &impl Abort, accepted: &[Stamp], numbers: &[u64]) {
-    assert_eq!(rt; accepted.len(), usize::from(REQUESTS));
-    for count in 0..REQUESTS {
-        let place = usize::from(count);
-        let stamp = accepted.get(place).expect(rt, "a stamp");
-        let number = numbers.get(place).expect(rt, "a number");
-        assert_eq!(rt;
-            (stamp.number, *number),
-            (u64::from(count), u64::from(count))
-        );
-        let made = request(count).expect(rt, "a request");
-        assert!(rt; stamp.authenticator == made.packet().authenticator());
+    let lengths = (accepted.len(), numbers.len());
+    assert_eq!(rt; lengths, (usize::from(REQUESTS), usize::from(REQUESTS)));
+    for (count, stamp) in (0..REQUESTS).zip(accepted) {
+        assert!(rt; is_of(stamp, count), "request {count}");
+    }
+    for (count, number) in (0..REQUESTS).zip(numbers) {
+        assert!(rt; *number == u64::from(count), "request {count}");
     }
 }
 
