@@ -20,8 +20,8 @@ use std::alloc::Global;
 use std::fmt::Display;
 use std::io::Write;
 use std::result::Result;
+use std::sync::Mutex;
 use std::sync::atomic::{AtomicU64, Ordering};
-use std::sync::{Mutex, Wait};
 use std::test::Fail;
 
 const NAS: Endpoint = Endpoint {
@@ -61,30 +61,31 @@ const ODD: [u8; 39] = [
     b'x', b' ', b'=', b'"', 127, b'.', 44, 7, b'S', b' ', b'1', 255, b'@',
 ];
 
-/// Keeps the text of each record, in a line.
+/// Keeps the text of each record, in a line. One thread at a time logs.
 #[derive(Drop)]
-struct Kept<'a, R> {
-    rt: &'a R,
+struct Kept {
     text: Mutex<Vec<u8>>,
     /// How many lines there are.
     count: AtomicU64,
 }
 
-impl<'a, R: Wait> Kept<'a, R> {
-    fn new(rt: &'a R, alloc: Global) -> Kept<'a, R> {
+impl Kept {
+    fn new(alloc: Global) -> Kept {
         Kept {
-            rt,
             text: Mutex::new(Vec::new(alloc)),
             count: AtomicU64::new(0),
         }
     }
 
     fn is(&self, expected: &str) -> bool {
-        self.text.lock(self.rt).as_slice() == expected.as_bytes()
+        match self.text.try_lock() {
+            Some(text) => text.as_slice() == expected.as_bytes(),
+            None => false,
+        }
     }
 }
 
-impl<R: Wait> Log for Kept<'_, R> {
+impl Log for Kept {
     ghost use Rattle.std.specs.Prelude.{Some, true, []};
 
     ghost enables = { λ _ _ _. Some true };
@@ -96,7 +97,9 @@ impl<R: Wait> Log for Kept<'_, R> {
     }
 
     fn log<D: Display, K: Source, S: Spans>(&self, record: &Record<'_, D, K, S>) {
-        let mut text = self.text.lock(self.rt);
+        let Some(mut text) = self.text.try_lock() else {
+            return;
+        };
         let line = record.args();
         let _ = writeln!(text, "{line}");
         self.count.fetch_add(1, Ordering::SeqCst);
@@ -113,7 +116,7 @@ impl<R: Wait> Log for Kept<'_, R> {
 fn a_drop_tells_of_its_datagram(rt: HostRuntime) -> Result<(), Fail> {
     let alloc = rt.alloc();
     let config = read_config(alloc, configuration())?;
-    let log = Logged::new((), LevelFilter::Debug, Kept::new(&rt, alloc));
+    let log = Logged::new((), LevelFilter::Debug, Kept::new(alloc));
     let teller = Teller::new(alloc, &config, &log)?;
     let sent = AtomicU64::new(0);
     let mut lanes = Vec::new(alloc);
@@ -160,7 +163,7 @@ fn a_drop_tells_of_its_datagram(rt: HostRuntime) -> Result<(), Fail> {
 fn each_note_tells_of_what_its_worker_received(rt: HostRuntime) -> Result<(), Fail> {
     let alloc = rt.alloc();
     let config = read_config(alloc, TWO_HOMES)?;
-    let log = Logged::new((), LevelFilter::Trace, Kept::new(&rt, alloc));
+    let log = Logged::new((), LevelFilter::Trace, Kept::new(alloc));
     let teller = Teller::new(alloc, &config, &log)?;
     let unknown = DeskFault::Lane(HearFault::Unknown);
     teller.tell_received(Worker::Lane(1), HOME, &OTHER_REPLY);
