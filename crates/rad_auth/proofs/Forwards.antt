@@ -1,6 +1,6 @@
 -- Laws of the forwarded packet. Proofs of the crates above cite these.
 use Rattle.std.proofs.Common.{◌≡◌, ℕ, ◌+◌, ◌<◌, ◌≤◌, List, [], ◌∷◌, ◌++◌, length, replicate, refl, sym, ap, ◌∙◌, subst, arith, length-append, length-drop}
-use Rattle.rad_packet.specs.Attribute.{Attribute, IsAttribute, attribute_text, joined, attributes_of}
+use Rattle.rad_packet.specs.Attribute.{IsAttribute, attribute_text, joined, attributes_of}
 use Rattle.rad_packet.specs.Packet.{IsPacketText, code_of, identifier_of, attribute_octets, packet_attributes, packet_text, with_attributes}
 use Rattle.rad_packet.proofs.Each.{AllByRecursion-append, packet_attributes-each}
 use Rattle.rad_packet.proofs.Joined.{attributes_of-joined}

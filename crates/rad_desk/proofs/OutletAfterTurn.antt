@@ -1,5 +1,5 @@
 -- A cut takes answers away, and leaves the responses that were given.
-use Rattle.std.proofs.Common.{◌≡◌, ℕ, ◌≤◌, sym, subst}
+use Rattle.std.proofs.Common.{ℕ, ◌≤◌, sym, subst}
 use Rattle.std.specs.Prelude.{List, not, Result, Ok, Err}
 use Rattle.std.proofs.lemmas.List.Elements.{All-filter}
 use Rattle.rad_lane.specs.declared.outgoing.Outgoing.{Outgoing}

@@ -1,6 +1,6 @@
 -- Lines of which no more is kept than a command may have.
-use Rattle.std.proofs.Common.{◌≡◌, ◌≢◌, ℕ, ◌+◌, ◌-◌, ◌<◌, ◌≤◌, min, List, [], ◌∷◌, ◌++◌, length, take, drop, Option, Some, None, refl, sym, ap, subst, ◌∙◌, arith, ⊎_elim, inl, inr}
-use Rattle.std.specs.Prelude.{⊤, codes, slice_get, Result, Ok, Err, MatchOption}
+use Rattle.std.proofs.Common.{◌≡◌, ◌≢◌, ℕ, ◌+◌, ◌-◌, ◌<◌, ◌≤◌, min, List, [], ◌∷◌, ◌++◌, length, take, drop, Option, Some, None, sym, ap, subst, ◌∙◌, arith, ⊎_elim, inl, inr}
+use Rattle.std.specs.Prelude.{⊤, codes, slice_get, Ok, Err, MatchOption}
 use Rattle.std.proofs.lemmas.Bool.{cases_lt}
 use Rattle.std.proofs.Math.Nat.{min_comm}
 use Rattle.std.proofs.lemmas.List.{take-append-le, take_min, take_all, take-append-drop, length-take, append-nil, append_assoc, drop_more}
@@ -10,7 +10,7 @@ use Rattle.std.proofs.Math.Seq.{take-append-add}
 use Rattle.std.specs.Io.KnownBytes.{Consumes, IsAtEnd, Keeps, prepend_known}
 use Rattle.rad_proxy.specs.declared.commands.Command.{Command}
 use Rattle.rad_proxy.specs.declared.commands.Command.TheVariants.{State, Drain, Unknown}
-use Rattle.rad_proxy.specs.Commands.{Asks, HasNoFeed, EndsLine, AsksFirst, KeepsFront, ReadsNext}
+use Rattle.rad_proxy.specs.Commands.{Asks, HasNoFeed, EndsLine, ReadsNext}
 
 -- as many octets as there is room for stand behind the front
 pub fits_behind : (front octets : List ℕ) (count : ℕ) → length front ≤ 64 → count ≡ min (length octets) (64 - length front)

@@ -1,5 +1,5 @@
 -- A text that is cut at each separator.
-use Rattle.std.specs.Prelude.{◌≡◌, ◌≢◌, ℕ, suc, List, [], ◌∷◌, ◌++◌, Option, None, Some, length, take, slice_get, All}
+use Rattle.std.specs.Prelude.{◌≡◌, ◌≢◌, ℕ, suc, List, ◌∷◌, ◌++◌, Option, None, Some, length, take, slice_get, All}
 use Rattle.std.specs.Borrow.{Bor}
 use Rattle.rad_proxy.specs.declared.pieces.Pieces.{Pieces}
 

@@ -1,5 +1,5 @@
 -- What a wire over sockets receives (own). No public clause cites this module.
-use Rattle.std.specs.Prelude.{ℕ, ◌≤◌, ⊤}
+use Rattle.std.specs.Prelude.{◌≤◌, ⊤}
 use Rattle.rad_desk.specs.declared.wire.Received.{Received}
 use Rattle.rad_desk.specs.declared.wire.Received.TheVariants.{Got, Nothing, Fault}
 

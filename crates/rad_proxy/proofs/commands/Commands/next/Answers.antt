@@ -1,7 +1,7 @@
-use Rattle.std.proofs.Common.{rules, ◌≡◌, ◌++◌, List, ℕ, refl, sym, ap, subst, ◌∙◌, arith}
-use Rattle.std.specs.Prelude.{Ok, Err, Some, take, ◌≢◌, []}
+use Rattle.std.proofs.Common.{◌++◌, sym, subst}
+use Rattle.std.specs.Prelude.{Ok, Some}
 use Rattle.std.specs.Io.KnownBytes.{Consumes, Keeps, prepend_known}
-use Rattle.rad_proxy.specs.Commands.{ReadsNext, ReadsMore, HasNoFeed, Asks}
+use Rattle.rad_proxy.specs.Commands.{ReadsNext, ReadsMore}
 use Rattle.rad_proxy.proofs.CommandLemmas.{HasReadOf, begins, goes_on, reads_line, reads_last, keeps_front, gives_up}
 use Rattle.rad_proxy.proofs.commands.Commands.next.Goals as goal
 

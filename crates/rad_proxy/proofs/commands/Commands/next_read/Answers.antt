@@ -1,4 +1,4 @@
-use Rattle.std.proofs.Common.{rules, ◌≡◌, ◌≢◌, ◌≤◌, min, ◌++◌, ◌∷◌, length, take, drop, ℕ, ◌+◌, List, refl, sym, ap, subst, ◌∙◌, arith}
+use Rattle.std.proofs.Common.{rules, ◌≡◌, ◌≢◌, ◌≤◌, ◌++◌, ◌∷◌, length, take, drop, ◌+◌, sym, ap, subst, ◌∙◌, arith}
 use Rattle.std.proofs.lemmas.List.{length-take}
 use Rattle.std.proofs.lemmas.List.Elements.{All-append, All-take}
 use Rattle.rad_proxy.specs.Commands.{HasNoFeed, IsFront, Asks}
