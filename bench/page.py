@@ -1,6 +1,6 @@
 #!/usr/bin/env python3
-"""Puts the figures of a run into docs/performance.md: each table between the marks that name it, and the pictures into the
-folder beside it.
+"""Puts the figures of a run into docs/performance.md: each table between the marks that name it, with its picture where there
+is one, and the pictures into the folder beside it.
 
 usage: page.py FOLDER        the folder that `make bench` wrote
 
@@ -18,14 +18,25 @@ from pictures import draw
 
 DOCS = pathlib.Path(__file__).parent.parent / "docs"
 PAGE, PICTURES = DOCS / "performance.md", DOCS / "performance"
+SHOWS = {
+    "throughput": "requests a second by how many are out at once",
+    "latency": "time to the answer by rate",
+    "cpu": "processor time a request by rate",
+    "growth": "time a request and memory by the requests in the book",
+    "steady": "p99.9 second by second",
+}
 MARKED = re.compile(r"(<!-- figures: (\w+) -->\n).*?(<!-- end of figures -->)", re.DOTALL)
 
 
-def with_tables(text, made):
-    """The page with each table of the run in its place."""
+def with_tables(text, made, drawn):
+    """The page with each table of the run in its place, below its picture."""
+
     def put(found):
         begin, name, end = found.groups()
-        return f"{begin}\n{made[name]}\n{end}" if name in made else found.group()
+        if name not in made:
+            return found.group()
+        picture = f"![{SHOWS[name]}](performance/{name}.svg)\n\n" if f"{name}.svg" in drawn else ""
+        return f"{begin}\n{picture}{made[name]}\n{end}"
 
     return MARKED.sub(put, text)
 
@@ -35,9 +46,10 @@ def main():
         sys.exit(__doc__)
     lines = pathlib.Path(sys.argv[1], "results.jsonl").read_text().splitlines()
     results = [json.loads(line) for line in lines]
-    PAGE.write_text(with_tables(PAGE.read_text(), tables.made(results)))
+    drawn = draw(results)
+    PAGE.write_text(with_tables(PAGE.read_text(), tables.made(results), drawn))
     PICTURES.mkdir(exist_ok=True)
-    for name, picture in draw(results).items():
+    for name, picture in drawn.items():
         (PICTURES / name).write_text(picture)
     print(f"{PAGE.relative_to(DOCS.parent)} has the figures of {len(results)} measurements")
 
