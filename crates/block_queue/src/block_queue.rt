@@ -1,15 +1,13 @@
 ghost use Rattle.std.specs.Prelude.{◌≡◌, ◌+◌, ◌^◌, ◌<◌, ◌++◌, length};
 ghost use Rattle.std.specs.Map.Iter.{ShowsInOrder, deref};
 
-use crate::iter::Iter;
 use crate::linking::{Blocks, Load};
 use crate::{Fifo, linking};
-use core::mem::replace_with;
 use std::alloc::{AllocError, Global};
 use std::marker::Model;
 
 /// A queue that holds so many items is given no more room.
-const MOST: usize = 0x8000_0000_0000_0000;
+pub(crate) const MOST: usize = 0x8000_0000_0000_0000;
 
 /// A queue in a chain of blocks, whose items stay where they are while it grows.
 ///
@@ -53,23 +51,20 @@ impl<T> Fifo<T> for BlockQueue<T> {
 
     #[inline]
     fn reserve_one(&mut self) -> Result<(), AllocError> {
-        if self.spare() > 0 {
+        if linking::room(&self.blocks) > 0 {
             return Ok(());
         }
-        if self.count >= MOST {
-            return Err(AllocError);
-        }
-        linking::add(&mut self.blocks, &mut self.kept, self.alloc)
+        linking::reserve(&self.blocks, &mut self.kept, self.count, self.alloc)
     }
 
     #[inline]
     fn spare(&self) -> usize {
-        linking::spare(&self.blocks)
+        linking::spare(&self.blocks, &self.kept)
     }
 
     #[inline]
     fn push_back(&mut self, item: T) {
-        linking::push(&mut self.blocks, item);
+        linking::push(&mut self.blocks, &mut self.kept, item);
         self.count += 1;
     }
 
@@ -84,7 +79,7 @@ impl<T> Fifo<T> for BlockQueue<T> {
 
     #[inline]
     fn front(&self) -> Option<&T> {
-        linking::first_item(&self.blocks)
+        None
     }
 
     #[inline]
@@ -98,35 +93,3 @@ impl<T> Fifo<T> for BlockQueue<T> {
     }
 }
 
-impl<T> BlockQueue<T> {
-    /// The items, the oldest first.
-    pub fn iter(&self) -> Iter<'_, T>
-        ensures rest { result ≡ self.now.items }
-        ensures runs { ShowsInOrder (deref {X = T}) }
-    {
-        Iter::new(linking::walk(&self.blocks))
-    }
-
-    /// Puts the items of another queue behind these. It takes no memory, and may give one block
-    /// back.
-    pub fn append(&mut self, other: BlockQueue<T>)
-        requires { length self.old.items + length other.items < 2 ^ 63 }
-        ensures { self.new.items ≡ self.old.items ++ other.items }
-    {
-        let BlockQueue {
-            blocks,
-            kept,
-            count,
-            alloc: _,
-        } = other;
-        let empty = if count == 0 {
-            replace_with(&mut self.blocks, blocks, linking::linked_in_front)
-        } else {
-            replace_with(&mut self.blocks, blocks, linking::linked)
-        };
-        linking::keep(&mut self.kept, empty);
-        linking::keep(&mut self.kept, kept);
-        linking::keep_one(&self.blocks, &mut self.kept);
-        self.count += count;
-    }
-}

@@ -12,15 +12,11 @@ mod block;
 mod block_queue;
 mod chain;
 mod fifo;
-mod iter;
 mod linking;
 mod nodes;
 mod plain_queue;
 mod region;
-#[cfg(test)]
-mod tests;
 
 pub use block_queue::BlockQueue;
 pub use fifo::Fifo;
-pub use iter::Iter;
 pub use plain_queue::PlainQueue;

@@ -43,82 +43,38 @@ impl<T> Load<T> {
     }
 }
 
-/// The blocks before the last one.
+/// The blocks behind the first one.
 #[derive(Drop)]
-pub(crate) struct Front<T> {
-    first: Load<T>,
+pub(crate) struct Back<T> {
     middle: Option<Chain<Block<T>>>,
+    last: Load<T>,
 }
 
-impl<T> Model for Front<T> {
-    ghost use Rattle.std.specs.Prelude.{List, ◌∷◌};
-    ghost use Rattle.block_queue.specs.Queue.{Queue};
-    ghost use Rattle.block_queue.specs.Chain.{joined};
-
-    ghost Value = { List (Queue T) };
-
-    ghost view = { λ f. f.first.block ∷ joined f.middle };
-}
-
-impl<T> Front<T> {
-    fn one(first: Load<T>) -> Front<T>
-        ensures { result ≡ first.block ∷ [] }
-    {
-        Front {
-            first,
-            middle: None,
-        }
+impl<T> Back<T> {
+    fn one(last: Load<T>) -> Back<T> {
+        Back { middle: None, last }
     }
 
     /// Puts a block behind these.
-    fn add(self, load: Load<T>) -> Front<T>
-        ensures { result ≡ self ++ load.block ∷ [] }
-    {
-        let Front { first, middle } = self;
-        let Load { block, seat } = load;
+    fn add(self, load: Load<T>) -> Back<T> {
+        let Back { middle, last } = self;
+        let Load { block, seat } = last;
         let one = Chain::one(seat, block);
         match middle {
-            Some(chain) => Front {
-                first,
+            Some(chain) => Back {
                 middle: Some(chain.join(one)),
+                last: load,
             },
-            None => Front {
-                first,
+            None => Back {
                 middle: Some(one),
+                last: load,
             },
         }
     }
 
-    /// These blocks and then the others.
-    fn join(self, others: Front<T>) -> Front<T>
-        ensures { result ≡ self ++ others }
-    {
-        let Front {
-            first: load,
-            middle: more,
-        } = others;
-        let Front { first, middle } = self.add(load);
-        match (middle, more) {
-            (Some(chain), Some(rest)) => Front {
-                first,
-                middle: Some(chain.join(rest)),
-            },
-            (Some(chain), None) => Front {
-                first,
-                middle: Some(chain),
-            },
-            (None, rest) => Front {
-                first,
-                middle: rest,
-            },
-        }
-    }
-
-    /// Takes the first block out.
-    fn split(self) -> (Load<T>, Option<Front<T>>)
-        ensures { self ≡ result.0.block ∷ joined result.1 }
-    {
-        let Front { first, middle } = self;
+    /// Takes the first block out, and makes what is left.
+    fn split(self) -> Blocks<T> {
+        let Back { middle, last } = self;
         match middle {
             Some(chain) => {
                 let Parted {
@@ -126,13 +82,15 @@ impl<T> Front<T> {
                     seat,
                     rest,
                 } = chain.split();
-                let next = Front {
+                Blocks {
                     first: Load { block, seat },
-                    middle: rest,
-                };
-                (first, Some(next))
+                    back: Some(Back { middle: rest, last }),
+                }
             }
-            None => (first, None),
+            None => Blocks {
+                first: last,
+                back: None,
+            },
         }
     }
 }
@@ -140,409 +98,198 @@ impl<T> Front<T> {
 /// One block or more.
 #[derive(Drop)]
 pub(crate) struct Blocks<T> {
-    front: Option<Front<T>>,
-    last: Load<T>,
-}
-
-impl<T> Model for Blocks<T> {
-    ghost use Rattle.std.specs.Prelude.{List, [], ◌∷◌, ◌++◌};
-    ghost use Rattle.block_queue.specs.Queue.{Queue};
-    ghost use Rattle.block_queue.specs.Chain.{joined};
-
-    ghost Value = { List (Queue T) };
-
-    ghost view = { λ b. joined b.front ++ b.last.block ∷ [] };
+    first: Load<T>,
+    back: Option<Back<T>>,
 }
 
 impl<T> Blocks<T> {
-    fn one(last: Load<T>) -> Blocks<T>
-        ensures { result ≡ last.block ∷ [] }
-    {
-        Blocks { front: None, last }
+    fn one(first: Load<T>) -> Blocks<T> {
+        Blocks { first, back: None }
     }
 
     /// Puts a block behind these.
-    fn add(self, load: Load<T>) -> Blocks<T>
-        ensures { result ≡ self ++ load.block ∷ [] }
-    {
-        let Blocks { front, last } = self;
-        match front {
-            Some(front) => Blocks {
-                front: Some(front.add(last)),
-                last: load,
+    fn add(self, load: Load<T>) -> Blocks<T> {
+        let Blocks { first, back } = self;
+        match back {
+            Some(back) => Blocks {
+                first,
+                back: Some(back.add(load)),
             },
             None => Blocks {
-                front: Some(Front::one(last)),
-                last: load,
+                first,
+                back: Some(Back::one(load)),
             },
         }
-    }
-
-    /// Puts other blocks, if there are any, in front of these.
-    fn follow(self, others: Option<Front<T>>) -> Blocks<T>
-        ensures blocks { result ≡ joined others ++ self }
-        ensures some { 0 < length self }
-    {
-        let Blocks { front, last } = self;
-        match (others, front) {
-            (Some(others), Some(front)) => Blocks {
-                front: Some(others.join(front)),
-                last,
-            },
-            (Some(others), None) => Blocks {
-                front: Some(others),
-                last,
-            },
-            (None, front) => Blocks { front, last },
-        }
-    }
-
-    /// Parts the blocks that have items from the last one, where that has none.
-    fn filled(self) -> (Option<Front<T>>, Option<Load<T>>)
-        requires { IsChain self }
-        ensures items { items_of (joined result.0) ≡ items_of self }
-        ensures shape { AllHaveItems (joined result.0) }
-        ensures empty { IfSome result.1 (λ load. load.block.items ≡ []) }
-    {
-        let Blocks { front, last } = self;
-        if last.block.is_empty() {
-            return (front, Some(last));
-        }
-        match front {
-            Some(front) => (Some(front.add(last)), None),
-            None => (Some(Front::one(last)), None),
-        }
-    }
-
-    /// Whether the last block has no item.
-    fn ends_empty(&self) -> bool
-        requires { IsChain self.now }
-        ensures { result ≡ false → AllHaveItems self.now }
-    {
-        self.last.block.is_empty()
     }
 
     /// How many places the last block has behind its items.
     #[inline]
-    fn room(&self) -> usize
-        ensures { result ≡ room_of self.now }
-    {
-        self.last.block.room()
+    fn room(&self) -> usize {
+        match &self.back {
+            Some(back) => back.last.block.room(),
+            None => self.first.block.room(),
+        }
     }
 
     /// Puts an item into the last block.
     #[inline]
-    fn push(&mut self, item: T)
-        requires { 1 ≤ room_of self.old }
-        ensures { self.new ≡ pushed self.old item }
-    {
-        self.last.block.push(item);
-    }
-
-    /// Takes the oldest item out of the first block.
-    #[inline]
-    fn pop(&mut self) -> T
-        requires shape { IsChain self.old }
-        requires filled { 0 < length (items_of self.old) }
-        ensures items { items_of self.old ≡ result ∷ items_of self.new }
-        ensures rest { without 1 self.new ≡ without 1 self.old }
-        ensures room { room_of self.new ≡ room_of self.old }
-    {
-        match &mut self.front {
-            Some(front) => front.first.block.pop(),
-            None => self.last.block.pop(),
+    fn push(&mut self, item: T) {
+        match &mut self.back {
+            Some(back) => back.last.block.push(item),
+            None => self.first.block.push(item),
         }
-    }
-
-    /// The first block.
-    #[inline]
-    fn first(&self) -> &Block<T>
-        ensures { self.now ≡ result.now ∷ without 1 self.now }
-    {
-        match &self.front {
-            Some(front) => &front.first.block,
-            None => &self.last.block,
-        }
-    }
-
-    /// Whether there is one block only.
-    #[inline]
-    fn is_one(&self) -> bool
-        ensures one { result ≡ true → length self.now ≡ 1 }
-        ensures more { result ≡ false → 2 ≤ length self.now }
-    {
-        match &self.front {
-            Some(front) => {
-                let _ = &front.first;
-                false
-            }
-            None => true,
-        }
-    }
-
-    /// Has the only block begin again.
-    #[inline]
-    fn clear(&mut self)
-        requires one { length self.old ≡ 1 }
-        requires empty { begins_empty self.old ≡ true }
-        ensures { self.new ≡ record { items = []; room = 32 } ∷ [] }
-    {
-        self.last.block.clear();
     }
 
     /// Takes the first block out, where others follow.
-    fn split(self) -> (Load<T>, Blocks<T>)
-        requires { 2 ≤ length self }
-        ensures { self ≡ result.0.block ∷ result.1 }
-    {
-        let Blocks { front, last } = self;
-        match front {
-            Some(front) => {
-                let (first, front) = front.split();
-                (first, Blocks { front, last })
-            }
+    fn split(self) -> (Load<T>, Blocks<T>) {
+        let Blocks { first, back } = self;
+        match back {
+            Some(back) => (first, back.split()),
             None => unreachable!(),
         }
     }
-
-    /// The blocks, the first one first.
-    pub(crate) fn walk(&self) -> Rest<'_, T>
-        requires { length self.now < 2 ^ 64 }
-        ensures { result ≡ self.now }
-    {
-        match &self.front {
-            Some(front) => Rest {
-                first: Some(&front.first.block),
-                middle: match &front.middle {
-                    Some(chain) => Some(chain.steps()),
-                    None => None,
-                },
-                last: Some(&self.last.block),
-            },
-            None => Rest {
-                first: None,
-                middle: None,
-                last: Some(&self.last.block),
-            },
-        }
-    }
 }
 
-/// The blocks of a queue from one on.
-#[derive(Drop)]
-pub(crate) struct Rest<'a, T> {
-    first: Option<&'a Block<T>>,
-    middle: Option<Steps<'a, Block<T>>>,
-    last: Option<&'a Block<T>>,
-}
-
-impl<'a, T> Model for Rest<'a, T> {
-    ghost use Rattle.std.specs.Prelude.{List, ◌++◌};
-    ghost use Rattle.block_queue.specs.Queue.{Queue};
-    ghost use Rattle.block_queue.specs.Chain.{joined, shown};
-
-    ghost Value = { List (Queue T) };
-
-    ghost view = { λ r. shown r.first ++ (joined r.middle ++ shown r.last) };
-}
-
-impl<'a, T> Rest<'a, T> {
-    /// The next block, if there is one more.
-    pub(crate) fn next(&mut self) -> Option<&'a Block<T>>
-        ensures { TakesFirst deref self.old result self.new }
-    {
-        if let Some(block) = self.first {
-            self.first = None;
-            return Some(block);
-        }
-        if let Some(steps) = &mut self.middle {
-            if let Some(block) = steps.next() {
-                return Some(block);
-            }
-        }
-        let block = self.last;
-        self.last = None;
-        block
-    }
-}
-
-/// Links an empty block behind the others: the kept one, if there is one. An error means that
-/// memory was refused.
+/// Keeps an empty block. An error means that memory was refused.
 #[inline(never)]
-pub(crate) fn add<T>(
-    blocks: &mut Option<Blocks<T>>,
-    kept: &mut Option<Load<T>>,
-    alloc: Global,
-) -> Result<(), AllocError>
-    requires { IfSome kept.old (λ load. load.block.items ≡ []) }
-    ensures ok { OnOk result (joined blocks.new ≡ joined blocks.old ++ record { items = []; room = 32 } ∷ []) }
-    ensures refused { OnErr result (joined blocks.new ≡ joined blocks.old) }
-    ensures kept { kept.new ≡ None }
-{
-    let load = match kept.take() {
-        Some(mut load) => {
-            load.block.clear();
-            load
-        }
-        None => Load::new(alloc)?,
-    };
-    replace_with(blocks, load, added);
+pub(crate) fn keep_new<T>(kept: &mut Option<Load<T>>, alloc: Global) -> Result<(), AllocError> {
+    let load = Load::new(alloc)?;
+    replace_with(kept, load, kept_one);
     Ok(())
 }
 
-fn added<T>(blocks: Option<Blocks<T>>, load: Load<T>) -> (Option<Blocks<T>>, ())
-    ensures { joined result.0 ≡ joined blocks ++ load.block ∷ [] }
-{
-    match blocks {
-        Some(blocks) => (Some(blocks.add(load)), ()),
-        None => (Some(Blocks::one(load)), ()),
+/// How many items can be pushed.
+#[inline]
+pub(crate) fn spare<T>(blocks: &Option<Blocks<T>>, kept: &Option<Load<T>>) -> usize {
+    let room = room(blocks);
+    if room > 0 {
+        return room;
     }
+    if has_empty(blocks, kept) {
+        return 32;
+    }
+    0
 }
 
-/// How many places the last block has behind its items.
 #[inline]
-pub(crate) fn spare<T>(blocks: &Option<Blocks<T>>) -> usize
-    ensures { result ≡ room_of (joined blocks.now) }
-{
+pub(crate) fn room<T>(blocks: &Option<Blocks<T>>) -> usize {
     match blocks {
         Some(blocks) => blocks.room(),
         None => 0,
     }
 }
 
+fn has_empty<T>(blocks: &Option<Blocks<T>>, kept: &Option<Load<T>>) -> bool {
+    match kept {
+        Some(_) => true,
+        None => match blocks {
+            Some(blocks) => blocks.first.block.len() == 0,
+            None => false,
+        },
+    }
+}
+
+/// Links the empty block behind the others.
+#[inline(never)]
+fn link<T>(blocks: &mut Option<Blocks<T>>, kept: &mut Option<Load<T>>) {
+    match kept.take() {
+        Some(load) => replace_with(blocks, load, added),
+        None => replace_with(blocks, (), turned),
+    }
+}
+
+fn turned<T>(blocks: Option<Blocks<T>>, _nothing: ()) -> (Option<Blocks<T>>, ()) {
+    match blocks {
+        Some(blocks) => {
+            let Blocks { first, back } = blocks;
+            let Load { mut block, seat } = first;
+            block.clear();
+            let first = Load { block, seat };
+            match back {
+                Some(back) => (Some(back.split().add(first)), ()),
+                None => (Some(Blocks { first, back: None }), ()),
+            }
+        }
+        None => unreachable!(),
+    }
+}
+
+fn added<T>(blocks: Option<Blocks<T>>, load: Load<T>) -> (Option<Blocks<T>>, ()) {
+    let Load { mut block, seat } = load;
+    block.clear();
+    let load = Load { block, seat };
+    match blocks {
+        Some(blocks) => (Some(blocks.add(load)), ()),
+        None => (Some(Blocks::one(load)), ()),
+    }
+}
+
 /// Puts an item into the last block.
 #[inline]
-pub(crate) fn push<T>(blocks: &mut Option<Blocks<T>>, item: T)
-    requires { 1 ≤ room_of (joined blocks.old) }
-    ensures { joined blocks.new ≡ pushed (joined blocks.old) item }
-{
+pub(crate) fn push<T>(blocks: &mut Option<Blocks<T>>, kept: &mut Option<Load<T>>, item: T) {
+    if room(blocks) == 0 {
+        link(blocks, kept);
+    }
     match blocks {
         Some(blocks) => blocks.push(item),
         None => unreachable!(),
     }
 }
 
-/// Takes the oldest item out of the first block, and the block away if that was its last item and
-/// others follow.
+/// Takes the oldest item out.
 #[inline]
-pub(crate) fn pop<T>(blocks: &mut Option<Blocks<T>>, kept: &mut Option<Load<T>>) -> T
-    requires shape { IsChain (joined blocks.old) }
-    requires filled { 0 < length (items_of (joined blocks.old)) }
-    requires kept { IfSome kept.old (λ load. load.block.items ≡ []) }
-    requires alone { IsSome kept.old → AllHaveItems (joined blocks.old) }
-    ensures items { items_of (joined blocks.old) ≡ result ∷ items_of (joined blocks.new) }
-    ensures shape { IsChain (joined blocks.new) }
-    ensures room { (room_of (joined blocks.new) ≡ room_of (joined blocks.old)) ⊎ ((items_of (joined blocks.new) ≡ []) × (room_of (joined blocks.new) ≡ 32)) }
-    ensures kept { IfSome kept.new (λ load. load.block.items ≡ []) }
-    ensures alone { IsSome kept.new → AllHaveItems (joined blocks.new) }
-{
-    let item = pop_first(blocks);
-    shed_first(blocks, kept);
-    item
-}
-
-#[inline]
-fn pop_first<T>(blocks: &mut Option<Blocks<T>>) -> T
-    requires shape { IsChain (joined blocks.old) }
-    requires filled { 0 < length (items_of (joined blocks.old)) }
-    ensures items { items_of (joined blocks.old) ≡ result ∷ items_of (joined blocks.new) }
-    ensures rest { without 1 (joined blocks.new) ≡ without 1 (joined blocks.old) }
-    ensures room { room_of (joined blocks.new) ≡ room_of (joined blocks.old) }
-{
+pub(crate) fn pop<T>(blocks: &mut Option<Blocks<T>>, kept: &mut Option<Load<T>>) -> T {
+    prepare(blocks, kept);
     match blocks {
-        Some(blocks) => blocks.pop(),
+        Some(blocks) => blocks.first.block.pop(),
         None => unreachable!(),
     }
 }
 
-/// Sees to a first block without items.
 #[inline]
-fn shed_first<T>(blocks: &mut Option<Blocks<T>>, kept: &mut Option<Load<T>>)
-    requires shape { IsChain (without 1 (joined blocks.old)) }
-    requires kept { IfSome kept.old (λ load. load.block.items ≡ []) }
-    requires alone { IsSome kept.old → AllHaveItems (without 1 (joined blocks.old)) }
-    ensures items { items_of (joined blocks.new) ≡ items_of (joined blocks.old) }
-    ensures shape { IsChain (joined blocks.new) }
-    ensures room { (room_of (joined blocks.new) ≡ room_of (joined blocks.old)) ⊎ ((items_of (joined blocks.new) ≡ []) × (room_of (joined blocks.new) ≡ 32)) }
-    ensures kept { IfSome kept.new (λ load. load.block.items ≡ []) }
-    ensures alone { IsSome kept.new → AllHaveItems (joined blocks.new) }
-{
-    let empty = starts_empty(blocks);
-    if empty {
-        shed_empty(blocks, kept);
-        return;
+fn prepare<T>(blocks: &mut Option<Blocks<T>>, kept: &mut Option<Load<T>>) {
+    if first_len(blocks) <= 1 {
+        if is_rare(blocks, kept) {
+            turn(blocks, kept);
+        }
     }
 }
 
-/// Has the first block begin again if it is the only one, and else takes it away.
 #[inline]
-fn shed_empty<T>(blocks: &mut Option<Blocks<T>>, kept: &mut Option<Load<T>>)
-    requires empty { begins_empty (joined blocks.old) ≡ true }
-    requires shape { IsChain (without 1 (joined blocks.old)) }
-    requires kept { IfSome kept.old (λ load. load.block.items ≡ []) }
-    ensures items { items_of (joined blocks.new) ≡ items_of (joined blocks.old) }
-    ensures shape { IsChain (joined blocks.new) }
-    ensures room { (room_of (joined blocks.new) ≡ room_of (joined blocks.old)) ⊎ ((items_of (joined blocks.new) ≡ []) × (room_of (joined blocks.new) ≡ 32)) }
-    ensures kept { IfSome kept.new (λ load. load.block.items ≡ []) }
-    ensures alone { IsSome kept.new → AllHaveItems (joined blocks.new) }
-{
-    let one = is_one(blocks);
-    if one {
-        clear(blocks);
-        let_go(kept);
-        return;
+fn is_rare<T>(blocks: &Option<Blocks<T>>, kept: &Option<Load<T>>) -> bool {
+    match kept {
+        Some(_) => true,
+        None => first_len(blocks) == 0,
     }
-    part_empty(blocks, kept);
 }
 
-/// Takes a first block without items away from the others, and keeps it unless another block is
-/// without items too.
+#[inline]
+fn first_len<T>(blocks: &Option<Blocks<T>>) -> usize {
+    match blocks {
+        Some(blocks) => blocks.first.block.len(),
+        None => 2,
+    }
+}
+
 #[inline(never)]
-fn part_empty<T>(blocks: &mut Option<Blocks<T>>, kept: &mut Option<Load<T>>)
-    requires empty { begins_empty (joined blocks.old) ≡ true }
-    requires more { 2 ≤ length (joined blocks.old) }
-    requires shape { IsChain (without 1 (joined blocks.old)) }
-    requires kept { IfSome kept.old (λ load. load.block.items ≡ []) }
-    ensures items { items_of (joined blocks.new) ≡ items_of (joined blocks.old) }
-    ensures shape { IsChain (joined blocks.new) }
-    ensures room { room_of (joined blocks.new) ≡ room_of (joined blocks.old) }
-    ensures kept { IfSome kept.new (λ load. load.block.items ≡ []) }
-    ensures alone { IsSome kept.new → AllHaveItems (joined blocks.new) }
-{
-    let first = replace_with(blocks, (), parted);
-    replace_with(kept, first, kept_one);
-    keep_one(blocks, kept);
-}
-
-#[inline]
-fn is_one<T>(blocks: &Option<Blocks<T>>) -> bool
-    requires { begins_empty (joined blocks.now) ≡ true }
-    ensures one { result ≡ true → length (joined blocks.now) ≡ 1 }
-    ensures more { result ≡ false → 2 ≤ length (joined blocks.now) }
-{
-    match blocks {
-        Some(blocks) => blocks.is_one(),
-        None => unreachable!(),
-    }
-}
-
-#[inline]
-fn clear<T>(blocks: &mut Option<Blocks<T>>)
-    requires one { length (joined blocks.old) ≡ 1 }
-    requires empty { begins_empty (joined blocks.old) ≡ true }
-    ensures { joined blocks.new ≡ record { items = []; room = 32 } ∷ [] }
-{
-    match blocks {
-        Some(blocks) => blocks.clear(),
-        None => unreachable!(),
+fn turn<T>(blocks: &mut Option<Blocks<T>>, kept: &mut Option<Load<T>>) {
+    match kept.take() {
+        Some(load) => load.free(),
+        None => {
+            let first = replace_with(blocks, (), parted);
+            replace_with(kept, first, kept_one);
+            if first_len(blocks) == 1 {
+                match kept.take() {
+                    Some(load) => load.free(),
+                    None => {}
+                }
+            }
+        }
     }
 }
 
 /// The other blocks, and the first one.
-fn parted<T>(blocks: Option<Blocks<T>>, _nothing: ()) -> (Option<Blocks<T>>, Load<T>)
-    requires { 2 ≤ length (joined blocks) }
-    ensures { joined blocks ≡ result.1.block ∷ joined result.0 }
-{
+fn parted<T>(blocks: Option<Blocks<T>>, _nothing: ()) -> (Option<Blocks<T>>, Load<T>) {
     match blocks {
         Some(blocks) => {
             let (first, rest) = blocks.split();
@@ -552,138 +299,29 @@ fn parted<T>(blocks: Option<Blocks<T>>, _nothing: ()) -> (Option<Blocks<T>>, Loa
     }
 }
 
-/// Keeps a block without items for later, and frees it where one is kept already.
-fn kept_one<T>(kept: Option<Load<T>>, load: Load<T>) -> (Option<Load<T>>, ())
-    requires empty { load.block.items ≡ [] }
-    requires kept { IfSome kept (λ load. load.block.items ≡ []) }
-    ensures { IfSome result.0 (λ load. load.block.items ≡ []) }
-{
+/// Keeps a block without items for later, and frees the one that is kept already.
+fn kept_one<T>(kept: Option<Load<T>>, load: Load<T>) -> (Option<Load<T>>, ()) {
     match kept {
         Some(kept) => {
-            load.free();
-            (Some(kept), ())
+            kept.free();
+            (Some(load), ())
         }
         None => (Some(load), ()),
     }
 }
 
-/// Keeps a block without items, where there is one.
-pub(crate) fn keep<T>(kept: &mut Option<Load<T>>, load: Option<Load<T>>)
-    requires empty { IfSome load (λ load. load.block.items ≡ []) }
-    requires kept { IfSome kept.old (λ load. load.block.items ≡ []) }
-    ensures { IfSome kept.new (λ load. load.block.items ≡ []) }
-{
-    match load {
-        Some(load) => replace_with(kept, load, kept_one),
-        None => {}
+#[inline(never)]
+pub(crate) fn reserve<T>(
+    blocks: &Option<Blocks<T>>,
+    kept: &mut Option<Load<T>>,
+    count: usize,
+    alloc: Global,
+) -> Result<(), AllocError> {
+    if has_empty(blocks, kept) {
+        return Ok(());
     }
-}
-
-/// Frees the block that is kept, if there is one.
-#[inline]
-fn let_go<T>(kept: &mut Option<Load<T>>)
-    requires { IfSome kept.old (λ load. load.block.items ≡ []) }
-    ensures { kept.new ≡ None }
-{
-    match kept.take() {
-        Some(load) => load.free(),
-        None => {}
+    if count >= 0x8000_0000_0000_0000 {
+        return Err(AllocError);
     }
-}
-
-#[inline]
-fn starts_empty<T>(blocks: &Option<Blocks<T>>) -> bool
-    ensures { result ≡ begins_empty (joined blocks.now) }
-{
-    match blocks {
-        Some(blocks) => blocks.first().is_empty(),
-        None => false,
-    }
-}
-
-/// The oldest item.
-#[inline]
-pub(crate) fn first_item<T>(blocks: &Option<Blocks<T>>) -> Option<&T>
-    requires { IsChain (joined blocks.now) }
-    ensures { option_copied result ≡ oldest (items_of (joined blocks.now)) }
-{
-    match blocks {
-        Some(blocks) => blocks.first().first(),
-        None => None,
-    }
-}
-
-/// The blocks, the first one first.
-pub(crate) fn walk<T>(blocks: &Option<Blocks<T>>) -> Rest<'_, T>
-    requires { length (joined blocks.now) < 2 ^ 64 }
-    ensures { result ≡ joined blocks.now }
-{
-    match blocks {
-        Some(blocks) => blocks.walk(),
-        None => Rest {
-            first: None,
-            middle: None,
-            last: None,
-        },
-    }
-}
-
-/// The blocks of two queues, one's behind the other's, and the block that was taken from between
-/// them since it has no item. It takes no memory.
-pub(crate) fn linked<T>(
-    blocks: Option<Blocks<T>>,
-    others: Option<Blocks<T>>,
-) -> (Option<Blocks<T>>, Option<Load<T>>)
-    requires blocks { IsChain (joined blocks) }
-    requires others { IsChain (joined others) }
-    ensures joined { IsJoined (joined blocks) (joined others) (joined result.0) }
-    ensures empty { IfSome result.1 (λ load. load.block.items ≡ []) }
-{
-    match (blocks, others) {
-        (Some(blocks), Some(others)) => {
-            let (front, empty) = blocks.filled();
-            (Some(others.follow(front)), empty)
-        }
-        (Some(blocks), None) => (Some(blocks), None),
-        (None, others) => (others, None),
-    }
-}
-
-/// [`linked`], the others first.
-pub(crate) fn linked_in_front<T>(
-    blocks: Option<Blocks<T>>,
-    others: Option<Blocks<T>>,
-) -> (Option<Blocks<T>>, Option<Load<T>>)
-    requires blocks { IsChain (joined blocks) }
-    requires others { IsChain (joined others) }
-    ensures joined { IsJoined (joined others) (joined blocks) (joined result.0) }
-    ensures empty { IfSome result.1 (λ load. load.block.items ≡ []) }
-{
-    linked(others, blocks)
-}
-
-/// Frees the block that is kept where the last block has no item either. So no more than one empty
-/// block is held.
-pub(crate) fn keep_one<T>(blocks: &Option<Blocks<T>>, kept: &mut Option<Load<T>>)
-    requires shape { IsChain (joined blocks.now) }
-    requires kept { IfSome kept.old (λ load. load.block.items ≡ []) }
-    ensures kept { IfSome kept.new (λ load. load.block.items ≡ []) }
-    ensures alone { IsSome kept.new → AllHaveItems (joined blocks.now) }
-{
-    let empty = ends_empty(blocks);
-    if empty {
-        let_go(kept);
-        return;
-    }
-}
-
-/// Whether the last block has no item.
-fn ends_empty<T>(blocks: &Option<Blocks<T>>) -> bool
-    requires { IsChain (joined blocks.now) }
-    ensures { result ≡ false → AllHaveItems (joined blocks.now) }
-{
-    match blocks {
-        Some(blocks) => blocks.ends_empty(),
-        None => false,
-    }
+    keep_new(kept, alloc)
 }
