@@ -2,6 +2,7 @@
 use Rattle.std.specs.Prelude.{ℕ, ◌==◌, List, codes, Option, Some, None, if◌then◌else◌}
 use Rattle.rad_realms.specs.declared.checking.Dropped.TheVariants as dropped
 use Rattle.rad_realms.specs.Printed.{dropped_text}
+use Rattle.rad_lane.specs.declared.accepting.Refusal.TheVariants as refusal
 use Rattle.rad_lane.specs.declared.hearing.HearFault.TheVariants as fault
 use Rattle.rad_desk.specs.declared.hearing.DeskFault.TheVariants as desk
 use Rattle.rad_desk.specs.declared.gate.Note.{Note}
@@ -32,6 +33,39 @@ kind_of (note.SendFault to) = Some kind.SendFault
 -- The kind of what a home server is sent: an Accounting-Request or a Status-Server.
 abbrev pub code_kind : ℕ → Option Kind
 code_kind code = if code == 4 then Some kind.Sent else (if code == 12 then Some kind.Probed else None)
+
+-- The place of a kind among all: what is counted most stands first, and the kinds of a family in the order of their reasons.
+abbrev pub kind_place : Kind → ℕ
+kind_place kind.Sent = 0
+kind_place kind.Probed = 1
+kind_place (kind.Dropped dropped.UnknownClient) = 2
+kind_place kind.Unread = 3
+kind_place (kind.Dropped (dropped.Unread reason)) = 3
+kind_place (kind.Dropped dropped.WrongCode) = 4
+kind_place (kind.Dropped dropped.BadAuthenticator) = 5
+kind_place (kind.Dropped dropped.BadMessageAuthenticator) = 6
+kind_place (kind.Dropped dropped.MessageAuthenticatorHere) = 7
+kind_place (kind.Dropped dropped.NoRealm) = 8
+kind_place (kind.Refused refusal.Draining) = 9
+kind_place (kind.Refused refusal.BookFull) = 10
+kind_place (kind.Refused refusal.QueueFull) = 11
+kind_place (kind.Refused refusal.TooLong) = 12
+kind_place (kind.Refused refusal.OutOfMemory) = 13
+kind_place (kind.Refused refusal.WrongLane) = 14
+kind_place kind.NotHome = 15
+kind_place (kind.Unheard desk.RingFull) = 16
+kind_place kind.ReplyUnread = 17
+kind_place (kind.Unheard (desk.Lane (fault.Unread reason))) = 17
+kind_place (kind.Unheard (desk.Lane fault.WrongCode)) = 18
+kind_place (kind.Unheard (desk.Lane fault.Unknown)) = 19
+kind_place (kind.Unheard (desk.Lane fault.BadAuthenticator)) = 20
+kind_place (kind.Unheard (desk.Lane fault.MessageAuthenticatorHere)) = 21
+kind_place (kind.Unheard (desk.Lane fault.NoProxyState)) = 22
+kind_place (kind.Unheard (desk.Lane fault.OutOfMemory)) = 23
+kind_place kind.SendFault = 24
+kind_place kind.ReceiveFault = 25
+kind_place kind.WentDown = 26
+kind_place kind.WentUp = 27
 
 -- The family of a kind.
 abbrev pub family_of : Kind → Family

@@ -13,3 +13,4 @@ pub mod ReportLines
 pub mod Sent
 pub mod Totals
 pub mod Wires
+pub mod Workers

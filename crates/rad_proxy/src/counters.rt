@@ -59,7 +59,7 @@ impl Counters {
     /// The counter of a worker and a kind.
     fn counter(&self, worker: Worker, kind: Kind) -> Option<&Counter> {
         let row = worker_place(worker).checked_mul(KINDS.len())?;
-        self.counters.get(row.checked_add(kind.place()?)?)
+        self.counters.get(row.checked_add(kind.place())?)
     }
 
     /// Counts a note.

@@ -1,7 +1,7 @@
 //! The kinds of what the workers note, as far as they are counted and summed up.
 
 ghost use Rattle.std.specs.Prelude.{◌≡◌};
-ghost use Rattle.rad_proxy.specs.Kinds.{kind_of, code_kind, family_of, event_of, family_name};
+ghost use Rattle.rad_proxy.specs.Kinds.{kind_of, code_kind, kind_place, family_of, event_of, family_name};
 
 use rad_desk::{DeskFault, Note};
 use rad_lane::{HearFault, Refusal};
@@ -81,6 +81,12 @@ pub const KINDS: [Kind; 28] = [
     Kind::WentUp,
 ];
 
+/// The place of a client's datagram that is no packet.
+const UNREAD: usize = 3;
+
+/// The place of a home server's datagram that is no packet.
+const REPLY_UNREAD: usize = 17;
+
 impl Kind {
     /// The kind of a note. What goes well is none.
     pub fn of(note: Note) -> Option<Kind>
@@ -112,9 +118,24 @@ impl Kind {
         }
     }
 
-    /// The place of the kind among all.
-    pub fn place(self) -> Option<usize> {
-        KINDS.iter().position(|kind| *kind == self)
+    /// The place of the kind in [`KINDS`].
+    pub fn place(self) -> usize
+        ensures { result ≡ kind_place self }
+    {
+        match self {
+            Kind::Sent => 0,
+            Kind::Probed => 1,
+            Kind::Dropped(reason) => dropped_place(reason),
+            Kind::Unread => UNREAD,
+            Kind::Refused(reason) => refused_place(reason),
+            Kind::NotHome => 15,
+            Kind::Unheard(reason) => unheard_place(reason),
+            Kind::ReplyUnread => REPLY_UNREAD,
+            Kind::SendFault => 24,
+            Kind::ReceiveFault => 25,
+            Kind::WentDown => 26,
+            Kind::WentUp => 27,
+        }
     }
 
     /// The family that the kind is of.
@@ -168,5 +189,50 @@ impl Family {
             Family::Sent => "sent_total",
             Family::Probed => "probes_total",
         }
+    }
+}
+
+/// The place of what is dropped for a reason.
+fn dropped_place(reason: Dropped) -> usize
+    ensures { result ≡ kind_place (Kind.Dropped reason) }
+{
+    match reason {
+        Dropped::UnknownClient => 2,
+        Dropped::Unread(_) => UNREAD,
+        Dropped::WrongCode => 4,
+        Dropped::BadAuthenticator => 5,
+        Dropped::BadMessageAuthenticator => 6,
+        Dropped::MessageAuthenticatorHere => 7,
+        Dropped::NoRealm => 8,
+    }
+}
+
+/// The place of what is refused for a reason.
+fn refused_place(reason: Refusal) -> usize
+    ensures { result ≡ kind_place (Kind.Refused reason) }
+{
+    match reason {
+        Refusal::Draining => 9,
+        Refusal::BookFull => 10,
+        Refusal::QueueFull => 11,
+        Refusal::TooLong => 12,
+        Refusal::OutOfMemory => 13,
+        Refusal::WrongLane => 14,
+    }
+}
+
+/// The place of what is not heard for a reason.
+fn unheard_place(reason: DeskFault) -> usize
+    ensures { result ≡ kind_place (Kind.Unheard reason) }
+{
+    match reason {
+        DeskFault::RingFull => 16,
+        DeskFault::Lane(HearFault::Unread(_)) => REPLY_UNREAD,
+        DeskFault::Lane(HearFault::WrongCode) => 18,
+        DeskFault::Lane(HearFault::Unknown) => 19,
+        DeskFault::Lane(HearFault::BadAuthenticator) => 20,
+        DeskFault::Lane(HearFault::MessageAuthenticatorHere) => 21,
+        DeskFault::Lane(HearFault::NoProxyState) => 22,
+        DeskFault::Lane(HearFault::OutOfMemory) => 23,
     }
 }

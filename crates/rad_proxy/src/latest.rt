@@ -1,5 +1,7 @@
 //! What each worker received last, for the lines that tell of a datagram where a note has not the datagram itself.
 
+ghost use Rattle.std.specs.Prelude.{◌≡◌, ◌+◌, [], IfOk, length};
+
 use crate::packet_words::PacketWords;
 use crate::workers::worker_place;
 use rad_desk::Worker;
@@ -31,7 +33,9 @@ pub struct LatestWords<'a> {
 
 impl Latest {
     /// Keeps nothing of any worker.
-    pub fn none(alloc: Global) -> Latest {
+    pub fn none(alloc: Global) -> Latest
+        ensures { result.received.items ≡ [] }
+    {
         Latest {
             received: Vec::new(alloc),
         }
@@ -42,7 +46,9 @@ impl Latest {
     /// # Errors
     ///
     /// Where memory is refused.
-    pub fn new(alloc: Global, lanes: usize) -> Result<Latest, AllocError> {
+    pub fn new(alloc: Global, lanes: usize) -> Result<Latest, AllocError>
+        ensures { IfOk result (λ latest. length latest.received.items ≡ lanes + 1) }
+    {
         let mut received = Vec::new(alloc);
         received.push(Mutex::new(Received::nothing()))?;
         for _ in 0..lanes {
@@ -51,7 +57,7 @@ impl Latest {
         Ok(Latest { received })
     }
 
-    /// Keeps what a worker received, in place of what it received before.
+    /// Keeps what a worker received, in place of what it received before. What stands behind a lock no contract tells.
     pub fn keep(&self, worker: Worker, octets: &[u8]) {
         if let Some(received) = self.received.get(worker_place(worker)) {
             if let Some(mut received) = received.try_lock() {
@@ -61,7 +67,10 @@ impl Latest {
     }
 
     /// The words of the packet that a worker received last.
-    pub fn words(&self, worker: Worker) -> LatestWords<'_> {
+    pub fn words(&self, worker: Worker) -> LatestWords<'_>
+        ensures latest { result.latest.now ≡ self.now }
+        ensures worker { result.worker ≡ worker }
+    {
         LatestWords {
             latest: self,
             worker,

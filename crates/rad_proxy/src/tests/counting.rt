@@ -1,7 +1,7 @@
 //! What no clause says of counting and reporting: what is counted of whom, what is told once, and the text that is written.
 
 use crate::counters::{Counters, Watch};
-use crate::kinds::Kind;
+use crate::kinds::{KINDS, Kind};
 use crate::levels::{level_of, read_level};
 use crate::reporting::{Keep, Reporter};
 use log::LevelFilter;
@@ -95,6 +95,13 @@ fn the_environment_names_a_level(rt: HostRuntime) {
     assert!(rt; read_level(&Given(Some("warn"))) == Some(LevelFilter::Warn));
     assert!(rt; read_level(&Given(Some("loud"))).is_none());
     assert!(rt; read_level(&Given(Some("a word of more than sixteen"))).is_none());
+}
+
+#[test]
+fn each_kind_stands_in_its_place(rt: HostRuntime) {
+    for (place, kind) in KINDS.iter().enumerate() {
+        assert_eq!(rt; kind.place(), place);
+    }
 }
 
 #[test]
