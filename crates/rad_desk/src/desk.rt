@@ -30,6 +30,7 @@ pub enum OpenFault {
 #[derive(Drop)]
 pub struct Desk {
     pub(crate) lane: Lane<RecordQueue>,
+    /// The end of the ring into which responses go.
     pub(crate) giver: Producer<Outgoing, Global, Numbered>,
     ghost outlet: { IsOutlet lane (sent giver) } by { Prim.hlevel props },
     ghost bounded: { lane.setup.limits.queue ≤ 65536 },

@@ -14,6 +14,7 @@ use std::alloc::{AllocError, Global};
 /// Its type keeps, whatever other threads do, that the responses taken have the serials 0, 1, 2 and so on.
 #[derive(Drop)]
 pub struct Inlet {
+    /// The lane whose ring it is.
     lane: u16,
     pub(crate) taker: Consumer<Outgoing, Global, Numbered>,
     /// The serial of the response that was taken last.

@@ -29,6 +29,7 @@ const TRIES: u32 = 2000;
 /// A contract sees how many lanes there are.
 #[derive(Drop)]
 pub struct Proxy {
+    /// In the order of the lanes.
     pub(crate) desks: Vec<Mutex<Desk>>,
 }
 

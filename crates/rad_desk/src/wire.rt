@@ -78,7 +78,9 @@ pub(crate) enum Way {
 #[derive(Clone, Copy)]
 pub(crate) struct Passing {
     way: Way,
+    /// The worker's own end, counted from 0.
     socket: u16,
+    /// The other end.
     peer: Endpoint,
 }
 

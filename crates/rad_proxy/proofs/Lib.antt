@@ -2,3 +2,4 @@ pub mod Among
 pub mod CommandLemmas
 pub mod HexLemmas
 pub mod LastSent
+pub mod Sessions

@@ -7,6 +7,7 @@ pub mod LeftOver
 pub mod Lines
 pub mod Names
 pub mod PacketText
+pub mod PacketWords
 pub mod Path
 pub mod Pieces
 pub mod ReportLines

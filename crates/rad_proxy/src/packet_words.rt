@@ -1,5 +1,10 @@
 //! What a log line tells of a packet, and of a datagram that is one or is none.
 
+ghost use Rattle.std.specs.Prelude.{◌≡◌, option_copied};
+ghost use Rattle.rad_packet.specs.Packet.{identifier_of};
+ghost use Rattle.rad_realms.specs.Realm.{realm_of_packet as the_realm};
+ghost use Rattle.rad_proxy.specs.PacketWords.{session_id};
+
 use rad_packet::{PacketRef, read};
 use rad_realms::realm_of_packet;
 use std::fmt;
@@ -25,7 +30,11 @@ struct Escaped<'a>(&'a [u8]);
 
 impl<'a> PacketWords<'a> {
     /// The words of a packet.
-    pub fn of(packet: &PacketRef<'a>) -> PacketWords<'a> {
+    pub fn of(packet: &PacketRef<'a>) -> PacketWords<'a>
+        ensures identifier { result.identifier ≡ identifier_of packet.now }
+        ensures session { option_copied result.session ≡ session_id packet.now }
+        ensures realm { option_copied result.realm ≡ the_realm packet.now }
+    {
         let session = session_of(packet);
         let realm = realm_of_packet(packet);
         PacketWords {
@@ -84,7 +93,13 @@ impl fmt::Display for Escaped<'_> {
 }
 
 /// The Acct-Session-Id of a packet, where it has one.
-fn session_of<'a>(packet: &PacketRef<'a>) -> Option<&'a [u8]> {
-    let session = packet.first_of(ACCT_SESSION_ID)?;
-    packet.octets().get(session.place..)?.get(2..session.length)
+fn session_of<'a>(packet: &PacketRef<'a>) -> Option<&'a [u8]>
+    ensures { option_copied result ≡ session_id packet.now }
+{
+    for attribute in packet.attributes() {
+        if attribute.kind == ACCT_SESSION_ID {
+            return Some(attribute.value);
+        }
+    }
+    None
 }

@@ -34,7 +34,9 @@ pub struct Script {
     inlets: Vec<Inlet>,
     /// What each source port of each lane sent last.
     sent: Vec<Vec<LastSent>>,
+    /// The moment of the next event.
     moment: Moment,
+    /// Room for the datagram of an event.
     datagram: Vec<u8>,
 }
 

@@ -18,6 +18,7 @@ const RUNG: u8 = 2;
 /// The worker lies down before it sleeps, and rises before it looks for work; in another order a ring is lost.
 #[derive(Drop)]
 pub struct Bell {
+    /// One of the three above.
     state: AtomicU8,
     waker: Waker,
 }

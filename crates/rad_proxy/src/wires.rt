@@ -63,6 +63,7 @@ impl Ear {
 /// The sockets of a worker, and how it sleeps where none of them has a datagram.
 #[derive(Drop)]
 struct Ears {
+    /// In the order of the source ports; the front has one.
     ears: Vec<Ear>,
     /// The socket that is received from next.
     turn: u16,

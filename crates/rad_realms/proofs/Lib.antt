@@ -6,6 +6,7 @@ pub mod ArrayTables
 pub mod Turns
 pub mod LastSigns
 pub mod UserNames
+pub mod FirstValue
 pub mod Ranges
 pub mod Exclusive
 pub mod Steps

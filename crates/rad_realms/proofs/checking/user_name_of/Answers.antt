@@ -2,22 +2,23 @@ use Rattle.std.proofs.Common.{◌≡◌, ◌∙◌, sym, ap, ◌==◌, true, fal
 use Rattle.std.proofs.lemmas.Bool.Decides.{nat_tests}
 use Rattle.rad_packet.specs.Attribute.{attributes_of}
 use Rattle.rad_packet.specs.Item.{attribute_at}
-use Rattle.rad_realms.proofs.UserNames.{first_name, first_name_is, first_here, first_later}
+use Rattle.rad_realms.proofs.FirstValue.{first_value, first_here, first_later}
+use Rattle.rad_realms.proofs.UserNames.{user_name_is}
 use Rattle.rad_realms.proofs.checking.user_name_of.Goals as goal
 
 pub loop-attribute-init : goal.loop-attribute-init
 loop-attribute-init c =
-    rw (c.into_iter-attribute-iterator.ensures.into_iter_gives, c.attributes-attribute-items.ensures.attributes) (first_name_is c.args.packet.now)
+    rw (c.into_iter-attribute-iterator.ensures.into_iter_gives, c.attributes-attribute-items.ensures.attributes) (user_name_is c.args.packet.now)
 
 pub returns-then-attribute-eq-USER_NAME-clause-name : goal.returns-then-attribute-eq-USER_NAME-clause-name
 returns-then-attribute-eq-USER_NAME-clause-name c =
     let same : (c.in-Some.attribute.kind == 1) ≡ true = grind (arith, nat_tests) in
-    sym (first_here (attribute_at c.in-Some.attribute) (attributes_of c.next.new.self) same) ∙ ap first_name (sym c.in-Some.ensures.steps) ∙ c.loop-attribute.invariant
+    sym (first_here 1 (attribute_at c.in-Some.attribute) (attributes_of c.next.new.self) same) ∙ ap (first_value 1) (sym c.in-Some.ensures.steps) ∙ c.loop-attribute.invariant
 
 pub loop-attribute-preserved : goal.loop-attribute-preserved
 loop-attribute-preserved c =
     let other : (c.in-Some.attribute.kind == 1) ≡ false = grind (arith, nat_tests) in
-    sym (first_later (attribute_at c.in-Some.attribute) (attributes_of c.next.new.self) other) ∙ ap first_name (sym c.in-Some.ensures.steps) ∙ c.loop-attribute.invariant
+    sym (first_later 1 (attribute_at c.in-Some.attribute) (attributes_of c.next.new.self) other) ∙ ap (first_value 1) (sym c.in-Some.ensures.steps) ∙ c.loop-attribute.invariant
 
 pub returns-clause-name : goal.returns-clause-name
-returns-clause-name c = sym (ap first_name c.in-None.ensures.steps.0) ∙ c.loop-attribute.invariant
+returns-clause-name c = sym (ap (first_value 1) c.in-None.ensures.steps.0) ∙ c.loop-attribute.invariant
