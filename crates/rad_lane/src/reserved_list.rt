@@ -3,7 +3,7 @@ use std::alloc::{AllocError, Global};
 use std::marker::Model;
 
 /// Items in order, whose room is made before it is needed. They stand in one row, which begins with items that were let
-/// go of, at most half of it.
+/// go of.
 #[derive(Drop)]
 pub(crate) struct ReservedList<T> {
     /// The row, with what was let go of at its front.
@@ -85,28 +85,27 @@ impl<T> ReservedList<T> {
         &self.items.as_slice()[self.start..]
     }
 
-    /// Lets go of so many of the first items. It takes no memory. The others are moved only where more were let go of
-    /// since the last move than there are others, so that in all no more items are moved than let go of.
+    /// Lets go of so many of the first items, which stay in memory until the row is made compact.
     pub(crate) fn drop_front(&mut self, count: usize)
-    where
-        T: Drop,
         requires { count ≤ length self.old.items }
         ensures { self.new.items ≡ drop count self.old.items }
     {
         self.start += count;
-        if self.items.len() - self.start < self.start {
-            self.compact();
-        }
     }
 
-    /// Moves the items to the begin of the row.
-    fn compact(&mut self)
+    /// Moves the items to the begin of the row, where more were let go of since the last move than there are, so that in
+    /// all no more items are moved than let go of. It answers whether it did, and takes no memory.
+    pub(crate) fn make_compact(&mut self) -> bool
     where
         T: Drop,
         ensures { self.new.items ≡ self.old.items }
     {
+        if self.items.len() - self.start >= self.start {
+            return false;
+        }
         drop(self.items.drain(..self.start));
         self.start = 0;
+        true
     }
 
     /// The items, which no more are added to. It takes no memory.

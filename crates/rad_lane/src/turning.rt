@@ -47,8 +47,9 @@ impl<Q: Fifo<Record>> Lane<Q> {
     ///
     /// It takes time linear in what it cuts and in the answers that came before the last one that it cuts, and for each
     /// request of the cut the logarithm of how many keys there are. Nothing else of the book moves, but once in a while:
-    /// what was let go of stays in memory until it is half of a list, and then the other half is moved up. Room is made
-    /// first, and for the volume alone. Where there is nothing to cut it looks at one request alone and makes no room.
+    /// what was let go of stays in memory, without its packets, until it is more than half of a list, and then the rest of
+    /// that list is moved up, one list in a call. Room is made first, and for the volume alone. Where there is nothing to
+    /// cut it looks at one request alone and makes no room.
     ///
     /// # Errors
     ///
@@ -87,14 +88,26 @@ impl<Q: Fifo<Record>> Lane<Q> {
         forget(&mut self.duplicates, stamps.as_slice());
         self.accepted.drop_front(count);
         self.receipts.drop_front(count);
-        drop_below(&mut self.answered, end, next);
+        drop_below(&mut self.answered, end, next, answered.as_slice());
         self.opening = next;
         self.last = now;
+        self.tidy();
         Ok(Volume {
             opening,
             stamps: Series::from_vec(stamps),
             answered: Series::from_vec(answered),
         })
+    }
+
+    /// Makes one of the lists compact, where one has let go of more than it has. The others wait for the next call: a list
+    /// of a million items is moved in some milliseconds.
+    fn tidy(&mut self)
+        ensures { self.new ≡ self.old }
+    {
+        if self.accepted.make_compact() || self.receipts.make_compact() {
+            return;
+        }
+        self.answered.make_compact();
     }
 }
 
@@ -194,9 +207,9 @@ fn answers_below(
     Ok(below)
 }
 
-/// Lets go of the answers to requests below a number, none of which stand behind this end. The others that stand before
-/// it move up to it, and then the list begins with them.
-fn drop_below(answers: &mut ReservedList<Answered>, end: usize, number: u64)
+/// Lets go of the answers to requests below a number, none of which stand behind this end, and which are shared with these.
+/// The others that stand before it move up to it, and then the list begins with them.
+fn drop_below(answers: &mut ReservedList<Answered>, end: usize, number: u64, shared: &[Answered])
     requires within { end ≤ length answers.old.items }
     requires none_behind { the_answers_below number (drop end answers.old.items) ≡ [] }
     ensures { answers.new.items ≡ answers_since number answers.old.items }
@@ -210,5 +223,24 @@ fn drop_below(answers: &mut ReservedList<Answered>, end: usize, number: u64)
             answers.swap(first, place);
         }
     }
+    hollow(answers, first, shared);
     answers.drop_front(first);
+}
+
+/// Puts one answer of these in the place of each of so many at the front, which are let go of next. So these let go of their
+/// packets at once, and not all together when the list is made compact.
+fn hollow(answers: &mut ReservedList<Answered>, count: usize, shared: &[Answered])
+    requires { count ≤ length answers.old.items }
+    ensures long { length answers.new.items ≡ length answers.old.items }
+    ensures rest { drop count answers.new.items ≡ drop count answers.old.items }
+{
+    let Some(shell) = shared.first() else {
+        return;
+    };
+    for place in 0..count {
+        let Ok(shell) = shell.share() else {
+            return;
+        };
+        answers.set(place, shell);
+    }
 }
