@@ -78,6 +78,11 @@ impl<T> ReservedList<T> {
         self.as_slice().get(place)
     }
 
+    /// What stands first in the row, which may be an item that was let go of.
+    pub(crate) fn first_of_row(&self) -> Option<&T> {
+        self.items.first()
+    }
+
     /// The items.
     pub(crate) fn as_slice(&self) -> &[T]
         ensures { result.now ≡ self.now.items }

@@ -88,7 +88,7 @@ impl<Q: Fifo<Record>> Lane<Q> {
         forget(&mut self.duplicates, stamps.as_slice());
         self.accepted.drop_front(count);
         self.receipts.drop_front(count);
-        drop_below(&mut self.answered, end, next, answered.as_slice());
+        drop_below(&mut self.answered, end, next);
         self.opening = next;
         self.last = now;
         self.tidy();
@@ -207,9 +207,9 @@ fn answers_below(
     Ok(below)
 }
 
-/// Lets go of the answers to requests below a number, none of which stand behind this end, and which are shared with these.
-/// The others that stand before it move up to it, and then the list begins with them.
-fn drop_below(answers: &mut ReservedList<Answered>, end: usize, number: u64, shared: &[Answered])
+/// Lets go of the answers to requests below a number, none of which stand behind this end. The others that stand before
+/// it move up to it, and then the list begins with them.
+fn drop_below(answers: &mut ReservedList<Answered>, end: usize, number: u64)
     requires within { end ≤ length answers.old.items }
     requires none_behind { the_answers_below number (drop end answers.old.items) ≡ [] }
     ensures { answers.new.items ≡ answers_since number answers.old.items }
@@ -223,22 +223,23 @@ fn drop_below(answers: &mut ReservedList<Answered>, end: usize, number: u64, sha
             answers.swap(first, place);
         }
     }
-    hollow(answers, first, shared);
+    hollow(answers, first);
     answers.drop_front(first);
 }
 
-/// Puts one answer of these in the place of each of so many at the front, which are let go of next. So these let go of their
-/// packets at once, and not all together when the list is made compact.
-fn hollow(answers: &mut ReservedList<Answered>, count: usize, shared: &[Answered])
+/// Puts one answer in the place of each of so many at the front, which are let go of next: the one that stands first in the
+/// row, and so the same in each call until the list is made compact. So all others let go of their packets at once, and not
+/// together when the list is moved.
+fn hollow(answers: &mut ReservedList<Answered>, count: usize)
     requires { count ≤ length answers.old.items }
     ensures long { length answers.new.items ≡ length answers.old.items }
     ensures rest { drop count answers.new.items ≡ drop count answers.old.items }
 {
-    let Some(shell) = shared.first() else {
-        return;
-    };
     for place in 0..count {
-        let Ok(shell) = shell.share() else {
+        let Some(first) = answers.first_of_row() else {
+            return;
+        };
+        let Ok(shell) = first.share() else {
             return;
         };
         answers.set(place, shell);
