@@ -1,11 +1,12 @@
 -- What a chain of blocks is after a step at one of its ends.
-use Rattle.std.proofs.Common.{◌≡◌, ℕ, zero, suc, ◌+◌, ◌-◌, ◌^◌, ◌<◌, ◌≤◌, ◌⊎◌, inl, inr, true, false, List, [], ◌∷◌, ◌++◌, Some, None, refl, sym, ap, ◌∙◌, subst, arith, length, get_or, set, drop, append-nil, append_assoc, length-append}
+use Rattle.std.proofs.Common.{◌≡◌, ℕ, zero, suc, ◌+◌, ◌-◌, ◌*◌, ◌^◌, ◌<◌, ◌≤◌, ◌⊎◌, inl, inr, Bool, true, false, nat_lt, if◌then◌else◌, List, [], ◌∷◌, ◌++◌, Some, None, refl, sym, ap, ◌∙◌, subst, arith, length, get_or, drop, append-nil, append_assoc, length-append}
 use Rattle.std.specs.Prelude.{Result, Ok, Err, OnOk, OnErr, Option, slice_get}
 use Rattle.std.specs.Borrow.{Bor}
 use Rattle.std.specs.Option.{option_copied}
 use Rattle.std.specs.Map.Iter.{TakesFirst, deref}
 use Rattle.block_queue.specs.Queue.{Queue, oldest}
-use Rattle.block_queue.specs.Blocks.{items_of, left_in, room_of, pushed, has_none, begins_empty, AllHaveItems, IsChain, IsQueue}
+use Rattle.std.proofs.lemmas.Bool.Decides.{leb_tells}
+use Rattle.block_queue.specs.Blocks.{fresh, items_of, left_in, room_of, first_count, spare_in, pushed, read_of, has_none, AllHaveItems, IsChain, IsKept, IsBeside, IsJoined, IsPushed, IsReady, IsPopped, IsFirstPopped, IsRead, IsTaken, IsQueue}
 
 module _ {T : Type 0} where
   pub some_with_room : (bs : List (Queue T)) → 1 ≤ room_of bs → 0 < length bs
@@ -26,12 +27,32 @@ module _ {T : Type 0} where
   room_of_pushed (b ∷ c ∷ []) item = refl
   room_of_pushed (b ∷ c ∷ d ∷ ds) item = room_of_pushed (c ∷ d ∷ ds) item
 
+  pub pushed_have : (bs : List (Queue T)) (item : T) → AllHaveItems bs → AllHaveItems (pushed bs item)
+  unfolding AllHaveItems pushed
+  pushed_have [] item all = tt
+  pushed_have (b ∷ []) item all = (omega (arith, length-append b.items (item ∷ [])), tt)
+  pushed_have (b ∷ c ∷ cs) item all = (all.0, pushed_have (c ∷ cs) item all.1)
+
+  pub have_chain : (bs : List (Queue T)) → AllHaveItems bs → IsChain bs
+  unfolding AllHaveItems IsChain
+  have_chain [] all = tt
+  have_chain (b ∷ []) all = inl all.0
+  have_chain (b ∷ c ∷ cs) all = all
+
+  -- the only block may have no item, but then it has room
+  pub all_have : (bs : List (Queue T)) → IsChain bs → (room_of bs ≡ 0) ⊎ (0 < length (items_of bs)) → AllHaveItems bs
+  unfolding room_of items_of AllHaveItems IsChain
+  all_have [] h e = tt
+  all_have (b ∷ []) (inl some) e = (some, tt)
+  all_have (b ∷ []) (inr is) (inl none) = let all = ap (λ q. q.room) is in absurd (omega arith)
+  all_have (b ∷ []) (inr is) (inr some) = let none = ap (λ q. length (q.items ++ [])) is in absurd (omega arith)
+  all_have (b ∷ c ∷ cs) h e = h
+
   pub shape_pushed : (bs : List (Queue T)) (item : T) → IsChain bs → IsChain (pushed bs item)
   unfolding pushed IsChain
   shape_pushed [] item h = tt
   shape_pushed (b ∷ []) item h = inl (omega (arith, length-append b.items (item ∷ [])))
-  shape_pushed (b ∷ c ∷ []) item h = (h.0, inl (omega (arith, length-append c.items (item ∷ []))))
-  shape_pushed (b ∷ c ∷ d ∷ ds) item h = (h.0, shape_pushed (c ∷ d ∷ ds) item h.1)
+  shape_pushed (b ∷ c ∷ cs) item h = have_chain (pushed (b ∷ c ∷ cs) item) (pushed_have (b ∷ c ∷ cs) item h)
 
   pub some_with_items : (bs : List (Queue T)) → 0 < length (items_of bs) → 0 < length bs
   unfolding items_of
@@ -58,10 +79,13 @@ module _ {T : Type 0} where
   some_is [] e = cc
   some_is (item ∷ items) e = omega arith
 
-  pub begins : (bs : List (Queue T)) → begins_empty bs ≡ true → 0 < length bs
-  unfolding begins_empty
-  begins [] e = cc
-  begins (b ∷ bs) e = omega arith
+  pub first_has : (b : Queue T) (bs : List (Queue T)) → AllHaveItems (b ∷ bs) → 0 < length b.items
+  unfolding AllHaveItems
+  first_has b bs all = all.0
+
+  pub rest_have : (b : Queue T) (bs : List (Queue T)) → AllHaveItems (b ∷ bs) → AllHaveItems bs
+  unfolding AllHaveItems
+  rest_have b bs all = all.1
 
   oldest_append : (items more : List T) → 0 < length items → oldest items ≡ oldest (items ++ more)
   oldest_append [] more some = absurd (omega arith)
@@ -71,27 +95,12 @@ module _ {T : Type 0} where
   unfolding items_of IsChain
   oldest_first [] first h some f = absurd (omega arith)
   oldest_first (b ∷ []) first h some f = ap (λ q. oldest q.items) f ∙ ap oldest (sym (append-nil b.items))
-  oldest_first (b ∷ c ∷ cs) first h some f = ap (λ q. oldest q.items) f ∙ oldest_append b.items (items_of (c ∷ cs)) h.0
+  oldest_first (b ∷ c ∷ cs) first h some f = ap (λ q. oldest q.items) f ∙ oldest_append b.items (items_of (c ∷ cs)) (first_has b (c ∷ cs) h)
 
-  pub chained_rest : (bs : List (Queue T)) → IsChain bs → IsChain (drop 1 bs)
-  unfolding IsChain
-  chained_rest [] h = tt
-  chained_rest (b ∷ []) h = tt
-  chained_rest (b ∷ c ∷ cs) h = h.1
-
-  pub all_have : (bs : List (Queue T)) → IsChain bs → room_of bs ≡ 0 → AllHaveItems bs
-  unfolding room_of AllHaveItems IsChain
-  all_have [] h none = tt
-  all_have (b ∷ []) (inl some) none = (some, tt)
-  all_have (b ∷ []) (inr room) none = absurd (omega arith)
-  all_have (b ∷ c ∷ cs) h none = (h.0, all_have (c ∷ cs) h.1 none)
-
-  pub chained : (bs cs : List (Queue T)) → AllHaveItems bs → IsChain cs → 0 < length cs → IsChain (bs ++ cs)
-  unfolding AllHaveItems IsChain
-  chained [] cs all h some = h
-  chained (b ∷ []) [] all h some = absurd (omega arith)
-  chained (b ∷ []) (c ∷ cs) all h some = (all.0, h)
-  chained (b ∷ b' ∷ bs) cs all h some = (all.0, chained (b' ∷ bs) cs all.1 h some)
+  pub both_have : (bs cs : List (Queue T)) → AllHaveItems bs → AllHaveItems cs → AllHaveItems (bs ++ cs)
+  unfolding AllHaveItems
+  both_have [] cs all more = more
+  both_have (b ∷ bs) cs all more = (all.0, both_have bs cs all.1 more)
 
   pub items_of_joined : (bs cs : List (Queue T)) → items_of (bs ++ cs) ≡ items_of bs ++ items_of cs
   unfolding items_of
@@ -105,91 +114,158 @@ module _ {T : Type 0} where
   room_of_joined (b ∷ []) (c ∷ cs) some = refl
   room_of_joined (b ∷ b' ∷ bs) cs some = room_of_joined (b' ∷ bs) cs some
 
+  few_have : (bs : List (Queue T)) → AllHaveItems bs → length bs ≤ length (items_of bs)
+  unfolding items_of AllHaveItems
+  few_have [] all = omega arith
+  few_have (b ∷ bs) all = omega (arith, length-append b.items (items_of bs), few_have bs all.1, all.0)
+
   -- each block has an item or room
   few_blocks : (bs : List (Queue T)) → IsChain bs → length bs ≤ length (items_of bs) + room_of bs
   unfolding items_of room_of IsChain
   few_blocks [] h = omega arith
   few_blocks (b ∷ []) (inl some) = omega (arith, length-append b.items [])
-  few_blocks (b ∷ []) (inr room) = omega arith
-  few_blocks (b ∷ c ∷ cs) h = omega (arith, length-append b.items (items_of (c ∷ cs)), few_blocks (c ∷ cs) h.1, h.0)
+  few_blocks (b ∷ []) (inr is) = let all = ap (λ q. q.room) is in omega arith
+  few_blocks (b ∷ c ∷ cs) h = omega (arith, few_have (b ∷ c ∷ cs) h)
 
-  pub blocks_fit : (count : ℕ) (bs : List (Queue T)) → IsQueue count bs → length bs < 2 ^ 64
-  blocks_fit count bs is = let few = few_blocks bs is.chained in let n = is.counted in let fits = is.fits in omega arith
+  pub blocks_fit : (count : ℕ) (bs ks : List (Queue T)) → IsQueue count bs ks → length bs < 2 ^ 64
+  blocks_fit count bs ks is = let few = few_blocks bs is.chained in let n = is.counted in let fits = is.fits in omega arith
 
-  pub queue_new : (bs : List (Queue T)) → bs ≡ [] → IsQueue 0 bs × (items_of bs ≡ [])
+  pub queue_new : IsQueue {T = T} 0 [] [] × (items_of {T = T} [] ≡ [])
   unfolding items_of room_of IsChain
-  queue_new bs e = subst (λ (l : List (Queue T)). IsQueue 0 l × (items_of l ≡ [])) (sym e) (record { chained = tt; counted = refl; one_block = omega arith; fits = omega arith }, refl)
+  queue_new = (record { chained = tt; beside = inl refl; counted = refl; one_block = omega arith; fits = omega arith }, refl)
 
   pub last_room : (q : Queue T) → room_of (q ∷ []) ≡ q.room
   unfolding room_of
   last_room q = refl
 
-  pub last_items : (q : Queue T) → q.items ≡ [] → items_of (q ∷ []) ≡ []
-  unfolding items_of
-  last_items q e = append-nil q.items ∙ e
+  -- how much room a queue has
+  room_most : (count room kept : ℕ) → room ≤ 32 → kept ≤ 1 → spare_in count room kept ≤ 32
+  room_most count (suc room) kept most one = most
+  room_most count zero kept most one = elim (leb_tells (suc count) (2 ^ 63)) [
+    | inl few ↦ subst (λ (b : Bool). (if b then 32 * kept else 0) ≤ 32) (sym few.0) (omega arith)
+    | inr many ↦ subst (λ (b : Bool). (if b then 32 * kept else 0) ≤ 32) (sym many.0) (omega arith)
+  ]
 
-  pub last_chained : (q : Queue T) → 0 < q.room → IsChain (q ∷ [])
-  unfolding IsChain
-  last_chained q room = inr room
+  pub room_few : (count kept : ℕ) → count < 2 ^ 63 → spare_in count 0 kept ≡ 32 * kept
+  room_few count kept few = elim (leb_tells (suc count) (2 ^ 63)) [
+    | inl is ↦ ap (λ (b : Bool). if b then 32 * kept else 0) is.0
+    | inr many ↦ absurd (omega (arith, many.1, few))
+  ]
 
-  pub queue_added : (count : ℕ) (bs new : List (Queue T)) (q : Queue T) → IsQueue count bs → room_of bs ≡ 0 → count < 2 ^ 63 → q.items ≡ [] → q.room ≡ 32 → new ≡ bs ++ q ∷ []
-      → IsQueue count new × (items_of new ≡ items_of bs) × (room_of new ≡ 32)
-  queue_added count bs new q is full few none room e =
-      let some : 0 < length (q ∷ []) = omega arith in
-      let items = ap items_of e ∙ items_of_joined bs (q ∷ []) ∙ ap (λ l. items_of bs ++ l) (last_items q none) ∙ append-nil (items_of bs) in
-      let left : room_of new ≡ 32 = ap room_of e ∙ room_of_joined bs (q ∷ []) some ∙ last_room q ∙ room in (
-        record {
-          chained = subst IsChain (sym e) (chained bs (q ∷ []) (all_have bs is.chained full) (last_chained q (omega arith)) some);
-          counted = is.counted ∙ ap length (sym items);
-          one_block = omega arith;
-          fits = omega arith;
-        },
-        items,
-        left,
-      )
+  pub room_many : (count kept : ℕ) → 2 ^ 63 ≤ count → spare_in count 0 kept ≡ 0
+  room_many count kept many = elim (leb_tells (suc count) (2 ^ 63)) [
+    | inl few ↦ absurd (omega (arith, few.1, many))
+    | inr is ↦ ap (λ (b : Bool). if b then 32 * kept else 0) is.0
+  ]
 
-  pub queue_pushed : (count : ℕ) (bs new : List (Queue T)) (item : T) → IsQueue count bs → 1 ≤ room_of bs → new ≡ pushed bs item
-      → IsQueue (count + 1) new × (items_of new ≡ items_of bs ++ item ∷ []) × (room_of bs ≡ room_of new + 1)
-  queue_pushed count bs new item is room e =
+  pub room_least : (count room kept : ℕ) → room ≤ spare_in count room kept
+  room_least count zero kept = omega arith
+  room_least count (suc room) kept = omega arith
+
+  pub room_is : (count room kept : ℕ) → 1 ≤ room → spare_in count room kept ≡ room
+  room_is count zero kept some = absurd (omega arith)
+  room_is count (suc room) kept some = refl
+
+  room_grows : (count less room kept more : ℕ) → less ≤ count → kept ≤ more → spare_in count room kept ≤ spare_in less room more
+  room_grows count less (suc room) kept more l k = omega arith
+  room_grows count less zero kept more l k = elim (leb_tells (suc count) (2 ^ 63)) [
+    | inl few ↦ let below = few.1 in let a = room_few count kept (omega arith) in let b = room_few less more (omega arith) in omega arith
+    | inr many ↦ let above = many.1 in let a = room_many count kept (omega arith) in omega arith
+  ]
+
+  -- where a queue has room: in its last block, or in the one that is kept
+  pub where_room : (count room : ℕ) (ks : List (Queue T)) → IsKept ks → 1 ≤ spare_in count room (length ks) → (1 ≤ room) ⊎ ((room ≡ 0) × (ks ≡ fresh ∷ []) × (count < 2 ^ 63))
+  where_room count (suc room) ks is some = inl (omega arith)
+  where_room count zero ks is some = elim (leb_tells (suc count) (2 ^ 63)) [
+    | inl few ↦ elim is [
+      | inl none ↦ let n = ap length none in let a = room_few count (length ks) (omega (arith, few.1)) in absurd (omega arith)
+      | inr one ↦ inr (refl, one, omega (arith, few.1))
+    ]
+    | inr many ↦ let a = room_many count (length ks) (omega (arith, many.1)) in absurd (omega arith)
+  ]
+
+  pub kept_is : (bs ks : List (Queue T)) → IsBeside bs ks → IsKept ks
+  kept_is bs ks (inl none) = inl none
+  kept_is bs ks (inr one) = inr one.0
+
+  pub kept_most : (ks : List (Queue T)) → IsKept ks → length ks ≤ 1
+  kept_most ks (inl none) = let n = ap length none in omega arith
+  kept_most ks (inr one) = let n = ap length one in omega arith
+
+  pub queue_grown : {A E : Type 0} (r : Result A E) (count : ℕ) (bs ks new : List (Queue T)) → IsQueue count bs ks → spare_in count (room_of bs) (length ks) ≡ 0 → count < 2 ^ 63
+      → OnOk r (new ≡ fresh ∷ []) → OnErr r (new ≡ ks)
+      → IsQueue count bs new × (spare_in count (room_of bs) (length ks) ≤ spare_in count (room_of bs) (length new)) × OnOk r (1 ≤ spare_in count (room_of bs) (length new))
+  queue_grown (Ok a) count bs ks new is full few made same =
+      let least = room_least count (room_of bs) (length ks) in let none : room_of bs ≡ 0 = omega arith in
+      let one : length new ≡ 1 = ap length made in
+      let room : spare_in count (room_of bs) (length new) ≡ 32 = (λ i. spare_in count (none i) (one i)) ∙ room_few count 1 few in
+      (record { chained = is.chained; beside = inr (made, all_have bs is.chained (inl none)); counted = is.counted; one_block = is.one_block; fits = is.fits }, omega arith, omega arith)
+  queue_grown (Err e) count bs ks new is full few made same =
+      (subst (IsQueue count bs) (sym same) is, omega arith, tt)
+
+  -- an item in the last block, or in a block of its own
+  put_last : (count : ℕ) (bs ks new : List (Queue T)) (item : T) → IsQueue count bs ks → 1 ≤ room_of bs → new ≡ pushed bs item
+      → IsQueue (count + 1) new ks × (items_of new ≡ items_of bs ++ item ∷ []) × (room_of bs ≡ room_of new + 1)
+  put_last count bs ks new item is room e =
       let items = ap items_of e ∙ items_of_pushed bs item (some_with_room bs room) in
       let less : room_of new ≡ room_of bs - 1 = ap room_of e ∙ room_of_pushed bs item in
       let n = is.counted in let fits = is.fits in let most = is.one_block in
       let more : count + 1 ≡ length (items_of new) = (omega (arith, length-append (items_of bs) (item ∷ []))) ∙ ap length (sym items) in
-      (record { chained = subst IsChain (sym e) (shape_pushed bs item is.chained); counted = more; one_block = omega arith; fits = omega arith }, items, omega arith)
+      let beside : IsBeside new ks = elim is.beside [
+        | inl none ↦ inl none
+        | inr one ↦ inr (one.0, subst AllHaveItems (sym e) (pushed_have bs item one.1))
+      ] in
+      (record { chained = subst IsChain (sym e) (shape_pushed bs item is.chained); beside = beside; counted = more; one_block = omega arith; fits = omega arith }, items, omega arith)
 
-  pub queue_popped : (count : ℕ) (bs new : List (Queue T)) (item : T) → IsQueue count bs → items_of bs ≡ item ∷ items_of new → IsChain new
-      → (room_of new ≡ room_of bs) ⊎ ((items_of new ≡ []) × (room_of new ≡ 32)) → IsQueue (count - 1) new × (room_of bs ≤ room_of new)
-  queue_popped count bs new item is e h (inl same) =
-      let n = is.counted ∙ ap length e in let fits = is.fits in let most = is.one_block in
-      (record { chained = h; counted = omega arith; one_block = omega arith; fits = omega arith }, omega arith)
-  queue_popped count bs new item is e h (inr last) =
-      let n = is.counted ∙ ap length e in let none = ap length last.0 in let all = last.1 in let fits = is.fits in let most = is.one_block in
-      (record { chained = h; counted = omega arith; one_block = omega arith; fits = omega arith }, omega arith)
+  one_has : (q : Queue T) → 0 < length q.items → AllHaveItems (q ∷ [])
+  unfolding AllHaveItems
+  one_has q some = (some, tt)
 
-  pub chain_begins : (bs : List (Queue T)) → IsChain (drop 1 bs) → begins_empty bs ≡ false → IsChain bs
-  unfolding IsChain begins_empty
-  chain_begins [] h e = tt
-  chain_begins (b ∷ []) h e = inl (some_is b.items e)
-  chain_begins (b ∷ c ∷ cs) h e = (some_is b.items e, h)
+  pub one_items : (q : Queue T) → items_of (q ∷ []) ≡ q.items
+  unfolding items_of
+  one_items q = append-nil q.items
 
-  pub cleared_items : (bs : List (Queue T)) (left : Queue T) → begins_empty bs ≡ true → length bs ≡ 1 → left.items ≡ [] → (items_of (set bs 0 left) ≡ []) × (items_of bs ≡ [])
-  unfolding items_of begins_empty
-  cleared_items [] left e one none = absurd (omega arith)
-  cleared_items (b ∷ []) left e one none = (append-nil left.items ∙ none, append-nil b.items ∙ none_is b.items e)
-  cleared_items (b ∷ c ∷ cs) left e one none = absurd (omega arith)
+  put_next : (count : ℕ) (bs ks new left : List (Queue T)) (item : T) → IsQueue count bs ks → room_of bs ≡ 0 → count < 2 ^ 63 → new ≡ bs ++ record { items = item ∷ []; room = 31 } ∷ [] → left ≡ []
+      → IsQueue (count + 1) new left × (items_of new ≡ items_of bs ++ item ∷ []) × (room_of new ≡ 31)
+  put_next count bs ks new left item is full few e none =
+      let next : Queue T = record { items = item ∷ []; room = 31 } in
+      let items = ap items_of e ∙ items_of_joined bs (next ∷ []) ∙ ap (λ l. items_of bs ++ l) (one_items next) in
+      let room : room_of new ≡ 31 = ap room_of e ∙ room_of_joined bs (next ∷ []) (omega arith) ∙ last_room next in
+      let n = is.counted in
+      let more : count + 1 ≡ length (items_of new) = (omega (arith, length-append (items_of bs) (item ∷ []))) ∙ ap length (sym items) in
+      let all = both_have bs (next ∷ []) (all_have bs is.chained (inl full)) (one_has next (omega arith)) in
+      (record { chained = subst IsChain (sym e) (have_chain (bs ++ next ∷ []) all); beside = inl none; counted = more; one_block = omega arith; fits = omega arith }, items, room)
 
-  pub freed_first : (bs : List (Queue T)) → begins_empty bs ≡ true → 2 ≤ length bs → (items_of (drop 1 bs) ≡ items_of bs) × (room_of (drop 1 bs) ≡ room_of bs)
-  unfolding items_of room_of begins_empty
-  freed_first [] e two = absurd (omega arith)
-  freed_first (b ∷ []) e two = absurd (omega arith)
-  freed_first (b ∷ c ∷ cs) e two = (ap (λ l. l ++ items_of (c ∷ cs)) (sym (none_is b.items e)), refl)
+  pub queue_pushed : (count : ℕ) (bs ks new left : List (Queue T)) (item : T) → IsQueue count bs ks → 1 ≤ spare_in count (room_of bs) (length ks) → IsPushed bs ks item new left
+      → IsQueue (count + 1) new left × (items_of new ≡ items_of bs ++ item ∷ []) × (spare_in count (room_of bs) (length ks) ≤ spare_in (count + 1) (room_of new) (length left) + 1)
+  queue_pushed count bs ks new left item is some (inl last) =
+      let put = put_last count bs ks new item is last.0 last.1 in
+      let was = room_is count (room_of bs) (length ks) last.0 in let least = room_least (count + 1) (room_of new) (length left) in let less = put.2 in
+      (subst (IsQueue (count + 1) new) (sym last.2) put.0, put.1, omega arith)
+  queue_pushed count bs ks new left item is some (inr next) =
+      let few : count < 2 ^ 63 = elim (where_room count (room_of bs) ks (kept_is bs ks is.beside) some) [
+        | inl room ↦ let none = next.0 in absurd (omega arith)
+        | inr there ↦ there.2
+      ] in
+      let put = put_next count bs ks new left item is next.0 few next.2 next.3 in
+      let most = room_most count (room_of bs) (length ks) is.one_block (kept_most ks (kept_is bs ks is.beside)) in
+      let least = room_least (count + 1) (room_of new) (length left) in let room = put.2 in
+      (put.0, put.1, omega arith)
 
-  pub queue_grown : {A E : Type 0} (r : Result A E) (count : ℕ) (bs new : List (Queue T)) (q : Queue T) → IsQueue count bs → room_of bs ≡ 0 → count < 2 ^ 63 → q.items ≡ [] → q.room ≡ 32
-      → OnOk r (new ≡ bs ++ q ∷ []) → OnErr r (new ≡ bs) → IsQueue count new × (items_of new ≡ items_of bs) × (room_of bs ≤ room_of new) × OnOk r (1 ≤ room_of new)
-  queue_grown (Ok a) count bs new q is full few none room added same =
-      let made = queue_added count bs new q is full few none room added in let left = made.2 in (made.0, made.1, omega arith, omega arith)
-  queue_grown (Err e) count bs new q is full few none room added same =
-      let left = ap room_of same in (subst (IsQueue count) (sym same) is, ap items_of same, omega arith, tt)
+  pub queue_popped : (count : ℕ) (bs ks new left : List (Queue T)) (item : T) → IsQueue count bs ks → IsTaken bs ks item new left
+      → IsQueue (count - 1) new left × (spare_in count (room_of bs) (length ks) ≤ spare_in (count - 1) (room_of new) (length left))
+  queue_popped count bs ks new left item is taken =
+      let n = is.counted ∙ ap length taken.items in let fits = is.fits in let most = is.one_block in
+      elim taken.room [
+        | inl same ↦ let room = same.0 in
+            let grows = room_grows count (count - 1) (room_of bs) (length ks) (length left) (omega arith) same.1 in
+            (record { chained = taken.chained; beside = taken.beside; counted = omega arith; one_block = omega arith; fits = omega arith },
+            subst (λ n. spare_in count (room_of bs) (length ks) ≤ spare_in (count - 1) n (length left)) (sym room) grows)
+        | inr last ↦ let none = ap length last.0 in let all = last.1 in
+            let was = room_most count (room_of bs) (length ks) most (kept_most ks (kept_is bs ks is.beside)) in
+            let least = room_least (count - 1) (room_of new) (length left) in
+            (record { chained = taken.chained; beside = taken.beside; counted = omega arith; one_block = omega arith; fits = omega arith }, omega arith)
+      ]
 
   drop_at : (items : List T) (index : ℕ) (x : T) → Some x ≡ slice_get items index → drop index items ≡ x ∷ drop (index + 1) items
   drop_at [] index x e = cc
@@ -218,7 +294,7 @@ module _ {T : Type 0} where
   pub next_chained : (bs : List (Queue T)) (b : Queue T) (cs : List (Queue T)) → IsChain bs → bs ≡ b ∷ cs → IsChain cs
   unfolding IsChain
   next_chained bs b [] h e = tt
-  next_chained bs b (c ∷ cs) h e = (subst IsChain e h).1
+  next_chained bs b (c ∷ cs) h e = have_chain (c ∷ cs) (rest_have b (c ∷ cs) (subst IsChain e h))
 
   none_oldest_is : (items : List T) → None ≡ oldest items → items ≡ []
   none_oldest_is [] e = refl
@@ -231,7 +307,7 @@ module _ {T : Type 0} where
   last_alone : (b : Queue T) (cs : List (Queue T)) → IsChain (b ∷ cs) → length b.items ≡ 0 → cs ≡ []
   unfolding IsChain
   last_alone b [] h none = refl
-  last_alone b (c ∷ cs) h none = let some = h.0 in absurd (omega arith)
+  last_alone b (c ∷ cs) h none = let some = first_has b (c ∷ cs) h in absurd (omega arith)
 
   pub next_shown : (bs : List (Queue T)) (b : Bor (Queue T)) (cs : List (Queue T)) (r : Option (Bor T)) → IsChain bs → bs ≡ b.now ∷ cs → option_copied r ≡ oldest b.now.items
       → TakesFirst deref (items_of bs) r (left_in (Some b) 1 ++ items_of cs)

@@ -13,8 +13,8 @@ const MOST: usize = 0x8000_0000_0000_0000;
 
 /// A queue in a chain of blocks, whose items stay where they are while it grows.
 ///
-/// Each block but the last has an item. At most one block is empty: the last one, or one that is
-/// kept apart.
+/// Each block has an item, unless it is the only one. At most one block is empty: the only one, or
+/// one that is kept apart, which the next item goes into once the last block is full.
 #[derive(Drop)]
 pub struct BlockQueue<T> {
     blocks: Option<Blocks<T>>,
@@ -25,16 +25,18 @@ pub struct BlockQueue<T> {
 
 impl<T> Model for BlockQueue<T> {
     ghost use Rattle.block_queue.specs.Queue.{Queue};
-    ghost use Rattle.std.specs.Prelude.{◌≡◌, [], IfSome, IsSome};
-    ghost use Rattle.block_queue.specs.Blocks.{items_of, room_of, AllHaveItems, IsQueue};
+    ghost use Rattle.std.specs.Prelude.{length};
+    ghost use Rattle.block_queue.specs.Blocks.{held, items_of, room_of, spare_in, IsQueue};
     ghost use Rattle.block_queue.specs.Chain.{joined};
 
     ghost Value = { Queue T };
 
-    ghost view = { λ q. record { items = items_of (joined q.blocks); room = room_of (joined q.blocks) } };
+    ghost view = { λ q. record {
+      items = items_of (joined q.blocks);
+      room = spare_in q.count (room_of (joined q.blocks)) (length (held q.kept));
+    } };
 
-    ghost invariant = { λ q.
-        IsQueue q.count (joined q.blocks) × IfSome q.kept (λ load. load.block.items ≡ []) × (IsSome q.kept → AllHaveItems (joined q.blocks)) };
+    ghost invariant = { λ q. IsQueue q.count (joined q.blocks) (held q.kept) };
 }
 
 impl<T> Fifo<T> for BlockQueue<T> {
@@ -59,17 +61,24 @@ impl<T> Fifo<T> for BlockQueue<T> {
         if self.count >= MOST {
             return Err(AllocError);
         }
-        linking::add(&mut self.blocks, &mut self.kept, self.alloc)
+        linking::make(&mut self.kept, self.alloc)
     }
 
     #[inline]
     fn spare(&self) -> usize {
-        linking::spare(&self.blocks)
+        let room = linking::room(&self.blocks);
+        if room > 0 {
+            return room;
+        }
+        if self.count >= MOST {
+            return 0;
+        }
+        linking::kept_room(&self.kept)
     }
 
     #[inline]
     fn push_back(&mut self, item: T) {
-        linking::push(&mut self.blocks, item);
+        linking::push(&mut self.blocks, &mut self.kept, item);
         self.count += 1;
     }
 

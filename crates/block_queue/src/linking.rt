@@ -1,8 +1,8 @@
 //! The blocks of a queue: the first and the last at hand, and those between them in a chain.
-ghost use Rattle.std.specs.Prelude.{◌≡◌, ◌^◌, ◌<◌, ◌≤◌, ◌⊎◌, true, false, ◌+◌, [], ◌∷◌, ◌++◌, None, OnOk, OnErr, IfOk, IfSome, IsSome, drop as without, length, option_copied, slice_set};
+ghost use Rattle.std.specs.Prelude.{◌≡◌, ◌*◌, ◌^◌, ◌<◌, ◌≤◌, ◌⊎◌, true, false, [], ◌∷◌, ◌++◌, OnOk, OnErr, IfOk, drop as without, length, option_copied};
 ghost use Rattle.std.specs.Map.Iter.{TakesFirst, deref};
 ghost use Rattle.block_queue.specs.Queue.{oldest};
-ghost use Rattle.block_queue.specs.Blocks.{items_of, room_of, pushed, begins_empty, AllHaveItems, IsChain, IsJoined};
+ghost use Rattle.block_queue.specs.Blocks.{fresh, held, items_of, room_of, first_count, pushed, read_of, AllHaveItems, IsChain, IsKept, IsBeside, IsPushed, IsReady, IsRead, IsTaken, IsJoined};
 ghost use Rattle.block_queue.specs.Chain.{joined};
 
 use crate::block::Block;
@@ -21,7 +21,7 @@ pub(crate) struct Load<T> {
 impl<T> Load<T> {
     /// A block without items. An error means that memory was refused, or that it has no layout.
     fn new(alloc: Global) -> Result<Load<T>, AllocError>
-        ensures { IfOk result (λ load. load.block ≡ record { items = []; room = 32 }) }
+        ensures { IfOk result (λ load. load.block ≡ fresh) }
     {
         let block = Block::new(alloc)?;
         match Seat::new(alloc) {
@@ -202,7 +202,7 @@ impl<T> Blocks<T> {
         requires { IsChain self }
         ensures items { items_of (joined result.0) ≡ items_of self }
         ensures shape { AllHaveItems (joined result.0) }
-        ensures empty { IfSome result.1 (λ load. load.block.items ≡ []) }
+        ensures empty { IsKept (held result.1) }
     {
         let Blocks { front, last } = self;
         if last.block.is_empty() {
@@ -239,19 +239,24 @@ impl<T> Blocks<T> {
         self.last.block.push(item);
     }
 
-    /// Takes the oldest item out of the first block.
+    /// Takes the first item out of the first block, or out of the kept one if that was parted.
     #[inline]
-    fn pop(&mut self) -> T
-        requires shape { IsChain self.old }
-        requires filled { 0 < length (items_of self.old) }
-        ensures items { items_of self.old ≡ result ∷ items_of self.new }
-        ensures rest { without 1 self.new ≡ without 1 self.old }
-        ensures room { room_of self.new ≡ room_of self.old }
+    fn pop(&mut self, kept: &mut Option<Load<T>>, parted: bool) -> T
+        requires { 0 < first_count (read_of parted self.old (held kept.old)) }
+        ensures { IsRead parted self.old (held kept.old) result self.new (held kept.new) }
     {
-        match &mut self.front {
-            Some(front) => front.first.block.pop(),
-            None => self.last.block.pop(),
-        }
+        let block = if parted {
+            match kept {
+                Some(load) => &mut load.block,
+                None => unreachable!(),
+            }
+        } else {
+            match &mut self.front {
+                Some(front) => &mut front.first.block,
+                None => &mut self.last.block,
+            }
+        };
+        block.pop()
     }
 
     /// The first block.
@@ -265,8 +270,15 @@ impl<T> Blocks<T> {
         }
     }
 
-    /// Whether there is one block only.
+    /// How many items the first block has.
     #[inline]
+    fn first_len(&self) -> usize
+        ensures { result ≡ first_count self.now }
+    {
+        self.first().len()
+    }
+
+    /// Whether there is one block only.
     fn is_one(&self) -> bool
         ensures one { result ≡ true → length self.now ≡ 1 }
         ensures more { result ≡ false → 2 ≤ length self.now }
@@ -278,16 +290,6 @@ impl<T> Blocks<T> {
             }
             None => true,
         }
-    }
-
-    /// Has the only block begin again.
-    #[inline]
-    fn clear(&mut self)
-        requires one { length self.old ≡ 1 }
-        requires empty { begins_empty self.old ≡ true }
-        ensures { self.new ≡ record { items = []; room = 32 } ∷ [] }
-    {
-        self.last.block.clear();
     }
 
     /// Takes the first block out, where others follow.
@@ -366,27 +368,15 @@ impl<'a, T> Rest<'a, T> {
     }
 }
 
-/// Links an empty block behind the others: the kept one, if there is one. An error means that
-/// memory was refused.
+/// Makes a block and keeps it. An error means that memory was refused.
 #[inline(never)]
-pub(crate) fn add<T>(
-    blocks: &mut Option<Blocks<T>>,
-    kept: &mut Option<Load<T>>,
-    alloc: Global,
-) -> Result<(), AllocError>
-    requires { IfSome kept.old (λ load. load.block.items ≡ []) }
-    ensures ok { OnOk result (joined blocks.new ≡ joined blocks.old ++ record { items = []; room = 32 } ∷ []) }
-    ensures refused { OnErr result (joined blocks.new ≡ joined blocks.old) }
-    ensures kept { kept.new ≡ None }
+pub(crate) fn make<T>(kept: &mut Option<Load<T>>, alloc: Global) -> Result<(), AllocError>
+    requires { IsKept (held kept.old) }
+    ensures ok { OnOk result (held kept.new ≡ fresh ∷ []) }
+    ensures refused { OnErr result (held kept.new ≡ held kept.old) }
 {
-    let load = match kept.take() {
-        Some(mut load) => {
-            load.block.clear();
-            load
-        }
-        None => Load::new(alloc)?,
-    };
-    replace_with(blocks, load, added);
+    let load = Load::new(alloc)?;
+    replace_with(kept, load, kept_one);
     Ok(())
 }
 
@@ -401,7 +391,7 @@ fn added<T>(blocks: Option<Blocks<T>>, load: Load<T>) -> (Option<Blocks<T>>, ())
 
 /// How many places the last block has behind its items.
 #[inline]
-pub(crate) fn spare<T>(blocks: &Option<Blocks<T>>) -> usize
+pub(crate) fn room<T>(blocks: &Option<Blocks<T>>) -> usize
     ensures { result ≡ room_of (joined blocks.now) }
 {
     match blocks {
@@ -410,9 +400,34 @@ pub(crate) fn spare<T>(blocks: &Option<Blocks<T>>) -> usize
     }
 }
 
+/// How many places the kept block has, if there is one.
+pub(crate) fn kept_room<T>(kept: &Option<Load<T>>) -> usize
+    requires { IsKept (held kept.now) }
+    ensures { result ≡ 32 * length (held kept.now) }
+{
+    match kept {
+        Some(load) => load.block.room(),
+        None => 0,
+    }
+}
+
+/// Puts an item into the last block, or where that has no room into the kept one, and links it.
+#[inline]
+pub(crate) fn push<T>(blocks: &mut Option<Blocks<T>>, kept: &mut Option<Load<T>>, item: T)
+    requires { (1 ≤ room_of (joined blocks.old)) ⊎ (held kept.old ≡ fresh ∷ []) }
+    ensures { IsPushed (joined blocks.old) (held kept.old) item (joined blocks.new) (held kept.new) }
+{
+    let room = room(blocks);
+    if room > 0 {
+        push_last(blocks, item);
+        return;
+    }
+    push_kept(blocks, kept, item);
+}
+
 /// Puts an item into the last block.
 #[inline]
-pub(crate) fn push<T>(blocks: &mut Option<Blocks<T>>, item: T)
+fn push_last<T>(blocks: &mut Option<Blocks<T>>, item: T)
     requires { 1 ≤ room_of (joined blocks.old) }
     ensures { joined blocks.new ≡ pushed (joined blocks.old) item }
 {
@@ -422,118 +437,89 @@ pub(crate) fn push<T>(blocks: &mut Option<Blocks<T>>, item: T)
     }
 }
 
-/// Takes the oldest item out of the first block, and the block away if that was its last item and
-/// others follow.
-#[inline]
-pub(crate) fn pop<T>(blocks: &mut Option<Blocks<T>>, kept: &mut Option<Load<T>>) -> T
-    requires shape { IsChain (joined blocks.old) }
-    requires filled { 0 < length (items_of (joined blocks.old)) }
-    requires kept { IfSome kept.old (λ load. load.block.items ≡ []) }
-    requires alone { IsSome kept.old → AllHaveItems (joined blocks.old) }
-    ensures items { items_of (joined blocks.old) ≡ result ∷ items_of (joined blocks.new) }
-    ensures shape { IsChain (joined blocks.new) }
-    ensures room { (room_of (joined blocks.new) ≡ room_of (joined blocks.old)) ⊎ ((items_of (joined blocks.new) ≡ []) × (room_of (joined blocks.new) ≡ 32)) }
-    ensures kept { IfSome kept.new (λ load. load.block.items ≡ []) }
-    ensures alone { IsSome kept.new → AllHaveItems (joined blocks.new) }
+/// Puts an item into the kept block, and links that behind the others.
+#[inline(never)]
+fn push_kept<T>(blocks: &mut Option<Blocks<T>>, kept: &mut Option<Load<T>>, item: T)
+    requires { held kept.old ≡ fresh ∷ [] }
+    ensures blocks { joined blocks.new ≡ joined blocks.old ++ record { items = item ∷ []; room = 31 } ∷ [] }
+    ensures kept { held kept.new ≡ [] }
 {
-    let item = pop_first(blocks);
-    shed_first(blocks, kept);
-    item
-}
-
-#[inline]
-fn pop_first<T>(blocks: &mut Option<Blocks<T>>) -> T
-    requires shape { IsChain (joined blocks.old) }
-    requires filled { 0 < length (items_of (joined blocks.old)) }
-    ensures items { items_of (joined blocks.old) ≡ result ∷ items_of (joined blocks.new) }
-    ensures rest { without 1 (joined blocks.new) ≡ without 1 (joined blocks.old) }
-    ensures room { room_of (joined blocks.new) ≡ room_of (joined blocks.old) }
-{
-    match blocks {
-        Some(blocks) => blocks.pop(),
+    match kept.take() {
+        Some(mut load) => {
+            load.block.push(item);
+            replace_with(blocks, load, added);
+        }
         None => unreachable!(),
     }
 }
 
-/// Sees to a first block without items.
+/// Takes the oldest item out. All that a block left without items needs is done before that item is
+/// read.
 #[inline]
-fn shed_first<T>(blocks: &mut Option<Blocks<T>>, kept: &mut Option<Load<T>>)
-    requires shape { IsChain (without 1 (joined blocks.old)) }
-    requires kept { IfSome kept.old (λ load. load.block.items ≡ []) }
-    requires alone { IsSome kept.old → AllHaveItems (without 1 (joined blocks.old)) }
-    ensures items { items_of (joined blocks.new) ≡ items_of (joined blocks.old) }
-    ensures shape { IsChain (joined blocks.new) }
-    ensures room { (room_of (joined blocks.new) ≡ room_of (joined blocks.old)) ⊎ ((items_of (joined blocks.new) ≡ []) × (room_of (joined blocks.new) ≡ 32)) }
-    ensures kept { IfSome kept.new (λ load. load.block.items ≡ []) }
-    ensures alone { IsSome kept.new → AllHaveItems (joined blocks.new) }
+pub(crate) fn pop<T>(blocks: &mut Option<Blocks<T>>, kept: &mut Option<Load<T>>) -> T
+    requires shape { IsChain (joined blocks.old) }
+    requires filled { 0 < length (items_of (joined blocks.old)) }
+    requires beside { IsBeside (joined blocks.old) (held kept.old) }
+    ensures { IsTaken (joined blocks.old) (held kept.old) result (joined blocks.new) (held kept.new) }
 {
-    let empty = starts_empty(blocks);
-    if empty {
-        shed_empty(blocks, kept);
-        return;
+    let parted = make_way(blocks, kept);
+    match blocks {
+        Some(blocks) => blocks.pop(kept, parted),
+        None => unreachable!(),
     }
 }
 
-/// Has the first block begin again if it is the only one, and else takes it away.
+/// Sees to a first block without a second item. Says whether it was parted from others, and kept.
 #[inline]
-fn shed_empty<T>(blocks: &mut Option<Blocks<T>>, kept: &mut Option<Load<T>>)
-    requires empty { begins_empty (joined blocks.old) ≡ true }
-    requires shape { IsChain (without 1 (joined blocks.old)) }
-    requires kept { IfSome kept.old (λ load. load.block.items ≡ []) }
-    ensures items { items_of (joined blocks.new) ≡ items_of (joined blocks.old) }
-    ensures shape { IsChain (joined blocks.new) }
-    ensures room { (room_of (joined blocks.new) ≡ room_of (joined blocks.old)) ⊎ ((items_of (joined blocks.new) ≡ []) × (room_of (joined blocks.new) ≡ 32)) }
-    ensures kept { IfSome kept.new (λ load. load.block.items ≡ []) }
-    ensures alone { IsSome kept.new → AllHaveItems (joined blocks.new) }
+fn make_way<T>(blocks: &mut Option<Blocks<T>>, kept: &mut Option<Load<T>>) -> bool
+    requires some { 0 < length (joined blocks.old) }
+    requires kept { IsKept (held kept.old) }
+    ensures { IsReady result (joined blocks.old) (held kept.old) (joined blocks.new) (held kept.new) }
 {
+    let count = first_len(blocks);
+    if count > 1 {
+        return false;
+    }
+    part_first(blocks, kept)
+}
+
+/// Parts a first block without a second item from the others, if there are any, and keeps it. What
+/// was kept is freed.
+#[inline(never)]
+fn part_first<T>(blocks: &mut Option<Blocks<T>>, kept: &mut Option<Load<T>>) -> bool
+    requires some { 0 < length (joined blocks.old) }
+    requires count { first_count (joined blocks.old) ≤ 1 }
+    requires kept { IsKept (held kept.old) }
+    ensures { IsReady result (joined blocks.old) (held kept.old) (joined blocks.new) (held kept.new) }
+{
+    let_go(kept);
     let one = is_one(blocks);
     if one {
-        clear(blocks);
-        let_go(kept);
-        return;
+        return false;
     }
-    part_empty(blocks, kept);
-}
-
-/// Takes a first block without items away from the others, and keeps it unless another block is
-/// without items too.
-#[inline(never)]
-fn part_empty<T>(blocks: &mut Option<Blocks<T>>, kept: &mut Option<Load<T>>)
-    requires empty { begins_empty (joined blocks.old) ≡ true }
-    requires more { 2 ≤ length (joined blocks.old) }
-    requires shape { IsChain (without 1 (joined blocks.old)) }
-    requires kept { IfSome kept.old (λ load. load.block.items ≡ []) }
-    ensures items { items_of (joined blocks.new) ≡ items_of (joined blocks.old) }
-    ensures shape { IsChain (joined blocks.new) }
-    ensures room { room_of (joined blocks.new) ≡ room_of (joined blocks.old) }
-    ensures kept { IfSome kept.new (λ load. load.block.items ≡ []) }
-    ensures alone { IsSome kept.new → AllHaveItems (joined blocks.new) }
-{
     let first = replace_with(blocks, (), parted);
-    replace_with(kept, first, kept_one);
-    keep_one(blocks, kept);
+    replace_with(kept, first, put);
+    true
 }
 
+/// How many items the first block has.
 #[inline]
+fn first_len<T>(blocks: &Option<Blocks<T>>) -> usize
+    ensures { result ≡ first_count (joined blocks.now) }
+{
+    match blocks {
+        Some(blocks) => blocks.first_len(),
+        None => 0,
+    }
+}
+
 fn is_one<T>(blocks: &Option<Blocks<T>>) -> bool
-    requires { begins_empty (joined blocks.now) ≡ true }
+    requires { 0 < length (joined blocks.now) }
     ensures one { result ≡ true → length (joined blocks.now) ≡ 1 }
     ensures more { result ≡ false → 2 ≤ length (joined blocks.now) }
 {
     match blocks {
         Some(blocks) => blocks.is_one(),
-        None => unreachable!(),
-    }
-}
-
-#[inline]
-fn clear<T>(blocks: &mut Option<Blocks<T>>)
-    requires one { length (joined blocks.old) ≡ 1 }
-    requires empty { begins_empty (joined blocks.old) ≡ true }
-    ensures { joined blocks.new ≡ record { items = []; room = 32 } ∷ [] }
-{
-    match blocks {
-        Some(blocks) => blocks.clear(),
         None => unreachable!(),
     }
 }
@@ -552,11 +538,22 @@ fn parted<T>(blocks: Option<Blocks<T>>, _nothing: ()) -> (Option<Blocks<T>>, Loa
     }
 }
 
+/// Keeps a block where none is kept.
+fn put<T>(kept: Option<Load<T>>, load: Load<T>) -> (Option<Load<T>>, ())
+    requires { held kept ≡ [] }
+    ensures { held result.0 ≡ load.block ∷ [] }
+{
+    match kept {
+        Some(_kept) => unreachable!(),
+        None => (Some(load), ()),
+    }
+}
+
 /// Keeps a block without items for later, and frees it where one is kept already.
 fn kept_one<T>(kept: Option<Load<T>>, load: Load<T>) -> (Option<Load<T>>, ())
-    requires empty { load.block.items ≡ [] }
-    requires kept { IfSome kept (λ load. load.block.items ≡ []) }
-    ensures { IfSome result.0 (λ load. load.block.items ≡ []) }
+    requires empty { load.block ≡ fresh }
+    requires kept { IsKept (held kept) }
+    ensures { held result.0 ≡ fresh ∷ [] }
 {
     match kept {
         Some(kept) => {
@@ -569,9 +566,9 @@ fn kept_one<T>(kept: Option<Load<T>>, load: Load<T>) -> (Option<Load<T>>, ())
 
 /// Keeps a block without items, where there is one.
 pub(crate) fn keep<T>(kept: &mut Option<Load<T>>, load: Option<Load<T>>)
-    requires empty { IfSome load (λ load. load.block.items ≡ []) }
-    requires kept { IfSome kept.old (λ load. load.block.items ≡ []) }
-    ensures { IfSome kept.new (λ load. load.block.items ≡ []) }
+    requires empty { IsKept (held load) }
+    requires kept { IsKept (held kept.old) }
+    ensures { IsKept (held kept.new) }
 {
     match load {
         Some(load) => replace_with(kept, load, kept_one),
@@ -580,24 +577,13 @@ pub(crate) fn keep<T>(kept: &mut Option<Load<T>>, load: Option<Load<T>>)
 }
 
 /// Frees the block that is kept, if there is one.
-#[inline]
 fn let_go<T>(kept: &mut Option<Load<T>>)
-    requires { IfSome kept.old (λ load. load.block.items ≡ []) }
-    ensures { kept.new ≡ None }
+    requires { IsKept (held kept.old) }
+    ensures { held kept.new ≡ [] }
 {
     match kept.take() {
         Some(load) => load.free(),
         None => {}
-    }
-}
-
-#[inline]
-fn starts_empty<T>(blocks: &Option<Blocks<T>>) -> bool
-    ensures { result ≡ begins_empty (joined blocks.now) }
-{
-    match blocks {
-        Some(blocks) => blocks.first().is_empty(),
-        None => false,
     }
 }
 
@@ -636,8 +622,9 @@ pub(crate) fn linked<T>(
 ) -> (Option<Blocks<T>>, Option<Load<T>>)
     requires blocks { IsChain (joined blocks) }
     requires others { IsChain (joined others) }
+    requires items { (items_of (joined blocks) ≡ []) ⊎ (0 < length (items_of (joined others))) }
     ensures joined { IsJoined (joined blocks) (joined others) (joined result.0) }
-    ensures empty { IfSome result.1 (λ load. load.block.items ≡ []) }
+    ensures empty { IsKept (held result.1) }
 {
     match (blocks, others) {
         (Some(blocks), Some(others)) => {
@@ -656,8 +643,9 @@ pub(crate) fn linked_in_front<T>(
 ) -> (Option<Blocks<T>>, Option<Load<T>>)
     requires blocks { IsChain (joined blocks) }
     requires others { IsChain (joined others) }
+    requires items { items_of (joined others) ≡ [] }
     ensures joined { IsJoined (joined others) (joined blocks) (joined result.0) }
-    ensures empty { IfSome result.1 (λ load. load.block.items ≡ []) }
+    ensures empty { IsKept (held result.1) }
 {
     linked(others, blocks)
 }
@@ -666,9 +654,8 @@ pub(crate) fn linked_in_front<T>(
 /// block is held.
 pub(crate) fn keep_one<T>(blocks: &Option<Blocks<T>>, kept: &mut Option<Load<T>>)
     requires shape { IsChain (joined blocks.now) }
-    requires kept { IfSome kept.old (λ load. load.block.items ≡ []) }
-    ensures kept { IfSome kept.new (λ load. load.block.items ≡ []) }
-    ensures alone { IsSome kept.new → AllHaveItems (joined blocks.now) }
+    requires kept { IsKept (held kept.old) }
+    ensures { IsBeside (joined blocks.now) (held kept.new) }
 {
     let empty = ends_empty(blocks);
     if empty {

@@ -1,7 +1,16 @@
-use Rattle.std.proofs.Common.{◌<◌, subst, arith, length}
+use Rattle.std.proofs.Common.{◌≡◌, [], ◌∷◌, ◌∙◌, inl, inr, refl, sym, arith}
+use Rattle.block_queue.specs.Blocks.{fresh, held, room_of}
 use Rattle.block_queue.specs.Chain.{joined}
-use Rattle.block_queue.proofs.Blocks.{some_with_room}
 use Rattle.block_queue.proofs.linking.push.Goals as goal
 
-pub unreachable-requires : goal.unreachable-requires
-unreachable-requires g c = let some = subst (λ o. 0 < length (joined o)) c.in-None.is (some_with_room (joined c.args.blocks.now) c.requires) in omega arith
+pub push_kept-requires : goal.push_kept-requires
+push_kept-requires g c = elim c.requires [ inl some ↦ let is = c.room.ensures in let no = c.if-room.false in absurd (omega arith) | inr one ↦ one ]
+
+pub returns-then-room : goal.returns-then-room
+returns-then-room g c = let is = c.room.ensures in let some = c.if-room.true in inl (omega arith, c.push_last.ensures, refl)
+
+pub returns : goal.returns
+returns g c =
+    let is = c.room.ensures in let no = c.if-room.false in
+    let one : held c.args.kept.now ≡ fresh ∷ [] = elim c.requires [ inl some ↦ absurd (omega arith) | inr one ↦ one ] in
+    inr (omega arith, one, c.push_kept.ensures.blocks, c.push_kept.ensures.kept)

@@ -1,4 +1,4 @@
-use Rattle.std.proofs.Common.{◌++◌, [], ◌∷◌, ◌∙◌, sym, ap, subst}
+use Rattle.std.proofs.Common.{◌++◌, [], ◌∷◌, ◌∙◌, inl, refl, sym, ap, subst}
 use Rattle.block_queue.specs.Blocks.{AllHaveItems}
 use Rattle.block_queue.specs.Chain.{joined}
 use Rattle.block_queue.proofs.Ends.{without_last, with_last}
@@ -25,3 +25,9 @@ pub returns-in-None-clause-shape : goal.returns-in-None-clause-shape
 returns-in-None-clause-shape g c =
     let b = c.self.inside in let is = ap (λ o. joined o ++ b.last.block ∷ []) (sym c.in-None.is) ∙ c.self.view_is in
     subst AllHaveItems (sym c.one.ensures) (with_last [] c.args.self b.last.block is c.requires (sym c.is_empty.ensures ∙ c.if-is_empty.false))
+
+pub returns-in-Some-clause-empty : goal.returns-in-Some-clause-empty
+returns-in-Some-clause-empty g c = inl refl
+
+pub returns-in-None-clause-empty : goal.returns-in-None-clause-empty
+returns-in-None-clause-empty g c = inl refl
