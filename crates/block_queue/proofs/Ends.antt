@@ -139,7 +139,7 @@ module _ {T : Type 0} where
   -- the first block has another item
   taken_more : (bs ks new left : List (Queue T)) (item : T) → AllHaveItems bs → IsBeside bs ks → 2 ≤ first_count bs → IsFirstPopped bs item new → left ≡ ks → IsTaken bs ks item new left
   unfolding first_count
-  taken_more bs ks new left item all beside two (first, (last, (rest, (e, (f, popped))))) same =
+  taken_more bs ks new left item all beside two (first, last, rest, e, f, popped) same =
       let n = ap length popped.items in let more : 2 ≤ length first.items = subst (λ l. 2 ≤ first_count l) e two in
       let stays : (0 < length last.items) × (last.room ≡ first.room) = elim popped.room [ inl stays ↦ stays | inr none ↦ let m = ap (λ q. length q.items) none in absurd (omega arith) ] in
       let have : AllHaveItems new = subst AllHaveItems (sym f) (first_with last rest stays.0 (rest_have first rest (subst AllHaveItems e all))) in
@@ -153,7 +153,7 @@ module _ {T : Type 0} where
   -- the only block has no other item
   taken_only : (bs ks new left : List (Queue T)) (item : T) → first_count bs ≤ 1 → length bs ≡ 1 → IsFirstPopped bs item new → left ≡ [] → IsTaken bs ks item new left
   unfolding first_count
-  taken_only bs ks new left item one only (first, (last, (rest, (e, (f, popped))))) same =
+  taken_only bs ks new left item one only (first, last, rest, e, f, popped) same =
       let n = ap length popped.items in let few : length first.items ≤ 1 = subst (λ l. first_count l ≤ 1) e one in
       let is : last ≡ fresh = elim popped.room [ inl stays ↦ let m = stays.0 in absurd (omega arith) | inr is ↦ is ] in
       let alone : rest ≡ [] = none_behind first rest (ap length (sym e) ∙ only) in
@@ -167,7 +167,7 @@ module _ {T : Type 0} where
 
   -- the first block was parted from the others
   taken_parted : (bs ks kept new left : List (Queue T)) (item : T) (b : Queue T) → AllHaveItems bs → IsBeside bs ks → bs ≡ b ∷ new → kept ≡ b ∷ [] → length b.items ≤ 1 → 1 ≤ length new → IsFirstPopped kept item left → IsTaken bs ks item new left
-  taken_parted bs ks kept new left item b all beside e one few some (first, (last, (rest, (g, (f, popped))))) =
+  taken_parted bs ks kept new left item b all beside e one few some (first, last, rest, g, f, popped) =
       let same : first ≡ b = ap (λ l. get_or l 0 b) (sym g ∙ one) in let alone : rest ≡ [] = ap (drop 1) (sym g ∙ one) in
       let n = ap length popped.items in let m : length first.items ≡ length b.items = ap (λ q. length q.items) same in
       let is : last ≡ fresh = elim popped.room [ inl stays ↦ let k = stays.0 in absurd (omega arith) | inr is ↦ is ] in
@@ -183,7 +183,7 @@ module _ {T : Type 0} where
   pub is_taken : (parted : Bool) (bs ks kept new left blocks : List (Queue T)) (item : T) → IsChain bs → 0 < length (items_of bs) → IsBeside bs ks → IsReady parted bs ks blocks kept → IsRead parted blocks kept item new left → IsTaken bs ks item new left
   is_taken false bs ks kept new left blocks item h some beside (same, inl (two, stays)) read =
       taken_more bs ks new left item (all_have bs h (inr some)) beside two (subst (λ l. IsFirstPopped l item new) same read.0) (read.1 ∙ stays)
-  is_taken false bs ks kept new left blocks item h some beside (same, inr (one, (only, none))) read =
+  is_taken false bs ks kept new left blocks item h some beside (same, inr (one, only, none)) read =
       taken_only bs ks new left item one only (subst (λ l. IsFirstPopped l item new) same read.0) (read.1 ∙ none)
   is_taken true bs ks kept new left blocks item h some beside r read =
       subst (λ l. IsTaken bs ks item l left) (sym read.1)
