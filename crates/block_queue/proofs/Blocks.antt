@@ -8,6 +8,41 @@ use Rattle.block_queue.specs.Queue.{Queue, oldest}
 use Rattle.std.proofs.lemmas.Bool.Decides.{leb_tells}
 use Rattle.block_queue.specs.Blocks.{fresh, items_of, left_in, room_of, first_count, spare_in, pushed, read_of, has_none, AllHaveItems, IsChain, IsKept, IsBeside, IsJoined, IsPushed, IsReady, IsPopped, IsFirstPopped, IsRead, IsTaken, IsQueue}
 
+-- how much room a queue has
+room_most : (count room kept : ℕ) → room ≤ 32 → kept ≤ 1 → spare_in count room kept ≤ 32
+room_most count (suc room) kept most one = most
+room_most count zero kept most one = elim (leb_tells (suc count) (2 ^ 63)) [
+  | inl few ↦ subst (λ (b : Bool). (if b then 32 * kept else 0) ≤ 32) (sym few.0) (omega arith)
+  | inr many ↦ subst (λ (b : Bool). (if b then 32 * kept else 0) ≤ 32) (sym many.0) (omega arith)
+]
+
+pub room_few : (count kept : ℕ) → count < 2 ^ 63 → spare_in count 0 kept ≡ 32 * kept
+room_few count kept few = elim (leb_tells (suc count) (2 ^ 63)) [
+  | inl is ↦ ap (λ (b : Bool). if b then 32 * kept else 0) is.0
+  | inr many ↦ absurd (omega (arith, many.1, few))
+]
+
+pub room_many : (count kept : ℕ) → 2 ^ 63 ≤ count → spare_in count 0 kept ≡ 0
+room_many count kept many = elim (leb_tells (suc count) (2 ^ 63)) [
+  | inl few ↦ absurd (omega (arith, few.1, many))
+  | inr is ↦ ap (λ (b : Bool). if b then 32 * kept else 0) is.0
+]
+
+pub room_least : (count room kept : ℕ) → room ≤ spare_in count room kept
+room_least count zero kept = omega arith
+room_least count (suc room) kept = omega arith
+
+pub room_is : (count room kept : ℕ) → 1 ≤ room → spare_in count room kept ≡ room
+room_is count zero kept some = absurd (omega arith)
+room_is count (suc room) kept some = refl
+
+room_grows : (count less room kept more : ℕ) → less ≤ count → kept ≤ more → spare_in count room kept ≤ spare_in less room more
+room_grows count less (suc room) kept more l k = omega arith
+room_grows count less zero kept more l k = elim (leb_tells (suc count) (2 ^ 63)) [
+  | inl few ↦ let below = few.1 in let a = room_few count kept (omega arith) in let b = room_few less more (omega arith) in omega arith
+  | inr many ↦ let above = many.1 in let a = room_many count kept (omega arith) in omega arith
+]
+
 module _ {T : Type 0} where
   pub some_with_room : (bs : List (Queue T)) → 1 ≤ room_of bs → 0 < length bs
   unfolding room_of
@@ -137,41 +172,6 @@ module _ {T : Type 0} where
   pub last_room : (q : Queue T) → room_of (q ∷ []) ≡ q.room
   unfolding room_of
   last_room q = refl
-
-  -- how much room a queue has
-  room_most : (count room kept : ℕ) → room ≤ 32 → kept ≤ 1 → spare_in count room kept ≤ 32
-  room_most count (suc room) kept most one = most
-  room_most count zero kept most one = elim (leb_tells (suc count) (2 ^ 63)) [
-    | inl few ↦ subst (λ (b : Bool). (if b then 32 * kept else 0) ≤ 32) (sym few.0) (omega arith)
-    | inr many ↦ subst (λ (b : Bool). (if b then 32 * kept else 0) ≤ 32) (sym many.0) (omega arith)
-  ]
-
-  pub room_few : (count kept : ℕ) → count < 2 ^ 63 → spare_in count 0 kept ≡ 32 * kept
-  room_few count kept few = elim (leb_tells (suc count) (2 ^ 63)) [
-    | inl is ↦ ap (λ (b : Bool). if b then 32 * kept else 0) is.0
-    | inr many ↦ absurd (omega (arith, many.1, few))
-  ]
-
-  pub room_many : (count kept : ℕ) → 2 ^ 63 ≤ count → spare_in count 0 kept ≡ 0
-  room_many count kept many = elim (leb_tells (suc count) (2 ^ 63)) [
-    | inl few ↦ absurd (omega (arith, few.1, many))
-    | inr is ↦ ap (λ (b : Bool). if b then 32 * kept else 0) is.0
-  ]
-
-  pub room_least : (count room kept : ℕ) → room ≤ spare_in count room kept
-  room_least count zero kept = omega arith
-  room_least count (suc room) kept = omega arith
-
-  pub room_is : (count room kept : ℕ) → 1 ≤ room → spare_in count room kept ≡ room
-  room_is count zero kept some = absurd (omega arith)
-  room_is count (suc room) kept some = refl
-
-  room_grows : (count less room kept more : ℕ) → less ≤ count → kept ≤ more → spare_in count room kept ≤ spare_in less room more
-  room_grows count less (suc room) kept more l k = omega arith
-  room_grows count less zero kept more l k = elim (leb_tells (suc count) (2 ^ 63)) [
-    | inl few ↦ let below = few.1 in let a = room_few count kept (omega arith) in let b = room_few less more (omega arith) in omega arith
-    | inr many ↦ let above = many.1 in let a = room_many count kept (omega arith) in omega arith
-  ]
 
   -- where a queue has room: in its last block, or in the one that is kept
   pub where_room : (count room : ℕ) (ks : List (Queue T)) → IsKept ks → 1 ≤ spare_in count room (length ks) → (1 ≤ room) ⊎ ((room ≡ 0) × (ks ≡ fresh ∷ []) × (count < 2 ^ 63))

@@ -92,7 +92,7 @@ module _ {E : Type 0} where
   pub held_first : (places : List (Option (Node E))) (x : Node E) → places ≡ Some x ∷ [] → get_or places 0 None ≡ Some x
   held_first places x e = ap (λ l. get_or l 0 None) e
 
-  -- what was read is what was held
+  -- what was read is what was joined
   pub read_is : (places : List (Option (Node E))) (x y : Node E) → places ≡ Some x ∷ [] → get_or places 0 None ≡ Some y → y ≡ x
   read_is places x y e f = let both : Some x ≡ Some y = sym (held_first places x e) ∙ f in cc
 

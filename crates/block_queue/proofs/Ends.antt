@@ -1,5 +1,5 @@
 -- A list of blocks whose first or last one is at hand.
-use Rattle.std.proofs.Common.{◌≡◌, ◌-◌, ◌<◌, ◌≤◌, ◌⊎◌, inl, inr, Bool, true, false, List, [], ◌∷◌, ◌++◌, None, refl, sym, ap, ◌∙◌, subst, arith, length, get_or, drop, append-nil, length-append}
+use Rattle.std.proofs.Common.{◌≡◌, ◌-◌, ◌*◌, ◌<◌, ◌≤◌, ◌⊎◌, inl, inr, Bool, true, false, List, [], ◌∷◌, ◌++◌, None, refl, sym, ap, ◌∙◌, subst, arith, length, get_or, drop, append-nil, length-append}
 use Rattle.block_queue.specs.Queue.{Queue, oldest}
 use Rattle.block_queue.specs.Blocks.{fresh, items_of, room_of, first_count, pushed, read_of, has_none, AllHaveItems, IsChain, IsKept, IsBeside, IsJoined, IsReady, IsPopped, IsFirstPopped, IsRead, IsTaken}
 use Rattle.block_queue.proofs.Blocks.{none_is, some_is, first_has, rest_have, have_chain, all_have, both_have, oldest_first, items_of_joined, room_of_joined, some_with_items, last_room, one_items, kept_is, kept_most}
@@ -93,6 +93,21 @@ module _ {T : Type 0} where
   pub kept_fresh : (q : Queue T) → IsKept (q ∷ []) → q ≡ fresh
   kept_fresh q (inl none) = let n = ap length none in absurd (omega arith)
   kept_fresh q (inr one) = ap (λ l. get_or l 0 q) one
+
+  -- its room
+  pub kept_room : (ks : List (Queue T)) → IsKept ks → room_of ks ≡ 32 * length ks
+  unfolding room_of
+  kept_room ks (inl none) = ap room_of none ∙ ap (λ l. 32 * length l) (sym none)
+  kept_room ks (inr one) = ap room_of one ∙ ap (λ l. 32 * length l) (sym one)
+
+  -- the only block
+  pub only_one : (front : List (Queue T)) (q : Queue T) → length (front ++ q ∷ []) ≡ 1 → front ≡ []
+  only_one [] q one = refl
+  only_one (b ∷ front) q one = absurd (omega (arith, length-append front (q ∷ [])))
+
+  pub kept_one : (bs : List (Queue T)) → 0 < length bs → IsKept bs → bs ≡ fresh ∷ []
+  kept_one bs some (inl none) = let n = ap length none in absurd (omega arith)
+  kept_one bs some (inr one) = one
 
   pub held_fresh : (q : Queue T) → q ∷ [] ≡ fresh ∷ [] → q ≡ fresh
   held_fresh q e = ap (λ l. get_or l 0 q) e

@@ -34,6 +34,7 @@ use Rattle.std.specs.Prelude.{Option, Some, slice_get}
 use Rattle.std.proofs.Common.{lit<}
 use Rattle.block_queue.specs.Region.{places_own, region_owns, region_lent}
 use Rattle.block_queue.specs.Nodes.{nodes_own, nodes_lent, cell_at, IsHeld}
+use Rattle.block_queue.specs.Chain.{joined}
 use Rattle.block_queue.proofs.Regions.{sz, Rg, D, region_val, region_had, region_made}
 use Rattle.block_queue.specs.declared.nodes.Nodes.{Nodes}
 use Rattle.block_queue.specs.contracts.nodes.Nodes as C
@@ -117,13 +118,13 @@ module _ (E : El) (Z : Al) {M : Type 1} {𝓤 : Ura M} {𝓛 : Logic 𝓤} {K : 
   pub node_of : K → (node : D E Z) → IsHeld node.places → (vs : List Val)
       → ((b o : ℕ) → node.first ≡ block_ptr b o → Seq K 𝓛 (‵ (Held E Z node.heap (cell_at node.first node.places)) ∷ Γ) G)
       → Seq K 𝓛 (‵ ((Rg E Z).own_val node vs) ∷ Γ) G
-  node_of t node held vs k = region_had E Z t node vs (λ b o here told few.
-      let alone : List (Option (el_x E)) = Some held.0 ∷ [] in
-      rewrite t 0 (λ (ps : List (Option (el_x E))). ‵ (places_own (R E) b o ps)) {x = alone} held.1 refl $
-      rewrite t 1 (λ (ps : List (Option (el_x E))). ‵ (token Z node.heap (block_ty E (length ps)) (block_ptr b o))) {x = alone} held.1 refl $ fjoin t $
-      flt_i t (length alone * sz E) (2 ^ 63) (subst (λ (ps : List (Option (el_x E))). length ps * sz E < 2 ^ 63) held.1 few) $ fjoin t $
+  node_of t node joined vs k = region_had E Z t node vs (λ b o here told few.
+      let alone : List (Option (el_x E)) = Some joined.0 ∷ [] in
+      rewrite t 0 (λ (ps : List (Option (el_x E))). ‵ (places_own (R E) b o ps)) {x = alone} joined.1 refl $
+      rewrite t 1 (λ (ps : List (Option (el_x E))). ‵ (token Z node.heap (block_ty E (length ps)) (block_ptr b o))) {x = alone} joined.1 refl $ fjoin t $
+      flt_i t (length alone * sz E) (2 ^ 63) (subst (λ (ps : List (Option (el_x E))). length ps * sz E < 2 ^ 63) joined.1 few) $ fjoin t $
       nothing t $ move t (1 ∷ 0 ∷ []) $ fjoin t $
-      rewrite t 0 (λ (w : Ptr × List (Option (el_x E))). ‵ (Held E Z node.heap (cell_at w.0 w.1))) {x = (node.first, node.places)} {y = (block_ptr b o, alone)} (λ i. (sym here i, sym held.1 i)) refl $
+      rewrite t 0 (λ (w : Ptr × List (Option (el_x E))). ‵ (Held E Z node.heap (cell_at w.0 w.1))) {x = (node.first, node.places)} {y = (block_ptr b o, alone)} (λ i. (sym here i, sym joined.1 i)) refl $
       k b o here)
 
   -- a node is a region of one place that holds its value

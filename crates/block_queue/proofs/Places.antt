@@ -85,8 +85,8 @@ module _ {T : Type 0} where
   pub is_block : (start count rest : ℕ) (items : List T) (places : List (Option T)) → places ≡ laid start items rest → count ≡ length items → start + count + rest ≡ 32
       → IsBlock start count places × (values places ≡ items)
   is_block start count rest items places e counted all =
-      let held : values places ≡ items = ap values e ∙ values-laid start items rest in let left : rest ≡ 32 - (start + count) = omega arith in
-      (record { laid_out = e ∙ ap (λ n. laid start items n) left ∙ ap (λ l. laid start l (32 - (start + count))) (sym held); counted = counted ∙ ap length (sym held); within = omega arith }, held)
+      let joined : values places ≡ items = ap values e ∙ values-laid start items rest in let left : rest ≡ 32 - (start + count) = omega arith in
+      (record { laid_out = e ∙ ap (λ n. laid start items n) left ∙ ap (λ l. laid start l (32 - (start + count))) (sym joined); counted = counted ∙ ap length (sym joined); within = omega arith }, joined)
 
   pub block_new : (places : List (Option T)) → places ≡ laid 0 [] 32 → IsBlock 0 0 places × (values places ≡ [])
   block_new places e = is_block 0 0 32 [] places e refl (omega arith)

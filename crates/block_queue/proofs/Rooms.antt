@@ -32,6 +32,7 @@ use Rattle.std_alloc.proofs.RawLayout.{as_raw, as_written}
 use Rattle.std_alloc.proofs.ResultValues.{ok_of, err_of}
 use Rattle.block_queue.specs.Places.{laid}
 use Rattle.block_queue.specs.Region.{places_own}
+use Rattle.block_queue.specs.Chain.{joined}
 use Rattle.block_queue.proofs.Places.{length-empty}
 use Rattle.block_queue.proofs.Regions.{sz, Rg, D, region_val, of_room, to_room, region_made}
 
@@ -68,11 +69,11 @@ module _ (E : El) (Z : Al) {M : Type 1} {𝓤 : Ura M} (𝓛 : Logic 𝓤) (heap
         use1 𝓛 (‵ ((Given E Z heap n).own_val (Ok new) (granted_val b o ∷ []))) (ok_of 𝓛 (Rg E Z) AE.the_row new (region_val (block_ptr b o))) $
         use0 𝓛 (raw (fact 𝓤 (IsEmpty E Z heap n (Ok new)))) (fact_i 𝓤 (IsEmpty E Z heap n (Ok new)) (emp 𝓤) (refl, refl)) $ move ! (1 ∷ 0 ∷ []) $ done !
 
-    pub emptied : (held : Z.row.Denot) (places : List (Option (el_x E))) → places ≡ laid 0 [] n → held ≡ heap
-        → ent 𝓤 (sep 𝓤 (sem 𝓛 (places_own (R E) b o places)) (sem 𝓛 (token Z held (block_ty E (length places)) (block_ptr b o))))
+    pub emptied : (joined : Z.row.Denot) (places : List (Option (el_x E))) → places ≡ laid 0 [] n → joined ≡ heap
+        → ent 𝓤 (sep 𝓤 (sem 𝓛 (places_own (R E) b o places)) (sem 𝓛 (token Z joined (block_ty E (length places)) (block_ptr b o))))
         (sep 𝓤 (sem 𝓛 (froom (block_ty E n) b o)) (sem 𝓛 (token Z heap (block_ty E n) (block_ptr b o))))
-    emptied held places none same =
+    emptied joined places none same =
         let long : length places ≡ n = ap length none ∙ length-empty (el_x E) n in
-        qed 𝓛 (‵ (places_own (R E) b o places) ∷ ‵ (token Z held (block_ty E (length places)) (block_ptr b o)) ∷ []) ∵
+        qed 𝓛 (‵ (places_own (R E) b o places) ∷ ‵ (token Z joined (block_ty E (length places)) (block_ptr b o)) ∷ []) ∵
         rewrite ! 0 (λ (l : List (Option (el_x E))). ‵ (places_own (R E) b o l)) none refl $ use1 𝓛 (‵ (froom (ty_array (elτ E) n) b o)) (to_room E 𝓛 b n o) $ as_raw ! (ty_array (elτ E) n) b o $
-        rewrite ! 1 (λ (k : Z.row.Denot × ℕ). ‵ (token Z k.0 (block_ty E k.1) (block_ptr b o))) {x = (heap, n)} {y = (held, length places)} (λ i. (same i, long i)) refl $ done !
+        rewrite ! 1 (λ (k : Z.row.Denot × ℕ). ‵ (token Z k.0 (block_ty E k.1) (block_ptr b o))) {x = (heap, n)} {y = (joined, length places)} (λ i. (same i, long i)) refl $ done !

@@ -2,16 +2,10 @@
 use Rattle.std.specs.Prelude.{◌≡◌, ℕ, zero, suc, ◌+◌, ◌-◌, ◌*◌, ◌^◌, ◌<◌, ◌≤◌, ◌⊎◌, Bool, true, false, nat_lt, if◌then◌else◌, List, [], ◌∷◌, ◌++◌, Option, Some, None, drop, length}
 use Rattle.std.specs.Borrow.{Bor}
 use Rattle.block_queue.specs.Queue.{Queue}
-use Rattle.block_queue.specs.declared.linking.Load.{Load}
 
 -- a block without items
 abbrev pub fresh : {T : Type 0} → Queue T
 fresh = record { items = []; room = 32 }
-
--- the block that is kept apart, if there is one
-abbrev pub held : {T : Type 0} → Option (Load T) → List (Queue T)
-held None = []
-held (Some load) = load.block ∷ []
 
 -- the room of a queue that counts its items: the last block's, and a kept block's only where that has none
 abbrev pub spare_in : (count room kept : ℕ) → ℕ

@@ -94,7 +94,8 @@ impl<T> Block<T> {
     {
         let first = self.start;
         self.count -= 1;
-        self.start = start_after(first, self.count);
+        let next = start_after(first, self.count);
+        self.start = next;
         self.region.read(first)
     }
 

@@ -2,7 +2,7 @@ ghost use Rattle.std.specs.Prelude.{◌≡◌, ◌+◌, ◌^◌, ◌<◌, ◌++�
 ghost use Rattle.std.specs.Map.Iter.{ShowsInOrder, deref};
 
 use crate::iter::Iter;
-use crate::linking::{Blocks, Load};
+use crate::linking::Stock;
 use crate::{Fifo, linking};
 use core::mem::replace_with;
 use std::alloc::{AllocError, Global};
@@ -17,8 +17,7 @@ const MOST: usize = 0x8000_0000_0000_0000;
 /// one that is kept apart, which the next item goes into once the last block is full.
 #[derive(Drop)]
 pub struct BlockQueue<T> {
-    blocks: Option<Blocks<T>>,
-    kept: Option<Load<T>>,
+    stock: Stock<T>,
     count: usize,
     alloc: Global,
 }
@@ -26,17 +25,17 @@ pub struct BlockQueue<T> {
 impl<T> Model for BlockQueue<T> {
     ghost use Rattle.block_queue.specs.Queue.{Queue};
     ghost use Rattle.std.specs.Prelude.{length};
-    ghost use Rattle.block_queue.specs.Blocks.{held, items_of, room_of, spare_in, IsQueue};
+    ghost use Rattle.block_queue.specs.Blocks.{items_of, room_of, spare_in, IsQueue};
     ghost use Rattle.block_queue.specs.Chain.{joined};
 
     ghost Value = { Queue T };
 
     ghost view = { λ q. record {
-      items = items_of (joined q.blocks);
-      room = spare_in q.count (room_of (joined q.blocks)) (length (held q.kept));
+      items = items_of (joined q.stock.blocks);
+      room = spare_in q.count (room_of (joined q.stock.blocks)) (length (joined q.stock.kept));
     } };
 
-    ghost invariant = { λ q. IsQueue q.count (joined q.blocks) (held q.kept) };
+    ghost invariant = { λ q. IsQueue q.count (joined q.stock.blocks) (joined q.stock.kept) };
 }
 
 impl<T> Fifo<T> for BlockQueue<T> {
@@ -46,8 +45,10 @@ impl<T> Fifo<T> for BlockQueue<T> {
 
     fn new(alloc: Global) -> Self {
         BlockQueue {
-            blocks: None,
-            kept: None,
+            stock: Stock {
+                blocks: None,
+                kept: None,
+            },
             count: 0,
             alloc,
         }
@@ -61,24 +62,24 @@ impl<T> Fifo<T> for BlockQueue<T> {
         if self.count >= MOST {
             return Err(AllocError);
         }
-        linking::make(&mut self.kept, self.alloc)
+        linking::make(&mut self.stock.kept, self.alloc)
     }
 
     #[inline]
     fn spare(&self) -> usize {
-        let room = linking::room(&self.blocks);
+        let room = linking::room(&self.stock.blocks);
         if room > 0 {
             return room;
         }
         if self.count >= MOST {
             return 0;
         }
-        linking::kept_room(&self.kept)
+        linking::room(&self.stock.kept)
     }
 
     #[inline]
     fn push_back(&mut self, item: T) {
-        linking::push(&mut self.blocks, &mut self.kept, item);
+        linking::push(&mut self.stock.blocks, &mut self.stock.kept, item);
         self.count += 1;
     }
 
@@ -88,12 +89,12 @@ impl<T> Fifo<T> for BlockQueue<T> {
             return None;
         }
         self.count -= 1;
-        Some(linking::pop(&mut self.blocks, &mut self.kept))
+        Some(self.stock.pop())
     }
 
     #[inline]
     fn front(&self) -> Option<&T> {
-        linking::first_item(&self.blocks)
+        linking::first_item(&self.stock.blocks)
     }
 
     #[inline]
@@ -113,7 +114,7 @@ impl<T> BlockQueue<T> {
         ensures rest { result ≡ self.now.items }
         ensures runs { ShowsInOrder (deref {X = T}) }
     {
-        Iter::new(linking::walk(&self.blocks))
+        Iter::new(linking::walk(&self.stock.blocks))
     }
 
     /// Puts the items of another queue behind these. It takes no memory, and may give one block
@@ -123,19 +124,19 @@ impl<T> BlockQueue<T> {
         ensures { self.new.items ≡ self.old.items ++ other.items }
     {
         let BlockQueue {
-            blocks,
-            kept,
+            stock,
             count,
             alloc: _,
         } = other;
+        let Stock { blocks, kept } = stock;
         let empty = if count == 0 {
-            replace_with(&mut self.blocks, blocks, linking::linked_in_front)
+            replace_with(&mut self.stock.blocks, blocks, linking::linked_in_front)
         } else {
-            replace_with(&mut self.blocks, blocks, linking::linked)
+            replace_with(&mut self.stock.blocks, blocks, linking::linked)
         };
-        linking::keep(&mut self.kept, empty);
-        linking::keep(&mut self.kept, kept);
-        linking::keep_one(&self.blocks, &mut self.kept);
+        linking::keep(&mut self.stock.kept, empty);
+        linking::keep(&mut self.stock.kept, kept);
+        linking::keep_one(&self.stock.blocks, &mut self.stock.kept);
         self.count += count;
     }
 }

@@ -1,8 +1,8 @@
 //! The blocks of a queue: the first and the last at hand, and those between them in a chain.
-ghost use Rattle.std.specs.Prelude.{◌≡◌, ◌*◌, ◌^◌, ◌<◌, ◌≤◌, ◌⊎◌, true, false, [], ◌∷◌, ◌++◌, OnOk, OnErr, IfOk, drop as without, length, option_copied};
+ghost use Rattle.std.specs.Prelude.{◌≡◌, ◌^◌, ◌<◌, ◌≤◌, ◌⊎◌, true, false, [], ◌∷◌, ◌++◌, None, OnOk, OnErr, IfOk, drop as without, length, option_copied};
 ghost use Rattle.std.specs.Map.Iter.{TakesFirst, deref};
 ghost use Rattle.block_queue.specs.Queue.{oldest};
-ghost use Rattle.block_queue.specs.Blocks.{fresh, held, items_of, room_of, first_count, pushed, read_of, AllHaveItems, IsChain, IsKept, IsBeside, IsPushed, IsReady, IsRead, IsTaken, IsJoined};
+ghost use Rattle.block_queue.specs.Blocks.{fresh, items_of, room_of, first_count, pushed, read_of, AllHaveItems, IsChain, IsKept, IsBeside, IsPushed, IsReady, IsFirstPopped, IsRead, IsTaken, IsJoined};
 ghost use Rattle.block_queue.specs.Chain.{joined};
 
 use crate::block::Block;
@@ -198,15 +198,15 @@ impl<T> Blocks<T> {
     }
 
     /// Parts the blocks that have items from the last one, where that has none.
-    fn filled(self) -> (Option<Front<T>>, Option<Load<T>>)
+    fn filled(self) -> (Option<Front<T>>, Option<Blocks<T>>)
         requires { IsChain self }
         ensures items { items_of (joined result.0) ≡ items_of self }
         ensures shape { AllHaveItems (joined result.0) }
-        ensures empty { IsKept (held result.1) }
+        ensures empty { IsKept (joined result.1) }
     {
         let Blocks { front, last } = self;
         if last.block.is_empty() {
-            return (front, Some(last));
+            return (front, Some(Blocks::one(last)));
         }
         match front {
             Some(front) => (Some(front.add(last)), None),
@@ -239,22 +239,15 @@ impl<T> Blocks<T> {
         self.last.block.push(item);
     }
 
-    /// Takes the first item out of the first block, or out of the kept one if that was parted.
+    /// Takes the first item out of the first block.
     #[inline]
-    fn pop(&mut self, kept: &mut Option<Load<T>>, parted: bool) -> T
-        requires { 0 < first_count (read_of parted self.old (held kept.old)) }
-        ensures { IsRead parted self.old (held kept.old) result self.new (held kept.new) }
+    fn pop(&mut self) -> T
+        requires { 0 < first_count self.old }
+        ensures { IsFirstPopped self.old result self.new }
     {
-        let block = if parted {
-            match kept {
-                Some(load) => &mut load.block,
-                None => unreachable!(),
-            }
-        } else {
-            match &mut self.front {
-                Some(front) => &mut front.first.block,
-                None => &mut self.last.block,
-            }
+        let block = match &mut self.front {
+            Some(front) => &mut front.first.block,
+            None => &mut self.last.block,
         };
         block.pop()
     }
@@ -289,6 +282,21 @@ impl<T> Blocks<T> {
                 false
             }
             None => true,
+        }
+    }
+
+    /// The only block.
+    fn only(self) -> Load<T>
+        requires { length self ≤ 1 }
+        ensures { self ≡ result.block ∷ [] }
+    {
+        let Blocks { front, last } = self;
+        match front {
+            Some(front) => {
+                let _ = &front.first;
+                unreachable!()
+            }
+            None => last,
         }
     }
 
@@ -368,12 +376,60 @@ impl<'a, T> Rest<'a, T> {
     }
 }
 
+/// The blocks of a queue, and one without items that is kept apart.
+#[derive(Drop)]
+pub(crate) struct Stock<T> {
+    pub(crate) blocks: Option<Blocks<T>>,
+    pub(crate) kept: Option<Blocks<T>>,
+}
+
+impl<T> Stock<T> {
+    /// Takes the oldest item out. All that a block left without items needs is done before that
+    /// item is read.
+    #[inline]
+    pub(crate) fn pop(&mut self) -> T
+        requires shape { IsChain (joined self.old.blocks) }
+        requires filled { 0 < length (items_of (joined self.old.blocks)) }
+        requires beside { IsBeside (joined self.old.blocks) (joined self.old.kept) }
+        ensures { IsTaken (joined self.old.blocks) (joined self.old.kept) result (joined self.new.blocks) (joined self.new.kept) }
+    {
+        let parted = make_way(&mut self.blocks, &mut self.kept);
+        self.read(parted)
+    }
+
+    /// Takes the first item out of the first block, or out of the kept one if that was parted.
+    #[inline]
+    fn read(&mut self, parted: bool) -> T
+        requires { 0 < first_count (read_of parted (joined self.old.blocks) (joined self.old.kept)) }
+        ensures { IsRead parted (joined self.old.blocks) (joined self.old.kept) result (joined self.new.blocks) (joined self.new.kept) }
+    {
+        let blocks = if parted {
+            &mut self.kept
+        } else {
+            &mut self.blocks
+        };
+        pop_first(blocks)
+    }
+}
+
+/// Takes the first item out of the first block.
+#[inline]
+fn pop_first<T>(blocks: &mut Option<Blocks<T>>) -> T
+    requires { 0 < first_count (joined blocks.old) }
+    ensures { IsFirstPopped (joined blocks.old) result (joined blocks.new) }
+{
+    match blocks {
+        Some(blocks) => blocks.pop(),
+        None => unreachable!(),
+    }
+}
+
 /// Makes a block and keeps it. An error means that memory was refused.
 #[inline(never)]
-pub(crate) fn make<T>(kept: &mut Option<Load<T>>, alloc: Global) -> Result<(), AllocError>
-    requires { IsKept (held kept.old) }
-    ensures ok { OnOk result (held kept.new ≡ fresh ∷ []) }
-    ensures refused { OnErr result (held kept.new ≡ held kept.old) }
+pub(crate) fn make<T>(kept: &mut Option<Blocks<T>>, alloc: Global) -> Result<(), AllocError>
+    requires { IsKept (joined kept.old) }
+    ensures ok { OnOk result (joined kept.new ≡ fresh ∷ []) }
+    ensures refused { OnErr result (joined kept.new ≡ joined kept.old) }
 {
     let load = Load::new(alloc)?;
     replace_with(kept, load, kept_one);
@@ -400,22 +456,11 @@ pub(crate) fn room<T>(blocks: &Option<Blocks<T>>) -> usize
     }
 }
 
-/// How many places the kept block has, if there is one.
-pub(crate) fn kept_room<T>(kept: &Option<Load<T>>) -> usize
-    requires { IsKept (held kept.now) }
-    ensures { result ≡ 32 * length (held kept.now) }
-{
-    match kept {
-        Some(load) => load.block.room(),
-        None => 0,
-    }
-}
-
 /// Puts an item into the last block, or where that has no room into the kept one, and links it.
 #[inline]
-pub(crate) fn push<T>(blocks: &mut Option<Blocks<T>>, kept: &mut Option<Load<T>>, item: T)
-    requires { (1 ≤ room_of (joined blocks.old)) ⊎ (held kept.old ≡ fresh ∷ []) }
-    ensures { IsPushed (joined blocks.old) (held kept.old) item (joined blocks.new) (held kept.new) }
+pub(crate) fn push<T>(blocks: &mut Option<Blocks<T>>, kept: &mut Option<Blocks<T>>, item: T)
+    requires { (1 ≤ room_of (joined blocks.old)) ⊎ (joined kept.old ≡ fresh ∷ []) }
+    ensures { IsPushed (joined blocks.old) (joined kept.old) item (joined blocks.new) (joined kept.new) }
 {
     let room = room(blocks);
     if room > 0 {
@@ -439,13 +484,14 @@ fn push_last<T>(blocks: &mut Option<Blocks<T>>, item: T)
 
 /// Puts an item into the kept block, and links that behind the others.
 #[inline(never)]
-fn push_kept<T>(blocks: &mut Option<Blocks<T>>, kept: &mut Option<Load<T>>, item: T)
-    requires { held kept.old ≡ fresh ∷ [] }
+fn push_kept<T>(blocks: &mut Option<Blocks<T>>, kept: &mut Option<Blocks<T>>, item: T)
+    requires { joined kept.old ≡ fresh ∷ [] }
     ensures blocks { joined blocks.new ≡ joined blocks.old ++ record { items = item ∷ []; room = 31 } ∷ [] }
-    ensures kept { held kept.new ≡ [] }
+    ensures kept { joined kept.new ≡ [] }
 {
     match kept.take() {
-        Some(mut load) => {
+        Some(one) => {
+            let mut load = one.only();
             load.block.push(item);
             replace_with(blocks, load, added);
         }
@@ -453,28 +499,12 @@ fn push_kept<T>(blocks: &mut Option<Blocks<T>>, kept: &mut Option<Load<T>>, item
     }
 }
 
-/// Takes the oldest item out. All that a block left without items needs is done before that item is
-/// read.
-#[inline]
-pub(crate) fn pop<T>(blocks: &mut Option<Blocks<T>>, kept: &mut Option<Load<T>>) -> T
-    requires shape { IsChain (joined blocks.old) }
-    requires filled { 0 < length (items_of (joined blocks.old)) }
-    requires beside { IsBeside (joined blocks.old) (held kept.old) }
-    ensures { IsTaken (joined blocks.old) (held kept.old) result (joined blocks.new) (held kept.new) }
-{
-    let parted = make_way(blocks, kept);
-    match blocks {
-        Some(blocks) => blocks.pop(kept, parted),
-        None => unreachable!(),
-    }
-}
-
 /// Sees to a first block without a second item. Says whether it was parted from others, and kept.
 #[inline]
-fn make_way<T>(blocks: &mut Option<Blocks<T>>, kept: &mut Option<Load<T>>) -> bool
+fn make_way<T>(blocks: &mut Option<Blocks<T>>, kept: &mut Option<Blocks<T>>) -> bool
     requires some { 0 < length (joined blocks.old) }
-    requires kept { IsKept (held kept.old) }
-    ensures { IsReady result (joined blocks.old) (held kept.old) (joined blocks.new) (held kept.new) }
+    requires kept { IsKept (joined kept.old) }
+    ensures { IsReady result (joined blocks.old) (joined kept.old) (joined blocks.new) (joined kept.new) }
 {
     let count = first_len(blocks);
     if count > 1 {
@@ -486,11 +516,11 @@ fn make_way<T>(blocks: &mut Option<Blocks<T>>, kept: &mut Option<Load<T>>) -> bo
 /// Parts a first block without a second item from the others, if there are any, and keeps it. What
 /// was kept is freed.
 #[inline(never)]
-fn part_first<T>(blocks: &mut Option<Blocks<T>>, kept: &mut Option<Load<T>>) -> bool
+fn part_first<T>(blocks: &mut Option<Blocks<T>>, kept: &mut Option<Blocks<T>>) -> bool
     requires some { 0 < length (joined blocks.old) }
     requires count { first_count (joined blocks.old) ≤ 1 }
-    requires kept { IsKept (held kept.old) }
-    ensures { IsReady result (joined blocks.old) (held kept.old) (joined blocks.new) (held kept.new) }
+    requires kept { IsKept (joined kept.old) }
+    ensures { IsReady result (joined blocks.old) (joined kept.old) (joined blocks.new) (joined kept.new) }
 {
     let_go(kept);
     let one = is_one(blocks);
@@ -539,50 +569,50 @@ fn parted<T>(blocks: Option<Blocks<T>>, _nothing: ()) -> (Option<Blocks<T>>, Loa
 }
 
 /// Keeps a block where none is kept.
-fn put<T>(kept: Option<Load<T>>, load: Load<T>) -> (Option<Load<T>>, ())
-    requires { held kept ≡ [] }
-    ensures { held result.0 ≡ load.block ∷ [] }
+fn put<T>(kept: Option<Blocks<T>>, load: Load<T>) -> (Option<Blocks<T>>, ())
+    requires { kept ≡ None }
+    ensures { joined result.0 ≡ load.block ∷ [] }
 {
     match kept {
         Some(_kept) => unreachable!(),
-        None => (Some(load), ()),
+        None => (Some(Blocks::one(load)), ()),
     }
 }
 
 /// Keeps a block without items for later, and frees it where one is kept already.
-fn kept_one<T>(kept: Option<Load<T>>, load: Load<T>) -> (Option<Load<T>>, ())
+fn kept_one<T>(kept: Option<Blocks<T>>, load: Load<T>) -> (Option<Blocks<T>>, ())
     requires empty { load.block ≡ fresh }
-    requires kept { IsKept (held kept) }
-    ensures { held result.0 ≡ fresh ∷ [] }
+    requires kept { IsKept (joined kept) }
+    ensures { joined result.0 ≡ fresh ∷ [] }
 {
     match kept {
         Some(kept) => {
             load.free();
-            (Some(kept), ())
+            (Some(Blocks::one(kept.only())), ())
         }
-        None => (Some(load), ()),
+        None => (Some(Blocks::one(load)), ()),
     }
 }
 
 /// Keeps a block without items, where there is one.
-pub(crate) fn keep<T>(kept: &mut Option<Load<T>>, load: Option<Load<T>>)
-    requires empty { IsKept (held load) }
-    requires kept { IsKept (held kept.old) }
-    ensures { IsKept (held kept.new) }
+pub(crate) fn keep<T>(kept: &mut Option<Blocks<T>>, empty: Option<Blocks<T>>)
+    requires empty { IsKept (joined empty) }
+    requires kept { IsKept (joined kept.old) }
+    ensures { IsKept (joined kept.new) }
 {
-    match load {
-        Some(load) => replace_with(kept, load, kept_one),
+    match empty {
+        Some(empty) => replace_with(kept, empty.only(), kept_one),
         None => {}
     }
 }
 
 /// Frees the block that is kept, if there is one.
-fn let_go<T>(kept: &mut Option<Load<T>>)
-    requires { IsKept (held kept.old) }
-    ensures { held kept.new ≡ [] }
+fn let_go<T>(kept: &mut Option<Blocks<T>>)
+    requires { IsKept (joined kept.old) }
+    ensures { kept.new ≡ None }
 {
     match kept.take() {
-        Some(load) => load.free(),
+        Some(blocks) => blocks.only().free(),
         None => {}
     }
 }
@@ -619,12 +649,12 @@ pub(crate) fn walk<T>(blocks: &Option<Blocks<T>>) -> Rest<'_, T>
 pub(crate) fn linked<T>(
     blocks: Option<Blocks<T>>,
     others: Option<Blocks<T>>,
-) -> (Option<Blocks<T>>, Option<Load<T>>)
+) -> (Option<Blocks<T>>, Option<Blocks<T>>)
     requires blocks { IsChain (joined blocks) }
     requires others { IsChain (joined others) }
     requires items { (items_of (joined blocks) ≡ []) ⊎ (0 < length (items_of (joined others))) }
     ensures joined { IsJoined (joined blocks) (joined others) (joined result.0) }
-    ensures empty { IsKept (held result.1) }
+    ensures empty { IsKept (joined result.1) }
 {
     match (blocks, others) {
         (Some(blocks), Some(others)) => {
@@ -640,22 +670,22 @@ pub(crate) fn linked<T>(
 pub(crate) fn linked_in_front<T>(
     blocks: Option<Blocks<T>>,
     others: Option<Blocks<T>>,
-) -> (Option<Blocks<T>>, Option<Load<T>>)
+) -> (Option<Blocks<T>>, Option<Blocks<T>>)
     requires blocks { IsChain (joined blocks) }
     requires others { IsChain (joined others) }
     requires items { items_of (joined others) ≡ [] }
     ensures joined { IsJoined (joined others) (joined blocks) (joined result.0) }
-    ensures empty { IsKept (held result.1) }
+    ensures empty { IsKept (joined result.1) }
 {
     linked(others, blocks)
 }
 
 /// Frees the block that is kept where the last block has no item either. So no more than one empty
 /// block is held.
-pub(crate) fn keep_one<T>(blocks: &Option<Blocks<T>>, kept: &mut Option<Load<T>>)
+pub(crate) fn keep_one<T>(blocks: &Option<Blocks<T>>, kept: &mut Option<Blocks<T>>)
     requires shape { IsChain (joined blocks.now) }
-    requires kept { IsKept (held kept.old) }
-    ensures { IsBeside (joined blocks.now) (held kept.new) }
+    requires kept { IsKept (joined kept.old) }
+    ensures { IsBeside (joined blocks.now) (joined kept.new) }
 {
     let empty = ends_empty(blocks);
     if empty {

@@ -5,7 +5,7 @@ use Rattle.block_queue.proofs.Ends.{count_at_first}
 use Rattle.block_queue.proofs.linking.part_first.Goals as goal
 
 pub returns-then-one : goal.returns-then-one
-returns-then-one g c = (refl, inr (c.requires.count, c.is_one-one.ensures.one c.if-one.true, c.let_go.ensures))
+returns-then-one g c = (refl, inr (c.requires.count, c.is_one-one.ensures.one c.if-one.true, ap joined c.let_go.ensures))
 
 pub returns : goal.returns
 returns g c =

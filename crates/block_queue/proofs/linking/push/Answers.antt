@@ -1,5 +1,5 @@
 use Rattle.std.proofs.Common.{◌≡◌, [], ◌∷◌, ◌∙◌, inl, inr, refl, sym, arith}
-use Rattle.block_queue.specs.Blocks.{fresh, held, room_of}
+use Rattle.block_queue.specs.Blocks.{fresh, room_of}
 use Rattle.block_queue.specs.Chain.{joined}
 use Rattle.block_queue.proofs.linking.push.Goals as goal
 
@@ -12,5 +12,5 @@ returns-then-room-gt0 g c = let is = c.room-room.ensures in let some = c.if-room
 pub returns : goal.returns
 returns g c =
     let is = c.room-room.ensures in let no = c.if-room-gt0.false in
-    let one : held c.args.kept.now ≡ fresh ∷ [] = elim c.requires [ inl some ↦ absurd (omega arith) | inr one ↦ one ] in
+    let one : joined c.args.kept.now ≡ fresh ∷ [] = elim c.requires [ inl some ↦ absurd (omega arith) | inr one ↦ one ] in
     inr (omega arith, one, c.push_kept.ensures.blocks, c.push_kept.ensures.kept)

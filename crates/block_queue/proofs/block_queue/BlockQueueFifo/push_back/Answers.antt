@@ -1,5 +1,5 @@
 use Rattle.std.proofs.Common.{◌≡◌, ◌≤◌, ◌+◌, ◌++◌, [], ◌∷◌, ◌∙◌, inl, inr, sym, ap, subst, arith, length}
-use Rattle.block_queue.specs.Blocks.{held, room_of, spare_in}
+use Rattle.block_queue.specs.Blocks.{room_of, spare_in}
 use Rattle.block_queue.specs.Chain.{joined}
 use Rattle.block_queue.proofs.Blocks.{queue_pushed, where_room, kept_is}
 use Rattle.block_queue.proofs.block_queue.BlockQueueFifo.push_back.Goals as goal
@@ -7,20 +7,20 @@ use Rattle.block_queue.proofs.block_queue.BlockQueueFifo.push_back.Goals as goal
 pub push-requires : goal.push-requires
 push-requires g c =
     let q = c.self.inside in let room = subst (λ v. 1 ≤ v.room) (sym c.self.view_is) c.requires in
-    elim (where_room q.count (room_of (joined q.blocks)) (held q.kept) (kept_is (joined q.blocks) (held q.kept) c.self.invariant.beside) room) [ inl last ↦ inl last | inr next ↦ inr next.1 ]
+    elim (where_room q.count (room_of (joined q.stock.blocks)) (joined q.stock.kept) (kept_is (joined q.stock.blocks) (joined q.stock.kept) c.self.invariant.beside) room) [ inl last ↦ inl last | inr next ↦ inr next.1 ]
 
 pub invariant_of-self : goal.invariant_of-self
 invariant_of-self g c =
     let q = c.self.inside in let room = subst (λ v. 1 ≤ v.room) (sym c.self.view_is) c.requires in
-    (queue_pushed q.count (joined q.blocks) (held q.kept) (joined c.push.new.blocks) (held c.push.new.kept) c.args.item c.self.invariant room c.push.ensures).0
+    (queue_pushed q.count (joined q.stock.blocks) (joined q.stock.kept) (joined c.push.new.blocks) (joined c.push.new.kept) c.args.item c.self.invariant room c.push.ensures).0
 
 pub returns-clause-items : goal.returns-clause-items
 returns-clause-items g c =
     let q = c.self.inside in let room = subst (λ v. 1 ≤ v.room) (sym c.self.view_is) c.requires in
-    (queue_pushed q.count (joined q.blocks) (held q.kept) (joined c.push.new.blocks) (held c.push.new.kept) c.args.item c.self.invariant room c.push.ensures).1 ∙ ap (λ v. v.items ++ c.args.item ∷ []) c.self.view_is
+    (queue_pushed q.count (joined q.stock.blocks) (joined q.stock.kept) (joined c.push.new.blocks) (joined c.push.new.kept) c.args.item c.self.invariant room c.push.ensures).1 ∙ ap (λ v. v.items ++ c.args.item ∷ []) c.self.view_is
 
 pub returns-clause-room : goal.returns-clause-room
 returns-clause-room g c =
     let q = c.self.inside in let room = subst (λ v. 1 ≤ v.room) (sym c.self.view_is) c.requires in
-    subst (λ n. n ≤ spare_in (q.count + 1) (room_of (joined c.push.new.blocks)) (length (held c.push.new.kept)) + 1) (ap (λ v. v.room) c.self.view_is)
-    (queue_pushed q.count (joined q.blocks) (held q.kept) (joined c.push.new.blocks) (held c.push.new.kept) c.args.item c.self.invariant room c.push.ensures).2
+    subst (λ n. n ≤ spare_in (q.count + 1) (room_of (joined c.push.new.blocks)) (length (joined c.push.new.kept)) + 1) (ap (λ v. v.room) c.self.view_is)
+    (queue_pushed q.count (joined q.stock.blocks) (joined q.stock.kept) (joined c.push.new.blocks) (joined c.push.new.kept) c.args.item c.self.invariant room c.push.ensures).2

@@ -1,5 +1,5 @@
 use Rattle.std.proofs.Common.{◌++◌, [], ◌∷◌, ◌∙◌, inl, refl, sym, ap, subst}
-use Rattle.block_queue.specs.Blocks.{AllHaveItems}
+use Rattle.block_queue.specs.Blocks.{AllHaveItems, IsKept}
 use Rattle.block_queue.specs.Chain.{joined}
 use Rattle.block_queue.proofs.Ends.{without_last, with_last}
 use Rattle.block_queue.proofs.linking.Blocks.filled.Goals as goal
@@ -14,7 +14,7 @@ returns-then-is_empty-clause-shape g c =
 
 pub returns-then-is_empty-clause-empty : goal.returns-then-is_empty-clause-empty
 returns-then-is_empty-clause-empty g c =
-    let b = c.self.inside in (without_last (joined b.front) c.args.self b.last.block c.self.view_is c.requires (sym c.is_empty.ensures ∙ c.if-is_empty.true)).2
+    let b = c.self.inside in subst IsKept (sym c.one.ensures) (without_last (joined b.front) c.args.self b.last.block c.self.view_is c.requires (sym c.is_empty.ensures ∙ c.if-is_empty.true)).2
 
 pub returns-in-Some-clause-shape : goal.returns-in-Some-clause-shape
 returns-in-Some-clause-shape g c =
@@ -24,7 +24,7 @@ returns-in-Some-clause-shape g c =
 pub returns-in-None-clause-shape : goal.returns-in-None-clause-shape
 returns-in-None-clause-shape g c =
     let b = c.self.inside in let is = ap (λ o. joined o ++ b.last.block ∷ []) (sym c.in-None.is) ∙ c.self.view_is in
-    subst AllHaveItems (sym c.one.ensures) (with_last [] c.args.self b.last.block is c.requires (sym c.is_empty.ensures ∙ c.if-is_empty.false))
+    subst AllHaveItems (sym c.one-in-None.ensures) (with_last [] c.args.self b.last.block is c.requires (sym c.is_empty.ensures ∙ c.if-is_empty.false))
 
 pub returns-in-Some-clause-empty : goal.returns-in-Some-clause-empty
 returns-in-Some-clause-empty g c = inl refl

@@ -1,39 +1,33 @@
-use Rattle.std.proofs.Common.{◌<◌, ◌++◌, [], ◌∷◌, ◌∙◌, sym, ap, subst, length}
-use Rattle.block_queue.specs.Blocks.{items_of, room_of, IsChain}
+use Rattle.std.proofs.Common.{◌<◌, ◌≡◌, ◌++◌, [], ◌∷◌, ◌∙◌, sym, ap, arith, length}
 use Rattle.block_queue.specs.Chain.{joined}
-use Rattle.block_queue.proofs.Ends.{first_filled, first_popped, room_popped}
+use Rattle.block_queue.proofs.Ends.{count_at_first}
 use Rattle.block_queue.proofs.linking.Blocks.pop.Goals as goal
+use Rattle.block_queue.proofs.linking.Blocks.pop.Goals.{in-Some, in-None}
 
 pub pop-requires : goal.pop-requires
 pop-requires g c =
-    let b = c.self.inside in let f = c.front.inside in
-    let is = sym c.self.view_is ∙ ap (λ o. joined o ++ b.last.block ∷ []) c.in-Some.is ∙ ap (λ l. l ++ b.last.block ∷ []) (sym c.front.view_is) in
-    first_filled f.first.block (joined f.middle ++ b.last.block ∷ []) (subst IsChain is c.requires.shape) (subst (λ l. 0 < length (items_of l)) is c.requires.filled)
+    let b = c.self.inside in let some = c.requires in
+    elim c.match-self.branch [
+      | in-Some w ↦
+          let f = w.front.inside in let is = sym c.self.view_is ∙ ap (λ o. joined o ++ b.last.block ∷ []) w.in-Some.is ∙ ap (λ l. l ++ b.last.block ∷ []) (sym w.front.view_is) in
+          let n = count_at_first c.args.self.now (joined f.middle ++ b.last.block ∷ []) f.first.block is in
+          let e : length c.match-self.block.now.items ≡ length f.first.block.items = ap (λ x. length x.now.items) w.block-is in omega arith
+      | in-None w ↦
+          let is = sym c.self.view_is ∙ ap (λ o. joined o ++ b.last.block ∷ []) w.in-None.is in
+          let n = count_at_first c.args.self.now [] b.last.block is in
+          let e : length c.match-self.block.now.items ≡ length b.last.block.items = ap (λ x. length x.now.items) w.block-is in omega arith
+    ]
 
-pub pop-requires-in-None : goal.pop-requires-in-None
-pop-requires-in-None g c =
-    let b = c.self.inside in let is = sym c.self.view_is ∙ ap (λ o. joined o ++ b.last.block ∷ []) c.in-None.is in
-    first_filled b.last.block [] (subst IsChain is c.requires.shape) (subst (λ l. 0 < length (items_of l)) is c.requires.filled)
-
-pub returns-in-Some-clause-items : goal.returns-in-Some-clause-items
-returns-in-Some-clause-items g c =
-    let b = c.self.inside in let f = c.front.inside in
-    let is = sym c.self.view_is ∙ ap (λ o. joined o ++ b.last.block ∷ []) c.in-Some.is ∙ ap (λ l. l ++ b.last.block ∷ []) (sym c.front.view_is) in
-    ap items_of is ∙ first_popped f.first.block c.pop.new.self (joined f.middle ++ b.last.block ∷ []) c.pop.result c.pop.ensures.items
-
-pub returns-in-Some-clause-room : goal.returns-in-Some-clause-room
-returns-in-Some-clause-room g c =
-    let b = c.self.inside in let f = c.front.inside in
-    let is = sym c.self.view_is ∙ ap (λ o. joined o ++ b.last.block ∷ []) c.in-Some.is ∙ ap (λ l. l ++ b.last.block ∷ []) (sym c.front.view_is) in
-    room_popped f.first.block c.pop.new.self (joined f.middle ++ b.last.block ∷ []) c.pop.ensures.room ∙ ap room_of (sym is)
-
-pub returns-in-None-clause-items : goal.returns-in-None-clause-items
-returns-in-None-clause-items g c =
-    let b = c.self.inside in let is = sym c.self.view_is ∙ ap (λ o. joined o ++ b.last.block ∷ []) c.in-None.is in
-    ap items_of is ∙ first_popped b.last.block c.pop-in-None.new.self [] c.pop-in-None.result c.pop-in-None.ensures.items
-    ∙ ap (λ o. c.pop-in-None.result ∷ items_of (joined o ++ c.pop-in-None.new.self ∷ [])) (sym c.in-None.is)
-
-pub returns-in-None-clause-room : goal.returns-in-None-clause-room
-returns-in-None-clause-room g c =
-    let b = c.self.inside in let is = sym c.self.view_is ∙ ap (λ o. joined o ++ b.last.block ∷ []) c.in-None.is in
-    ap (λ o. room_of (joined o ++ c.pop-in-None.new.self ∷ [])) c.in-None.is ∙ room_popped b.last.block c.pop-in-None.new.self [] c.pop-in-None.ensures.room ∙ ap room_of (sym is)
+pub returns : goal.returns
+returns g c =
+    let b = c.self.inside in
+    elim c.match-self.branch [
+      | in-Some w ↦
+          let f = w.front.inside in let is = sym c.self.view_is ∙ ap (λ o. joined o ++ b.last.block ∷ []) w.in-Some.is ∙ ap (λ l. l ++ b.last.block ∷ []) (sym w.front.view_is) in
+          let h = c.self-2-1 in let k = w.self-inside-is in
+          (f.first.block, c.pop.new.self, joined f.middle ++ b.last.block ∷ [], is, ?, ?)
+      | in-None w ↦
+          let is = sym c.self.view_is ∙ ap (λ o. joined o ++ b.last.block ∷ []) w.in-None.is in
+          let h = c.self-2-1 in let k = w.self-inside-is in
+          (b.last.block, c.pop.new.self, [], is, ?, ?)
+    ]

@@ -25,6 +25,7 @@ use Rattle.core.proofs.alloc.Calls.{Al}
 use Rattle.core.proofs.slots.Leases.{args}
 use Rattle.block_queue.specs.Nodes.{IsHeld, cell_at}
 use Rattle.block_queue.specs.contracts.nodes.Place as Spot
+use Rattle.block_queue.specs.Chain.{joined}
 use Rattle.block_queue.proofs.Regions.{Rg, D, region_val, region_told, region_good}
 use Rattle.block_queue.proofs.NodeSteps.{Nr, N, nodes_val, nodes_ty, nodes_good, nodes_made, place_val, place_ty, place_good, place_made, ptr_good, node_of}
 use Rattle.block_queue.specs.contracts.nodes.Nodes.one.{ended, clauses}
@@ -44,9 +45,9 @@ one_spec 𝓤 𝓛 𝓜 𝓡 wired X U L LU g d dd _ _ =
     let y : (walk_of 𝓛 En hs c).Ghost = ((κs, qs, bounds, a, (region_val p ∷ [], tt)), gh) in let Post : Val → SProp 𝓤 = (walk_of 𝓛 En hs c).post y in
     let Asked : Type 0 = IsHeld node.places in
     qed 𝓛 ((raw (alive 𝓛 En.signature κs qs) ⊛ ‵ (owns (types_at En.signature.params κs) a y.0.4)) ∷ raw (fact 𝓤 _) ∷ raw (fact 𝓤 _) ∷ raw (fact 𝓤 Asked) ∷ []) ∵
-    keep ! (3 ∷ 0 ∷ []) $ heard ! Asked (λ held. split ! $ move ! (1 ∷ []) $ fsplit ! $ keep ! (0 ∷ 2 ∷ []) $
+    keep ! (3 ∷ 0 ∷ []) $ heard ! Asked (λ joined. split ! $ move ! (1 ∷ []) $ fsplit ! $ keep ! (0 ∷ 2 ∷ []) $
     -- [the region; the tokens]
-    node_of E Z ! node held (region_val p ∷ []) (λ b o here.
+    node_of E Z ! node joined (region_val p ∷ []) (λ b o here.
     let new : N E Z = record { of = record {}; by = record {}; heap = node.heap; cells = cell_at p node.places } in
     let Said : Type 0 = new.cells ≡ cell_at p node.places in let Kept : Type 0 = (p ≡ p) × (new.heap ≡ node.heap) in
     let good = pair_Typed nodes_ty place_ty nodes_val (place_val p) nodes_good (place_good p) in

@@ -1,0 +1,8 @@
+use Rattle.std.proofs.Common.{sym, ap, subst, arith, ◌<◌}
+use Rattle.block_queue.specs.Blocks.{first_count, IsFirstPopped}
+use Rattle.block_queue.specs.Chain.{joined}
+use Rattle.block_queue.proofs.Ends.{no_count}
+use Rattle.block_queue.proofs.linking.pop_first.Goals as goal
+
+pub unreachable-requires : goal.unreachable-requires
+unreachable-requires g c = let some = c.requires in let none = no_count (joined c.args.blocks.now) (ap joined c.in-None.is) in omega arith
