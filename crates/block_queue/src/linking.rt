@@ -245,11 +245,10 @@ impl<T> Blocks<T> {
         requires { 0 < first_count self.old }
         ensures { IsFirstPopped self.old result self.new }
     {
-        let block = match &mut self.front {
-            Some(front) => &mut front.first.block,
-            None => &mut self.last.block,
-        };
-        block.pop()
+        match &mut self.front {
+            Some(front) => front.first.block.pop(),
+            None => self.last.block.pop(),
+        }
     }
 
     /// The first block.
@@ -403,12 +402,11 @@ impl<T> Stock<T> {
         requires { 0 < first_count (read_of parted (joined self.old.blocks) (joined self.old.kept)) }
         ensures { IsRead parted (joined self.old.blocks) (joined self.old.kept) result (joined self.new.blocks) (joined self.new.kept) }
     {
-        let blocks = if parted {
-            &mut self.kept
+        if parted {
+            pop_first(&mut self.kept)
         } else {
-            &mut self.blocks
-        };
-        pop_first(blocks)
+            pop_first(&mut self.blocks)
+        }
     }
 }
 
