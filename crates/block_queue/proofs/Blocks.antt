@@ -258,9 +258,10 @@ module _ {T : Type 0} where
       let n = is.counted ∙ ap length taken.items in let fits = is.fits in let most = is.one_block in
       elim taken.room [
         | inl same ↦ let room = same.0 in
-            let grows = room_grows count (count - 1) (room_of bs) (length ks) (length left) (omega arith) same.1 in
-            (record { chained = taken.chained; beside = taken.beside; counted = omega arith; one_block = omega arith; fits = omega arith },
-            subst (λ n. spare_in count (room_of bs) (length ks) ≤ spare_in (count - 1) n (length left)) (sym room) grows)
+            let grows = room_grows count (count - 1) (room_of bs) (length ks) (length left) (omega arith) same.1 in (
+              record { chained = taken.chained; beside = taken.beside; counted = omega arith; one_block = omega arith; fits = omega arith },
+              subst (λ n. spare_in count (room_of bs) (length ks) ≤ spare_in (count - 1) n (length left)) (sym room) grows,
+            )
         | inr last ↦ let none = ap length last.0 in let all = last.1 in
             let was = room_most count (room_of bs) (length ks) most (kept_most ks (kept_is bs ks is.beside)) in
             let least = room_least (count - 1) (room_of new) (length left) in
