@@ -1,12 +1,12 @@
 -- What a chain of blocks is after a step at one of its ends.
-use Rattle.std.proofs.Common.{◌≡◌, ℕ, zero, suc, ◌+◌, ◌-◌, ◌*◌, ◌^◌, ◌<◌, ◌≤◌, ◌⊎◌, inl, inr, Bool, true, false, nat_lt, if◌then◌else◌, List, [], ◌∷◌, ◌++◌, Some, None, refl, sym, ap, ◌∙◌, subst, arith, length, get_or, drop, append-nil, append_assoc, length-append}
+use Rattle.std.proofs.Common.{◌≡◌, ℕ, zero, suc, ◌+◌, ◌-◌, ◌*◌, ◌^◌, ◌<◌, ◌≤◌, ◌⊎◌, inl, inr, Bool, true, false, if◌then◌else◌, List, [], ◌∷◌, ◌++◌, Some, None, refl, sym, ap, ◌∙◌, subst, arith, length, get_or, drop, append-nil, append_assoc, length-append}
 use Rattle.std.specs.Prelude.{Result, Ok, Err, OnOk, OnErr, Option, slice_get}
 use Rattle.std.specs.Borrow.{Bor}
 use Rattle.std.specs.Option.{option_copied}
 use Rattle.std.specs.Map.Iter.{TakesFirst, deref}
 use Rattle.block_queue.specs.Queue.{Queue, oldest}
 use Rattle.std.proofs.lemmas.Bool.Decides.{leb_tells}
-use Rattle.block_queue.specs.Blocks.{fresh, items_of, left_in, room_of, first_count, spare_in, pushed, read_of, has_none, AllHaveItems, IsChain, IsKept, IsBeside, IsJoined, IsPushed, IsReady, IsPopped, IsFirstPopped, IsRead, IsTaken, IsQueue}
+use Rattle.block_queue.specs.Blocks.{fresh, items_of, left_in, room_of, spare_in, pushed, has_none, AllHaveItems, IsChain, IsKept, IsBeside, IsPushed, IsTaken, IsQueue}
 
 -- how much room a queue has
 room_most : (count room kept : ℕ) → room ≤ 32 → kept ≤ 1 → spare_in count room kept ≤ 32

@@ -1,7 +1,7 @@
 -- A list of blocks whose first or last one is at hand.
 use Rattle.std.proofs.Common.{◌≡◌, ◌-◌, ◌*◌, ◌<◌, ◌≤◌, ◌⊎◌, inl, inr, Bool, true, false, List, [], ◌∷◌, ◌++◌, None, refl, sym, ap, ◌∙◌, subst, arith, length, get_or, drop, append-nil, length-append}
 use Rattle.block_queue.specs.Queue.{Queue, oldest}
-use Rattle.block_queue.specs.Blocks.{fresh, items_of, room_of, first_count, pushed, read_of, has_none, AllHaveItems, IsChain, IsKept, IsBeside, IsJoined, IsReady, IsPopped, IsFirstPopped, IsRead, IsTaken}
+use Rattle.block_queue.specs.Blocks.{fresh, items_of, room_of, first_count, pushed, read_of, has_none, AllHaveItems, IsChain, IsKept, IsBeside, IsJoined, IsReady, IsFirstPopped, IsRead, IsTaken}
 use Rattle.block_queue.proofs.Blocks.{none_is, some_is, first_has, rest_have, have_chain, all_have, both_have, oldest_first, items_of_joined, room_of_joined, some_with_items, last_room, one_items, kept_is, kept_most}
 
 module _ {T : Type 0} where

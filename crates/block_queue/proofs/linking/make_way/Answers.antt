@@ -1,4 +1,4 @@
-use Rattle.std.proofs.Common.{◌≤◌, inl, refl, arith}
+use Rattle.std.proofs.Common.{inl, refl, arith}
 use Rattle.block_queue.proofs.linking.make_way.Goals as goal
 
 pub part_first-requires-clause-count : goal.part_first-requires-clause-count

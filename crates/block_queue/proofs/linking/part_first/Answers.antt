@@ -1,5 +1,4 @@
-use Rattle.std.proofs.Common.{◌≤◌, ◌∙◌, inr, refl, ap, arith, length}
-use Rattle.block_queue.specs.Blocks.{first_count}
+use Rattle.std.proofs.Common.{inr, refl, ap, arith, length}
 use Rattle.block_queue.specs.Chain.{joined}
 use Rattle.block_queue.proofs.Ends.{count_at_first}
 use Rattle.block_queue.proofs.linking.part_first.Goals as goal

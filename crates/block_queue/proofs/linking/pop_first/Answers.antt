@@ -1,5 +1,4 @@
-use Rattle.std.proofs.Common.{sym, ap, subst, arith, ◌<◌}
-use Rattle.block_queue.specs.Blocks.{first_count, IsFirstPopped}
+use Rattle.std.proofs.Common.{ap, arith}
 use Rattle.block_queue.specs.Chain.{joined}
 use Rattle.block_queue.proofs.Ends.{no_count}
 use Rattle.block_queue.proofs.linking.pop_first.Goals as goal

@@ -1,5 +1,5 @@
-use Rattle.std.proofs.Common.{◌≡◌, [], ◌∷◌, ◌∙◌, inl, inr, refl, sym, arith}
-use Rattle.block_queue.specs.Blocks.{fresh, room_of}
+use Rattle.std.proofs.Common.{◌≡◌, [], ◌∷◌, inl, inr, refl, arith}
+use Rattle.block_queue.specs.Blocks.{fresh}
 use Rattle.block_queue.specs.Chain.{joined}
 use Rattle.block_queue.proofs.linking.push.Goals as goal
 

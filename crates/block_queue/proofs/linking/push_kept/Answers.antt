@@ -1,4 +1,4 @@
-use Rattle.std.proofs.Common.{◌≤◌, ◌++◌, ◌-◌, [], ◌∷◌, ◌∙◌, sym, ap, arith, length}
+use Rattle.std.proofs.Common.{◌++◌, ◌-◌, [], ◌∷◌, ◌∙◌, sym, ap, arith, length}
 use Rattle.block_queue.specs.Queue.{Queue}
 use Rattle.block_queue.specs.Chain.{joined}
 use Rattle.block_queue.proofs.Ends.{held_fresh}

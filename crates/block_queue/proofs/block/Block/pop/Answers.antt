@@ -1,4 +1,4 @@
-use Rattle.std.proofs.Common.{◌<◌, ◌-◌, ◌+◌, ◌∙◌, length, sym, ap, subst, arith}
+use Rattle.std.proofs.Common.{◌<◌, ◌-◌, ◌+◌, length, sym, subst, arith}
 use Rattle.block_queue.specs.Blocks.{IsPopped}
 use Rattle.block_queue.specs.Places.{values}
 use Rattle.block_queue.proofs.Places.{first_filled, block_after}

@@ -1,4 +1,4 @@
-use Rattle.std.proofs.Common.{◌≡◌, ◌≤◌, ◌+◌, ◌++◌, [], ◌∷◌, ◌∙◌, inl, inr, sym, ap, subst, arith, length}
+use Rattle.std.proofs.Common.{◌≤◌, ◌+◌, ◌++◌, [], ◌∷◌, ◌∙◌, inl, inr, sym, ap, subst, length}
 use Rattle.block_queue.specs.Blocks.{room_of, spare_in}
 use Rattle.block_queue.specs.Chain.{joined}
 use Rattle.block_queue.proofs.Blocks.{queue_pushed, where_room, kept_is}

@@ -1,4 +1,4 @@
-use Rattle.std.proofs.Common.{◌≡◌, ◌≤◌, ◌<◌, ◌^◌, ◌∙◌, sym, ap, arith, length}
+use Rattle.std.proofs.Common.{◌≡◌, ◌∙◌, sym, ap, arith, length}
 use Rattle.block_queue.specs.Blocks.{room_of, spare_in}
 use Rattle.block_queue.specs.Chain.{joined}
 use Rattle.block_queue.proofs.Blocks.{room_is, room_few, room_many, kept_is}

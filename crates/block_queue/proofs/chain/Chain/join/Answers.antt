@@ -1,7 +1,6 @@
 use Rattle.std.proofs.Common.{[], ◌∷◌, ◌++◌, Some, None, refl, ap, ◌∙◌, set}
 use denote.RawPtr.{Ptr}
 use Rattle.block_queue.specs.Chain.{elems}
-use Rattle.block_queue.specs.Chain.{joined}
 use Rattle.block_queue.proofs.Cells.{ends_at, held_first, one_cell, read_is, joined_on}
 use Rattle.block_queue.proofs.chain.Chain.join.Goals as goal
 

@@ -1,6 +1,5 @@
 use Rattle.std.proofs.Common.{◌∷◌, ◌++◌, sym, ap, ◌∙◌}
 use Rattle.block_queue.specs.Chain.{elems}
-use Rattle.block_queue.specs.Chain.{joined}
 use Rattle.block_queue.proofs.Cells.{begins_at, held_first, one_cell, read_is, parted_on, none_after, elems_of, elems_none}
 use Rattle.block_queue.proofs.chain.Chain.split.Goals as goal
 

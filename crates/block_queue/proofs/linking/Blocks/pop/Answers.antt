@@ -1,4 +1,4 @@
-use Rattle.std.proofs.Common.{◌<◌, ◌≡◌, ◌++◌, [], ◌∷◌, ◌∙◌, refl, sym, ap, arith, length}
+use Rattle.std.proofs.Common.{◌++◌, [], ◌∷◌, ◌∙◌, refl, sym, ap, arith}
 use Rattle.block_queue.specs.Chain.{joined}
 use Rattle.block_queue.proofs.Ends.{count_at_first}
 use Rattle.block_queue.proofs.linking.Blocks.pop.Goals as goal

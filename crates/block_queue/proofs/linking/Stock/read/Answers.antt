@@ -1,6 +1,4 @@
-use Rattle.std.proofs.Common.{◌≡◌, ◌∙◌, true, false, refl, sym, ap, subst}
-use Rattle.block_queue.specs.Blocks.{IsRead}
-use Rattle.block_queue.specs.Chain.{joined}
+use Rattle.std.proofs.Common.{refl}
 use Rattle.block_queue.proofs.linking.Stock.read.Goals as goal
 
 pub returns-then-parted : goal.returns-then-parted

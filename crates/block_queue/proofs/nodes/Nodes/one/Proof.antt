@@ -25,7 +25,6 @@ use Rattle.core.proofs.alloc.Calls.{Al}
 use Rattle.core.proofs.slots.Leases.{args}
 use Rattle.block_queue.specs.Nodes.{IsHeld, cell_at}
 use Rattle.block_queue.specs.contracts.nodes.Place as Spot
-use Rattle.block_queue.specs.Chain.{joined}
 use Rattle.block_queue.proofs.Regions.{Rg, D, region_val, region_told, region_good}
 use Rattle.block_queue.proofs.NodeSteps.{Nr, N, nodes_val, nodes_ty, nodes_good, nodes_made, place_val, place_ty, place_good, place_made, ptr_good, node_of}
 use Rattle.block_queue.specs.contracts.nodes.Nodes.one.{ended, clauses}
