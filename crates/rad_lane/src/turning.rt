@@ -99,8 +99,8 @@ impl<Q: Fifo<Record>> Lane<Q> {
         })
     }
 
-    /// Makes one of the lists compact, where one has let go of more than it has. The others wait for the next call: a list
-    /// of a million items is moved in some milliseconds.
+    /// Makes one of the lists compact, where one has let go of more than it has. The others wait for the next call, so that
+    /// no call moves two of them.
     fn tidy(&mut self)
         ensures { self.new ≡ self.old }
     {
