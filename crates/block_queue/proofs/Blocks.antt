@@ -43,6 +43,14 @@ room_grows count less zero kept more l k = elim (leb_tells (suc count) (2 ^ 63))
   | inr many ↦ let above = many.1 in let a = room_many count kept (omega arith) in omega arith
 ]
 
+-- where a queue has room: in its last block, or in a spare one
+pub where_room : (count room spare : ℕ) → 1 ≤ spare_in count room spare → (1 ≤ room) ⊎ ((room ≡ 0) × (1 ≤ spare) × (count < 2 ^ 63))
+where_room count (suc room) spare some = inl (omega arith)
+where_room count zero spare some = elim (leb_tells (suc count) (2 ^ 63)) [
+  | inl few ↦ let below = few.1 in let a = room_few count spare (omega arith) in inr (refl, omega arith, omega arith)
+  | inr many ↦ let above = many.1 in let a = room_many count spare (omega arith) in absurd (omega arith)
+]
+
 module _ {T : Type 0} where
   pub some_with_room : (bs : List (Queue T)) → 1 ≤ room_of bs → 0 < length bs
   unfolding room_of
@@ -242,9 +250,9 @@ module _ {T : Type 0} where
   idle_alone b [] none = refl
   idle_alone b (c ∷ cs) none = absurd (omega arith)
 
-  pub idle_nothing : idle {T = T} [] ≡ 0
+  pub idle_at_none : (bs : List (Queue T)) → bs ≡ [] → idle bs ≡ 0
   unfolding idle
-  idle_nothing = refl
+  idle_at_none bs e = ap idle e
 
   pub idle_most : (bs : List (Queue T)) → idle bs ≤ 1
   unfolding idle
@@ -258,7 +266,7 @@ module _ {T : Type 0} where
   idle_some b (c ∷ cs) some = some_not b.items some
 
   pub idle_none : (bs : List (Queue T)) → AllHaveItems bs → idle bs ≡ 0
-  idle_none [] all = idle_nothing
+  idle_none [] all = idle_at_none [] refl
   idle_none (b ∷ bs) all = idle_some b bs (first_has b bs all)
 
   -- a first block that has items, or no block at all
@@ -269,7 +277,7 @@ module _ {T : Type 0} where
 
   pub idle_same : (bs : List (Queue T)) → begins_empty bs ≡ false → idle bs ≡ 0
   unfolding begins_empty
-  idle_same [] e = idle_nothing
+  idle_same [] e = idle_at_none [] refl
   idle_same (b ∷ bs) e = idle_some b bs (some_is b.items e)
 
   pub same_have : (bs : List (Queue T)) → IsChain bs → begins_empty bs ≡ false → AllHaveItems bs
@@ -313,14 +321,6 @@ module _ {T : Type 0} where
   pub last_room : (q : Queue T) → room_of (q ∷ []) ≡ q.room
   unfolding room_of
   last_room q = refl
-
-  -- where a queue has room: in its last block, or in a spare one
-  pub where_room : (count room spare : ℕ) → 1 ≤ spare_in count room spare → (1 ≤ room) ⊎ ((room ≡ 0) × (1 ≤ spare) × (count < 2 ^ 63))
-  where_room count (suc room) spare some = inl (omega arith)
-  where_room count zero spare some = elim (leb_tells (suc count) (2 ^ 63)) [
-    | inl few ↦ let below = few.1 in let a = room_few count spare (omega arith) in inr (refl, omega arith, omega arith)
-    | inr many ↦ let above = many.1 in let a = room_many count spare (omega arith) in absurd (omega arith)
-  ]
 
   pub kept_is : (bs ks : List (Queue T)) → IsBeside bs ks → IsKept ks
   kept_is bs ks (inl none) = inl none

@@ -120,23 +120,6 @@ impl<T> Others<T> {
             None => Blocks::one(last),
         }
     }
-
-    /// How many places the last block has behind its items.
-    #[inline]
-    fn room(&self) -> usize
-        ensures { result ≡ room_of self.now }
-    {
-        self.last.block.room()
-    }
-
-    /// Puts an item into the last block.
-    #[inline]
-    fn push(&mut self, item: T)
-        requires { 1 ≤ room_of self.old }
-        ensures { self.new ≡ pushed self.old item }
-    {
-        self.last.block.push(item);
-    }
 }
 
 /// The blocks of a chain, if there is one, and then one more.
@@ -226,7 +209,7 @@ impl<T> Blocks<T> {
         ensures { result ≡ room_of self.now }
     {
         match &self.others {
-            Some(others) => others.room(),
+            Some(others) => others.last.block.room(),
             None => self.first.block.room(),
         }
     }
@@ -251,7 +234,7 @@ impl<T> Blocks<T> {
         ensures { self.new ≡ pushed self.old item }
     {
         match &mut self.others {
-            Some(others) => others.push(item),
+            Some(others) => others.last.block.push(item),
             None => self.first.block.push(item),
         }
     }

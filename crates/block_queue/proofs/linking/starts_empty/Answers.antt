@@ -6,8 +6,8 @@ use Rattle.block_queue.proofs.linking.starts_empty.Goals as goal
 
 pub returns-in-Some : goal.returns-in-Some
 returns-in-Some g c =
-    let b = c.blocks.inside in
-    let is = ap joined c.in-Some.is ∙ sym c.blocks.view_is in
+    let b = c.blocks-in-Some.inside in
+    let is = ap joined c.in-Some.is ∙ sym c.blocks-in-Some.view_is in
     c.is_empty.ensures ∙ empty_first_is (joined c.args.blocks.now) (joined b.others) b.first.block is
 
 pub returns-in-None : goal.returns-in-None

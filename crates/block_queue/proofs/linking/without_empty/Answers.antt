@@ -4,8 +4,8 @@ use Rattle.block_queue.proofs.Blocks.{parted_kept, filled_same}
 use Rattle.block_queue.proofs.Ends.{some_if_empty}
 use Rattle.block_queue.proofs.linking.without_empty.Goals as goal
 
-pub parted-requires : goal.parted-requires
-parted-requires g c = some_if_empty (joined c.args.blocks) (sym c.starts_empty-empty.ensures ∙ c.if-empty.true)
+pub parted-rest-requires : goal.parted-rest-requires
+parted-rest-requires g c = some_if_empty (joined c.args.blocks) (sym c.starts_empty-empty.ensures ∙ c.if-empty.true)
 
 pub returns-then-empty-clause-blocks : goal.returns-then-empty-clause-blocks
 returns-then-empty-clause-blocks g c =

@@ -7,7 +7,7 @@ use Rattle.block_queue.proofs.linking.Blocks.push.Goals as goal
 pub push-requires : goal.push-requires
 push-requires g c =
     let b = c.self.inside in let o = c.others.inside in
-    let is = sym c.self.view_is ∙ ap (λ o. b.first.block ∷ joined o) c.in-Some.is ∙ ap (λ l. b.first.block ∷ l) (sym o.view_is) in
+    let is = sym c.self.view_is ∙ ap (λ o. b.first.block ∷ joined o) c.in-Some.is ∙ ap (λ l. b.first.block ∷ l) (sym c.others.view_is) in
     subst (λ n. 1 ≤ n) (ap room_of is ∙ room_at_end (b.first.block ∷ joined o.middle) o.last.block) c.requires
 
 pub push-requires-in-None : goal.push-requires-in-None
@@ -18,7 +18,7 @@ push-requires-in-None g c =
 pub returns-in-Some : goal.returns-in-Some
 returns-in-Some g c =
     let b = c.self.inside in let o = c.others.inside in
-    let is = sym c.self.view_is ∙ ap (λ o. b.first.block ∷ joined o) c.in-Some.is ∙ ap (λ l. b.first.block ∷ l) (sym o.view_is) in
+    let is = sym c.self.view_is ∙ ap (λ o. b.first.block ∷ joined o) c.in-Some.is ∙ ap (λ l. b.first.block ∷ l) (sym c.others.view_is) in
     ap (λ q. b.first.block ∷ (joined o.middle ++ q ∷ [])) c.push.ensures ∙ sym (pushed_at_end (b.first.block ∷ joined o.middle) o.last.block c.args.item) ∙ ap (λ l. pushed l c.args.item) (sym is)
 
 pub returns-in-None : goal.returns-in-None
