@@ -1,7 +1,7 @@
 //! A block: a short queue in a region of its own.
-ghost use Rattle.std.specs.Prelude.{◌≡◌, ◌-◌, ◌<◌, ◌≤◌, [], ◌∷◌, ◌++◌, Some, IfOk, IsSome, length, option_copied, slice_get};
+ghost use Rattle.std.specs.Prelude.{◌≡◌, ◌+◌, ◌-◌, ◌*◌, ◌<◌, ◌≤◌, ◌⊎◌, [], ◌∷◌, ◌++◌, Some, IfOk, IsSome, length, option_copied, slice_get};
 ghost use Rattle.block_queue.specs.Queue.{oldest};
-ghost use Rattle.block_queue.specs.Blocks.{has_none};
+ghost use Rattle.block_queue.specs.Blocks.{fresh, has_none, none_in, IsPopped};
 
 use crate::region::{PLACES, Region};
 use std::alloc::{AllocError, Global};
@@ -34,7 +34,7 @@ impl<T> Block<T> {
     /// A block without items. An error means that memory was refused, or that 32 values have no
     /// layout.
     pub(crate) fn new(alloc: Global) -> Result<Block<T>, AllocError>
-        ensures { IfOk result (λ block. block ≡ record { items = []; room = 32 }) }
+        ensures { IfOk result (λ block. block ≡ fresh) }
     {
         Ok(Block {
             start: 0,
@@ -55,15 +55,6 @@ impl<T> Block<T> {
             alloc,
         } = self;
         region.free(&alloc);
-    }
-
-    /// Begins again at the first place, where no item is left.
-    #[inline]
-    pub(crate) fn clear(&mut self)
-        requires { self.old.items ≡ [] }
-        ensures { self.new ≡ record { items = []; room = 32 } }
-    {
-        self.start = 0;
     }
 
     /// How many places there are behind the last item.
@@ -95,16 +86,16 @@ impl<T> Block<T> {
         self.count += 1;
     }
 
-    /// Takes the first item out.
+    /// Takes the first item out. The next item behind the last one lies at the first place again.
     #[inline]
     pub(crate) fn pop(&mut self) -> T
         requires { 0 < length self.old.items }
-        ensures items { self.old.items ≡ result ∷ self.new.items }
-        ensures room { self.new.room ≡ self.old.room }
+        ensures { IsPopped self.old result self.new }
     {
         let first = self.start;
-        self.start += 1;
         self.count -= 1;
+        let next = start_after(first, self.count);
+        self.start = next;
         self.region.read(first)
     }
 
@@ -129,6 +120,13 @@ impl<T> Block<T> {
         }
     }
 
+    /// How many places there are in a block without items, and else 0.
+    pub(crate) fn empty_room(&self) -> usize
+        ensures { result ≡ 32 * none_in self.now.items }
+    {
+        if self.count == 0 { PLACES } else { 0 }
+    }
+
     /// The item at an index, if there is one.
     #[inline]
     pub(crate) fn at(&self, index: usize) -> Option<&T>
@@ -149,6 +147,18 @@ impl<T> Block<T> {
     {
         self.region.get(self.start + index)
     }
+}
+
+/// Where the items begin after the first one was taken out, and so many are left.
+#[inline]
+fn start_after(first: usize, left: usize) -> usize
+    requires { first < 32 }
+    ensures { ((result ≡ 0) × (left ≡ 0)) ⊎ ((result ≡ first + 1) × (1 ≤ left)) }
+{
+    if left == 0 {
+        return 0;
+    }
+    first + 1
 }
 
 impl<T: Drop> Drop for Block<T> {

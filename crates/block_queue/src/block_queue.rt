@@ -2,7 +2,7 @@ ghost use Rattle.std.specs.Prelude.{◌≡◌, ◌+◌, ◌^◌, ◌<◌, ◌++�
 ghost use Rattle.std.specs.Map.Iter.{ShowsInOrder, deref};
 
 use crate::iter::Iter;
-use crate::linking::{Blocks, Load};
+use crate::linking::Blocks;
 use crate::{Fifo, linking};
 use core::mem::replace_with;
 use std::alloc::{AllocError, Global};
@@ -13,28 +13,29 @@ const MOST: usize = 0x8000_0000_0000_0000;
 
 /// A queue in a chain of blocks, whose items stay where they are while it grows.
 ///
-/// Each block but the last has an item. At most one block is empty: the last one, or one that is
-/// kept apart.
+/// Each block but the first has an item. At most one block is empty: the first one, or one that is
+/// kept apart. Once the last block is full, the next item goes into that one.
 #[derive(Drop)]
 pub struct BlockQueue<T> {
     blocks: Option<Blocks<T>>,
-    kept: Option<Load<T>>,
+    kept: Option<Blocks<T>>,
     count: usize,
     alloc: Global,
 }
 
 impl<T> Model for BlockQueue<T> {
     ghost use Rattle.block_queue.specs.Queue.{Queue};
-    ghost use Rattle.std.specs.Prelude.{◌≡◌, [], IfSome, IsSome};
-    ghost use Rattle.block_queue.specs.Blocks.{items_of, room_of, AllHaveItems, IsQueue};
+    ghost use Rattle.block_queue.specs.Blocks.{items_of, room_of, spares, spare_in, IsQueue};
     ghost use Rattle.block_queue.specs.Chain.{joined};
 
     ghost Value = { Queue T };
 
-    ghost view = { λ q. record { items = items_of (joined q.blocks); room = room_of (joined q.blocks) } };
+    ghost view = { λ q. record {
+      items = items_of (joined q.blocks);
+      room = spare_in q.count (room_of (joined q.blocks)) (spares (joined q.blocks) (joined q.kept));
+    } };
 
-    ghost invariant = { λ q.
-        IsQueue q.count (joined q.blocks) × IfSome q.kept (λ load. load.block.items ≡ []) × (IsSome q.kept → AllHaveItems (joined q.blocks)) };
+    ghost invariant = { λ q. IsQueue q.count (joined q.blocks) (joined q.kept) };
 }
 
 impl<T> Fifo<T> for BlockQueue<T> {
@@ -59,17 +60,24 @@ impl<T> Fifo<T> for BlockQueue<T> {
         if self.count >= MOST {
             return Err(AllocError);
         }
-        linking::add(&mut self.blocks, &mut self.kept, self.alloc)
+        linking::make(&mut self.kept, self.alloc)
     }
 
     #[inline]
     fn spare(&self) -> usize {
-        linking::spare(&self.blocks)
+        let room = linking::room(&self.blocks);
+        if room > 0 {
+            return room;
+        }
+        if self.count >= MOST {
+            return 0;
+        }
+        linking::room(&self.kept) + linking::idle_room(&self.blocks)
     }
 
     #[inline]
     fn push_back(&mut self, item: T) {
-        linking::push(&mut self.blocks, item);
+        linking::push(&mut self.blocks, &mut self.kept, item);
         self.count += 1;
     }
 
@@ -79,12 +87,16 @@ impl<T> Fifo<T> for BlockQueue<T> {
             return None;
         }
         self.count -= 1;
-        Some(linking::pop(&mut self.blocks, &mut self.kept))
+        linking::make_way(&mut self.blocks, &mut self.kept);
+        Some(linking::pop(&mut self.blocks))
     }
 
     #[inline]
     fn front(&self) -> Option<&T> {
-        linking::first_item(&self.blocks)
+        if let Some(item) = linking::first_item(&self.blocks) {
+            return Some(item);
+        }
+        self.iter().next()
     }
 
     #[inline]
@@ -119,11 +131,7 @@ impl<T> BlockQueue<T> {
             count,
             alloc: _,
         } = other;
-        let empty = if count == 0 {
-            replace_with(&mut self.blocks, blocks, linking::linked_in_front)
-        } else {
-            replace_with(&mut self.blocks, blocks, linking::linked)
-        };
+        let empty = replace_with(&mut self.blocks, blocks, linking::linked);
         linking::keep(&mut self.kept, empty);
         linking::keep(&mut self.kept, kept);
         linking::keep_one(&self.blocks, &mut self.kept);

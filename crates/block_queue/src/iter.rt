@@ -1,7 +1,7 @@
 ghost use Rattle.std.specs.Prelude.{◌≡◌, ◌<◌, IsSome, length, option_copied, slice_get};
 ghost use Rattle.std.specs.Iterator.{at_most};
 ghost use Rattle.std.specs.Map.Iter.{TakesFirst, deref};
-ghost use Rattle.block_queue.specs.Blocks.{items_of, left_in, IsChain};
+ghost use Rattle.block_queue.specs.Blocks.{items_of, left_in, AllHaveItems};
 
 use crate::block::Block;
 use crate::linking::Rest;
@@ -17,18 +17,18 @@ pub struct Iter<'a, T> {
 
 impl<'a, T> Model for Iter<'a, T> {
     ghost use Rattle.std.specs.Prelude.{List, ◌++◌};
-    ghost use Rattle.block_queue.specs.Blocks.{items_of, left_in, IsChain};
+    ghost use Rattle.block_queue.specs.Blocks.{items_of, left_in, AllHaveItems};
 
     ghost Value = { List T };
 
     ghost view = { λ i. left_in i.block i.next ++ items_of i.blocks };
 
-    ghost invariant = { λ i. IsChain i.blocks };
+    ghost invariant = { λ i. AllHaveItems i.blocks };
 }
 
 impl<'a, T> Iter<'a, T> {
     pub(crate) fn new(blocks: Rest<'a, T>) -> Iter<'a, T>
-        requires { IsChain blocks }
+        requires { AllHaveItems blocks }
         ensures { result ≡ items_of blocks.entry }
     {
         Iter {

@@ -1,9 +1,9 @@
 //! The blocks of a queue: the first and the last at hand, and those between them in a chain.
-ghost use Rattle.std.specs.Prelude.{◌≡◌, ◌^◌, ◌<◌, ◌≤◌, ◌⊎◌, true, false, ◌+◌, [], ◌∷◌, ◌++◌, None, OnOk, OnErr, IfOk, IfSome, IsSome, drop as without, length, option_copied, slice_set};
+ghost use Rattle.std.specs.Prelude.{◌≡◌, ◌*◌, ◌^◌, ◌<◌, ◌≤◌, ◌⊎◌, true, false, [], ◌∷◌, ◌++◌, None, OnOk, OnErr, IfOk, drop as without, length, option_copied};
 ghost use Rattle.std.specs.Map.Iter.{TakesFirst, deref};
 ghost use Rattle.block_queue.specs.Queue.{oldest};
-ghost use Rattle.block_queue.specs.Blocks.{items_of, room_of, pushed, begins_empty, AllHaveItems, IsChain, IsJoined};
-ghost use Rattle.block_queue.specs.Chain.{joined};
+ghost use Rattle.block_queue.specs.Blocks.{fresh, items_of, room_of, first_items, first_count, pushed, filled, idle, spares, begins_empty, IsChain, IsKept, IsBeside, IsSpare, IsPushed, IsReady, IsFirstPopped, IsJoined};
+ghost use Rattle.block_queue.specs.Chain.{joined, shown};
 
 use crate::block::Block;
 use crate::chain::{Chain, Parted, Seat, Steps};
@@ -21,7 +21,7 @@ pub(crate) struct Load<T> {
 impl<T> Load<T> {
     /// A block without items. An error means that memory was refused, or that it has no layout.
     fn new(alloc: Global) -> Result<Load<T>, AllocError>
-        ensures { IfOk result (λ load. load.block ≡ record { items = []; room = 32 }) }
+        ensures { IfOk result (λ load. load.block ≡ fresh) }
     {
         let block = Block::new(alloc)?;
         match Seat::new(alloc) {
@@ -43,82 +43,68 @@ impl<T> Load<T> {
     }
 }
 
-/// The blocks before the last one.
+/// The blocks behind the first one.
 #[derive(Drop)]
-pub(crate) struct Front<T> {
-    first: Load<T>,
+pub(crate) struct Others<T> {
     middle: Option<Chain<Block<T>>>,
+    last: Load<T>,
 }
 
-impl<T> Model for Front<T> {
-    ghost use Rattle.std.specs.Prelude.{List, ◌∷◌};
+impl<T> Model for Others<T> {
+    ghost use Rattle.std.specs.Prelude.{List, [], ◌∷◌, ◌++◌};
     ghost use Rattle.block_queue.specs.Queue.{Queue};
     ghost use Rattle.block_queue.specs.Chain.{joined};
 
     ghost Value = { List (Queue T) };
 
-    ghost view = { λ f. f.first.block ∷ joined f.middle };
+    ghost view = { λ o. joined o.middle ++ o.last.block ∷ [] };
 }
 
-impl<T> Front<T> {
-    fn one(first: Load<T>) -> Front<T>
-        ensures { result ≡ first.block ∷ [] }
+impl<T> Others<T> {
+    fn one(last: Load<T>) -> Others<T>
+        ensures { result ≡ last.block ∷ [] }
     {
-        Front {
-            first,
-            middle: None,
-        }
+        Others { middle: None, last }
     }
 
     /// Puts a block behind these.
-    fn add(self, load: Load<T>) -> Front<T>
+    fn add(self, load: Load<T>) -> Others<T>
         ensures { result ≡ self ++ load.block ∷ [] }
     {
-        let Front { first, middle } = self;
-        let Load { block, seat } = load;
-        let one = Chain::one(seat, block);
-        match middle {
-            Some(chain) => Front {
-                first,
-                middle: Some(chain.join(one)),
-            },
-            None => Front {
-                first,
-                middle: Some(one),
-            },
+        let Others { middle, last } = self;
+        Others {
+            middle: Some(with_last(middle, last)),
+            last: load,
         }
     }
 
     /// These blocks and then the others.
-    fn join(self, others: Front<T>) -> Front<T>
+    fn join(self, others: Others<T>) -> Others<T>
         ensures { result ≡ self ++ others }
     {
-        let Front {
-            first: load,
+        let Others {
             middle: more,
+            last: end,
         } = others;
-        let Front { first, middle } = self.add(load);
-        match (middle, more) {
-            (Some(chain), Some(rest)) => Front {
-                first,
+        let Others { middle, last } = self;
+        let chain = with_last(middle, last);
+        match more {
+            Some(rest) => Others {
                 middle: Some(chain.join(rest)),
+                last: end,
             },
-            (Some(chain), None) => Front {
-                first,
+            None => Others {
                 middle: Some(chain),
-            },
-            (None, rest) => Front {
-                first,
-                middle: rest,
+                last: end,
             },
         }
     }
 
-    /// Takes the first block out.
-    fn split(self) -> (Load<T>, Option<Front<T>>)
-        ensures { self ≡ result.0.block ∷ joined result.1 }
+    /// These blocks with their first one at hand.
+    fn opened(self) -> Blocks<T>
+        ensures { result ≡ self }
     {
-        let Front { first, middle } = self;
+        let Others { middle, last } = self;
         match middle {
             Some(chain) => {
                 let Parted {
@@ -126,100 +112,95 @@ impl<T> Front<T> {
                     seat,
                     rest,
                 } = chain.split();
-                let next = Front {
+                Blocks {
                     first: Load { block, seat },
-                    middle: rest,
-                };
-                (first, Some(next))
+                    others: Some(Others { middle: rest, last }),
+                }
             }
-            None => (first, None),
+            None => Blocks::one(last),
         }
     }
 }
 
-/// One block or more.
+/// The blocks of a chain, if there is one, and then one more.
+fn with_last<T>(middle: Option<Chain<Block<T>>>, load: Load<T>) -> Chain<Block<T>>
+    ensures { result ≡ joined middle ++ load.block ∷ [] }
+{
+    let Load { block, seat } = load;
+    let one = Chain::one(seat, block);
+    match middle {
+        Some(chain) => chain.join(one),
+        None => one,
+    }
+}
+
+/// One block or more. The first one is always at the same place.
 #[derive(Drop)]
 pub(crate) struct Blocks<T> {
-    front: Option<Front<T>>,
-    last: Load<T>,
+    first: Load<T>,
+    others: Option<Others<T>>,
 }
 
 impl<T> Model for Blocks<T> {
-    ghost use Rattle.std.specs.Prelude.{List, [], ◌∷◌, ◌++◌};
+    ghost use Rattle.std.specs.Prelude.{List, ◌∷◌};
     ghost use Rattle.block_queue.specs.Queue.{Queue};
     ghost use Rattle.block_queue.specs.Chain.{joined};
 
     ghost Value = { List (Queue T) };
 
-    ghost view = { λ b. joined b.front ++ b.last.block ∷ [] };
+    ghost view = { λ b. b.first.block ∷ joined b.others };
 }
 
 impl<T> Blocks<T> {
-    fn one(last: Load<T>) -> Blocks<T>
-        ensures { result ≡ last.block ∷ [] }
+    fn one(first: Load<T>) -> Blocks<T>
+        ensures { result ≡ first.block ∷ [] }
     {
-        Blocks { front: None, last }
+        Blocks {
+            first,
+            others: None,
+        }
     }
 
     /// Puts a block behind these.
     fn add(self, load: Load<T>) -> Blocks<T>
         ensures { result ≡ self ++ load.block ∷ [] }
     {
-        let Blocks { front, last } = self;
-        match front {
-            Some(front) => Blocks {
-                front: Some(front.add(last)),
-                last: load,
+        let Blocks { first, others } = self;
+        match others {
+            Some(others) => Blocks {
+                first,
+                others: Some(others.add(load)),
             },
             None => Blocks {
-                front: Some(Front::one(last)),
-                last: load,
+                first,
+                others: Some(Others::one(load)),
             },
         }
     }
 
-    /// Puts other blocks, if there are any, in front of these.
-    fn follow(self, others: Option<Front<T>>) -> Blocks<T>
-        ensures blocks { result ≡ joined others ++ self }
-        ensures some { 0 < length self }
+    /// These blocks and then the others.
+    fn join(self, others: Blocks<T>) -> Blocks<T>
+        ensures { result ≡ self ++ others }
     {
-        let Blocks { front, last } = self;
-        match (others, front) {
-            (Some(others), Some(front)) => Blocks {
-                front: Some(others.join(front)),
-                last,
+        let Blocks {
+            first: load,
+            others: more,
+        } = others;
+        let Blocks { first, others } = self.add(load);
+        match (others, more) {
+            (Some(others), Some(more)) => Blocks {
+                first,
+                others: Some(others.join(more)),
             },
             (Some(others), None) => Blocks {
-                front: Some(others),
-                last,
+                first,
+                others: Some(others),
             },
-            (None, front) => Blocks { front, last },
+            (None, more) => Blocks {
+                first,
+                others: more,
+            },
         }
-    }
-
-    /// Parts the blocks that have items from the last one, where that has none.
-    fn filled(self) -> (Option<Front<T>>, Option<Load<T>>)
-        requires { IsChain self }
-        ensures items { items_of (joined result.0) ≡ items_of self }
-        ensures shape { AllHaveItems (joined result.0) }
-        ensures empty { IfSome result.1 (λ load. load.block.items ≡ []) }
-    {
-        let Blocks { front, last } = self;
-        if last.block.is_empty() {
-            return (front, Some(last));
-        }
-        match front {
-            Some(front) => (Some(front.add(last)), None),
-            None => (Some(Front::one(last)), None),
-        }
-    }
-
-    /// Whether the last block has no item.
-    fn ends_empty(&self) -> bool
-        requires { IsChain self.now }
-        ensures { result ≡ false → AllHaveItems self.now }
-    {
-        self.last.block.is_empty()
     }
 
     /// How many places the last block has behind its items.
@@ -227,7 +208,23 @@ impl<T> Blocks<T> {
     fn room(&self) -> usize
         ensures { result ≡ room_of self.now }
     {
-        self.last.block.room()
+        match &self.others {
+            Some(others) => others.last.block.room(),
+            None => self.first.block.room(),
+        }
+    }
+
+    /// How many places the first block has, if it has no item and others follow.
+    fn idle_room(&self) -> usize
+        ensures { result ≡ 32 * idle self.now }
+    {
+        match &self.others {
+            Some(others) => {
+                let _ = &others.last;
+                self.first.block.empty_room()
+            }
+            None => 0,
+        }
     }
 
     /// Puts an item into the last block.
@@ -236,95 +233,94 @@ impl<T> Blocks<T> {
         requires { 1 ≤ room_of self.old }
         ensures { self.new ≡ pushed self.old item }
     {
-        self.last.block.push(item);
+        match &mut self.others {
+            Some(others) => others.last.block.push(item),
+            None => self.first.block.push(item),
+        }
     }
 
-    /// Takes the oldest item out of the first block.
+    /// Takes the first item out of the first block.
     #[inline]
     fn pop(&mut self) -> T
-        requires shape { IsChain self.old }
-        requires filled { 0 < length (items_of self.old) }
-        ensures items { items_of self.old ≡ result ∷ items_of self.new }
-        ensures rest { without 1 self.new ≡ without 1 self.old }
-        ensures room { room_of self.new ≡ room_of self.old }
+        requires { 0 < first_count self.old }
+        ensures { IsFirstPopped self.old result self.new }
     {
-        match &mut self.front {
-            Some(front) => front.first.block.pop(),
-            None => self.last.block.pop(),
-        }
+        self.first.block.pop()
     }
 
-    /// The first block.
+    /// The first item of the first block.
     #[inline]
-    fn first(&self) -> &Block<T>
-        ensures { self.now ≡ result.now ∷ without 1 self.now }
+    fn first_item(&self) -> Option<&T>
+        ensures { option_copied result ≡ oldest (first_items self.now) }
     {
-        match &self.front {
-            Some(front) => &front.first.block,
-            None => &self.last.block,
-        }
+        self.first.block.first()
     }
 
-    /// Whether there is one block only.
+    /// How many items the first block has.
     #[inline]
-    fn is_one(&self) -> bool
-        ensures one { result ≡ true → length self.now ≡ 1 }
-        ensures more { result ≡ false → 2 ≤ length self.now }
+    fn first_len(&self) -> usize
+        ensures { result ≡ first_count self.now }
     {
-        match &self.front {
-            Some(front) => {
-                let _ = &front.first;
-                false
+        self.first.block.len()
+    }
+
+    /// The only block.
+    fn only(self) -> Load<T>
+        requires { length self ≤ 1 }
+        ensures { self ≡ result.block ∷ [] }
+    {
+        let Blocks { first, others } = self;
+        match others {
+            Some(others) => {
+                let _ = &others.last;
+                unreachable!()
             }
-            None => true,
+            None => first,
         }
     }
 
-    /// Has the only block begin again.
-    #[inline]
-    fn clear(&mut self)
-        requires one { length self.old ≡ 1 }
-        requires empty { begins_empty self.old ≡ true }
-        ensures { self.new ≡ record { items = []; room = 32 } ∷ [] }
+    /// Takes the first block out.
+    fn split(self) -> (Load<T>, Option<Blocks<T>>)
+        ensures { self ≡ result.0.block ∷ joined result.1 }
     {
-        self.last.block.clear();
-    }
-
-    /// Takes the first block out, where others follow.
-    fn split(self) -> (Load<T>, Blocks<T>)
-        requires { 2 ≤ length self }
-        ensures { self ≡ result.0.block ∷ result.1 }
-    {
-        let Blocks { front, last } = self;
-        match front {
-            Some(front) => {
-                let (first, front) = front.split();
-                (first, Blocks { front, last })
-            }
-            None => unreachable!(),
+        let Blocks { first, others } = self;
+        match others {
+            Some(others) => (first, Some(others.opened())),
+            None => (first, None),
         }
     }
 
-    /// The blocks, the first one first.
+    /// The blocks that have items, the first one first.
     pub(crate) fn walk(&self) -> Rest<'_, T>
-        requires { length self.now < 2 ^ 64 }
-        ensures { result ≡ self.now }
+        requires { length (filled self.now) < 2 ^ 64 }
+        ensures { result ≡ filled self.now }
     {
-        match &self.front {
-            Some(front) => Rest {
-                first: Some(&front.first.block),
-                middle: match &front.middle {
-                    Some(chain) => Some(chain.steps()),
-                    None => None,
-                },
-                last: Some(&self.last.block),
-            },
-            None => Rest {
-                first: None,
-                middle: None,
-                last: Some(&self.last.block),
-            },
+        if self.first.block.is_empty() {
+            return walk_others(&self.others, None);
         }
+        walk_others(&self.others, Some(&self.first.block))
+    }
+}
+
+/// A block, if there is one, and then the blocks behind the first one.
+fn walk_others<'a, T>(others: &'a Option<Others<T>>, first: Option<&'a Block<T>>) -> Rest<'a, T>
+    requires { length (joined others.now) < 2 ^ 64 }
+    ensures { result ≡ shown first.entry ++ joined others.now }
+{
+    match others {
+        Some(others) => Rest {
+            first,
+            middle: match &others.middle {
+                Some(chain) => Some(chain.steps()),
+                None => None,
+            },
+            last: Some(&others.last.block),
+        },
+        None => Rest {
+            first,
+            middle: None,
+            last: None,
+        },
     }
 }
 
@@ -366,27 +362,27 @@ impl<'a, T> Rest<'a, T> {
     }
 }
 
-/// Links an empty block behind the others: the kept one, if there is one. An error means that
-/// memory was refused.
-#[inline(never)]
-pub(crate) fn add<T>(
-    blocks: &mut Option<Blocks<T>>,
-    kept: &mut Option<Load<T>>,
-    alloc: Global,
-) -> Result<(), AllocError>
-    requires { IfSome kept.old (λ load. load.block.items ≡ []) }
-    ensures ok { OnOk result (joined blocks.new ≡ joined blocks.old ++ record { items = []; room = 32 } ∷ []) }
-    ensures refused { OnErr result (joined blocks.new ≡ joined blocks.old) }
-    ensures kept { kept.new ≡ None }
+/// Takes the oldest item out of the first block.
+#[inline]
+pub(crate) fn pop<T>(blocks: &mut Option<Blocks<T>>) -> T
+    requires { 0 < first_count (joined blocks.old) }
+    ensures { IsFirstPopped (joined blocks.old) result (joined blocks.new) }
 {
-    let load = match kept.take() {
-        Some(mut load) => {
-            load.block.clear();
-            load
-        }
-        None => Load::new(alloc)?,
-    };
-    replace_with(blocks, load, added);
+    match blocks {
+        Some(blocks) => blocks.pop(),
+        None => unreachable!(),
+    }
+}
+
+/// Makes a block and keeps it. An error means that memory was refused.
+#[inline(never)]
+pub(crate) fn make<T>(kept: &mut Option<Blocks<T>>, alloc: Global) -> Result<(), AllocError>
+    requires { IsKept (joined kept.old) }
+    ensures ok { OnOk result (joined kept.new ≡ fresh ∷ []) }
+    ensures refused { OnErr result (joined kept.new ≡ joined kept.old) }
+{
+    let load = Load::new(alloc)?;
+    replace_with(kept, load, kept_one);
     Ok(())
 }
 
@@ -401,7 +397,7 @@ fn added<T>(blocks: Option<Blocks<T>>, load: Load<T>) -> (Option<Blocks<T>>, ())
 
 /// How many places the last block has behind its items.
 #[inline]
-pub(crate) fn spare<T>(blocks: &Option<Blocks<T>>) -> usize
+pub(crate) fn room<T>(blocks: &Option<Blocks<T>>) -> usize
     ensures { result ≡ room_of (joined blocks.now) }
 {
     match blocks {
@@ -410,9 +406,35 @@ pub(crate) fn spare<T>(blocks: &Option<Blocks<T>>) -> usize
     }
 }
 
+/// How many places the first block has, if it has no item and others follow.
+pub(crate) fn idle_room<T>(blocks: &Option<Blocks<T>>) -> usize
+    ensures { result ≡ 32 * idle (joined blocks.now) }
+{
+    match blocks {
+        Some(blocks) => blocks.idle_room(),
+        None => 0,
+    }
+}
+
+/// Puts an item into the last block, or where that has no room into the spare one, and links it.
+#[inline]
+pub(crate) fn push<T>(blocks: &mut Option<Blocks<T>>, kept: &mut Option<Blocks<T>>, item: T)
+    requires shape { IsChain (joined blocks.old) }
+    requires beside { IsBeside (joined blocks.old) (joined kept.old) }
+    requires room { (1 ≤ room_of (joined blocks.old)) ⊎ (1 ≤ spares (joined blocks.old) (joined kept.old)) }
+    ensures { IsPushed (joined blocks.old) (joined kept.old) item (joined blocks.new) (joined kept.new) }
+{
+    let room = room(blocks);
+    if room > 0 {
+        push_last(blocks, item);
+        return;
+    }
+    push_spare(blocks, kept, item);
+}
+
 /// Puts an item into the last block.
 #[inline]
-pub(crate) fn push<T>(blocks: &mut Option<Blocks<T>>, item: T)
+fn push_last<T>(blocks: &mut Option<Blocks<T>>, item: T)
     requires { 1 ≤ room_of (joined blocks.old) }
     ensures { joined blocks.new ≡ pushed (joined blocks.old) item }
 {
@@ -422,201 +444,173 @@ pub(crate) fn push<T>(blocks: &mut Option<Blocks<T>>, item: T)
     }
 }
 
-/// Takes the oldest item out of the first block, and the block away if that was its last item and
-/// others follow.
-#[inline]
-pub(crate) fn pop<T>(blocks: &mut Option<Blocks<T>>, kept: &mut Option<Load<T>>) -> T
+/// Puts an item into the spare block, which is the kept one or the first, and links that behind the
+/// others.
+#[inline(never)]
+fn push_spare<T>(blocks: &mut Option<Blocks<T>>, kept: &mut Option<Blocks<T>>, item: T)
     requires shape { IsChain (joined blocks.old) }
-    requires filled { 0 < length (items_of (joined blocks.old)) }
-    requires kept { IfSome kept.old (λ load. load.block.items ≡ []) }
-    requires alone { IsSome kept.old → AllHaveItems (joined blocks.old) }
-    ensures items { items_of (joined blocks.old) ≡ result ∷ items_of (joined blocks.new) }
-    ensures shape { IsChain (joined blocks.new) }
-    ensures room { (room_of (joined blocks.new) ≡ room_of (joined blocks.old)) ⊎ ((items_of (joined blocks.new) ≡ []) × (room_of (joined blocks.new) ≡ 32)) }
-    ensures kept { IfSome kept.new (λ load. load.block.items ≡ []) }
-    ensures alone { IsSome kept.new → AllHaveItems (joined blocks.new) }
+    requires beside { IsBeside (joined blocks.old) (joined kept.old) }
+    requires full { room_of (joined blocks.old) ≡ 0 }
+    requires spare { 1 ≤ spares (joined blocks.old) (joined kept.old) }
+    ensures blocks { joined blocks.new ≡ filled (joined blocks.old) ++ record { items = item ∷ []; room = 31 } ∷ [] }
+    ensures kept { joined kept.new ≡ [] }
 {
-    let item = pop_first(blocks);
-    shed_first(blocks, kept);
-    item
+    part_empty(blocks, kept);
+    push_kept(blocks, kept, item);
 }
 
-#[inline]
-fn pop_first<T>(blocks: &mut Option<Blocks<T>>) -> T
-    requires shape { IsChain (joined blocks.old) }
-    requires filled { 0 < length (items_of (joined blocks.old)) }
-    ensures items { items_of (joined blocks.old) ≡ result ∷ items_of (joined blocks.new) }
-    ensures rest { without 1 (joined blocks.new) ≡ without 1 (joined blocks.old) }
-    ensures room { room_of (joined blocks.new) ≡ room_of (joined blocks.old) }
+/// Puts an item into the kept block, and links that behind the others.
+fn push_kept<T>(blocks: &mut Option<Blocks<T>>, kept: &mut Option<Blocks<T>>, item: T)
+    requires { joined kept.old ≡ fresh ∷ [] }
+    ensures blocks { joined blocks.new ≡ joined blocks.old ++ record { items = item ∷ []; room = 31 } ∷ [] }
+    ensures kept { joined kept.new ≡ [] }
 {
-    match blocks {
-        Some(blocks) => blocks.pop(),
+    match kept.take() {
+        Some(one) => {
+            let mut load = one.only();
+            load.block.push(item);
+            replace_with(blocks, load, added);
+        }
         None => unreachable!(),
     }
 }
 
-/// Sees to a first block without items.
+/// Has the first block have an item, before it is taken out. Where it is that block's last one,
+/// none is kept.
 #[inline]
-fn shed_first<T>(blocks: &mut Option<Blocks<T>>, kept: &mut Option<Load<T>>)
-    requires shape { IsChain (without 1 (joined blocks.old)) }
-    requires kept { IfSome kept.old (λ load. load.block.items ≡ []) }
-    requires alone { IsSome kept.old → AllHaveItems (without 1 (joined blocks.old)) }
-    ensures items { items_of (joined blocks.new) ≡ items_of (joined blocks.old) }
-    ensures shape { IsChain (joined blocks.new) }
-    ensures room { (room_of (joined blocks.new) ≡ room_of (joined blocks.old)) ⊎ ((items_of (joined blocks.new) ≡ []) × (room_of (joined blocks.new) ≡ 32)) }
-    ensures kept { IfSome kept.new (λ load. load.block.items ≡ []) }
-    ensures alone { IsSome kept.new → AllHaveItems (joined blocks.new) }
+pub(crate) fn make_way<T>(blocks: &mut Option<Blocks<T>>, kept: &mut Option<Blocks<T>>)
+    requires shape { IsChain (joined blocks.old) }
+    requires beside { IsBeside (joined blocks.old) (joined kept.old) }
+    requires some { 0 < length (items_of (joined blocks.old)) }
+    ensures { IsReady (joined blocks.old) (joined kept.old) (joined blocks.new) (joined kept.new) }
 {
-    let empty = starts_empty(blocks);
-    if empty {
-        shed_empty(blocks, kept);
+    let count = first_len(blocks);
+    if count > 1 {
         return;
     }
+    begin_next(blocks, kept);
 }
 
-/// Has the first block begin again if it is the only one, and else takes it away.
-#[inline]
-fn shed_empty<T>(blocks: &mut Option<Blocks<T>>, kept: &mut Option<Load<T>>)
-    requires empty { begins_empty (joined blocks.old) ≡ true }
-    requires shape { IsChain (without 1 (joined blocks.old)) }
-    requires kept { IfSome kept.old (λ load. load.block.items ≡ []) }
-    ensures items { items_of (joined blocks.new) ≡ items_of (joined blocks.old) }
-    ensures shape { IsChain (joined blocks.new) }
-    ensures room { (room_of (joined blocks.new) ≡ room_of (joined blocks.old)) ⊎ ((items_of (joined blocks.new) ≡ []) × (room_of (joined blocks.new) ≡ 32)) }
-    ensures kept { IfSome kept.new (λ load. load.block.items ≡ []) }
-    ensures alone { IsSome kept.new → AllHaveItems (joined blocks.new) }
+/// [`make_way`], where the first block has no second item.
+#[inline(never)]
+fn begin_next<T>(blocks: &mut Option<Blocks<T>>, kept: &mut Option<Blocks<T>>)
+    requires shape { IsChain (joined blocks.old) }
+    requires beside { IsBeside (joined blocks.old) (joined kept.old) }
+    requires some { 0 < length (items_of (joined blocks.old)) }
+    ensures { IsReady (joined blocks.old) (joined kept.old) (joined blocks.new) (joined kept.new) }
 {
-    let one = is_one(blocks);
-    if one {
-        clear(blocks);
+    part_empty(blocks, kept);
+    let count = first_len(blocks);
+    if count < 2 {
         let_go(kept);
         return;
     }
-    part_empty(blocks, kept);
 }
 
-/// Takes a first block without items away from the others, and keeps it unless another block is
-/// without items too.
-#[inline(never)]
-fn part_empty<T>(blocks: &mut Option<Blocks<T>>, kept: &mut Option<Load<T>>)
-    requires empty { begins_empty (joined blocks.old) ≡ true }
-    requires more { 2 ≤ length (joined blocks.old) }
-    requires shape { IsChain (without 1 (joined blocks.old)) }
-    requires kept { IfSome kept.old (λ load. load.block.items ≡ []) }
-    ensures items { items_of (joined blocks.new) ≡ items_of (joined blocks.old) }
-    ensures shape { IsChain (joined blocks.new) }
-    ensures room { room_of (joined blocks.new) ≡ room_of (joined blocks.old) }
-    ensures kept { IfSome kept.new (λ load. load.block.items ≡ []) }
-    ensures alone { IsSome kept.new → AllHaveItems (joined blocks.new) }
+/// Parts a first block without items from the others, and keeps it.
+fn part_empty<T>(blocks: &mut Option<Blocks<T>>, kept: &mut Option<Blocks<T>>)
+    requires shape { IsChain (joined blocks.old) }
+    requires beside { IsBeside (joined blocks.old) (joined kept.old) }
+    requires more { (room_of (joined blocks.old) ≡ 0) ⊎ (0 < length (items_of (joined blocks.old))) }
+    ensures blocks { joined blocks.new ≡ filled (joined blocks.old) }
+    ensures kept { IsSpare (spares (joined blocks.old) (joined kept.old)) (joined kept.new) }
 {
-    let first = replace_with(blocks, (), parted);
-    replace_with(kept, first, kept_one);
-    keep_one(blocks, kept);
-}
-
-#[inline]
-fn is_one<T>(blocks: &Option<Blocks<T>>) -> bool
-    requires { begins_empty (joined blocks.now) ≡ true }
-    ensures one { result ≡ true → length (joined blocks.now) ≡ 1 }
-    ensures more { result ≡ false → 2 ≤ length (joined blocks.now) }
-{
-    match blocks {
-        Some(blocks) => blocks.is_one(),
-        None => unreachable!(),
+    let empty = starts_empty(blocks);
+    if empty {
+        let first = replace_with(blocks, (), parted);
+        replace_with(kept, first, kept_one);
+        return;
     }
 }
 
+/// How many items the first block has.
 #[inline]
-fn clear<T>(blocks: &mut Option<Blocks<T>>)
-    requires one { length (joined blocks.old) ≡ 1 }
-    requires empty { begins_empty (joined blocks.old) ≡ true }
-    ensures { joined blocks.new ≡ record { items = []; room = 32 } ∷ [] }
+fn first_len<T>(blocks: &Option<Blocks<T>>) -> usize
+    ensures { result ≡ first_count (joined blocks.now) }
 {
     match blocks {
-        Some(blocks) => blocks.clear(),
-        None => unreachable!(),
+        Some(blocks) => blocks.first_len(),
+        None => 0,
+    }
+}
+
+/// Whether the first block has no item.
+fn starts_empty<T>(blocks: &Option<Blocks<T>>) -> bool
+    ensures { result ≡ begins_empty (joined blocks.now) }
+{
+    match blocks {
+        Some(blocks) => blocks.first.block.is_empty(),
+        None => false,
     }
 }
 
 /// The other blocks, and the first one.
 fn parted<T>(blocks: Option<Blocks<T>>, _nothing: ()) -> (Option<Blocks<T>>, Load<T>)
-    requires { 2 ≤ length (joined blocks) }
+    requires { 0 < length (joined blocks) }
     ensures { joined blocks ≡ result.1.block ∷ joined result.0 }
 {
     match blocks {
         Some(blocks) => {
             let (first, rest) = blocks.split();
-            (Some(rest), first)
+            (rest, first)
         }
         None => unreachable!(),
     }
 }
 
 /// Keeps a block without items for later, and frees it where one is kept already.
-fn kept_one<T>(kept: Option<Load<T>>, load: Load<T>) -> (Option<Load<T>>, ())
-    requires empty { load.block.items ≡ [] }
-    requires kept { IfSome kept (λ load. load.block.items ≡ []) }
-    ensures { IfSome result.0 (λ load. load.block.items ≡ []) }
+fn kept_one<T>(kept: Option<Blocks<T>>, load: Load<T>) -> (Option<Blocks<T>>, ())
+    requires empty { load.block ≡ fresh }
+    requires kept { IsKept (joined kept) }
+    ensures { joined result.0 ≡ fresh ∷ [] }
 {
     match kept {
         Some(kept) => {
             load.free();
-            (Some(kept), ())
+            (Some(Blocks::one(kept.only())), ())
         }
-        None => (Some(load), ()),
+        None => (Some(Blocks::one(load)), ()),
     }
 }
 
 /// Keeps a block without items, where there is one.
-pub(crate) fn keep<T>(kept: &mut Option<Load<T>>, load: Option<Load<T>>)
-    requires empty { IfSome load (λ load. load.block.items ≡ []) }
-    requires kept { IfSome kept.old (λ load. load.block.items ≡ []) }
-    ensures { IfSome kept.new (λ load. load.block.items ≡ []) }
+pub(crate) fn keep<T>(kept: &mut Option<Blocks<T>>, empty: Option<Blocks<T>>)
+    requires empty { IsKept (joined empty) }
+    requires kept { IsKept (joined kept.old) }
+    ensures { IsKept (joined kept.new) }
 {
-    match load {
-        Some(load) => replace_with(kept, load, kept_one),
+    match empty {
+        Some(empty) => replace_with(kept, empty.only(), kept_one),
         None => {}
     }
 }
 
 /// Frees the block that is kept, if there is one.
-#[inline]
-fn let_go<T>(kept: &mut Option<Load<T>>)
-    requires { IfSome kept.old (λ load. load.block.items ≡ []) }
+fn let_go<T>(kept: &mut Option<Blocks<T>>)
+    requires { IsKept (joined kept.old) }
     ensures { kept.new ≡ None }
 {
     match kept.take() {
-        Some(load) => load.free(),
+        Some(blocks) => blocks.only().free(),
         None => {}
     }
 }
 
-#[inline]
-fn starts_empty<T>(blocks: &Option<Blocks<T>>) -> bool
-    ensures { result ≡ begins_empty (joined blocks.now) }
-{
-    match blocks {
-        Some(blocks) => blocks.first().is_empty(),
-        None => false,
-    }
-}
-
-/// The oldest item.
+/// The first item of the first block.
 #[inline]
 pub(crate) fn first_item<T>(blocks: &Option<Blocks<T>>) -> Option<&T>
-    requires { IsChain (joined blocks.now) }
-    ensures { option_copied result ≡ oldest (items_of (joined blocks.now)) }
+    ensures { option_copied result ≡ oldest (first_items (joined blocks.now)) }
 {
     match blocks {
-        Some(blocks) => blocks.first().first(),
+        Some(blocks) => blocks.first_item(),
         None => None,
     }
 }
 
-/// The blocks, the first one first.
+/// The blocks that have items, the first one first.
 pub(crate) fn walk<T>(blocks: &Option<Blocks<T>>) -> Rest<'_, T>
-    requires { length (joined blocks.now) < 2 ^ 64 }
-    ensures { result ≡ joined blocks.now }
+    requires { length (filled (joined blocks.now)) < 2 ^ 64 }
+    ensures { result ≡ filled (joined blocks.now) }
 {
     match blocks {
         Some(blocks) => blocks.walk(),
@@ -628,62 +622,49 @@ pub(crate) fn walk<T>(blocks: &Option<Blocks<T>>) -> Rest<'_, T>
     }
 }
 
-/// The blocks of two queues, one's behind the other's, and the block that was taken from between
-/// them since it has no item. It takes no memory.
+/// The blocks of two queues, one's behind the other's, and the other's first block if that was
+/// taken from between them since it has no item. It takes no memory.
 pub(crate) fn linked<T>(
     blocks: Option<Blocks<T>>,
     others: Option<Blocks<T>>,
-) -> (Option<Blocks<T>>, Option<Load<T>>)
+) -> (Option<Blocks<T>>, Option<Blocks<T>>)
     requires blocks { IsChain (joined blocks) }
     requires others { IsChain (joined others) }
     ensures joined { IsJoined (joined blocks) (joined others) (joined result.0) }
-    ensures empty { IfSome result.1 (λ load. load.block.items ≡ []) }
+    ensures empty { IsKept (joined result.1) }
 {
+    let (others, empty) = without_empty(others);
     match (blocks, others) {
-        (Some(blocks), Some(others)) => {
-            let (front, empty) = blocks.filled();
-            (Some(others.follow(front)), empty)
-        }
-        (Some(blocks), None) => (Some(blocks), None),
-        (None, others) => (others, None),
+        (Some(blocks), Some(others)) => (Some(blocks.join(others)), empty),
+        (Some(blocks), None) => (Some(blocks), empty),
+        (None, others) => (others, empty),
     }
 }
 
-/// [`linked`], the others first.
-pub(crate) fn linked_in_front<T>(
-    blocks: Option<Blocks<T>>,
-    others: Option<Blocks<T>>,
-) -> (Option<Blocks<T>>, Option<Load<T>>)
-    requires blocks { IsChain (joined blocks) }
-    requires others { IsChain (joined others) }
-    ensures joined { IsJoined (joined others) (joined blocks) (joined result.0) }
-    ensures empty { IfSome result.1 (λ load. load.block.items ≡ []) }
+/// The blocks that have items, and the first one if it has none.
+fn without_empty<T>(blocks: Option<Blocks<T>>) -> (Option<Blocks<T>>, Option<Blocks<T>>)
+    requires { IsChain (joined blocks) }
+    ensures blocks { joined result.0 ≡ filled (joined blocks) }
+    ensures empty { IsKept (joined result.1) }
 {
-    linked(others, blocks)
+    let empty = starts_empty(&blocks);
+    if empty {
+        let (rest, first) = parted(blocks, ());
+        return (rest, Some(Blocks::one(first)));
+    }
+    (blocks, None)
 }
 
-/// Frees the block that is kept where the last block has no item either. So no more than one empty
+/// Frees the block that is kept where the first block has no item either. So no more than one empty
 /// block is held.
-pub(crate) fn keep_one<T>(blocks: &Option<Blocks<T>>, kept: &mut Option<Load<T>>)
+pub(crate) fn keep_one<T>(blocks: &Option<Blocks<T>>, kept: &mut Option<Blocks<T>>)
     requires shape { IsChain (joined blocks.now) }
-    requires kept { IfSome kept.old (λ load. load.block.items ≡ []) }
-    ensures kept { IfSome kept.new (λ load. load.block.items ≡ []) }
-    ensures alone { IsSome kept.new → AllHaveItems (joined blocks.now) }
+    requires kept { IsKept (joined kept.old) }
+    ensures { IsBeside (joined blocks.now) (joined kept.new) }
 {
-    let empty = ends_empty(blocks);
+    let empty = starts_empty(blocks);
     if empty {
         let_go(kept);
         return;
-    }
-}
-
-/// Whether the last block has no item.
-fn ends_empty<T>(blocks: &Option<Blocks<T>>) -> bool
-    requires { IsChain (joined blocks.now) }
-    ensures { result ≡ false → AllHaveItems (joined blocks.now) }
-{
-    match blocks {
-        Some(blocks) => blocks.ends_empty(),
-        None => false,
     }
 }

@@ -1,7 +1,16 @@
-use Rattle.std.proofs.Common.{◌<◌, subst, arith, length}
-use Rattle.block_queue.specs.Chain.{joined}
-use Rattle.block_queue.proofs.Blocks.{some_with_room}
+use Rattle.std.proofs.Common.{inl, inr, refl, arith}
 use Rattle.block_queue.proofs.linking.push.Goals as goal
 
-pub unreachable-requires : goal.unreachable-requires
-unreachable-requires g c = let some = subst (λ o. 0 < length (joined o)) c.in-None.is (some_with_room (joined c.args.blocks.now) c.requires) in omega arith
+pub push_spare-requires-clause-full : goal.push_spare-requires-clause-full
+push_spare-requires-clause-full g c = let is = c.room-room.ensures in let no = c.if-room-gt0.false in omega arith
+
+pub push_spare-requires-clause-spare : goal.push_spare-requires-clause-spare
+push_spare-requires-clause-spare g c = elim c.requires.room [ inl some ↦ let is = c.room-room.ensures in let no = c.if-room-gt0.false in absurd (omega arith) | inr one ↦ one ]
+
+pub returns-then-room-gt0 : goal.returns-then-room-gt0
+returns-then-room-gt0 g c = let is = c.room-room.ensures in let some = c.if-room-gt0.true in inl (omega arith, c.push_last.ensures, refl)
+
+pub returns : goal.returns
+returns g c =
+    let is = c.room-room.ensures in let no = c.if-room-gt0.false in
+    inr (omega arith, elim c.requires.room [ inl some ↦ absurd (omega arith) | inr one ↦ one ], c.push_spare.ensures.blocks, c.push_spare.ensures.kept)

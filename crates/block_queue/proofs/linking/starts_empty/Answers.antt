@@ -1,12 +1,14 @@
-use Rattle.std.proofs.Common.{◌∙◌, sym, ap, drop}
+use Rattle.std.proofs.Common.{◌∷◌, ◌∙◌, sym, ap}
 use Rattle.block_queue.specs.Blocks.{begins_empty}
 use Rattle.block_queue.specs.Chain.{joined}
-use Rattle.block_queue.proofs.Ends.{begins_at_first, no_first}
+use Rattle.block_queue.proofs.Ends.{empty_first_is, no_empty}
 use Rattle.block_queue.proofs.linking.starts_empty.Goals as goal
 
 pub returns-in-Some : goal.returns-in-Some
 returns-in-Some g c =
-    c.is_empty.ensures ∙ begins_at_first c.in-Some.blocks (drop 1 c.in-Some.blocks) c.first.result.now c.first.ensures ∙ ap (λ o. begins_empty (joined o)) (sym c.in-Some.is)
+    let b = c.blocks-in-Some.inside in
+    let is = ap joined c.in-Some.is ∙ sym c.blocks-in-Some.view_is in
+    c.is_empty.ensures ∙ empty_first_is (joined c.args.blocks.now) (joined b.others) b.first.block is
 
 pub returns-in-None : goal.returns-in-None
-returns-in-None g c = no_first (joined c.args.blocks.now) (ap joined c.in-None.is)
+returns-in-None g c = no_empty (joined c.args.blocks.now) (ap joined c.in-None.is)

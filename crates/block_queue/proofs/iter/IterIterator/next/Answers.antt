@@ -3,7 +3,7 @@ use Rattle.std.specs.Borrow.{Bor}
 use Rattle.std.specs.Map.Iter.{TakesFirst, deref}
 use Rattle.std_collections.proofs.IterRuns.{first_progress}
 use Rattle.block_queue.specs.Blocks.{items_of, left_in}
-use Rattle.block_queue.proofs.Blocks.{taken_here, none_here, none_left, next_shown, next_chained}
+use Rattle.block_queue.proofs.Blocks.{taken_here, none_here, none_left, next_shown, next_have}
 use Rattle.block_queue.proofs.iter.IterIterator.next.Goals as goal
 
 pub returns-in-Some-clause-steps : goal.returns-in-Some-clause-steps
@@ -22,7 +22,7 @@ returns-in_err-block-clause-steps g c =
     (sym c.self.view_is ∙ none_left i.block i.next i.blocks e c.in_err-block.ensures.0, none_left i.block i.next c.next.new.self e c.in_err-block.ensures.1)
 
 pub invariant_of-self-2 : goal.invariant_of-self-2
-invariant_of-self-2 g c = next_chained c.self.inside.blocks c.in_ok-block.block.now c.next.new.self c.self.invariant c.in_ok-block.ensures
+invariant_of-self-2 g c = next_have c.self.inside.blocks c.in_ok-block.block.now c.next.new.self c.self.invariant c.in_ok-block.ensures
 
 pub returns-clause-steps : goal.returns-clause-steps
 returns-clause-steps g c =

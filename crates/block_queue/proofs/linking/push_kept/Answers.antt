@@ -1,0 +1,21 @@
+use Rattle.std.proofs.Common.{◌++◌, ◌-◌, [], ◌∷◌, ◌∙◌, sym, ap, arith, length}
+use Rattle.block_queue.specs.Queue.{Queue}
+use Rattle.block_queue.specs.Chain.{joined}
+use Rattle.block_queue.proofs.Ends.{held_fresh}
+use Rattle.block_queue.proofs.Places.{queue_is}
+use Rattle.block_queue.proofs.linking.push_kept.Goals as goal
+
+pub only-load-requires : goal.only-load-requires
+only-load-requires g c = let one = ap length (ap joined (sym c.in-Some.is ∙ c.take.ensures.value) ∙ c.requires) in omega arith
+
+pub push-requires : goal.push-requires
+push-requires g c =
+    let is = held_fresh c.only-load.result.block (sym c.only-load.ensures ∙ ap joined (sym c.in-Some.is ∙ c.take.ensures.value) ∙ c.requires) in let room = ap (λ (q : Queue _). q.room) is in omega arith
+
+pub unreachable-requires : goal.unreachable-requires
+unreachable-requires g c = let none = ap (λ o. length (joined o)) (sym c.take.ensures.value ∙ c.in-None.is) in let one = ap length c.requires in omega arith
+
+pub returns-clause-blocks : goal.returns-clause-blocks
+returns-clause-blocks g c =
+    let is = held_fresh c.only-load.result.block (sym c.only-load.ensures ∙ ap joined (sym c.in-Some.is ∙ c.take.ensures.value) ∙ c.requires) in
+    c.replace_with.ensures ∙ ap (λ q. joined c.args.blocks.now ++ q ∷ []) (c.push.ensures ∙ queue_is (ap (λ q. q.items ++ c.args.item ∷ []) is) (ap (λ q. q.room - 1) is))
