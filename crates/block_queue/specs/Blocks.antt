@@ -101,6 +101,12 @@ module _ {T : Type 0} where
   abbrev pub IsSpare : ℕ → List (Queue T) → Type 0
   IsSpare count kept = IsKept kept × (length kept ≡ count)
 
+  -- what is seen to before an item is put in: the last block has room, and where it had none, the spare one is the last now
+  abbrev pub HasSpace : (blocks kept new left : List (Queue T)) → Type 0
+  HasSpace blocks kept new left =
+      ((1 ≤ room_of blocks) × (new ≡ blocks) × (left ≡ kept))
+      ⊎ ((room_of blocks ≡ 0) × (1 ≤ spares blocks kept) × (new ≡ filled blocks ++ fresh ∷ []) × (left ≡ []))
+
   -- an item is put into the last block, or where that has no room into the spare one, which becomes the last
   abbrev pub IsPushed : (blocks kept : List (Queue T)) → T → (new left : List (Queue T)) → Type 0
   IsPushed blocks kept item new left =

@@ -2,7 +2,7 @@
 ghost use Rattle.std.specs.Prelude.{◌≡◌, ◌*◌, ◌^◌, ◌<◌, ◌≤◌, ◌⊎◌, true, false, [], ◌∷◌, ◌++◌, None, OnOk, OnErr, IfOk, drop as without, length, option_copied};
 ghost use Rattle.std.specs.Map.Iter.{TakesFirst, deref};
 ghost use Rattle.block_queue.specs.Queue.{oldest};
-ghost use Rattle.block_queue.specs.Blocks.{fresh, items_of, room_of, first_items, first_count, pushed, filled, idle, spares, begins_empty, IsChain, IsKept, IsBeside, IsSpare, IsPushed, IsReady, IsFirstPopped, IsJoined};
+ghost use Rattle.block_queue.specs.Blocks.{fresh, items_of, room_of, first_items, first_count, pushed, filled, idle, spares, begins_empty, IsChain, IsKept, IsBeside, IsSpare, HasSpace, IsPushed, IsReady, IsFirstPopped, IsJoined};
 ghost use Rattle.block_queue.specs.Chain.{joined, shown};
 
 use crate::block::Block;
@@ -416,7 +416,7 @@ pub(crate) fn idle_room<T>(blocks: &Option<Blocks<T>>) -> usize
     }
 }
 
-/// Puts an item into the last block, or where that has no room into the spare one, and links it.
+/// Puts an item into the last block, once that has room.
 #[inline]
 pub(crate) fn push<T>(blocks: &mut Option<Blocks<T>>, kept: &mut Option<Blocks<T>>, item: T)
     requires shape { IsChain (joined blocks.old) }
@@ -424,12 +424,23 @@ pub(crate) fn push<T>(blocks: &mut Option<Blocks<T>>, kept: &mut Option<Blocks<T
     requires room { (1 ≤ room_of (joined blocks.old)) ⊎ (1 ≤ spares (joined blocks.old) (joined kept.old)) }
     ensures { IsPushed (joined blocks.old) (joined kept.old) item (joined blocks.new) (joined kept.new) }
 {
+    make_space(blocks, kept);
+    push_last(blocks, item);
+}
+
+/// Links the spare block behind the others where the last one has no room.
+#[inline]
+fn make_space<T>(blocks: &mut Option<Blocks<T>>, kept: &mut Option<Blocks<T>>)
+    requires shape { IsChain (joined blocks.old) }
+    requires beside { IsBeside (joined blocks.old) (joined kept.old) }
+    requires room { (1 ≤ room_of (joined blocks.old)) ⊎ (1 ≤ spares (joined blocks.old) (joined kept.old)) }
+    ensures { HasSpace (joined blocks.old) (joined kept.old) (joined blocks.new) (joined kept.new) }
+{
     let room = room(blocks);
     if room > 0 {
-        push_last(blocks, item);
         return;
     }
-    push_spare(blocks, kept, item);
+    link_spare(blocks, kept);
 }
 
 /// Puts an item into the last block.
@@ -444,33 +455,28 @@ fn push_last<T>(blocks: &mut Option<Blocks<T>>, item: T)
     }
 }
 
-/// Puts an item into the spare block, which is the kept one or the first, and links that behind the
-/// others.
+/// Links the spare block, which is the kept one or the first, behind the others.
 #[inline(never)]
-fn push_spare<T>(blocks: &mut Option<Blocks<T>>, kept: &mut Option<Blocks<T>>, item: T)
+fn link_spare<T>(blocks: &mut Option<Blocks<T>>, kept: &mut Option<Blocks<T>>)
     requires shape { IsChain (joined blocks.old) }
     requires beside { IsBeside (joined blocks.old) (joined kept.old) }
     requires full { room_of (joined blocks.old) ≡ 0 }
     requires spare { 1 ≤ spares (joined blocks.old) (joined kept.old) }
-    ensures blocks { joined blocks.new ≡ filled (joined blocks.old) ++ record { items = item ∷ []; room = 31 } ∷ [] }
+    ensures blocks { joined blocks.new ≡ filled (joined blocks.old) ++ fresh ∷ [] }
     ensures kept { joined kept.new ≡ [] }
 {
     part_empty(blocks, kept);
-    push_kept(blocks, kept, item);
+    link_kept(blocks, kept);
 }
 
-/// Puts an item into the kept block, and links that behind the others.
-fn push_kept<T>(blocks: &mut Option<Blocks<T>>, kept: &mut Option<Blocks<T>>, item: T)
+/// Links the kept block behind the others.
+fn link_kept<T>(blocks: &mut Option<Blocks<T>>, kept: &mut Option<Blocks<T>>)
     requires { joined kept.old ≡ fresh ∷ [] }
-    ensures blocks { joined blocks.new ≡ joined blocks.old ++ record { items = item ∷ []; room = 31 } ∷ [] }
+    ensures blocks { joined blocks.new ≡ joined blocks.old ++ fresh ∷ [] }
     ensures kept { joined kept.new ≡ [] }
 {
     match kept.take() {
-        Some(one) => {
-            let mut load = one.only();
-            load.block.push(item);
-            replace_with(blocks, load, added);
-        }
+        Some(one) => replace_with(blocks, one.only(), added),
         None => unreachable!(),
     }
 }

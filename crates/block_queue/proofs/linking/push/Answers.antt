@@ -1,16 +1,17 @@
-use Rattle.std.proofs.Common.{inl, inr, refl, arith}
+use Rattle.std.proofs.Common.{◌≤◌, ◌∙◌, inl, inr, sym, ap, subst, arith}
+use Rattle.block_queue.specs.Blocks.{fresh, filled, pushed, room_of}
+use Rattle.block_queue.specs.Chain.{joined}
+use Rattle.block_queue.proofs.Ends.{pushed_at_end, room_at_end}
 use Rattle.block_queue.proofs.linking.push.Goals as goal
 
-pub push_spare-requires-clause-full : goal.push_spare-requires-clause-full
-push_spare-requires-clause-full g c = let is = c.room-room.ensures in let no = c.if-room-gt0.false in omega arith
-
-pub push_spare-requires-clause-spare : goal.push_spare-requires-clause-spare
-push_spare-requires-clause-spare g c = elim c.requires.room [ inl some ↦ let is = c.room-room.ensures in let no = c.if-room-gt0.false in absurd (omega arith) | inr one ↦ one ]
-
-pub returns-then-room-gt0 : goal.returns-then-room-gt0
-returns-then-room-gt0 g c = let is = c.room-room.ensures in let some = c.if-room-gt0.true in inl (omega arith, c.push_last.ensures, refl)
+pub push_last-requires : goal.push_last-requires
+push_last-requires g c = elim c.make_space.ensures [
+  | inl there ↦ let same = ap room_of there.1 in let some = there.0 in omega (arith, same, some)
+  | inr linked ↦ let same = ap room_of linked.2 ∙ room_at_end (filled (joined c.args.blocks.now)) fresh in omega (arith, same)
+]
 
 pub returns : goal.returns
-returns g c =
-    let is = c.room-room.ensures in let no = c.if-room-gt0.false in
-    inr (omega arith, elim c.requires.room [ inl some ↦ absurd (omega arith) | inr one ↦ one ], c.push_spare.ensures.blocks, c.push_spare.ensures.kept)
+returns g c = elim c.make_space.ensures [
+  | inl there ↦ inl (there.0, c.push_last.ensures ∙ ap (λ bs. pushed bs c.args.item) there.1, there.2)
+  | inr linked ↦ inr (linked.0, linked.1, c.push_last.ensures ∙ ap (λ bs. pushed bs c.args.item) linked.2 ∙ pushed_at_end (filled (joined c.args.blocks.now)) fresh c.args.item, linked.3)
+]
