@@ -1,9 +1,9 @@
 -- A list of blocks whose first or last one is at hand.
-use Rattle.std.proofs.Common.{◌≡◌, ◌-◌, ◌<◌, ◌≤◌, inl, inr, true, false, List, [], ◌∷◌, ◌++◌, None, refl, sym, ap, ◌∙◌, subst, arith, length, get_or, drop, append-nil, length-append}
+use Rattle.std.proofs.Common.{◌≡◌, ◌-◌, ◌<◌, ◌≤◌, ◌⊎◌, inl, inr, true, false, List, [], ◌∷◌, ◌++◌, None, refl, sym, ap, ◌∙◌, subst, arith, length, get_or, drop, append-nil, length-append}
 use Rattle.std.specs.Prelude.{Option, Some, IfSome, IsSome}
 use Rattle.block_queue.specs.Queue.{Queue, oldest}
-use Rattle.block_queue.specs.Blocks.{items_of, room_of, pushed, has_none, begins_empty, AllHaveItems, IsChain, IsJoined}
-use Rattle.block_queue.proofs.Blocks.{none_is, some_is, oldest_first, items_of_joined, room_of_joined, chained, last_room, last_items, freed_first}
+use Rattle.block_queue.specs.Blocks.{fresh, items_of, first_items, first_count, room_of, pushed, has_none, begins_empty, AllHaveItems, IsChain, IsFirstPopped, IsJoined}
+use Rattle.block_queue.proofs.Blocks.{none_is, some_is, last_chained, chained_rest, oldest_first, items_of_joined, room_of_joined, chained, last_room, last_items, freed_first}
 
 module _ {T : Type 0} where
   pub room_at_end : (front : List (Queue T)) (q : Queue T) → room_of (front ++ q ∷ []) ≡ q.room
@@ -120,3 +120,75 @@ module _ {T : Type 0} where
   pub none_linked : (cs : List (Queue T)) → IsChain cs → IsJoined [] cs cs
   unfolding items_of
   none_linked cs h = record { chained = h; items = refl; room = inr refl }
+
+  pub at_first : (bs rest : List (Queue T)) (first : Queue T) → bs ≡ first ∷ rest → first.items ≡ first_items bs
+  unfolding first_items
+  at_first bs rest first e = ap first_items (sym e)
+
+  pub no_first_items : (bs : List (Queue T)) → bs ≡ [] → [] ≡ first_items bs
+  unfolding first_items
+  no_first_items bs e = ap first_items (sym e)
+
+  -- the first block has an item
+  pub some_first : (bs : List (Queue T)) → IsChain bs → 0 < length (items_of bs) → 0 < first_count bs
+  unfolding items_of first_items
+  some_first [] h some = absurd (omega arith)
+  some_first (b ∷ bs) h some = first_filled b bs h some
+
+  first_chained : (b left : Queue T) (bs : List (Queue T)) → IsChain (b ∷ bs) → 0 < length left.items → IsChain (left ∷ bs)
+  unfolding IsChain
+  first_chained b left [] h some = inl some
+  first_chained b left (c ∷ cs) h some = (some, h.1)
+
+  first_have : (b left : Queue T) (bs : List (Queue T)) → AllHaveItems (b ∷ bs) → 0 < length left.items → AllHaveItems (left ∷ bs)
+  unfolding AllHaveItems
+  first_have b left bs all some = (some, all.1)
+
+  lone_chained : (left : Queue T) (bs : List (Queue T)) → left ≡ fresh → length bs ≡ 0 → IsChain (left ∷ bs) × (items_of (left ∷ bs) ≡ []) × (room_of (left ∷ bs) ≡ 32)
+  lone_chained left [] is none =
+      (subst (λ q. IsChain (q ∷ [])) (sym is) (last_chained fresh (omega arith)), last_items left (ap (λ q. q.items) is), last_room left ∙ ap (λ q. q.room) is)
+  lone_chained left (b ∷ bs) is none = absurd (omega arith)
+
+  -- what the first item leaves behind, where the first block has another one or is the only one
+  pub left_behind : (bs new : List (Queue T)) (item : T) → IsChain bs → IsFirstPopped bs item new → (2 ≤ first_count bs) ⊎ (length bs ≡ 1)
+      → (items_of bs ≡ item ∷ items_of new) × IsChain new × ((room_of new ≡ room_of bs) ⊎ ((items_of new ≡ []) × (room_of new ≡ 32)))
+  left_behind bs new item h (first, left, rest, e, f, popped) which =
+      let items = ap items_of e ∙ first_popped first left rest item popped.items ∙ ap (λ l. item ∷ items_of l) (sym f) in
+      let n = ap length popped.items in let m = ap length (at_first bs rest first e) in let k = ap length e in
+      elim popped.room [
+        | inl stays ↦
+            (items, subst IsChain (sym f) (first_chained first left rest (subst IsChain e h) stays.0), inl (ap room_of f ∙ room_popped first left rest stays.1 ∙ ap room_of (sym e)))
+        | inr is ↦ let j = ap (λ q. length q.items) is in
+            let none : length rest ≡ 0 = elim which [ inl two ↦ absurd (omega arith) | inr one ↦ omega arith ] in
+            let lone = lone_chained left rest is none in
+            (items, subst IsChain (sym f) lone.0, inr (ap items_of f ∙ lone.1, ap room_of f ∙ lone.2))
+      ]
+
+  pub behind_have : (bs new : List (Queue T)) (item : T) → AllHaveItems bs → IsFirstPopped bs item new → 2 ≤ first_count bs → AllHaveItems new
+  behind_have bs new item all (first, left, rest, e, f, popped) two =
+      let n = ap length popped.items in let m = ap length (at_first bs rest first e) in
+      subst AllHaveItems (sym f) (first_have first left rest (subst AllHaveItems e all) (omega arith))
+
+  nothing : (items : List T) → length items ≡ 0 → items ≡ []
+  nothing [] none = refl
+  nothing (item ∷ items) none = absurd (omega arith)
+
+  begins_with_none : (left : Queue T) (bs : List (Queue T)) → length left.items ≡ 0 → begins_empty (left ∷ bs) ≡ true
+  unfolding begins_empty has_none
+  begins_with_none left bs none = ap has_none (nothing left.items none)
+
+  room_followed : (b left : Queue T) (bs : List (Queue T)) → 0 < length bs → room_of (left ∷ bs) ≡ room_of (b ∷ bs)
+  unfolding room_of
+  room_followed b left [] some = absurd (omega arith)
+  room_followed b left (c ∷ cs) some = refl
+
+  -- the first block's last item is taken out, and others follow
+  pub emptied : (bs new : List (Queue T)) (item : T) → IsChain bs → IsFirstPopped bs item new → first_count bs ≤ 1 → 2 ≤ length bs
+      → (items_of bs ≡ item ∷ items_of new) × (begins_empty new ≡ true) × (2 ≤ length new) × IsChain (drop 1 new) × (room_of new ≡ room_of bs)
+  emptied bs new item h (first, left, rest, e, f, popped) last two =
+      let n = ap length popped.items in let m = ap length (at_first bs rest first e) in let k = ap length e in let j = ap length f in
+      (ap items_of e ∙ first_popped first left rest item popped.items ∙ ap (λ l. item ∷ items_of l) (sym f),
+       ap begins_empty f ∙ begins_with_none left rest (omega arith),
+       omega arith,
+       subst (λ l. IsChain (drop 1 l)) (sym f) (subst (λ l. IsChain (drop 1 l)) e (chained_rest bs h)),
+       ap room_of f ∙ room_followed first left rest (omega arith) ∙ ap room_of (sym e))

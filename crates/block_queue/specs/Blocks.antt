@@ -3,6 +3,10 @@ use Rattle.std.specs.Prelude.{◌≡◌, ℕ, ◌+◌, ◌-◌, ◌^◌, ◌<◌
 use Rattle.std.specs.Borrow.{Bor}
 use Rattle.block_queue.specs.Queue.{Queue}
 
+-- a block without items
+abbrev pub fresh : {T : Type 0} → Queue T
+fresh = record { items = []; room = 32 }
+
 module _ {T : Type 0} where
   -- the items of all blocks, in order
   unfoldable pub items_of : List (Queue T) → List T
@@ -13,6 +17,14 @@ module _ {T : Type 0} where
   abbrev pub left_in : Option (Bor (Queue T)) → ℕ → List T
   left_in None index = []
   left_in (Some block) index = drop index block.now.items
+
+  -- the items of the first block, and how many they are
+  unfoldable pub first_items : List (Queue T) → List T
+  first_items [] = []
+  first_items (block ∷ blocks) = block.items
+
+  abbrev pub first_count : List (Queue T) → ℕ
+  first_count blocks = length (first_items blocks)
 
   -- the room that the last block has
   unfoldable pub room_of : List (Queue T) → ℕ
@@ -46,6 +58,16 @@ module _ {T : Type 0} where
   IsChain [] = Unit {0}
   IsChain (block ∷ []) = (0 < length block.items) ⊎ (0 < block.room)
   IsChain (block ∷ next ∷ blocks) = (0 < length block.items) × IsChain (next ∷ blocks)
+
+  -- the first item is taken out of a block, which begins again where it has no other
+  pub record IsPopped (old : Queue T) (item : T) (new : Queue T) : Type 0 where
+    pub items : old.items ≡ item ∷ new.items
+    pub room : ((0 < length new.items) × (new.room ≡ old.room)) ⊎ (new ≡ fresh)
+
+  -- the first item is taken out of the first block
+  abbrev pub IsFirstPopped : List (Queue T) → T → List (Queue T) → Type 0
+  IsFirstPopped blocks item new =
+      (first : Queue T) × (left : Queue T) × (rest : List (Queue T)) × (blocks ≡ first ∷ rest) × (new ≡ left ∷ rest) × IsPopped first item left
 
   -- the blocks of two queues, one behind the other
   pub record IsJoined (first second new : List (Queue T)) : Type 0 where

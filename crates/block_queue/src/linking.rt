@@ -2,7 +2,7 @@
 ghost use Rattle.std.specs.Prelude.{◌≡◌, ◌^◌, ◌<◌, ◌≤◌, ◌⊎◌, true, false, ◌+◌, [], ◌∷◌, ◌++◌, None, OnOk, OnErr, IfOk, IfSome, IsSome, drop as without, length, option_copied, slice_set};
 ghost use Rattle.std.specs.Map.Iter.{TakesFirst, deref};
 ghost use Rattle.block_queue.specs.Queue.{oldest};
-ghost use Rattle.block_queue.specs.Blocks.{items_of, room_of, pushed, begins_empty, AllHaveItems, IsChain, IsJoined};
+ghost use Rattle.block_queue.specs.Blocks.{items_of, room_of, first_count, pushed, begins_empty, AllHaveItems, IsChain, IsFirstPopped, IsJoined};
 ghost use Rattle.block_queue.specs.Chain.{joined};
 
 use crate::block::Block;
@@ -239,14 +239,11 @@ impl<T> Blocks<T> {
         self.last.block.push(item);
     }
 
-    /// Takes the oldest item out of the first block.
+    /// Takes the first item out of the first block.
     #[inline]
     fn pop(&mut self) -> T
-        requires shape { IsChain self.old }
-        requires filled { 0 < length (items_of self.old) }
-        ensures items { items_of self.old ≡ result ∷ items_of self.new }
-        ensures rest { without 1 self.new ≡ without 1 self.old }
-        ensures room { room_of self.new ≡ room_of self.old }
+        requires { 0 < first_count self.old }
+        ensures { IsFirstPopped self.old result self.new }
     {
         match &mut self.front {
             Some(front) => front.first.block.pop(),
@@ -278,16 +275,6 @@ impl<T> Blocks<T> {
             }
             None => true,
         }
-    }
-
-    /// Has the only block begin again.
-    #[inline]
-    fn clear(&mut self)
-        requires one { length self.old ≡ 1 }
-        requires empty { begins_empty self.old ≡ true }
-        ensures { self.new ≡ record { items = []; room = 32 } ∷ [] }
-    {
-        self.last.block.clear();
     }
 
     /// Takes the first block out, where others follow.
@@ -436,51 +423,21 @@ pub(crate) fn pop<T>(blocks: &mut Option<Blocks<T>>, kept: &mut Option<Load<T>>)
     ensures kept { IfSome kept.new (λ load. load.block.items ≡ []) }
     ensures alone { IsSome kept.new → AllHaveItems (joined blocks.new) }
 {
-    let item = pop_first(blocks);
-    shed_first(blocks, kept);
-    item
+    let count = first_len(blocks);
+    if count > 1 {
+        return pop_first(blocks);
+    }
+    pop_last(blocks, kept)
 }
 
-#[inline]
-fn pop_first<T>(blocks: &mut Option<Blocks<T>>) -> T
+/// [`pop`], where the first block has no second item.
+#[inline(never)]
+fn pop_last<T>(blocks: &mut Option<Blocks<T>>, kept: &mut Option<Load<T>>) -> T
     requires shape { IsChain (joined blocks.old) }
     requires filled { 0 < length (items_of (joined blocks.old)) }
+    requires last { first_count (joined blocks.old) ≤ 1 }
+    requires kept { IfSome kept.old (λ load. load.block.items ≡ []) }
     ensures items { items_of (joined blocks.old) ≡ result ∷ items_of (joined blocks.new) }
-    ensures rest { without 1 (joined blocks.new) ≡ without 1 (joined blocks.old) }
-    ensures room { room_of (joined blocks.new) ≡ room_of (joined blocks.old) }
-{
-    match blocks {
-        Some(blocks) => blocks.pop(),
-        None => unreachable!(),
-    }
-}
-
-/// Sees to a first block without items.
-#[inline]
-fn shed_first<T>(blocks: &mut Option<Blocks<T>>, kept: &mut Option<Load<T>>)
-    requires shape { IsChain (without 1 (joined blocks.old)) }
-    requires kept { IfSome kept.old (λ load. load.block.items ≡ []) }
-    requires alone { IsSome kept.old → AllHaveItems (without 1 (joined blocks.old)) }
-    ensures items { items_of (joined blocks.new) ≡ items_of (joined blocks.old) }
-    ensures shape { IsChain (joined blocks.new) }
-    ensures room { (room_of (joined blocks.new) ≡ room_of (joined blocks.old)) ⊎ ((items_of (joined blocks.new) ≡ []) × (room_of (joined blocks.new) ≡ 32)) }
-    ensures kept { IfSome kept.new (λ load. load.block.items ≡ []) }
-    ensures alone { IsSome kept.new → AllHaveItems (joined blocks.new) }
-{
-    let empty = starts_empty(blocks);
-    if empty {
-        shed_empty(blocks, kept);
-        return;
-    }
-}
-
-/// Has the first block begin again if it is the only one, and else takes it away.
-#[inline]
-fn shed_empty<T>(blocks: &mut Option<Blocks<T>>, kept: &mut Option<Load<T>>)
-    requires empty { begins_empty (joined blocks.old) ≡ true }
-    requires shape { IsChain (without 1 (joined blocks.old)) }
-    requires kept { IfSome kept.old (λ load. load.block.items ≡ []) }
-    ensures items { items_of (joined blocks.new) ≡ items_of (joined blocks.old) }
     ensures shape { IsChain (joined blocks.new) }
     ensures room { (room_of (joined blocks.new) ≡ room_of (joined blocks.old)) ⊎ ((items_of (joined blocks.new) ≡ []) × (room_of (joined blocks.new) ≡ 32)) }
     ensures kept { IfSome kept.new (λ load. load.block.items ≡ []) }
@@ -488,11 +445,35 @@ fn shed_empty<T>(blocks: &mut Option<Blocks<T>>, kept: &mut Option<Load<T>>)
 {
     let one = is_one(blocks);
     if one {
-        clear(blocks);
         let_go(kept);
-        return;
+        return pop_first(blocks);
     }
+    let item = pop_first(blocks);
     part_empty(blocks, kept);
+    item
+}
+
+/// Takes the first item out of the first block.
+#[inline]
+fn pop_first<T>(blocks: &mut Option<Blocks<T>>) -> T
+    requires { 0 < first_count (joined blocks.old) }
+    ensures { IsFirstPopped (joined blocks.old) result (joined blocks.new) }
+{
+    match blocks {
+        Some(blocks) => blocks.pop(),
+        None => unreachable!(),
+    }
+}
+
+/// How many items the first block has.
+#[inline]
+fn first_len<T>(blocks: &Option<Blocks<T>>) -> usize
+    ensures { result ≡ first_count (joined blocks.now) }
+{
+    match blocks {
+        Some(blocks) => blocks.first().len(),
+        None => 0,
+    }
 }
 
 /// Takes a first block without items away from the others, and keeps it unless another block is
@@ -516,24 +497,12 @@ fn part_empty<T>(blocks: &mut Option<Blocks<T>>, kept: &mut Option<Load<T>>)
 
 #[inline]
 fn is_one<T>(blocks: &Option<Blocks<T>>) -> bool
-    requires { begins_empty (joined blocks.now) ≡ true }
+    requires { 0 < first_count (joined blocks.now) }
     ensures one { result ≡ true → length (joined blocks.now) ≡ 1 }
     ensures more { result ≡ false → 2 ≤ length (joined blocks.now) }
 {
     match blocks {
         Some(blocks) => blocks.is_one(),
-        None => unreachable!(),
-    }
-}
-
-#[inline]
-fn clear<T>(blocks: &mut Option<Blocks<T>>)
-    requires one { length (joined blocks.old) ≡ 1 }
-    requires empty { begins_empty (joined blocks.old) ≡ true }
-    ensures { joined blocks.new ≡ record { items = []; room = 32 } ∷ [] }
-{
-    match blocks {
-        Some(blocks) => blocks.clear(),
         None => unreachable!(),
     }
 }
@@ -588,16 +557,6 @@ fn let_go<T>(kept: &mut Option<Load<T>>)
     match kept.take() {
         Some(load) => load.free(),
         None => {}
-    }
-}
-
-#[inline]
-fn starts_empty<T>(blocks: &Option<Blocks<T>>) -> bool
-    ensures { result ≡ begins_empty (joined blocks.now) }
-{
-    match blocks {
-        Some(blocks) => blocks.first().is_empty(),
-        None => false,
     }
 }
 
