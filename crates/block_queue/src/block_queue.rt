@@ -59,6 +59,7 @@ impl<T> Fifo<T> for BlockQueue<T> {
         if self.count >= MOST {
             return Err(AllocError);
         }
+        linking::settle(&mut self.blocks, &mut self.kept);
         linking::add(&mut self.blocks, &mut self.kept, self.alloc)
     }
 
@@ -113,12 +114,14 @@ impl<T> BlockQueue<T> {
         requires { length self.old.items + length other.items < 2 ^ 63 }
         ensures { self.new.items ≡ self.old.items ++ other.items }
     {
+        linking::settle(&mut self.blocks, &mut self.kept);
         let BlockQueue {
-            blocks,
-            kept,
+            mut blocks,
+            mut kept,
             count,
             alloc: _,
         } = other;
+        linking::settle(&mut blocks, &mut kept);
         let empty = if count == 0 {
             replace_with(&mut self.blocks, blocks, linking::linked_in_front)
         } else {

@@ -262,19 +262,19 @@ impl<T> Blocks<T> {
         }
     }
 
-    /// Whether there is one block only.
-    #[inline]
-    fn is_one(&self) -> bool
-        ensures one { result ≡ true → length self.now ≡ 1 }
-        ensures more { result ≡ false → 2 ≤ length self.now }
-    {
+    /// Whether the first block has no item and others follow.
+    fn is_idle(&self) -> bool {
         match &self.front {
-            Some(front) => {
-                let _ = &front.first;
-                false
-            }
-            None => true,
+            Some(front) => front.first.block.is_empty(),
+            None => false,
         }
+    }
+
+    /// The oldest item of the second block, if there is one.
+    fn second_item(&self) -> Option<&T> {
+        let mut blocks = self.walk();
+        blocks.next()?;
+        blocks.next()?.first()
     }
 
     /// Takes the first block out, where others follow.
@@ -424,33 +424,29 @@ pub(crate) fn pop<T>(blocks: &mut Option<Blocks<T>>, kept: &mut Option<Load<T>>)
     ensures alone { IsSome kept.new → AllHaveItems (joined blocks.new) }
 {
     let count = first_len(blocks);
-    if count > 1 {
-        return pop_first(blocks);
+    if count < 2 {
+        make_ready(blocks, kept);
     }
-    pop_last(blocks, kept)
+    pop_first(blocks)
 }
 
-/// [`pop`], where the first block has no second item.
+/// Sees to the blocks before the oldest item is taken out, where the first block has no second item: the first one has an
+/// item then, and if that is its last one no block is kept.
 #[inline(never)]
-fn pop_last<T>(blocks: &mut Option<Blocks<T>>, kept: &mut Option<Load<T>>) -> T
-    requires shape { IsChain (joined blocks.old) }
-    requires filled { 0 < length (items_of (joined blocks.old)) }
-    requires last { first_count (joined blocks.old) ≤ 1 }
-    requires kept { IfSome kept.old (λ load. load.block.items ≡ []) }
-    ensures items { items_of (joined blocks.old) ≡ result ∷ items_of (joined blocks.new) }
-    ensures shape { IsChain (joined blocks.new) }
-    ensures room { (room_of (joined blocks.new) ≡ room_of (joined blocks.old)) ⊎ ((items_of (joined blocks.new) ≡ []) × (room_of (joined blocks.new) ≡ 32)) }
-    ensures kept { IfSome kept.new (λ load. load.block.items ≡ []) }
-    ensures alone { IsSome kept.new → AllHaveItems (joined blocks.new) }
-{
-    let one = is_one(blocks);
-    if one {
+fn make_ready<T>(blocks: &mut Option<Blocks<T>>, kept: &mut Option<Load<T>>) {
+    settle(blocks, kept);
+    let count = first_len(blocks);
+    if count < 2 {
         let_go(kept);
-        return pop_first(blocks);
     }
-    let item = pop_first(blocks);
-    part_empty(blocks, kept);
-    item
+}
+
+/// Keeps a first block apart that has no item, where others follow.
+pub(crate) fn settle<T>(blocks: &mut Option<Blocks<T>>, kept: &mut Option<Load<T>>) {
+    let idle = is_idle(blocks);
+    if idle {
+        part_empty(blocks, kept);
+    }
 }
 
 /// Takes the first item out of the first block.
@@ -495,15 +491,11 @@ fn part_empty<T>(blocks: &mut Option<Blocks<T>>, kept: &mut Option<Load<T>>)
     keep_one(blocks, kept);
 }
 
-#[inline]
-fn is_one<T>(blocks: &Option<Blocks<T>>) -> bool
-    requires { 0 < first_count (joined blocks.now) }
-    ensures one { result ≡ true → length (joined blocks.now) ≡ 1 }
-    ensures more { result ≡ false → 2 ≤ length (joined blocks.now) }
-{
+/// Whether the first block has no item and others follow.
+fn is_idle<T>(blocks: &Option<Blocks<T>>) -> bool {
     match blocks {
-        Some(blocks) => blocks.is_one(),
-        None => unreachable!(),
+        Some(blocks) => blocks.is_idle(),
+        None => false,
     }
 }
 
@@ -567,7 +559,10 @@ pub(crate) fn first_item<T>(blocks: &Option<Blocks<T>>) -> Option<&T>
     ensures { option_copied result ≡ oldest (items_of (joined blocks.now)) }
 {
     match blocks {
-        Some(blocks) => blocks.first().first(),
+        Some(blocks) => match blocks.first().first() {
+            Some(item) => Some(item),
+            None => blocks.second_item(),
+        },
         None => None,
     }
 }
