@@ -1,9 +1,11 @@
 -- A list of blocks whose first or last one is at hand.
 use Rattle.std.proofs.Common.{◌≡◌, ◌-◌, ◌<◌, ◌≤◌, ◌⊎◌, inl, inr, true, false, List, [], ◌∷◌, ◌++◌, None, refl, sym, ap, ◌∙◌, subst, arith, length, get_or, drop, append-nil, length-append}
 use Rattle.std.specs.Prelude.{Option, Some, IfSome, IsSome}
+use Rattle.std.specs.Borrow.{Bor}
+use Rattle.std.specs.Map.Iter.{TakesFirst, deref}
 use Rattle.block_queue.specs.Queue.{Queue, oldest}
-use Rattle.block_queue.specs.Blocks.{fresh, items_of, first_items, first_count, room_of, pushed, has_none, begins_empty, AllHaveItems, IsChain, IsFirstPopped, IsJoined}
-use Rattle.block_queue.proofs.Blocks.{none_is, some_is, last_chained, chained_rest, oldest_first, items_of_joined, room_of_joined, chained, last_room, last_items, freed_first}
+use Rattle.block_queue.specs.Blocks.{fresh, items_of, first_items, first_count, room_of, pushed, has_none, begins_empty, AllHaveItems, IsChain, BeginsEmptied, IsLine, EndsWith, IsFirstPopped, IsSettled, IsJoined}
+use Rattle.block_queue.proofs.Blocks.{none_is, some_is, last_chained, chained_rest, chain_begins, oldest_first, items_of_joined, room_of_joined, chained, last_room, last_items, freed_first}
 
 module _ {T : Type 0} where
   pub room_at_end : (front : List (Queue T)) (q : Queue T) → room_of (front ++ q ∷ []) ≡ q.room
@@ -144,24 +146,26 @@ module _ {T : Type 0} where
   unfolding AllHaveItems
   first_have b left bs all some = (some, all.1)
 
-  lone_chained : (left : Queue T) (bs : List (Queue T)) → left ≡ fresh → length bs ≡ 0 → IsChain (left ∷ bs) × (items_of (left ∷ bs) ≡ []) × (room_of (left ∷ bs) ≡ 32)
-  lone_chained left [] is none =
-      (subst (λ q. IsChain (q ∷ [])) (sym is) (last_chained fresh (omega arith)), last_items left (ap (λ q. q.items) is), last_room left ∙ ap (λ q. q.room) is)
-  lone_chained left (b ∷ bs) is none = absurd (omega arith)
+  -- a first block that was emptied, alone or with others behind it
+  emptied_left : (b left : Queue T) (bs : List (Queue T)) → IsChain (b ∷ bs) → left ≡ fresh
+      → IsLine (left ∷ bs) × ((room_of (left ∷ bs) ≡ room_of (b ∷ bs)) ⊎ ((items_of (left ∷ bs) ≡ []) × (room_of (left ∷ bs) ≡ 32)))
+  unfolding IsChain room_of begins_empty has_none
+  emptied_left b left [] h is = (inl (inr (subst (λ q. 0 < q.room) (sym is) (omega arith))), inr (last_items left (ap (λ q. q.items) is), ap (λ q. q.room) is))
+  emptied_left b left (c ∷ cs) h is = (inr (record { emptied = ap (λ q. has_none q.items) is; followed = omega arith; chained = h.1 }), inl refl)
 
-  -- what the first item leaves behind, where the first block has another one or is the only one
-  pub left_behind : (bs new : List (Queue T)) (item : T) → IsChain bs → IsFirstPopped bs item new → (2 ≤ first_count bs) ⊎ (length bs ≡ 1)
-      → (items_of bs ≡ item ∷ items_of new) × IsChain new × ((room_of new ≡ room_of bs) ⊎ ((items_of new ≡ []) × (room_of new ≡ 32)))
-  left_behind bs new item h (first, left, rest, e, f, popped) which =
+  -- what the first item leaves behind
+  pub left_behind : (bs new : List (Queue T)) (item : T) → IsChain bs → IsFirstPopped bs item new
+      → (items_of bs ≡ item ∷ items_of new) × IsLine new × ((room_of new ≡ room_of bs) ⊎ ((items_of new ≡ []) × (room_of new ≡ 32)))
+  left_behind bs new item h (first, left, rest, e, f, popped) =
       let items = ap items_of e ∙ first_popped first left rest item popped.items ∙ ap (λ l. item ∷ items_of l) (sym f) in
-      let n = ap length popped.items in let m = ap length (at_first bs rest first e) in let k = ap length e in
       elim popped.room [
         | inl stays ↦
-            (items, subst IsChain (sym f) (first_chained first left rest (subst IsChain e h) stays.0), inl (ap room_of f ∙ room_popped first left rest stays.1 ∙ ap room_of (sym e)))
-        | inr is ↦ let j = ap (λ q. length q.items) is in
-            let none : length rest ≡ 0 = elim which [ inl two ↦ absurd (omega arith) | inr one ↦ omega arith ] in
-            let lone = lone_chained left rest is none in
-            (items, subst IsChain (sym f) lone.0, inr (ap items_of f ∙ lone.1, ap room_of f ∙ lone.2))
+            (items, inl (subst IsChain (sym f) (first_chained first left rest (subst IsChain e h) stays.0)), inl (ap room_of f ∙ room_popped first left rest stays.1 ∙ ap room_of (sym e)))
+        | inr is ↦
+            let behind = emptied_left first left rest (subst IsChain e h) is in
+            (items, subst IsLine (sym f) behind.0,
+             subst (λ l. (room_of l ≡ room_of bs) ⊎ ((items_of l ≡ []) × (room_of l ≡ 32))) (sym f)
+             (subst (λ l. (room_of (left ∷ rest) ≡ room_of l) ⊎ ((items_of (left ∷ rest) ≡ []) × (room_of (left ∷ rest) ≡ 32))) (sym e) behind.1))
       ]
 
   pub behind_have : (bs new : List (Queue T)) (item : T) → AllHaveItems bs → IsFirstPopped bs item new → 2 ≤ first_count bs → AllHaveItems new
@@ -169,26 +173,53 @@ module _ {T : Type 0} where
       let n = ap length popped.items in let m = ap length (at_first bs rest first e) in
       subst AllHaveItems (sym f) (first_have first left rest (subst AllHaveItems e all) (omega arith))
 
-  nothing : (items : List T) → length items ≡ 0 → items ≡ []
-  nothing [] none = refl
-  nothing (item ∷ items) none = absurd (omega arith)
+  none_first : (bs : List (Queue T)) → begins_empty bs ≡ true → first_count bs ≡ 0
+  unfolding begins_empty first_items
+  none_first [] e = refl
+  none_first (b ∷ bs) e = ap length (none_is b.items e)
 
-  begins_with_none : (left : Queue T) (bs : List (Queue T)) → length left.items ≡ 0 → begins_empty (left ∷ bs) ≡ true
-  unfolding begins_empty has_none
-  begins_with_none left bs none = ap has_none (nothing left.items none)
+  -- no block in front was emptied, where the first one has an item
+  pub filled_chain : (bs : List (Queue T)) → IsLine bs → 2 ≤ first_count bs → IsChain bs
+  filled_chain bs (inl h) two = h
+  filled_chain bs (inr e) two = let none = none_first bs e.emptied in absurd (omega arith)
 
-  room_followed : (b left : Queue T) (bs : List (Queue T)) → 0 < length bs → room_of (left ∷ bs) ≡ room_of (b ∷ bs)
-  unfolding room_of
-  room_followed b left [] some = absurd (omega arith)
-  room_followed b left (c ∷ cs) some = refl
+  pub settled_same : (bs : List (Queue T)) → IsChain bs → IsSettled bs bs
+  settled_same bs h = record { chained = h; items = refl; room = refl }
 
-  -- the first block's last item is taken out, and others follow
-  pub emptied : (bs new : List (Queue T)) (item : T) → IsChain bs → IsFirstPopped bs item new → first_count bs ≤ 1 → 2 ≤ length bs
-      → (items_of bs ≡ item ∷ items_of new) × (begins_empty new ≡ true) × (2 ≤ length new) × IsChain (drop 1 new) × (room_of new ≡ room_of bs)
-  emptied bs new item h (first, left, rest, e, f, popped) last two =
-      let n = ap length popped.items in let m = ap length (at_first bs rest first e) in let k = ap length e in let j = ap length f in
-      (ap items_of e ∙ first_popped first left rest item popped.items ∙ ap (λ l. item ∷ items_of l) (sym f),
-       ap begins_empty f ∙ begins_with_none left rest (omega arith),
-       omega arith,
-       subst (λ l. IsChain (drop 1 l)) (sym f) (subst (λ l. IsChain (drop 1 l)) e (chained_rest bs h)),
-       ap room_of f ∙ room_followed first left rest (omega arith) ∙ ap room_of (sym e))
+  -- the emptied first block is taken away
+  pub settled_without : (bs rest : List (Queue T)) (first : Queue T) → bs ≡ first ∷ rest → BeginsEmptied bs → IsSettled bs rest × (first.items ≡ [])
+  settled_without bs rest first e is =
+      let without = without_first bs rest first e is.emptied is.followed in let same : drop 1 bs ≡ rest = ap (drop 1) e in
+      (record { chained = subst IsChain same is.chained; items = without.0; room = without.1 }, without.2)
+
+  pub idle : (bs : List (Queue T)) → IsLine bs → begins_empty bs ≡ true → 2 ≤ length bs → BeginsEmptied bs
+  idle bs (inl h) none two = record { emptied = none; followed = two; chained = chained_rest bs h }
+  idle bs (inr e) none two = e
+
+  pub busy : (bs : List (Queue T)) → IsLine bs → begins_empty bs ≡ false → IsChain bs
+  busy bs (inl h) some = h
+  busy bs (inr e) some = chain_begins bs e.chained some
+
+  pub lone : (bs : List (Queue T)) → IsLine bs → length bs ≤ 1 → IsChain bs
+  lone bs (inl h) one = h
+  lone bs (inr e) one = let two = e.followed in absurd (omega arith)
+
+  pub ends_room : (bs : List (Queue T)) (last : Queue T) → EndsWith bs last → last.room ≡ room_of bs
+  ends_room bs last (front, e) = sym (room_at_end front last) ∙ ap room_of e
+
+  pub ends_have : (bs : List (Queue T)) (last : Queue T) → EndsWith bs last → IsChain bs → has_none last.items ≡ false → AllHaveItems bs
+  ends_have bs last (front, e) h some = subst AllHaveItems e (with_last front bs last e h some)
+
+  pub after_taken : (bs new : List (Queue T)) (r : Option (Bor (Queue T))) → TakesFirst deref bs r new → new ≡ drop 1 bs
+  after_taken bs new None e = e.1 ∙ ap (drop 1) (sym e.0)
+  after_taken bs new (Some b) e = sym (ap (drop 1) e)
+
+  -- the chain behind an emptied block
+  pub passed_over : (bs rest : List (Queue T)) → BeginsEmptied bs → rest ≡ drop 1 bs → IsChain rest × (items_of rest ≡ items_of bs)
+  passed_over bs rest is e = (subst IsChain (sym e) is.chained, ap items_of e ∙ (freed_first bs is.emptied is.followed).0)
+
+  pub oldest_taken : (bs new : List (Queue T)) (b : Bor (Queue T)) → IsChain bs → TakesFirst deref bs (Some b) new → oldest b.now.items ≡ oldest (items_of bs)
+  oldest_taken bs new b h e = oldest_at_first bs new b.now e h
+
+  pub none_taken : (bs new : List (Queue T)) → TakesFirst deref bs None new → None ≡ oldest (items_of bs)
+  none_taken bs new e = no_oldest bs e.0

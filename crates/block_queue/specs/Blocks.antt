@@ -59,6 +59,26 @@ module _ {T : Type 0} where
   IsChain (block ∷ []) = (0 < length block.items) ⊎ (0 < block.room)
   IsChain (block ∷ next ∷ blocks) = (0 < length block.items) × IsChain (next ∷ blocks)
 
+  -- the first block was emptied, and a chain follows it
+  pub record BeginsEmptied (blocks : List (Queue T)) : Type 0 where
+    pub emptied : begins_empty blocks ≡ true
+    pub followed : 2 ≤ length blocks
+    pub chained : IsChain (drop 1 blocks)
+
+  -- a chain, or one behind a block that was emptied
+  abbrev pub IsLine : List (Queue T) → Type 0
+  IsLine blocks = IsChain blocks ⊎ BeginsEmptied blocks
+
+  -- the block is the last one
+  abbrev pub EndsWith : List (Queue T) → Queue T → Type 0
+  EndsWith blocks last = (front : List (Queue T)) × (front ++ last ∷ [] ≡ blocks)
+
+  -- a chain of the same items and the same room
+  pub record IsSettled (old new : List (Queue T)) : Type 0 where
+    pub chained : IsChain new
+    pub items : items_of new ≡ items_of old
+    pub room : room_of new ≡ room_of old
+
   -- the first item is taken out of a block, which begins again where it has no other
   pub record IsPopped (old : Queue T) (item : T) (new : Queue T) : Type 0 where
     pub items : old.items ≡ item ∷ new.items
@@ -75,9 +95,9 @@ module _ {T : Type 0} where
     pub items : items_of new ≡ items_of first ++ items_of second
     pub room : (room_of new ≡ room_of first) ⊎ (room_of new ≡ room_of second)
 
-  -- the chain of a queue that counts its items
+  -- the blocks of a queue that counts its items. A `usize` can hold the count and the blocks' number
   pub record IsQueue (count : ℕ) (blocks : List (Queue T)) : Type 0 where
-    pub chained : IsChain blocks
+    pub lined : IsLine blocks
     pub counted : count ≡ length (items_of blocks)
     pub one_block : room_of blocks ≤ 32
-    pub fits : count + room_of blocks < 2 ^ 64
+    pub fits : count + room_of blocks + 1 < 2 ^ 64

@@ -13,8 +13,9 @@ const MOST: usize = 0x8000_0000_0000_0000;
 
 /// A queue in a chain of blocks, whose items stay where they are while it grows.
 ///
-/// Each block but the last has an item. At most one block is empty: the last one, or one that is
-/// kept apart.
+/// Each block but the last has an item, and one that is emptied is kept: in front of the others until
+/// the next call, then apart from them. No more than one is kept, and none apart while the last block is
+/// empty too.
 #[derive(Drop)]
 pub struct BlockQueue<T> {
     blocks: Option<Blocks<T>>,

@@ -2,7 +2,7 @@
 ghost use Rattle.std.specs.Prelude.{◌≡◌, ◌^◌, ◌<◌, ◌≤◌, ◌⊎◌, true, false, ◌+◌, [], ◌∷◌, ◌++◌, None, OnOk, OnErr, IfOk, IfSome, IsSome, drop as without, length, option_copied, slice_set};
 ghost use Rattle.std.specs.Map.Iter.{TakesFirst, deref};
 ghost use Rattle.block_queue.specs.Queue.{oldest};
-ghost use Rattle.block_queue.specs.Blocks.{items_of, room_of, first_count, pushed, begins_empty, AllHaveItems, IsChain, IsFirstPopped, IsJoined};
+ghost use Rattle.block_queue.specs.Blocks.{items_of, room_of, first_count, pushed, AllHaveItems, IsChain, BeginsEmptied, IsLine, EndsWith, IsFirstPopped, IsSettled, IsJoined};
 ghost use Rattle.block_queue.specs.Chain.{joined};
 
 use crate::block::Block;
@@ -113,12 +113,31 @@ impl<T> Front<T> {
             },
         }
     }
+}
 
-    /// Takes the first block out.
-    fn split(self) -> (Load<T>, Option<Front<T>>)
-        ensures { self ≡ result.0.block ∷ joined result.1 }
+/// The blocks behind the first one.
+#[derive(Drop)]
+pub(crate) struct Back<T> {
+    middle: Option<Chain<Block<T>>>,
+    last: Load<T>,
+}
+
+impl<T> Model for Back<T> {
+    ghost use Rattle.std.specs.Prelude.{List, [], ◌∷◌, ◌++◌};
+    ghost use Rattle.block_queue.specs.Queue.{Queue};
+    ghost use Rattle.block_queue.specs.Chain.{joined};
+
+    ghost Value = { List (Queue T) };
+
+    ghost view = { λ b. joined b.middle ++ b.last.block ∷ [] };
+}
+
+impl<T> Back<T> {
+    /// These blocks, with none in front of them.
+    fn alone(self) -> Blocks<T>
+        ensures { result ≡ self }
     {
-        let Front { first, middle } = self;
+        let Back { middle, last } = self;
         match middle {
             Some(chain) => {
                 let Parted {
@@ -126,13 +145,12 @@ impl<T> Front<T> {
                     seat,
                     rest,
                 } = chain.split();
-                let next = Front {
+                Blocks {
                     first: Load { block, seat },
-                    middle: rest,
-                };
-                (first, Some(next))
+                    back: Some(Back { middle: rest, last }),
+                }
             }
-            None => (first, None),
+            None => Blocks::one(last),
         }
     }
 }
@@ -140,41 +158,65 @@ impl<T> Front<T> {
 /// One block or more.
 #[derive(Drop)]
 pub(crate) struct Blocks<T> {
-    front: Option<Front<T>>,
-    last: Load<T>,
+    first: Load<T>,
+    back: Option<Back<T>>,
 }
 
 impl<T> Model for Blocks<T> {
-    ghost use Rattle.std.specs.Prelude.{List, [], ◌∷◌, ◌++◌};
+    ghost use Rattle.std.specs.Prelude.{List, ◌∷◌};
     ghost use Rattle.block_queue.specs.Queue.{Queue};
     ghost use Rattle.block_queue.specs.Chain.{joined};
 
     ghost Value = { List (Queue T) };
 
-    ghost view = { λ b. joined b.front ++ b.last.block ∷ [] };
+    ghost view = { λ b. b.first.block ∷ joined b.back };
 }
 
 impl<T> Blocks<T> {
-    fn one(last: Load<T>) -> Blocks<T>
-        ensures { result ≡ last.block ∷ [] }
+    fn one(first: Load<T>) -> Blocks<T>
+        ensures { result ≡ first.block ∷ [] }
     {
-        Blocks { front: None, last }
+        Blocks { first, back: None }
+    }
+
+    /// The blocks before the last one, if there are any, and that one.
+    fn of(front: Option<Front<T>>, last: Load<T>) -> Blocks<T>
+        ensures { result ≡ joined front ++ last.block ∷ [] }
+    {
+        match front {
+            Some(front) => {
+                let Front { first, middle } = front;
+                Blocks {
+                    first,
+                    back: Some(Back { middle, last }),
+                }
+            }
+            None => Blocks::one(last),
+        }
+    }
+
+    /// Parts the blocks before the last one, if there are any, from that one.
+    fn parts(self) -> (Option<Front<T>>, Load<T>)
+        ensures { self ≡ joined result.0 ++ result.1.block ∷ [] }
+    {
+        let Blocks { first, back } = self;
+        match back {
+            Some(back) => {
+                let Back { middle, last } = back;
+                (Some(Front { first, middle }), last)
+            }
+            None => (None, first),
+        }
     }
 
     /// Puts a block behind these.
     fn add(self, load: Load<T>) -> Blocks<T>
         ensures { result ≡ self ++ load.block ∷ [] }
     {
-        let Blocks { front, last } = self;
+        let (front, last) = self.parts();
         match front {
-            Some(front) => Blocks {
-                front: Some(front.add(last)),
-                last: load,
-            },
-            None => Blocks {
-                front: Some(Front::one(last)),
-                last: load,
-            },
+            Some(front) => Blocks::of(Some(front.add(last)), load),
+            None => Blocks::of(Some(Front::one(last)), load),
         }
     }
 
@@ -183,17 +225,11 @@ impl<T> Blocks<T> {
         ensures blocks { result ≡ joined others ++ self }
         ensures some { 0 < length self }
     {
-        let Blocks { front, last } = self;
+        let (front, last) = self.parts();
         match (others, front) {
-            (Some(others), Some(front)) => Blocks {
-                front: Some(others.join(front)),
-                last,
-            },
-            (Some(others), None) => Blocks {
-                front: Some(others),
-                last,
-            },
-            (None, front) => Blocks { front, last },
+            (Some(others), Some(front)) => Blocks::of(Some(others.join(front)), last),
+            (Some(others), None) => Blocks::of(Some(others), last),
+            (None, front) => Blocks::of(front, last),
         }
     }
 
@@ -204,7 +240,7 @@ impl<T> Blocks<T> {
         ensures shape { AllHaveItems (joined result.0) }
         ensures empty { IfSome result.1 (λ load. load.block.items ≡ []) }
     {
-        let Blocks { front, last } = self;
+        let (front, last) = self.parts();
         if last.block.is_empty() {
             return (front, Some(last));
         }
@@ -214,12 +250,23 @@ impl<T> Blocks<T> {
         }
     }
 
+    /// The last block.
+    #[inline]
+    fn last(&self) -> &Block<T>
+        ensures { EndsWith self.now result.now }
+    {
+        match &self.back {
+            Some(back) => &back.last.block,
+            None => &self.first.block,
+        }
+    }
+
     /// Whether the last block has no item.
     fn ends_empty(&self) -> bool
         requires { IsChain self.now }
         ensures { result ≡ false → AllHaveItems self.now }
     {
-        self.last.block.is_empty()
+        self.last().is_empty()
     }
 
     /// How many places the last block has behind its items.
@@ -227,7 +274,7 @@ impl<T> Blocks<T> {
     fn room(&self) -> usize
         ensures { result ≡ room_of self.now }
     {
-        self.last.block.room()
+        self.last().room()
     }
 
     /// Puts an item into the last block.
@@ -236,7 +283,10 @@ impl<T> Blocks<T> {
         requires { 1 ≤ room_of self.old }
         ensures { self.new ≡ pushed self.old item }
     {
-        self.last.block.push(item);
+        match &mut self.back {
+            Some(back) => back.last.block.push(item),
+            None => self.first.block.push(item),
+        }
     }
 
     /// Takes the first item out of the first block.
@@ -245,10 +295,7 @@ impl<T> Blocks<T> {
         requires { 0 < first_count self.old }
         ensures { IsFirstPopped self.old result self.new }
     {
-        match &mut self.front {
-            Some(front) => front.first.block.pop(),
-            None => self.last.block.pop(),
-        }
+        self.first.block.pop()
     }
 
     /// The first block.
@@ -256,25 +303,22 @@ impl<T> Blocks<T> {
     fn first(&self) -> &Block<T>
         ensures { self.now ≡ result.now ∷ without 1 self.now }
     {
-        match &self.front {
-            Some(front) => &front.first.block,
-            None => &self.last.block,
-        }
+        &self.first.block
     }
 
     /// Whether the first block has no item and others follow.
-    fn is_idle(&self) -> bool {
-        match &self.front {
-            Some(front) => front.first.block.is_empty(),
+    fn is_idle(&self) -> bool
+        requires { IsLine self.now }
+        ensures yes { result ≡ true → BeginsEmptied self.now }
+        ensures no { result ≡ false → IsChain self.now }
+    {
+        match &self.back {
+            Some(back) => {
+                let _ = &back.last;
+                self.first.block.is_empty()
+            }
             None => false,
         }
-    }
-
-    /// The oldest item of the second block, if there is one.
-    fn second_item(&self) -> Option<&T> {
-        let mut blocks = self.walk();
-        blocks.next()?;
-        blocks.next()?.first()
     }
 
     /// Takes the first block out, where others follow.
@@ -282,34 +326,31 @@ impl<T> Blocks<T> {
         requires { 2 ≤ length self }
         ensures { self ≡ result.0.block ∷ result.1 }
     {
-        let Blocks { front, last } = self;
-        match front {
-            Some(front) => {
-                let (first, front) = front.split();
-                (first, Blocks { front, last })
-            }
+        let Blocks { first, back } = self;
+        match back {
+            Some(back) => (first, back.alone()),
             None => unreachable!(),
         }
     }
 
     /// The blocks, the first one first.
-    pub(crate) fn walk(&self) -> Rest<'_, T>
+    fn walk(&self) -> Rest<'_, T>
         requires { length self.now < 2 ^ 64 }
         ensures { result ≡ self.now }
     {
-        match &self.front {
-            Some(front) => Rest {
-                first: Some(&front.first.block),
-                middle: match &front.middle {
+        match &self.back {
+            Some(back) => Rest {
+                first: Some(&self.first.block),
+                middle: match &back.middle {
                     Some(chain) => Some(chain.steps()),
                     None => None,
                 },
-                last: Some(&self.last.block),
+                last: Some(&back.last.block),
             },
             None => Rest {
                 first: None,
                 middle: None,
-                last: Some(&self.last.block),
+                last: Some(&self.first.block),
             },
         }
     }
@@ -350,6 +391,14 @@ impl<'a, T> Rest<'a, T> {
         let block = self.last;
         self.last = None;
         block
+    }
+
+    /// These blocks without the first one.
+    fn after_first(mut self) -> Rest<'a, T>
+        ensures { result ≡ without 1 self.entry }
+    {
+        let _ = self.next();
+        self
     }
 }
 
@@ -409,31 +458,53 @@ pub(crate) fn push<T>(blocks: &mut Option<Blocks<T>>, item: T)
     }
 }
 
-/// Takes the oldest item out of the first block, and the block away if that was its last item and
-/// others follow.
+/// Takes the oldest item out, as the last thing that it does, so that the item is copied once. A first
+/// block that is emptied by it stays where it is.
 #[inline]
 pub(crate) fn pop<T>(blocks: &mut Option<Blocks<T>>, kept: &mut Option<Load<T>>) -> T
-    requires shape { IsChain (joined blocks.old) }
+    requires shape { IsLine (joined blocks.old) }
     requires filled { 0 < length (items_of (joined blocks.old)) }
     requires kept { IfSome kept.old (λ load. load.block.items ≡ []) }
     requires alone { IsSome kept.old → AllHaveItems (joined blocks.old) }
     ensures items { items_of (joined blocks.old) ≡ result ∷ items_of (joined blocks.new) }
-    ensures shape { IsChain (joined blocks.new) }
+    ensures shape { IsLine (joined blocks.new) }
     ensures room { (room_of (joined blocks.new) ≡ room_of (joined blocks.old)) ⊎ ((items_of (joined blocks.new) ≡ []) × (room_of (joined blocks.new) ≡ 32)) }
     ensures kept { IfSome kept.new (λ load. load.block.items ≡ []) }
     ensures alone { IsSome kept.new → AllHaveItems (joined blocks.new) }
+{
+    prepare(blocks, kept);
+    pop_first(blocks)
+}
+
+/// Sees to it that the first block has the oldest item, and that no block is kept where it has no
+/// second one.
+#[inline]
+fn prepare<T>(blocks: &mut Option<Blocks<T>>, kept: &mut Option<Load<T>>)
+    requires shape { IsLine (joined blocks.old) }
+    requires kept { IfSome kept.old (λ load. load.block.items ≡ []) }
+    requires alone { IsSome kept.old → AllHaveItems (joined blocks.old) }
+    ensures blocks { IsSettled (joined blocks.old) (joined blocks.new) }
+    ensures kept { IfSome kept.new (λ load. load.block.items ≡ []) }
+    ensures alone { IsSome kept.new → AllHaveItems (joined blocks.new) }
+    ensures more { IsSome kept.new → 2 ≤ first_count (joined blocks.new) }
 {
     let count = first_len(blocks);
     if count < 2 {
         make_ready(blocks, kept);
     }
-    pop_first(blocks)
 }
 
-/// Sees to the blocks before the oldest item is taken out, where the first block has no second item: the first one has an
-/// item then, and if that is its last one no block is kept.
+/// [`prepare`], where the first block has no second item.
 #[inline(never)]
-fn make_ready<T>(blocks: &mut Option<Blocks<T>>, kept: &mut Option<Load<T>>) {
+fn make_ready<T>(blocks: &mut Option<Blocks<T>>, kept: &mut Option<Load<T>>)
+    requires shape { IsLine (joined blocks.old) }
+    requires kept { IfSome kept.old (λ load. load.block.items ≡ []) }
+    requires alone { IsSome kept.old → AllHaveItems (joined blocks.old) }
+    ensures blocks { IsSettled (joined blocks.old) (joined blocks.new) }
+    ensures kept { IfSome kept.new (λ load. load.block.items ≡ []) }
+    ensures alone { IsSome kept.new → AllHaveItems (joined blocks.new) }
+    ensures more { IsSome kept.new → 2 ≤ first_count (joined blocks.new) }
+{
     settle(blocks, kept);
     let count = first_len(blocks);
     if count < 2 {
@@ -441,8 +512,15 @@ fn make_ready<T>(blocks: &mut Option<Blocks<T>>, kept: &mut Option<Load<T>>) {
     }
 }
 
-/// Keeps a first block apart that has no item, where others follow.
-pub(crate) fn settle<T>(blocks: &mut Option<Blocks<T>>, kept: &mut Option<Load<T>>) {
+/// Keeps a first block apart that was emptied, where others follow.
+pub(crate) fn settle<T>(blocks: &mut Option<Blocks<T>>, kept: &mut Option<Load<T>>)
+    requires shape { IsLine (joined blocks.old) }
+    requires kept { IfSome kept.old (λ load. load.block.items ≡ []) }
+    requires alone { IsSome kept.old → AllHaveItems (joined blocks.old) }
+    ensures blocks { IsSettled (joined blocks.old) (joined blocks.new) }
+    ensures kept { IfSome kept.new (λ load. load.block.items ≡ []) }
+    ensures alone { IsSome kept.new → AllHaveItems (joined blocks.new) }
+{
     let idle = is_idle(blocks);
     if idle {
         part_empty(blocks, kept);
@@ -476,13 +554,9 @@ fn first_len<T>(blocks: &Option<Blocks<T>>) -> usize
 /// without items too.
 #[inline(never)]
 fn part_empty<T>(blocks: &mut Option<Blocks<T>>, kept: &mut Option<Load<T>>)
-    requires empty { begins_empty (joined blocks.old) ≡ true }
-    requires more { 2 ≤ length (joined blocks.old) }
-    requires shape { IsChain (without 1 (joined blocks.old)) }
+    requires first { BeginsEmptied (joined blocks.old) }
     requires kept { IfSome kept.old (λ load. load.block.items ≡ []) }
-    ensures items { items_of (joined blocks.new) ≡ items_of (joined blocks.old) }
-    ensures shape { IsChain (joined blocks.new) }
-    ensures room { room_of (joined blocks.new) ≡ room_of (joined blocks.old) }
+    ensures blocks { IsSettled (joined blocks.old) (joined blocks.new) }
     ensures kept { IfSome kept.new (λ load. load.block.items ≡ []) }
     ensures alone { IsSome kept.new → AllHaveItems (joined blocks.new) }
 {
@@ -492,7 +566,11 @@ fn part_empty<T>(blocks: &mut Option<Blocks<T>>, kept: &mut Option<Load<T>>)
 }
 
 /// Whether the first block has no item and others follow.
-fn is_idle<T>(blocks: &Option<Blocks<T>>) -> bool {
+fn is_idle<T>(blocks: &Option<Blocks<T>>) -> bool
+    requires { IsLine (joined blocks.now) }
+    ensures yes { result ≡ true → BeginsEmptied (joined blocks.now) }
+    ensures no { result ≡ false → IsChain (joined blocks.now) }
+{
     match blocks {
         Some(blocks) => blocks.is_idle(),
         None => false,
@@ -555,20 +633,33 @@ fn let_go<T>(kept: &mut Option<Load<T>>)
 /// The oldest item.
 #[inline]
 pub(crate) fn first_item<T>(blocks: &Option<Blocks<T>>) -> Option<&T>
-    requires { IsChain (joined blocks.now) }
+    requires fits { length (joined blocks.now) < 2 ^ 64 }
+    requires shape { IsLine (joined blocks.now) }
     ensures { option_copied result ≡ oldest (items_of (joined blocks.now)) }
 {
-    match blocks {
-        Some(blocks) => match blocks.first().first() {
-            Some(item) => Some(item),
-            None => blocks.second_item(),
-        },
+    let mut rest = walk(blocks);
+    match rest.next() {
+        Some(block) => block.first(),
         None => None,
     }
 }
 
-/// The blocks, the first one first.
+/// The blocks, the first one first, without one in front that was emptied.
 pub(crate) fn walk<T>(blocks: &Option<Blocks<T>>) -> Rest<'_, T>
+    requires fits { length (joined blocks.now) < 2 ^ 64 }
+    requires shape { IsLine (joined blocks.now) }
+    ensures shape { IsChain result }
+    ensures items { items_of result ≡ items_of (joined blocks.now) }
+{
+    if is_idle(blocks) {
+        walk_all(blocks).after_first()
+    } else {
+        walk_all(blocks)
+    }
+}
+
+/// All blocks, the first one first.
+fn walk_all<T>(blocks: &Option<Blocks<T>>) -> Rest<'_, T>
     requires { length (joined blocks.now) < 2 ^ 64 }
     ensures { result ≡ joined blocks.now }
 {
