@@ -1,5 +1,5 @@
 -- What a chain of blocks is after a step at one of its ends.
-use Rattle.std.proofs.Common.{◌≡◌, ℕ, zero, suc, ◌+◌, ◌-◌, ◌^◌, ◌<◌, ◌≤◌, ◌⊎◌, inl, inr, true, false, List, [], ◌∷◌, ◌++◌, Some, None, refl, sym, ap, ◌∙◌, subst, arith, length, get_or, set, drop, append-nil, append_assoc, length-append}
+use Rattle.std.proofs.Common.{◌≡◌, ℕ, zero, suc, ◌+◌, ◌-◌, ◌^◌, ◌<◌, ◌≤◌, inl, inr, true, false, List, [], ◌∷◌, ◌++◌, Some, None, refl, sym, ap, ◌∙◌, subst, arith, length, get_or, drop, append-nil, append_assoc, length-append}
 use Rattle.std.specs.Prelude.{Result, Ok, Err, OnOk, OnErr, Option, slice_get}
 use Rattle.std.specs.Borrow.{Bor}
 use Rattle.std.specs.Option.{option_copied}
@@ -32,11 +32,6 @@ module _ {T : Type 0} where
   shape_pushed (b ∷ []) item h = inl (omega (arith, length-append b.items (item ∷ [])))
   shape_pushed (b ∷ c ∷ []) item h = (h.0, inl (omega (arith, length-append c.items (item ∷ []))))
   shape_pushed (b ∷ c ∷ d ∷ ds) item h = (h.0, shape_pushed (c ∷ d ∷ ds) item h.1)
-
-  pub some_with_items : (bs : List (Queue T)) → 0 < length (items_of bs) → 0 < length bs
-  unfolding items_of
-  some_with_items [] some = absurd (omega arith)
-  some_with_items (b ∷ bs) some = omega arith
 
   pub some_at_first : (items : List T) (item : T) → Some item ≡ oldest items → false ≡ has_none items
   unfolding has_none
@@ -183,15 +178,6 @@ module _ {T : Type 0} where
       let n = is.counted in let fits = is.fits in let most = is.one_block in
       let more : count + 1 ≡ length (items_of new) = (omega (arith, length-append (items_of bs) (item ∷ []))) ∙ ap length (sym items) in
       (record { lined = subst IsLine (sym e) (lined_pushed bs item is.lined); counted = more; one_block = omega arith; fits = omega arith }, items, omega arith)
-
-  pub queue_popped : (count : ℕ) (bs new : List (Queue T)) (item : T) → IsQueue count bs → items_of bs ≡ item ∷ items_of new → IsLine new
-      → (room_of new ≡ room_of bs) ⊎ ((items_of new ≡ []) × (room_of new ≡ 32)) → IsQueue (count - 1) new × (room_of bs ≤ room_of new)
-  queue_popped count bs new item is e h (inl same) =
-      let n = is.counted ∙ ap length e in let fits = is.fits in let most = is.one_block in
-      (record { lined = h; counted = omega arith; one_block = omega arith; fits = omega arith }, omega arith)
-  queue_popped count bs new item is e h (inr last) =
-      let n = is.counted ∙ ap length e in let none = ap length last.0 in let all = last.1 in let fits = is.fits in let most = is.one_block in
-      (record { lined = h; counted = omega arith; one_block = omega arith; fits = omega arith }, omega arith)
 
   pub chain_begins : (bs : List (Queue T)) → IsChain (drop 1 bs) → begins_empty bs ≡ false → IsChain bs
   unfolding IsChain begins_empty

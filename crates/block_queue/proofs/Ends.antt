@@ -5,7 +5,7 @@ use Rattle.std.specs.Borrow.{Bor}
 use Rattle.std.specs.Map.Iter.{TakesFirst, deref}
 use Rattle.block_queue.specs.Queue.{Queue, oldest}
 use Rattle.block_queue.specs.Blocks.{fresh, items_of, first_items, first_count, room_of, pushed, has_none, begins_empty, AllHaveItems, IsChain, BeginsEmptied, IsLine, EndsWith, IsFirstPopped, IsSettled, IsJoined}
-use Rattle.block_queue.proofs.Blocks.{none_is, some_is, last_chained, chained_rest, chain_begins, oldest_first, items_of_joined, room_of_joined, chained, last_room, last_items, freed_first}
+use Rattle.block_queue.proofs.Blocks.{none_is, some_is, chained_rest, chain_begins, oldest_first, items_of_joined, room_of_joined, chained, last_room, last_items, freed_first}
 
 module _ {T : Type 0} where
   pub room_at_end : (front : List (Queue T)) (q : Queue T) → room_of (front ++ q ∷ []) ≡ q.room
@@ -30,17 +30,6 @@ module _ {T : Type 0} where
   unfolding room_of
   room_popped b left [] e = e
   room_popped b left (c ∷ cs) e = refl
-
-  -- the first block left, the others have items still
-  pub rest_have : (bs : List (Queue T)) → AllHaveItems bs → AllHaveItems (drop 1 bs)
-  unfolding AllHaveItems
-  rest_have [] all = tt
-  rest_have (b ∷ bs) all = all.1
-
-  pub begins_have : (bs : List (Queue T)) → AllHaveItems (drop 1 bs) → begins_empty bs ≡ false → AllHaveItems bs
-  unfolding AllHaveItems begins_empty
-  begins_have [] all e = tt
-  begins_have (b ∷ bs) all e = (some_is b.items e, all)
 
   pub none_have : (bs : List (Queue T)) → bs ≡ [] → AllHaveItems bs
   unfolding AllHaveItems
@@ -78,11 +67,6 @@ module _ {T : Type 0} where
   pub with_last : (front bs : List (Queue T)) (q : Queue T) → front ++ q ∷ [] ≡ bs → IsChain bs → has_none q.items ≡ false → AllHaveItems (front ++ q ∷ [])
   with_last front bs q e h some = all_with front q (front_has front q (subst IsChain (sym e) h)) (some_is q.items some)
 
-  pub only_empty : (front bs : List (Queue T)) (q : Queue T) → front ++ q ∷ [] ≡ bs → length bs ≡ 1 → begins_empty bs ≡ true → q.items ≡ []
-  unfolding begins_empty
-  only_empty [] bs q e one none = none_is q.items (ap begins_empty e ∙ none)
-  only_empty (b ∷ front) bs q e one none = let n : length (b ∷ front ++ q ∷ []) ≡ length bs = ap length e in absurd (omega (arith, length-append front (q ∷ [])))
-
   pub oldest_at_first : (bs rest : List (Queue T)) (first : Queue T) → bs ≡ first ∷ rest → IsChain bs → oldest first.items ≡ oldest (items_of bs)
   oldest_at_first bs rest first e h = let n : length bs ≡ length (first ∷ rest) = ap length e in oldest_first bs first h (omega arith) (sym (ap (λ l. get_or l 0 first) e))
 
@@ -102,10 +86,6 @@ module _ {T : Type 0} where
   pub no_oldest : (bs : List (Queue T)) → bs ≡ [] → None ≡ oldest (items_of bs)
   unfolding items_of
   no_oldest bs e = ap (λ l. oldest (items_of l)) (sym e)
-
-  pub no_first : (bs : List (Queue T)) → bs ≡ [] → false ≡ begins_empty bs
-  unfolding begins_empty
-  no_first bs e = ap begins_empty (sym e)
 
   pub linked_both : (bs cs front new : List (Queue T)) → AllHaveItems front → items_of front ≡ items_of bs → IsChain cs → 0 < length cs → new ≡ front ++ cs → IsJoined bs cs new
   linked_both bs cs front new all same h some e =
@@ -162,10 +142,12 @@ module _ {T : Type 0} where
         | inl stays ↦
             (items, inl (subst IsChain (sym f) (first_chained first left rest (subst IsChain e h) stays.0)), inl (ap room_of f ∙ room_popped first left rest stays.1 ∙ ap room_of (sym e)))
         | inr is ↦
-            let behind = emptied_left first left rest (subst IsChain e h) is in
-            (items, subst IsLine (sym f) behind.0,
-             subst (λ l. (room_of l ≡ room_of bs) ⊎ ((items_of l ≡ []) × (room_of l ≡ 32))) (sym f)
-             (subst (λ l. (room_of (left ∷ rest) ≡ room_of l) ⊎ ((items_of (left ∷ rest) ≡ []) × (room_of (left ∷ rest) ≡ 32))) (sym e) behind.1))
+            let behind = emptied_left first left rest (subst IsChain e h) is in (
+              items,
+              subst IsLine (sym f) behind.0,
+              subst (λ l. (room_of l ≡ room_of bs) ⊎ ((items_of l ≡ []) × (room_of l ≡ 32))) (sym f)
+                  (subst (λ l. (room_of (left ∷ rest) ≡ room_of l) ⊎ ((items_of (left ∷ rest) ≡ []) × (room_of (left ∷ rest) ≡ 32))) (sym e) behind.1),
+            )
       ]
 
   pub behind_have : (bs new : List (Queue T)) (item : T) → AllHaveItems bs → IsFirstPopped bs item new → 2 ≤ first_count bs → AllHaveItems new

@@ -13,9 +13,9 @@ const MOST: usize = 0x8000_0000_0000_0000;
 
 /// A queue in a chain of blocks, whose items stay where they are while it grows.
 ///
-/// Each block but the last has an item, and one that is emptied is kept: in front of the others until
-/// the next call, then apart from them. No more than one is kept, and none apart while the last block is
-/// empty too.
+/// Each block but the last has an item, or is the first one and was emptied by the last pop. The next
+/// pop, append or new block takes that one out of the chain, and it is kept for later. No block is kept
+/// while another one is empty.
 #[derive(Drop)]
 pub struct BlockQueue<T> {
     blocks: Option<Blocks<T>>,

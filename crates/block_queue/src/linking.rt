@@ -179,7 +179,7 @@ impl<T> Blocks<T> {
         Blocks { first, back: None }
     }
 
-    /// The blocks before the last one, if there are any, and that one.
+    /// Blocks, if there are any, and then one more.
     fn of(front: Option<Front<T>>, last: Load<T>) -> Blocks<T>
         ensures { result ≡ joined front ++ last.block ∷ [] }
     {
@@ -458,8 +458,8 @@ pub(crate) fn push<T>(blocks: &mut Option<Blocks<T>>, item: T)
     }
 }
 
-/// Takes the oldest item out, as the last thing that it does, so that the item is copied once. A first
-/// block that is emptied by it stays where it is.
+/// Takes the oldest item out, as the last thing that it does: so the item is copied once. A block that
+/// is emptied by it stays in front.
 #[inline]
 pub(crate) fn pop<T>(blocks: &mut Option<Blocks<T>>, kept: &mut Option<Load<T>>) -> T
     requires shape { IsLine (joined blocks.old) }
@@ -476,8 +476,8 @@ pub(crate) fn pop<T>(blocks: &mut Option<Blocks<T>>, kept: &mut Option<Load<T>>)
     pop_first(blocks)
 }
 
-/// Sees to it that the first block has the oldest item, and that no block is kept where it has no
-/// second one.
+/// Makes ready for a pop: the first block has an item then, if there is one, and where it has no second
+/// one no block is kept.
 #[inline]
 fn prepare<T>(blocks: &mut Option<Blocks<T>>, kept: &mut Option<Load<T>>)
     requires shape { IsLine (joined blocks.old) }
@@ -494,7 +494,7 @@ fn prepare<T>(blocks: &mut Option<Blocks<T>>, kept: &mut Option<Load<T>>)
     }
 }
 
-/// [`prepare`], where the first block has no second item.
+/// [`prepare`], where the first block has one item or none.
 #[inline(never)]
 fn make_ready<T>(blocks: &mut Option<Blocks<T>>, kept: &mut Option<Load<T>>)
     requires shape { IsLine (joined blocks.old) }
@@ -506,13 +506,13 @@ fn make_ready<T>(blocks: &mut Option<Blocks<T>>, kept: &mut Option<Load<T>>)
     ensures more { IsSome kept.new → 2 ≤ first_count (joined blocks.new) }
 {
     settle(blocks, kept);
-    let count = first_len(blocks);
-    if count < 2 {
+    let left = first_len(blocks);
+    if left < 2 {
         let_go(kept);
     }
 }
 
-/// Keeps a first block apart that was emptied, where others follow.
+/// Keeps the first block apart where it was emptied and others follow.
 pub(crate) fn settle<T>(blocks: &mut Option<Blocks<T>>, kept: &mut Option<Load<T>>)
     requires shape { IsLine (joined blocks.old) }
     requires kept { IfSome kept.old (λ load. load.block.items ≡ []) }
@@ -644,7 +644,7 @@ pub(crate) fn first_item<T>(blocks: &Option<Blocks<T>>) -> Option<&T>
     }
 }
 
-/// The blocks, the first one first, without one in front that was emptied.
+/// The blocks, the first one first. One in front that was emptied is passed over.
 pub(crate) fn walk<T>(blocks: &Option<Blocks<T>>) -> Rest<'_, T>
     requires fits { length (joined blocks.now) < 2 ^ 64 }
     requires shape { IsLine (joined blocks.now) }

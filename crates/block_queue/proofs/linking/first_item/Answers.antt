@@ -1,4 +1,4 @@
-use Rattle.std.proofs.Common.{◌∙◌, ap, subst, None}
+use Rattle.std.proofs.Common.{◌∙◌, ap, subst}
 use Rattle.std.specs.Map.Iter.{TakesFirst, deref}
 use Rattle.block_queue.specs.Queue.{oldest}
 use Rattle.block_queue.proofs.Ends.{oldest_taken, none_taken}

@@ -1,4 +1,4 @@
-use Rattle.std.proofs.Common.{sym, ap, refl, arith, length, ◌∙◌}
+use Rattle.std.proofs.Common.{sym, ap, refl, arith, length}
 use Rattle.block_queue.specs.Chain.{joined}
 use Rattle.block_queue.proofs.Ends.{at_first}
 use Rattle.block_queue.proofs.linking.Blocks.pop.Goals as goal
