@@ -47,15 +47,23 @@ def places():
     return max(1, min(len(os.sched_getaffinity(0)), int(free[1]) * 1024 // MEMORY_OF_A_SHARE))
 
 
-def shares(names, count):
-    """The edits of each crate, dealt into shares: a share begins by checking the whole crate, so few are better."""
+def height(name, uses):
+    """How many crates of this repository a check of the crate reads, with its own: as much does an edit cost, about."""
+    return 1 + sum(it in uses for it in uses[name])
+
+
+def shares(names, uses, count):
+    """The edits of each crate, dealt into shares, the dearest share first. A share begins by checking the whole crate,
+    so few are better; but where there are several crates none takes more than two thirds of what falls to a
+    processor, or all wait for the last."""
     edits = {name: sorted((TOP / "crates" / name / "wrong-bodies").glob("*.edit")) for name in names}
-    size = max(LEAST_SHARE, math.ceil(sum(map(len, edits.values())) / count))
+    cost = {name: len(edits[name]) * height(name, uses) for name in names}
+    most = max(1, sum(cost.values()) / count * 2 / 3)
     dealt = []
     for name, all_of_it in edits.items():
-        parts = math.ceil(len(all_of_it) / size)
+        parts = min(count, math.ceil(min(cost[name] / most, len(all_of_it) / LEAST_SHARE)))
         dealt += [(name, all_of_it[part::parts]) for part in range(parts)]
-    return sorted(dealt, key=lambda share: -len(share[1]))
+    return sorted(dealt, key=lambda share: -len(share[1]) * height(share[0], uses))
 
 
 def told(words, folder, **more):
@@ -195,7 +203,7 @@ def main():
         signal.signal(number, stop)
     build_below(names, uses)
     count = places()
-    dealt = shares(names, count)
+    dealt = shares(names, uses, count)
     total = sum(len(edits) for _, edits in dealt)
     print(f"{total} edits in {len(dealt)} shares, {count} of them at once; what rt says goes to {LOG}", flush=True)
     room = tempfile.mkdtemp(prefix="edits-")
