@@ -54,8 +54,8 @@ def height(name, uses):
 
 def shares(names, uses, count):
     """The edits of each crate, dealt into shares, the dearest share first. A share begins by checking the whole crate,
-    so few are better; but where there are several crates none takes more than two thirds of what falls to a
-    processor, or all wait for the last."""
+    so few are better, and none has fewer than LEAST_SHARE edits if it can be helped; but a crate whose edits cost more
+    than two thirds of what falls to a processor is split, into as many shares as run at once at most."""
     edits = {name: sorted((TOP / "crates" / name / "wrong-bodies").glob("*.edit")) for name in names}
     cost = {name: len(edits[name]) * height(name, uses) for name in names}
     most = max(1, sum(cost.values()) / count * 2 / 3)
