@@ -4,13 +4,13 @@
 usage: edits.py [CRATE ..]
        edits.py --check     tries none, and says which edits of must-fail/ and wrong-bodies/ can't be applied
 
-The edits are crates/CRATE/wrong-bodies/*.edit, of every crate where none is named. They are dealt into shares of one
-crate each. A share is tried by `rt must-fail` in a copy of the repository in which it stands as the crate's
+The edits are crates/CRATE/wrong-bodies/*.edit, of every crate where none is named. Each of these crates is proved first,
+over the work that is kept, and that work is where its edits begin. They are dealt into shares of one crate each. A share
+is tried by `rt must-fail`, one edit after the other, in a copy of the repository in which it stands as the crate's
 must-fail/, and the shares run side by side: on JOBS processors, or on as many as there are and memory holds. What
 `rt` says stands in out/edits.txt. A line comes for each edit as its share ends, and the last line is
-`N refused, M not`.
+`N refused, M not`. `rt` keeps the verdicts of a share that ended, so a run that was stopped goes on where it was.
 """
-import math
 import os
 import pathlib
 import re
@@ -26,7 +26,7 @@ TOP = pathlib.Path(__file__).resolve().parent.parent
 RT = os.environ.get("RT", "rt").split()
 LOG = TOP / "out" / "edits.txt"
 MEMORY_OF_A_SHARE = 3_000_000_000
-LEAST_SHARE = 8
+MOST_OF_A_SHARE = 12
 PRINTING = threading.Lock()
 RUNNING = set()
 STOPPED = threading.Event()
@@ -52,18 +52,15 @@ def height(name, uses):
     return 1 + sum(it in uses for it in uses[name])
 
 
-def shares(names, uses, count):
-    """The edits of each crate, dealt into shares, the dearest share first. A share begins by checking the whole crate,
-    so few are better, and none has fewer than LEAST_SHARE edits if it can be helped; but a crate whose edits cost more
-    than two thirds of what falls to a processor is split, into as many shares as run at once at most."""
-    edits = {name: sorted((TOP / "crates" / name / "wrong-bodies").glob("*.edit")) for name in names}
-    cost = {name: len(edits[name]) * height(name, uses) for name in names}
-    most = max(1, sum(cost.values()) / count * 2 / 3)
+def shares(names, uses):
+    """The edits of each crate, dealt into equal shares of MOST_OF_A_SHARE at most, those of the dearest crate first: a share
+    checks the whole crate at its begin and at its end, so few are better, and many end together."""
     dealt = []
-    for name, all_of_it in edits.items():
-        parts = min(count, math.ceil(min(cost[name] / most, len(all_of_it) / LEAST_SHARE)))
-        dealt += [(name, all_of_it[part::parts]) for part in range(parts)]
-    return sorted(dealt, key=lambda share: -len(share[1]) * height(share[0], uses))
+    for name in names:
+        edits = sorted((TOP / "crates" / name / "wrong-bodies").glob("*.edit"))
+        parts = -(-len(edits) // MOST_OF_A_SHARE)
+        dealt += [(name, edits[part::parts]) for part in range(parts)]
+    return sorted(dealt, key=lambda share: -height(share[0], uses))
 
 
 def told(words, folder, **more):
@@ -85,18 +82,20 @@ def told(words, folder, **more):
     return run.returncode, said
 
 
-def build_below(names, uses):
-    """Builds the libraries below these crates, over the work that is kept, and says where one is not proved."""
+def prove(names, uses):
+    """Builds the libraries below these crates and proves these, over the work that is kept, and says where one is not proved."""
     below, left = set(), list(names)
     while left:
         more = [it for it in uses[left.pop()] if it in uses and it not in below]
         below.update(more)
         left += more
-    for name in (it for it in uses if it in below):
-        print(f"{name}: its library ..", flush=True)
-        status, said = told([*RT, "lib"], TOP / "crates" / name)
+    tried = [it for it in names if any((TOP / "crates" / it).glob("wrong-bodies/*.edit"))]
+    for name in (it for it in uses if it in below or it in tried):
+        verb = "lib" if name in below else "check"
+        print(f"{name}: {'its library' if name in below else 'its proof'} ..", flush=True)
+        status, said = told([*RT, verb], TOP / "crates" / name)
         if status:
-            sys.exit(f"{said[-2000:]}\n{name} is not proved, so no edit above it was tried")
+            sys.exit(f"{said[-2000:]}\n{name} is not proved, so no edit was tried")
 
 
 def copy_to(room, uses, name, edits):
@@ -124,7 +123,8 @@ def try_share(uses, name, edits, room):
     copy_to(room, uses, name, edits)
     with PRINTING:
         print(f"{name}: {len(edits)} edits ..", flush=True)
-    _, said = told([*RT, "must-fail", name], room, env={**os.environ, "TMPDIR": str(room / "tmp")})
+    one_at_a_time = {**os.environ, "TMPDIR": str(room / "tmp"), "RT_JOBS": "1"}
+    _, said = told([*RT, "must-fail", name], room, env=one_at_a_time)
     shutil.rmtree(room)
     verdicts = dict(re.findall(rf"^rt: must-fail {name}/(\S+): (.*)", said, re.M))
     refused = 0
@@ -201,9 +201,9 @@ def main():
     LOG.write_text("")
     for number in (signal.SIGINT, signal.SIGTERM, signal.SIGHUP):
         signal.signal(number, stop)
-    build_below(names, uses)
+    prove(names, uses)
     count = places()
-    dealt = shares(names, uses, count)
+    dealt = shares(names, uses)
     total = sum(len(edits) for _, edits in dealt)
     print(f"{total} edits in {len(dealt)} shares, {count} of them at once; what rt says goes to {LOG}", flush=True)
     room = tempfile.mkdtemp(prefix="edits-")

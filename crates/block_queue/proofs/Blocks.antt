@@ -1,11 +1,11 @@
 -- What a chain of blocks is after a step at one of its ends.
-use Rattle.std.proofs.Common.{◌≡◌, ℕ, zero, suc, ◌+◌, ◌-◌, ◌^◌, ◌<◌, ◌≤◌, ◌⊎◌, inl, inr, true, false, List, [], ◌∷◌, ◌++◌, Some, None, refl, sym, ap, ◌∙◌, subst, arith, length, get_or, set, drop, append-nil, append_assoc, length-append}
+use Rattle.std.proofs.Common.{◌≡◌, ℕ, zero, suc, ◌+◌, ◌-◌, ◌^◌, ◌<◌, ◌≤◌, inl, inr, true, false, List, [], ◌∷◌, ◌++◌, Some, None, refl, sym, ap, ◌∙◌, subst, arith, length, get_or, drop, append-nil, append_assoc, length-append}
 use Rattle.std.specs.Prelude.{Result, Ok, Err, OnOk, OnErr, Option, slice_get}
 use Rattle.std.specs.Borrow.{Bor}
 use Rattle.std.specs.Option.{option_copied}
 use Rattle.std.specs.Map.Iter.{TakesFirst, deref}
 use Rattle.block_queue.specs.Queue.{Queue, oldest}
-use Rattle.block_queue.specs.Blocks.{items_of, left_in, room_of, pushed, has_none, begins_empty, AllHaveItems, IsChain, IsQueue}
+use Rattle.block_queue.specs.Blocks.{items_of, left_in, room_of, pushed, has_none, begins_empty, AllHaveItems, IsChain, BeginsEmptied, IsLine, IsSettled, IsQueue}
 
 module _ {T : Type 0} where
   pub some_with_room : (bs : List (Queue T)) → 1 ≤ room_of bs → 0 < length bs
@@ -32,11 +32,6 @@ module _ {T : Type 0} where
   shape_pushed (b ∷ []) item h = inl (omega (arith, length-append b.items (item ∷ [])))
   shape_pushed (b ∷ c ∷ []) item h = (h.0, inl (omega (arith, length-append c.items (item ∷ []))))
   shape_pushed (b ∷ c ∷ d ∷ ds) item h = (h.0, shape_pushed (c ∷ d ∷ ds) item h.1)
-
-  pub some_with_items : (bs : List (Queue T)) → 0 < length (items_of bs) → 0 < length bs
-  unfolding items_of
-  some_with_items [] some = absurd (omega arith)
-  some_with_items (b ∷ bs) some = omega arith
 
   pub some_at_first : (items : List T) (item : T) → Some item ≡ oldest items → false ≡ has_none items
   unfolding has_none
@@ -113,12 +108,39 @@ module _ {T : Type 0} where
   few_blocks (b ∷ []) (inr room) = omega arith
   few_blocks (b ∷ c ∷ cs) h = omega (arith, length-append b.items (items_of (c ∷ cs)), few_blocks (c ∷ cs) h.1, h.0)
 
+  pub freed_first : (bs : List (Queue T)) → begins_empty bs ≡ true → 2 ≤ length bs → (items_of (drop 1 bs) ≡ items_of bs) × (room_of (drop 1 bs) ≡ room_of bs)
+  unfolding items_of room_of begins_empty
+  freed_first [] e two = absurd (omega arith)
+  freed_first (b ∷ []) e two = absurd (omega arith)
+  freed_first (b ∷ c ∷ cs) e two = (ap (λ l. l ++ items_of (c ∷ cs)) (sym (none_is b.items e)), refl)
+
+  few_behind : (bs : List (Queue T)) → BeginsEmptied bs → length bs ≤ length (items_of bs) + room_of bs + 1
+  few_behind [] e = let two = e.followed in absurd (omega arith)
+  few_behind (b ∷ bs) e =
+      let freed = freed_first (b ∷ bs) e.emptied e.followed in let n : length (items_of bs) ≡ length (items_of (b ∷ bs)) = ap length freed.0 in
+      let m : room_of bs ≡ room_of (b ∷ bs) = freed.1 in let few = few_blocks bs e.chained in omega arith
+
+  few_lined : (bs : List (Queue T)) → IsLine bs → length bs ≤ length (items_of bs) + room_of bs + 1
+  few_lined bs (inl h) = let few = few_blocks bs h in omega arith
+  few_lined bs (inr e) = few_behind bs e
+
   pub blocks_fit : (count : ℕ) (bs : List (Queue T)) → IsQueue count bs → length bs < 2 ^ 64
-  blocks_fit count bs is = let few = few_blocks bs is.chained in let n = is.counted in let fits = is.fits in omega arith
+  blocks_fit count bs is = let few = few_lined bs is.lined in let n = is.counted in let fits = is.fits in omega arith
+
+  emptied_pushed : (bs : List (Queue T)) (item : T) → BeginsEmptied bs → BeginsEmptied (pushed bs item)
+  unfolding pushed begins_empty
+  emptied_pushed [] item e = let two = e.followed in absurd (omega arith)
+  emptied_pushed (b ∷ []) item e = let two = e.followed in absurd (omega arith)
+  emptied_pushed (b ∷ c ∷ []) item e = record { emptied = e.emptied; followed = omega arith; chained = shape_pushed (c ∷ []) item e.chained }
+  emptied_pushed (b ∷ c ∷ d ∷ ds) item e = record { emptied = e.emptied; followed = omega arith; chained = shape_pushed (c ∷ d ∷ ds) item e.chained }
+
+  lined_pushed : (bs : List (Queue T)) (item : T) → IsLine bs → IsLine (pushed bs item)
+  lined_pushed bs item (inl h) = inl (shape_pushed bs item h)
+  lined_pushed bs item (inr e) = inr (emptied_pushed bs item e)
 
   pub queue_new : (bs : List (Queue T)) → bs ≡ [] → IsQueue 0 bs × (items_of bs ≡ [])
   unfolding items_of room_of IsChain
-  queue_new bs e = subst (λ (l : List (Queue T)). IsQueue 0 l × (items_of l ≡ [])) (sym e) (record { chained = tt; counted = refl; one_block = omega arith; fits = omega arith }, refl)
+  queue_new bs e = subst (λ (l : List (Queue T)). IsQueue 0 l × (items_of l ≡ [])) (sym e) (record { lined = inl tt; counted = refl; one_block = omega arith; fits = omega arith }, refl)
 
   pub last_room : (q : Queue T) → room_of (q ∷ []) ≡ q.room
   unfolding room_of
@@ -132,14 +154,14 @@ module _ {T : Type 0} where
   unfolding IsChain
   last_chained q room = inr room
 
-  pub queue_added : (count : ℕ) (bs new : List (Queue T)) (q : Queue T) → IsQueue count bs → room_of bs ≡ 0 → count < 2 ^ 63 → q.items ≡ [] → q.room ≡ 32 → new ≡ bs ++ q ∷ []
+  pub queue_added : (count : ℕ) (bs new : List (Queue T)) (q : Queue T) → IsQueue count bs → IsChain bs → room_of bs ≡ 0 → count < 2 ^ 63 → q.items ≡ [] → q.room ≡ 32 → new ≡ bs ++ q ∷ []
       → IsQueue count new × (items_of new ≡ items_of bs) × (room_of new ≡ 32)
-  queue_added count bs new q is full few none room e =
+  queue_added count bs new q is h full few none room e =
       let some : 0 < length (q ∷ []) = omega arith in
       let items = ap items_of e ∙ items_of_joined bs (q ∷ []) ∙ ap (λ l. items_of bs ++ l) (last_items q none) ∙ append-nil (items_of bs) in
       let left : room_of new ≡ 32 = ap room_of e ∙ room_of_joined bs (q ∷ []) some ∙ last_room q ∙ room in (
         record {
-          chained = subst IsChain (sym e) (chained bs (q ∷ []) (all_have bs is.chained full) (last_chained q (omega arith)) some);
+          lined = inl (subst IsChain (sym e) (chained bs (q ∷ []) (all_have bs h full) (last_chained q (omega arith)) some));
           counted = is.counted ∙ ap length (sym items);
           one_block = omega arith;
           fits = omega arith;
@@ -155,16 +177,7 @@ module _ {T : Type 0} where
       let less : room_of new ≡ room_of bs - 1 = ap room_of e ∙ room_of_pushed bs item in
       let n = is.counted in let fits = is.fits in let most = is.one_block in
       let more : count + 1 ≡ length (items_of new) = (omega (arith, length-append (items_of bs) (item ∷ []))) ∙ ap length (sym items) in
-      (record { chained = subst IsChain (sym e) (shape_pushed bs item is.chained); counted = more; one_block = omega arith; fits = omega arith }, items, omega arith)
-
-  pub queue_popped : (count : ℕ) (bs new : List (Queue T)) (item : T) → IsQueue count bs → items_of bs ≡ item ∷ items_of new → IsChain new
-      → (room_of new ≡ room_of bs) ⊎ ((items_of new ≡ []) × (room_of new ≡ 32)) → IsQueue (count - 1) new × (room_of bs ≤ room_of new)
-  queue_popped count bs new item is e h (inl same) =
-      let n = is.counted ∙ ap length e in let fits = is.fits in let most = is.one_block in
-      (record { chained = h; counted = omega arith; one_block = omega arith; fits = omega arith }, omega arith)
-  queue_popped count bs new item is e h (inr last) =
-      let n = is.counted ∙ ap length e in let none = ap length last.0 in let all = last.1 in let fits = is.fits in let most = is.one_block in
-      (record { chained = h; counted = omega arith; one_block = omega arith; fits = omega arith }, omega arith)
+      (record { lined = subst IsLine (sym e) (lined_pushed bs item is.lined); counted = more; one_block = omega arith; fits = omega arith }, items, omega arith)
 
   pub chain_begins : (bs : List (Queue T)) → IsChain (drop 1 bs) → begins_empty bs ≡ false → IsChain bs
   unfolding IsChain begins_empty
@@ -172,23 +185,16 @@ module _ {T : Type 0} where
   chain_begins (b ∷ []) h e = inl (some_is b.items e)
   chain_begins (b ∷ c ∷ cs) h e = (some_is b.items e, h)
 
-  pub cleared_items : (bs : List (Queue T)) (left : Queue T) → begins_empty bs ≡ true → length bs ≡ 1 → left.items ≡ [] → (items_of (set bs 0 left) ≡ []) × (items_of bs ≡ [])
-  unfolding items_of begins_empty
-  cleared_items [] left e one none = absurd (omega arith)
-  cleared_items (b ∷ []) left e one none = (append-nil left.items ∙ none, append-nil b.items ∙ none_is b.items e)
-  cleared_items (b ∷ c ∷ cs) left e one none = absurd (omega arith)
+  pub queue_settled : (count : ℕ) (bs new : List (Queue T)) → IsQueue count bs → IsSettled bs new → IsQueue count new
+  queue_settled count bs new is to =
+      let most = is.one_block in let fits = is.fits in let same = to.room in
+      record { lined = inl to.chained; counted = is.counted ∙ ap length (sym to.items); one_block = omega arith; fits = omega arith }
 
-  pub freed_first : (bs : List (Queue T)) → begins_empty bs ≡ true → 2 ≤ length bs → (items_of (drop 1 bs) ≡ items_of bs) × (room_of (drop 1 bs) ≡ room_of bs)
-  unfolding items_of room_of begins_empty
-  freed_first [] e two = absurd (omega arith)
-  freed_first (b ∷ []) e two = absurd (omega arith)
-  freed_first (b ∷ c ∷ cs) e two = (ap (λ l. l ++ items_of (c ∷ cs)) (sym (none_is b.items e)), refl)
-
-  pub queue_grown : {A E : Type 0} (r : Result A E) (count : ℕ) (bs new : List (Queue T)) (q : Queue T) → IsQueue count bs → room_of bs ≡ 0 → count < 2 ^ 63 → q.items ≡ [] → q.room ≡ 32
+  pub queue_grown : {A E : Type 0} (r : Result A E) (count : ℕ) (bs new : List (Queue T)) (q : Queue T) → IsQueue count bs → IsChain bs → room_of bs ≡ 0 → count < 2 ^ 63 → q.items ≡ [] → q.room ≡ 32
       → OnOk r (new ≡ bs ++ q ∷ []) → OnErr r (new ≡ bs) → IsQueue count new × (items_of new ≡ items_of bs) × (room_of bs ≤ room_of new) × OnOk r (1 ≤ room_of new)
-  queue_grown (Ok a) count bs new q is full few none room added same =
-      let made = queue_added count bs new q is full few none room added in let left = made.2 in (made.0, made.1, omega arith, omega arith)
-  queue_grown (Err e) count bs new q is full few none room added same =
+  queue_grown (Ok a) count bs new q is h full few none room added same =
+      let made = queue_added count bs new q is h full few none room added in let left = made.2 in (made.0, made.1, omega arith, omega arith)
+  queue_grown (Err e) count bs new q is h full few none room added same =
       let left = ap room_of same in (subst (IsQueue count) (sym same) is, ap items_of same, omega arith, tt)
 
   drop_at : (items : List T) (index : ℕ) (x : T) → Some x ≡ slice_get items index → drop index items ≡ x ∷ drop (index + 1) items

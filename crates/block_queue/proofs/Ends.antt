@@ -1,9 +1,11 @@
 -- A list of blocks whose first or last one is at hand.
-use Rattle.std.proofs.Common.{◌≡◌, ◌-◌, ◌<◌, ◌≤◌, inl, inr, true, false, List, [], ◌∷◌, ◌++◌, None, refl, sym, ap, ◌∙◌, subst, arith, length, get_or, drop, append-nil, length-append}
+use Rattle.std.proofs.Common.{◌≡◌, ◌-◌, ◌<◌, ◌≤◌, ◌⊎◌, inl, inr, true, false, List, [], ◌∷◌, ◌++◌, None, refl, sym, ap, ◌∙◌, subst, arith, length, get_or, drop, append-nil, length-append}
 use Rattle.std.specs.Prelude.{Option, Some, IfSome, IsSome}
+use Rattle.std.specs.Borrow.{Bor}
+use Rattle.std.specs.Map.Iter.{TakesFirst, deref}
 use Rattle.block_queue.specs.Queue.{Queue, oldest}
-use Rattle.block_queue.specs.Blocks.{items_of, room_of, pushed, has_none, begins_empty, AllHaveItems, IsChain, IsJoined}
-use Rattle.block_queue.proofs.Blocks.{none_is, some_is, oldest_first, items_of_joined, room_of_joined, chained, last_room, last_items, freed_first}
+use Rattle.block_queue.specs.Blocks.{fresh, items_of, first_items, first_count, room_of, pushed, has_none, begins_empty, AllHaveItems, IsChain, BeginsEmptied, IsLine, EndsWith, IsFirstPopped, IsSettled, IsJoined}
+use Rattle.block_queue.proofs.Blocks.{none_is, some_is, chained_rest, chain_begins, oldest_first, items_of_joined, room_of_joined, chained, last_room, last_items, freed_first}
 
 module _ {T : Type 0} where
   pub room_at_end : (front : List (Queue T)) (q : Queue T) → room_of (front ++ q ∷ []) ≡ q.room
@@ -28,17 +30,6 @@ module _ {T : Type 0} where
   unfolding room_of
   room_popped b left [] e = e
   room_popped b left (c ∷ cs) e = refl
-
-  -- the first block left, the others have items still
-  pub rest_have : (bs : List (Queue T)) → AllHaveItems bs → AllHaveItems (drop 1 bs)
-  unfolding AllHaveItems
-  rest_have [] all = tt
-  rest_have (b ∷ bs) all = all.1
-
-  pub begins_have : (bs : List (Queue T)) → AllHaveItems (drop 1 bs) → begins_empty bs ≡ false → AllHaveItems bs
-  unfolding AllHaveItems begins_empty
-  begins_have [] all e = tt
-  begins_have (b ∷ bs) all e = (some_is b.items e, all)
 
   pub none_have : (bs : List (Queue T)) → bs ≡ [] → AllHaveItems bs
   unfolding AllHaveItems
@@ -76,11 +67,6 @@ module _ {T : Type 0} where
   pub with_last : (front bs : List (Queue T)) (q : Queue T) → front ++ q ∷ [] ≡ bs → IsChain bs → has_none q.items ≡ false → AllHaveItems (front ++ q ∷ [])
   with_last front bs q e h some = all_with front q (front_has front q (subst IsChain (sym e) h)) (some_is q.items some)
 
-  pub only_empty : (front bs : List (Queue T)) (q : Queue T) → front ++ q ∷ [] ≡ bs → length bs ≡ 1 → begins_empty bs ≡ true → q.items ≡ []
-  unfolding begins_empty
-  only_empty [] bs q e one none = none_is q.items (ap begins_empty e ∙ none)
-  only_empty (b ∷ front) bs q e one none = let n : length (b ∷ front ++ q ∷ []) ≡ length bs = ap length e in absurd (omega (arith, length-append front (q ∷ [])))
-
   pub oldest_at_first : (bs rest : List (Queue T)) (first : Queue T) → bs ≡ first ∷ rest → IsChain bs → oldest first.items ≡ oldest (items_of bs)
   oldest_at_first bs rest first e h = let n : length bs ≡ length (first ∷ rest) = ap length e in oldest_first bs first h (omega arith) (sym (ap (λ l. get_or l 0 first) e))
 
@@ -101,10 +87,6 @@ module _ {T : Type 0} where
   unfolding items_of
   no_oldest bs e = ap (λ l. oldest (items_of l)) (sym e)
 
-  pub no_first : (bs : List (Queue T)) → bs ≡ [] → false ≡ begins_empty bs
-  unfolding begins_empty
-  no_first bs e = ap begins_empty (sym e)
-
   pub linked_both : (bs cs front new : List (Queue T)) → AllHaveItems front → items_of front ≡ items_of bs → IsChain cs → 0 < length cs → new ≡ front ++ cs → IsJoined bs cs new
   linked_both bs cs front new all same h some e =
       record {
@@ -120,3 +102,106 @@ module _ {T : Type 0} where
   pub none_linked : (cs : List (Queue T)) → IsChain cs → IsJoined [] cs cs
   unfolding items_of
   none_linked cs h = record { chained = h; items = refl; room = inr refl }
+
+  pub at_first : (bs rest : List (Queue T)) (first : Queue T) → bs ≡ first ∷ rest → first.items ≡ first_items bs
+  unfolding first_items
+  at_first bs rest first e = ap first_items (sym e)
+
+  pub no_first_items : (bs : List (Queue T)) → bs ≡ [] → [] ≡ first_items bs
+  unfolding first_items
+  no_first_items bs e = ap first_items (sym e)
+
+  -- the first block has an item
+  pub some_first : (bs : List (Queue T)) → IsChain bs → 0 < length (items_of bs) → 0 < first_count bs
+  unfolding items_of first_items
+  some_first [] h some = absurd (omega arith)
+  some_first (b ∷ bs) h some = first_filled b bs h some
+
+  first_chained : (b left : Queue T) (bs : List (Queue T)) → IsChain (b ∷ bs) → 0 < length left.items → IsChain (left ∷ bs)
+  unfolding IsChain
+  first_chained b left [] h some = inl some
+  first_chained b left (c ∷ cs) h some = (some, h.1)
+
+  first_have : (b left : Queue T) (bs : List (Queue T)) → AllHaveItems (b ∷ bs) → 0 < length left.items → AllHaveItems (left ∷ bs)
+  unfolding AllHaveItems
+  first_have b left bs all some = (some, all.1)
+
+  -- a first block that was emptied, alone or with others behind it
+  emptied_left : (b left : Queue T) (bs : List (Queue T)) → IsChain (b ∷ bs) → left ≡ fresh
+      → IsLine (left ∷ bs) × ((room_of (left ∷ bs) ≡ room_of (b ∷ bs)) ⊎ ((items_of (left ∷ bs) ≡ []) × (room_of (left ∷ bs) ≡ 32)))
+  unfolding IsChain room_of begins_empty has_none
+  emptied_left b left [] h is = (inl (inr (subst (λ q. 0 < q.room) (sym is) (omega arith))), inr (last_items left (ap (λ q. q.items) is), ap (λ q. q.room) is))
+  emptied_left b left (c ∷ cs) h is = (inr (record { emptied = ap (λ q. has_none q.items) is; followed = omega arith; chained = h.1 }), inl refl)
+
+  -- what the first item leaves behind
+  pub left_behind : (bs new : List (Queue T)) (item : T) → IsChain bs → IsFirstPopped bs item new
+      → (items_of bs ≡ item ∷ items_of new) × IsLine new × ((room_of new ≡ room_of bs) ⊎ ((items_of new ≡ []) × (room_of new ≡ 32)))
+  left_behind bs new item h (first, left, rest, e, f, popped) =
+      let items = ap items_of e ∙ first_popped first left rest item popped.items ∙ ap (λ l. item ∷ items_of l) (sym f) in
+      elim popped.room [
+        | inl stays ↦
+            (items, inl (subst IsChain (sym f) (first_chained first left rest (subst IsChain e h) stays.0)), inl (ap room_of f ∙ room_popped first left rest stays.1 ∙ ap room_of (sym e)))
+        | inr is ↦
+            let behind = emptied_left first left rest (subst IsChain e h) is in (
+              items,
+              subst IsLine (sym f) behind.0,
+              subst (λ l. (room_of l ≡ room_of bs) ⊎ ((items_of l ≡ []) × (room_of l ≡ 32))) (sym f)
+                  (subst (λ l. (room_of (left ∷ rest) ≡ room_of l) ⊎ ((items_of (left ∷ rest) ≡ []) × (room_of (left ∷ rest) ≡ 32))) (sym e) behind.1),
+            )
+      ]
+
+  pub behind_have : (bs new : List (Queue T)) (item : T) → AllHaveItems bs → IsFirstPopped bs item new → 2 ≤ first_count bs → AllHaveItems new
+  behind_have bs new item all (first, left, rest, e, f, popped) two =
+      let n = ap length popped.items in let m = ap length (at_first bs rest first e) in
+      subst AllHaveItems (sym f) (first_have first left rest (subst AllHaveItems e all) (omega arith))
+
+  none_first : (bs : List (Queue T)) → begins_empty bs ≡ true → first_count bs ≡ 0
+  unfolding begins_empty first_items
+  none_first [] e = refl
+  none_first (b ∷ bs) e = ap length (none_is b.items e)
+
+  -- no block in front was emptied, where the first one has an item
+  pub filled_chain : (bs : List (Queue T)) → IsLine bs → 2 ≤ first_count bs → IsChain bs
+  filled_chain bs (inl h) two = h
+  filled_chain bs (inr e) two = let none = none_first bs e.emptied in absurd (omega arith)
+
+  pub settled_same : (bs : List (Queue T)) → IsChain bs → IsSettled bs bs
+  settled_same bs h = record { chained = h; items = refl; room = refl }
+
+  -- the emptied first block is taken away
+  pub settled_without : (bs rest : List (Queue T)) (first : Queue T) → bs ≡ first ∷ rest → BeginsEmptied bs → IsSettled bs rest × (first.items ≡ [])
+  settled_without bs rest first e is =
+      let without = without_first bs rest first e is.emptied is.followed in let same : drop 1 bs ≡ rest = ap (drop 1) e in
+      (record { chained = subst IsChain same is.chained; items = without.0; room = without.1 }, without.2)
+
+  pub idle : (bs : List (Queue T)) → IsLine bs → begins_empty bs ≡ true → 2 ≤ length bs → BeginsEmptied bs
+  idle bs (inl h) none two = record { emptied = none; followed = two; chained = chained_rest bs h }
+  idle bs (inr e) none two = e
+
+  pub busy : (bs : List (Queue T)) → IsLine bs → begins_empty bs ≡ false → IsChain bs
+  busy bs (inl h) some = h
+  busy bs (inr e) some = chain_begins bs e.chained some
+
+  pub lone : (bs : List (Queue T)) → IsLine bs → length bs ≤ 1 → IsChain bs
+  lone bs (inl h) one = h
+  lone bs (inr e) one = let two = e.followed in absurd (omega arith)
+
+  pub ends_room : (bs : List (Queue T)) (last : Queue T) → EndsWith bs last → last.room ≡ room_of bs
+  ends_room bs last (front, e) = sym (room_at_end front last) ∙ ap room_of e
+
+  pub ends_have : (bs : List (Queue T)) (last : Queue T) → EndsWith bs last → IsChain bs → has_none last.items ≡ false → AllHaveItems bs
+  ends_have bs last (front, e) h some = subst AllHaveItems e (with_last front bs last e h some)
+
+  pub after_taken : (bs new : List (Queue T)) (r : Option (Bor (Queue T))) → TakesFirst deref bs r new → new ≡ drop 1 bs
+  after_taken bs new None e = e.1 ∙ ap (drop 1) (sym e.0)
+  after_taken bs new (Some b) e = sym (ap (drop 1) e)
+
+  -- the chain behind an emptied block
+  pub passed_over : (bs rest : List (Queue T)) → BeginsEmptied bs → rest ≡ drop 1 bs → IsChain rest × (items_of rest ≡ items_of bs)
+  passed_over bs rest is e = (subst IsChain (sym e) is.chained, ap items_of e ∙ (freed_first bs is.emptied is.followed).0)
+
+  pub oldest_taken : (bs new : List (Queue T)) (b : Bor (Queue T)) → IsChain bs → TakesFirst deref bs (Some b) new → oldest b.now.items ≡ oldest (items_of bs)
+  oldest_taken bs new b h e = oldest_at_first bs new b.now e h
+
+  pub none_taken : (bs new : List (Queue T)) → TakesFirst deref bs None new → None ≡ oldest (items_of bs)
+  none_taken bs new e = no_oldest bs e.0

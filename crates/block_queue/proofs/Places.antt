@@ -1,7 +1,8 @@
 -- Which places of a block hold a value, after one of them is written or read.
-use Rattle.std.proofs.Common.{◌≡◌, ℕ, zero, suc, ◌+◌, ◌-◌, ◌<◌, ◌≤◌, List, [], ◌∷◌, ◌++◌, Option, Some, None, refl, sym, ap, ◌∙◌, subst, arith, length, get_or, set, slice_get, length-append}
+use Rattle.std.proofs.Common.{◌≡◌, ℕ, zero, suc, ◌+◌, ◌-◌, ◌<◌, ◌≤◌, ◌⊎◌, inl, inr, List, [], ◌∷◌, ◌++◌, Option, Some, None, refl, sym, ap, ◌∙◌, subst, arith, length, get_or, set, slice_get, length-append}
 use Rattle.block_queue.specs.Queue.{Queue}
 use Rattle.block_queue.specs.Places.{laid, values, IsFilled, IsBlock}
+use Rattle.block_queue.specs.Blocks.{IsPopped}
 
 pub queue_is : {T : Type 0} {xs ys : List T} {m n : ℕ} → xs ≡ ys → m ≡ n → ◌≡◌ {A = Queue T} (record { items = xs; room = m }) (record { items = ys; room = n })
 queue_is e f = λ i. record { items = e i; room = f i }
@@ -145,3 +146,16 @@ length-empty T rest = length-laid zero [] rest ∙ omega arith
 pub no_items : {T : Type 0} (items : List T) → length items ≡ 0 → items ≡ []
 no_items [] none = refl
 no_items (item ∷ items) none = absurd (omega arith)
+
+-- a block after its first item was taken out, which begins again where it has no other
+pub block_after : {T : Type 0} (start count next : ℕ) (places : List (Option T)) → IsBlock start count places → (item : T) (new : List (Option T)) → 0 < length (values places)
+    → get_or places start None ≡ Some item → new ≡ set places start None → ((next ≡ 0) × (count - 1 ≡ 0)) ⊎ ((next ≡ start + 1) × (1 ≤ count - 1))
+    → IsBlock next (count - 1) new × IsPopped (record { items = values places; room = 32 - (start + count) }) item (record { items = values new; room = 32 - (next + (count - 1)) })
+block_after start count next places block item new some got e after =
+    let popped = block_popped start count places block item new some got e in let n = block.counted in let m = popped.0.counted in let w = popped.0.within in
+    elim after [
+      | inl none ↦ let first = none.0 in let left = none.1 in let nothing = no_items (values new) (sym m ∙ left) in
+          (subst (λ k. IsBlock k (count - 1) new) (sym first) (block_cleared (start + 1) (count - 1) new popped.0 nothing), record { items = popped.1; room = inr (queue_is nothing (omega arith)) })
+      | inr more ↦ let first = more.0 in let left = more.1 in
+          (subst (λ k. IsBlock k (count - 1) new) (sym first) popped.0, record { items = popped.1; room = inl (omega arith, omega arith) })
+    ]

@@ -3,6 +3,10 @@ use Rattle.std.specs.Prelude.{◌≡◌, ℕ, ◌+◌, ◌-◌, ◌^◌, ◌<◌
 use Rattle.std.specs.Borrow.{Bor}
 use Rattle.block_queue.specs.Queue.{Queue}
 
+-- a block without items
+abbrev pub fresh : {T : Type 0} → Queue T
+fresh = record { items = []; room = 32 }
+
 module _ {T : Type 0} where
   -- the items of all blocks, in order
   unfoldable pub items_of : List (Queue T) → List T
@@ -13,6 +17,14 @@ module _ {T : Type 0} where
   abbrev pub left_in : Option (Bor (Queue T)) → ℕ → List T
   left_in None index = []
   left_in (Some block) index = drop index block.now.items
+
+  -- the items of the first block, and how many they are
+  unfoldable pub first_items : List (Queue T) → List T
+  first_items [] = []
+  first_items (block ∷ blocks) = block.items
+
+  abbrev pub first_count : List (Queue T) → ℕ
+  first_count blocks = length (first_items blocks)
 
   -- the room that the last block has
   unfoldable pub room_of : List (Queue T) → ℕ
@@ -47,15 +59,45 @@ module _ {T : Type 0} where
   IsChain (block ∷ []) = (0 < length block.items) ⊎ (0 < block.room)
   IsChain (block ∷ next ∷ blocks) = (0 < length block.items) × IsChain (next ∷ blocks)
 
+  -- the first block was emptied, and a chain follows it
+  pub record BeginsEmptied (blocks : List (Queue T)) : Type 0 where
+    pub emptied : begins_empty blocks ≡ true
+    pub followed : 2 ≤ length blocks
+    pub chained : IsChain (drop 1 blocks)
+
+  -- a chain, or one behind a block that was emptied
+  abbrev pub IsLine : List (Queue T) → Type 0
+  IsLine blocks = IsChain blocks ⊎ BeginsEmptied blocks
+
+  -- the block is the last one
+  abbrev pub EndsWith : List (Queue T) → Queue T → Type 0
+  EndsWith blocks last = (front : List (Queue T)) × (front ++ last ∷ [] ≡ blocks)
+
+  -- a chain of the same items and the same room
+  pub record IsSettled (old new : List (Queue T)) : Type 0 where
+    pub chained : IsChain new
+    pub items : items_of new ≡ items_of old
+    pub room : room_of new ≡ room_of old
+
+  -- the first item is taken out of a block, which begins again where it has no other
+  pub record IsPopped (old : Queue T) (item : T) (new : Queue T) : Type 0 where
+    pub items : old.items ≡ item ∷ new.items
+    pub room : ((0 < length new.items) × (new.room ≡ old.room)) ⊎ (new ≡ fresh)
+
+  -- the first item is taken out of the first block
+  abbrev pub IsFirstPopped : List (Queue T) → T → List (Queue T) → Type 0
+  IsFirstPopped blocks item new =
+      (first : Queue T) × (left : Queue T) × (rest : List (Queue T)) × (blocks ≡ first ∷ rest) × (new ≡ left ∷ rest) × IsPopped first item left
+
   -- the blocks of two queues, one behind the other
   pub record IsJoined (first second new : List (Queue T)) : Type 0 where
     pub chained : IsChain new
     pub items : items_of new ≡ items_of first ++ items_of second
     pub room : (room_of new ≡ room_of first) ⊎ (room_of new ≡ room_of second)
 
-  -- the chain of a queue that counts its items
+  -- the blocks of a queue that counts its items. A `usize` can hold the count and the blocks' number
   pub record IsQueue (count : ℕ) (blocks : List (Queue T)) : Type 0 where
-    pub chained : IsChain blocks
+    pub lined : IsLine blocks
     pub counted : count ≡ length (items_of blocks)
     pub one_block : room_of blocks ≤ 32
-    pub fits : count + room_of blocks < 2 ^ 64
+    pub fits : count + room_of blocks + 1 < 2 ^ 64

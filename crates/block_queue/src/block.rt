@@ -1,7 +1,7 @@
 //! A block: a short queue in a region of its own.
-ghost use Rattle.std.specs.Prelude.{◌≡◌, ◌-◌, ◌<◌, ◌≤◌, [], ◌∷◌, ◌++◌, Some, IfOk, IsSome, length, option_copied, slice_get};
+ghost use Rattle.std.specs.Prelude.{◌≡◌, ◌+◌, ◌-◌, ◌<◌, ◌≤◌, ◌⊎◌, [], ◌∷◌, ◌++◌, Some, IfOk, IsSome, length, option_copied, slice_get};
 ghost use Rattle.block_queue.specs.Queue.{oldest};
-ghost use Rattle.block_queue.specs.Blocks.{has_none};
+ghost use Rattle.block_queue.specs.Blocks.{has_none, IsPopped};
 
 use crate::region::{PLACES, Region};
 use std::alloc::{AllocError, Global};
@@ -95,16 +95,16 @@ impl<T> Block<T> {
         self.count += 1;
     }
 
-    /// Takes the first item out.
+    /// Takes the first item out. The next item behind the last one lies at the first place again.
     #[inline]
     pub(crate) fn pop(&mut self) -> T
         requires { 0 < length self.old.items }
-        ensures items { self.old.items ≡ result ∷ self.new.items }
-        ensures room { self.new.room ≡ self.old.room }
+        ensures { IsPopped self.old result self.new }
     {
         let first = self.start;
-        self.start += 1;
         self.count -= 1;
+        let next = start_after(first, self.count);
+        self.start = next;
         self.region.read(first)
     }
 
@@ -149,6 +149,18 @@ impl<T> Block<T> {
     {
         self.region.get(self.start + index)
     }
+}
+
+/// Where the items begin after the first one was taken out, and so many are left.
+#[inline]
+fn start_after(first: usize, left: usize) -> usize
+    requires { first < 32 }
+    ensures { ((result ≡ 0) × (left ≡ 0)) ⊎ ((result ≡ first + 1) × (1 ≤ left)) }
+{
+    if left == 0 {
+        return 0;
+    }
+    first + 1
 }
 
 impl<T: Drop> Drop for Block<T> {

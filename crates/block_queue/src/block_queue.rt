@@ -13,8 +13,9 @@ const MOST: usize = 0x8000_0000_0000_0000;
 
 /// A queue in a chain of blocks, whose items stay where they are while it grows.
 ///
-/// Each block but the last has an item. At most one block is empty: the last one, or one that is
-/// kept apart.
+/// Each block but the last has an item, or is the first one and was emptied by the last pop. The next
+/// pop, append or new block takes that one out of the chain, and it is kept for later. No block is kept
+/// while another one is empty.
 #[derive(Drop)]
 pub struct BlockQueue<T> {
     blocks: Option<Blocks<T>>,
@@ -59,6 +60,7 @@ impl<T> Fifo<T> for BlockQueue<T> {
         if self.count >= MOST {
             return Err(AllocError);
         }
+        linking::settle(&mut self.blocks, &mut self.kept);
         linking::add(&mut self.blocks, &mut self.kept, self.alloc)
     }
 
@@ -113,12 +115,14 @@ impl<T> BlockQueue<T> {
         requires { length self.old.items + length other.items < 2 ^ 63 }
         ensures { self.new.items ≡ self.old.items ++ other.items }
     {
+        linking::settle(&mut self.blocks, &mut self.kept);
         let BlockQueue {
-            blocks,
-            kept,
+            mut blocks,
+            mut kept,
             count,
             alloc: _,
         } = other;
+        linking::settle(&mut blocks, &mut kept);
         let empty = if count == 0 {
             replace_with(&mut self.blocks, blocks, linking::linked_in_front)
         } else {

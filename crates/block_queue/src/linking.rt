@@ -2,7 +2,7 @@
 ghost use Rattle.std.specs.Prelude.{◌≡◌, ◌^◌, ◌<◌, ◌≤◌, ◌⊎◌, true, false, ◌+◌, [], ◌∷◌, ◌++◌, None, OnOk, OnErr, IfOk, IfSome, IsSome, drop as without, length, option_copied, slice_set};
 ghost use Rattle.std.specs.Map.Iter.{TakesFirst, deref};
 ghost use Rattle.block_queue.specs.Queue.{oldest};
-ghost use Rattle.block_queue.specs.Blocks.{items_of, room_of, pushed, begins_empty, AllHaveItems, IsChain, IsJoined};
+ghost use Rattle.block_queue.specs.Blocks.{items_of, room_of, first_count, pushed, AllHaveItems, IsChain, BeginsEmptied, IsLine, EndsWith, IsFirstPopped, IsSettled, IsJoined};
 ghost use Rattle.block_queue.specs.Chain.{joined};
 
 use crate::block::Block;
@@ -113,12 +113,31 @@ impl<T> Front<T> {
             },
         }
     }
+}
 
-    /// Takes the first block out.
-    fn split(self) -> (Load<T>, Option<Front<T>>)
-        ensures { self ≡ result.0.block ∷ joined result.1 }
+/// The blocks behind the first one.
+#[derive(Drop)]
+pub(crate) struct Back<T> {
+    middle: Option<Chain<Block<T>>>,
+    last: Load<T>,
+}
+
+impl<T> Model for Back<T> {
+    ghost use Rattle.std.specs.Prelude.{List, [], ◌∷◌, ◌++◌};
+    ghost use Rattle.block_queue.specs.Queue.{Queue};
+    ghost use Rattle.block_queue.specs.Chain.{joined};
+
+    ghost Value = { List (Queue T) };
+
+    ghost view = { λ b. joined b.middle ++ b.last.block ∷ [] };
+}
+
+impl<T> Back<T> {
+    /// These blocks, with none in front of them.
+    fn alone(self) -> Blocks<T>
+        ensures { result ≡ self }
     {
-        let Front { first, middle } = self;
+        let Back { middle, last } = self;
         match middle {
             Some(chain) => {
                 let Parted {
@@ -126,13 +145,12 @@ impl<T> Front<T> {
                     seat,
                     rest,
                 } = chain.split();
-                let next = Front {
+                Blocks {
                     first: Load { block, seat },
-                    middle: rest,
-                };
-                (first, Some(next))
+                    back: Some(Back { middle: rest, last }),
+                }
             }
-            None => (first, None),
+            None => Blocks::one(last),
         }
     }
 }
@@ -140,41 +158,65 @@ impl<T> Front<T> {
 /// One block or more.
 #[derive(Drop)]
 pub(crate) struct Blocks<T> {
-    front: Option<Front<T>>,
-    last: Load<T>,
+    first: Load<T>,
+    back: Option<Back<T>>,
 }
 
 impl<T> Model for Blocks<T> {
-    ghost use Rattle.std.specs.Prelude.{List, [], ◌∷◌, ◌++◌};
+    ghost use Rattle.std.specs.Prelude.{List, ◌∷◌};
     ghost use Rattle.block_queue.specs.Queue.{Queue};
     ghost use Rattle.block_queue.specs.Chain.{joined};
 
     ghost Value = { List (Queue T) };
 
-    ghost view = { λ b. joined b.front ++ b.last.block ∷ [] };
+    ghost view = { λ b. b.first.block ∷ joined b.back };
 }
 
 impl<T> Blocks<T> {
-    fn one(last: Load<T>) -> Blocks<T>
-        ensures { result ≡ last.block ∷ [] }
+    fn one(first: Load<T>) -> Blocks<T>
+        ensures { result ≡ first.block ∷ [] }
     {
-        Blocks { front: None, last }
+        Blocks { first, back: None }
+    }
+
+    /// Blocks, if there are any, and then one more.
+    fn of(front: Option<Front<T>>, last: Load<T>) -> Blocks<T>
+        ensures { result ≡ joined front ++ last.block ∷ [] }
+    {
+        match front {
+            Some(front) => {
+                let Front { first, middle } = front;
+                Blocks {
+                    first,
+                    back: Some(Back { middle, last }),
+                }
+            }
+            None => Blocks::one(last),
+        }
+    }
+
+    /// Parts the blocks before the last one, if there are any, from that one.
+    fn parts(self) -> (Option<Front<T>>, Load<T>)
+        ensures { self ≡ joined result.0 ++ result.1.block ∷ [] }
+    {
+        let Blocks { first, back } = self;
+        match back {
+            Some(back) => {
+                let Back { middle, last } = back;
+                (Some(Front { first, middle }), last)
+            }
+            None => (None, first),
+        }
     }
 
     /// Puts a block behind these.
     fn add(self, load: Load<T>) -> Blocks<T>
         ensures { result ≡ self ++ load.block ∷ [] }
     {
-        let Blocks { front, last } = self;
+        let (front, last) = self.parts();
         match front {
-            Some(front) => Blocks {
-                front: Some(front.add(last)),
-                last: load,
-            },
-            None => Blocks {
-                front: Some(Front::one(last)),
-                last: load,
-            },
+            Some(front) => Blocks::of(Some(front.add(last)), load),
+            None => Blocks::of(Some(Front::one(last)), load),
         }
     }
 
@@ -183,17 +225,11 @@ impl<T> Blocks<T> {
         ensures blocks { result ≡ joined others ++ self }
         ensures some { 0 < length self }
     {
-        let Blocks { front, last } = self;
+        let (front, last) = self.parts();
         match (others, front) {
-            (Some(others), Some(front)) => Blocks {
-                front: Some(others.join(front)),
-                last,
-            },
-            (Some(others), None) => Blocks {
-                front: Some(others),
-                last,
-            },
-            (None, front) => Blocks { front, last },
+            (Some(others), Some(front)) => Blocks::of(Some(others.join(front)), last),
+            (Some(others), None) => Blocks::of(Some(others), last),
+            (None, front) => Blocks::of(front, last),
         }
     }
 
@@ -204,7 +240,7 @@ impl<T> Blocks<T> {
         ensures shape { AllHaveItems (joined result.0) }
         ensures empty { IfSome result.1 (λ load. load.block.items ≡ []) }
     {
-        let Blocks { front, last } = self;
+        let (front, last) = self.parts();
         if last.block.is_empty() {
             return (front, Some(last));
         }
@@ -214,12 +250,23 @@ impl<T> Blocks<T> {
         }
     }
 
+    /// The last block.
+    #[inline]
+    fn last(&self) -> &Block<T>
+        ensures { EndsWith self.now result.now }
+    {
+        match &self.back {
+            Some(back) => &back.last.block,
+            None => &self.first.block,
+        }
+    }
+
     /// Whether the last block has no item.
     fn ends_empty(&self) -> bool
         requires { IsChain self.now }
         ensures { result ≡ false → AllHaveItems self.now }
     {
-        self.last.block.is_empty()
+        self.last().is_empty()
     }
 
     /// How many places the last block has behind its items.
@@ -227,7 +274,7 @@ impl<T> Blocks<T> {
     fn room(&self) -> usize
         ensures { result ≡ room_of self.now }
     {
-        self.last.block.room()
+        self.last().room()
     }
 
     /// Puts an item into the last block.
@@ -236,22 +283,19 @@ impl<T> Blocks<T> {
         requires { 1 ≤ room_of self.old }
         ensures { self.new ≡ pushed self.old item }
     {
-        self.last.block.push(item);
+        match &mut self.back {
+            Some(back) => back.last.block.push(item),
+            None => self.first.block.push(item),
+        }
     }
 
-    /// Takes the oldest item out of the first block.
+    /// Takes the first item out of the first block.
     #[inline]
     fn pop(&mut self) -> T
-        requires shape { IsChain self.old }
-        requires filled { 0 < length (items_of self.old) }
-        ensures items { items_of self.old ≡ result ∷ items_of self.new }
-        ensures rest { without 1 self.new ≡ without 1 self.old }
-        ensures room { room_of self.new ≡ room_of self.old }
+        requires { 0 < first_count self.old }
+        ensures { IsFirstPopped self.old result self.new }
     {
-        match &mut self.front {
-            Some(front) => front.first.block.pop(),
-            None => self.last.block.pop(),
-        }
+        self.first.block.pop()
     }
 
     /// The first block.
@@ -259,35 +303,22 @@ impl<T> Blocks<T> {
     fn first(&self) -> &Block<T>
         ensures { self.now ≡ result.now ∷ without 1 self.now }
     {
-        match &self.front {
-            Some(front) => &front.first.block,
-            None => &self.last.block,
-        }
+        &self.first.block
     }
 
-    /// Whether there is one block only.
-    #[inline]
-    fn is_one(&self) -> bool
-        ensures one { result ≡ true → length self.now ≡ 1 }
-        ensures more { result ≡ false → 2 ≤ length self.now }
+    /// Whether the first block has no item and others follow.
+    fn is_idle(&self) -> bool
+        requires { IsLine self.now }
+        ensures yes { result ≡ true → BeginsEmptied self.now }
+        ensures no { result ≡ false → IsChain self.now }
     {
-        match &self.front {
-            Some(front) => {
-                let _ = &front.first;
-                false
+        match &self.back {
+            Some(back) => {
+                let _ = &back.last;
+                self.first.block.is_empty()
             }
-            None => true,
+            None => false,
         }
-    }
-
-    /// Has the only block begin again.
-    #[inline]
-    fn clear(&mut self)
-        requires one { length self.old ≡ 1 }
-        requires empty { begins_empty self.old ≡ true }
-        ensures { self.new ≡ record { items = []; room = 32 } ∷ [] }
-    {
-        self.last.block.clear();
     }
 
     /// Takes the first block out, where others follow.
@@ -295,34 +326,31 @@ impl<T> Blocks<T> {
         requires { 2 ≤ length self }
         ensures { self ≡ result.0.block ∷ result.1 }
     {
-        let Blocks { front, last } = self;
-        match front {
-            Some(front) => {
-                let (first, front) = front.split();
-                (first, Blocks { front, last })
-            }
+        let Blocks { first, back } = self;
+        match back {
+            Some(back) => (first, back.alone()),
             None => unreachable!(),
         }
     }
 
     /// The blocks, the first one first.
-    pub(crate) fn walk(&self) -> Rest<'_, T>
+    fn walk(&self) -> Rest<'_, T>
         requires { length self.now < 2 ^ 64 }
         ensures { result ≡ self.now }
     {
-        match &self.front {
-            Some(front) => Rest {
-                first: Some(&front.first.block),
-                middle: match &front.middle {
+        match &self.back {
+            Some(back) => Rest {
+                first: Some(&self.first.block),
+                middle: match &back.middle {
                     Some(chain) => Some(chain.steps()),
                     None => None,
                 },
-                last: Some(&self.last.block),
+                last: Some(&back.last.block),
             },
             None => Rest {
                 first: None,
                 middle: None,
-                last: Some(&self.last.block),
+                last: Some(&self.first.block),
             },
         }
     }
@@ -363,6 +391,14 @@ impl<'a, T> Rest<'a, T> {
         let block = self.last;
         self.last = None;
         block
+    }
+
+    /// These blocks without the first one.
+    fn after_first(mut self) -> Rest<'a, T>
+        ensures { result ≡ without 1 self.entry }
+    {
+        let _ = self.next();
+        self
     }
 }
 
@@ -422,32 +458,80 @@ pub(crate) fn push<T>(blocks: &mut Option<Blocks<T>>, item: T)
     }
 }
 
-/// Takes the oldest item out of the first block, and the block away if that was its last item and
-/// others follow.
+/// Takes the oldest item out, as the last thing that it does: so the item is copied once. A block that
+/// is emptied by it stays in front.
 #[inline]
 pub(crate) fn pop<T>(blocks: &mut Option<Blocks<T>>, kept: &mut Option<Load<T>>) -> T
-    requires shape { IsChain (joined blocks.old) }
+    requires shape { IsLine (joined blocks.old) }
     requires filled { 0 < length (items_of (joined blocks.old)) }
     requires kept { IfSome kept.old (λ load. load.block.items ≡ []) }
     requires alone { IsSome kept.old → AllHaveItems (joined blocks.old) }
     ensures items { items_of (joined blocks.old) ≡ result ∷ items_of (joined blocks.new) }
-    ensures shape { IsChain (joined blocks.new) }
+    ensures shape { IsLine (joined blocks.new) }
     ensures room { (room_of (joined blocks.new) ≡ room_of (joined blocks.old)) ⊎ ((items_of (joined blocks.new) ≡ []) × (room_of (joined blocks.new) ≡ 32)) }
     ensures kept { IfSome kept.new (λ load. load.block.items ≡ []) }
     ensures alone { IsSome kept.new → AllHaveItems (joined blocks.new) }
 {
-    let item = pop_first(blocks);
-    shed_first(blocks, kept);
-    item
+    prepare(blocks, kept);
+    pop_first(blocks)
 }
 
+/// Makes ready for a pop: the first block has an item then, if there is one, and where it has no second
+/// one no block is kept.
+#[inline]
+fn prepare<T>(blocks: &mut Option<Blocks<T>>, kept: &mut Option<Load<T>>)
+    requires shape { IsLine (joined blocks.old) }
+    requires kept { IfSome kept.old (λ load. load.block.items ≡ []) }
+    requires alone { IsSome kept.old → AllHaveItems (joined blocks.old) }
+    ensures blocks { IsSettled (joined blocks.old) (joined blocks.new) }
+    ensures kept { IfSome kept.new (λ load. load.block.items ≡ []) }
+    ensures alone { IsSome kept.new → AllHaveItems (joined blocks.new) }
+    ensures more { IsSome kept.new → 2 ≤ first_count (joined blocks.new) }
+{
+    let count = first_len(blocks);
+    if count < 2 {
+        make_ready(blocks, kept);
+    }
+}
+
+/// [`prepare`], where the first block has one item or none.
+#[inline(never)]
+fn make_ready<T>(blocks: &mut Option<Blocks<T>>, kept: &mut Option<Load<T>>)
+    requires shape { IsLine (joined blocks.old) }
+    requires kept { IfSome kept.old (λ load. load.block.items ≡ []) }
+    requires alone { IsSome kept.old → AllHaveItems (joined blocks.old) }
+    ensures blocks { IsSettled (joined blocks.old) (joined blocks.new) }
+    ensures kept { IfSome kept.new (λ load. load.block.items ≡ []) }
+    ensures alone { IsSome kept.new → AllHaveItems (joined blocks.new) }
+    ensures more { IsSome kept.new → 2 ≤ first_count (joined blocks.new) }
+{
+    settle(blocks, kept);
+    let left = first_len(blocks);
+    if left < 2 {
+        let_go(kept);
+    }
+}
+
+/// Keeps the first block apart where it was emptied and others follow.
+pub(crate) fn settle<T>(blocks: &mut Option<Blocks<T>>, kept: &mut Option<Load<T>>)
+    requires shape { IsLine (joined blocks.old) }
+    requires kept { IfSome kept.old (λ load. load.block.items ≡ []) }
+    requires alone { IsSome kept.old → AllHaveItems (joined blocks.old) }
+    ensures blocks { IsSettled (joined blocks.old) (joined blocks.new) }
+    ensures kept { IfSome kept.new (λ load. load.block.items ≡ []) }
+    ensures alone { IsSome kept.new → AllHaveItems (joined blocks.new) }
+{
+    let idle = is_idle(blocks);
+    if idle {
+        part_empty(blocks, kept);
+    }
+}
+
+/// Takes the first item out of the first block.
 #[inline]
 fn pop_first<T>(blocks: &mut Option<Blocks<T>>) -> T
-    requires shape { IsChain (joined blocks.old) }
-    requires filled { 0 < length (items_of (joined blocks.old)) }
-    ensures items { items_of (joined blocks.old) ≡ result ∷ items_of (joined blocks.new) }
-    ensures rest { without 1 (joined blocks.new) ≡ without 1 (joined blocks.old) }
-    ensures room { room_of (joined blocks.new) ≡ room_of (joined blocks.old) }
+    requires { 0 < first_count (joined blocks.old) }
+    ensures { IsFirstPopped (joined blocks.old) result (joined blocks.new) }
 {
     match blocks {
         Some(blocks) => blocks.pop(),
@@ -455,57 +539,24 @@ fn pop_first<T>(blocks: &mut Option<Blocks<T>>) -> T
     }
 }
 
-/// Sees to a first block without items.
+/// How many items the first block has.
 #[inline]
-fn shed_first<T>(blocks: &mut Option<Blocks<T>>, kept: &mut Option<Load<T>>)
-    requires shape { IsChain (without 1 (joined blocks.old)) }
-    requires kept { IfSome kept.old (λ load. load.block.items ≡ []) }
-    requires alone { IsSome kept.old → AllHaveItems (without 1 (joined blocks.old)) }
-    ensures items { items_of (joined blocks.new) ≡ items_of (joined blocks.old) }
-    ensures shape { IsChain (joined blocks.new) }
-    ensures room { (room_of (joined blocks.new) ≡ room_of (joined blocks.old)) ⊎ ((items_of (joined blocks.new) ≡ []) × (room_of (joined blocks.new) ≡ 32)) }
-    ensures kept { IfSome kept.new (λ load. load.block.items ≡ []) }
-    ensures alone { IsSome kept.new → AllHaveItems (joined blocks.new) }
+fn first_len<T>(blocks: &Option<Blocks<T>>) -> usize
+    ensures { result ≡ first_count (joined blocks.now) }
 {
-    let empty = starts_empty(blocks);
-    if empty {
-        shed_empty(blocks, kept);
-        return;
+    match blocks {
+        Some(blocks) => blocks.first().len(),
+        None => 0,
     }
-}
-
-/// Has the first block begin again if it is the only one, and else takes it away.
-#[inline]
-fn shed_empty<T>(blocks: &mut Option<Blocks<T>>, kept: &mut Option<Load<T>>)
-    requires empty { begins_empty (joined blocks.old) ≡ true }
-    requires shape { IsChain (without 1 (joined blocks.old)) }
-    requires kept { IfSome kept.old (λ load. load.block.items ≡ []) }
-    ensures items { items_of (joined blocks.new) ≡ items_of (joined blocks.old) }
-    ensures shape { IsChain (joined blocks.new) }
-    ensures room { (room_of (joined blocks.new) ≡ room_of (joined blocks.old)) ⊎ ((items_of (joined blocks.new) ≡ []) × (room_of (joined blocks.new) ≡ 32)) }
-    ensures kept { IfSome kept.new (λ load. load.block.items ≡ []) }
-    ensures alone { IsSome kept.new → AllHaveItems (joined blocks.new) }
-{
-    let one = is_one(blocks);
-    if one {
-        clear(blocks);
-        let_go(kept);
-        return;
-    }
-    part_empty(blocks, kept);
 }
 
 /// Takes a first block without items away from the others, and keeps it unless another block is
 /// without items too.
 #[inline(never)]
 fn part_empty<T>(blocks: &mut Option<Blocks<T>>, kept: &mut Option<Load<T>>)
-    requires empty { begins_empty (joined blocks.old) ≡ true }
-    requires more { 2 ≤ length (joined blocks.old) }
-    requires shape { IsChain (without 1 (joined blocks.old)) }
+    requires first { BeginsEmptied (joined blocks.old) }
     requires kept { IfSome kept.old (λ load. load.block.items ≡ []) }
-    ensures items { items_of (joined blocks.new) ≡ items_of (joined blocks.old) }
-    ensures shape { IsChain (joined blocks.new) }
-    ensures room { room_of (joined blocks.new) ≡ room_of (joined blocks.old) }
+    ensures blocks { IsSettled (joined blocks.old) (joined blocks.new) }
     ensures kept { IfSome kept.new (λ load. load.block.items ≡ []) }
     ensures alone { IsSome kept.new → AllHaveItems (joined blocks.new) }
 {
@@ -514,27 +565,15 @@ fn part_empty<T>(blocks: &mut Option<Blocks<T>>, kept: &mut Option<Load<T>>)
     keep_one(blocks, kept);
 }
 
-#[inline]
-fn is_one<T>(blocks: &Option<Blocks<T>>) -> bool
-    requires { begins_empty (joined blocks.now) ≡ true }
-    ensures one { result ≡ true → length (joined blocks.now) ≡ 1 }
-    ensures more { result ≡ false → 2 ≤ length (joined blocks.now) }
+/// Whether the first block has no item and others follow.
+fn is_idle<T>(blocks: &Option<Blocks<T>>) -> bool
+    requires { IsLine (joined blocks.now) }
+    ensures yes { result ≡ true → BeginsEmptied (joined blocks.now) }
+    ensures no { result ≡ false → IsChain (joined blocks.now) }
 {
     match blocks {
-        Some(blocks) => blocks.is_one(),
-        None => unreachable!(),
-    }
-}
-
-#[inline]
-fn clear<T>(blocks: &mut Option<Blocks<T>>)
-    requires one { length (joined blocks.old) ≡ 1 }
-    requires empty { begins_empty (joined blocks.old) ≡ true }
-    ensures { joined blocks.new ≡ record { items = []; room = 32 } ∷ [] }
-{
-    match blocks {
-        Some(blocks) => blocks.clear(),
-        None => unreachable!(),
+        Some(blocks) => blocks.is_idle(),
+        None => false,
     }
 }
 
@@ -591,30 +630,36 @@ fn let_go<T>(kept: &mut Option<Load<T>>)
     }
 }
 
-#[inline]
-fn starts_empty<T>(blocks: &Option<Blocks<T>>) -> bool
-    ensures { result ≡ begins_empty (joined blocks.now) }
-{
-    match blocks {
-        Some(blocks) => blocks.first().is_empty(),
-        None => false,
-    }
-}
-
 /// The oldest item.
 #[inline]
 pub(crate) fn first_item<T>(blocks: &Option<Blocks<T>>) -> Option<&T>
-    requires { IsChain (joined blocks.now) }
+    requires fits { length (joined blocks.now) < 2 ^ 64 }
+    requires shape { IsLine (joined blocks.now) }
     ensures { option_copied result ≡ oldest (items_of (joined blocks.now)) }
 {
-    match blocks {
-        Some(blocks) => blocks.first().first(),
+    let mut rest = walk(blocks);
+    match rest.next() {
+        Some(block) => block.first(),
         None => None,
     }
 }
 
-/// The blocks, the first one first.
+/// The blocks, the first one first. One in front that was emptied is passed over.
 pub(crate) fn walk<T>(blocks: &Option<Blocks<T>>) -> Rest<'_, T>
+    requires fits { length (joined blocks.now) < 2 ^ 64 }
+    requires shape { IsLine (joined blocks.now) }
+    ensures shape { IsChain result }
+    ensures items { items_of result ≡ items_of (joined blocks.now) }
+{
+    if is_idle(blocks) {
+        walk_all(blocks).after_first()
+    } else {
+        walk_all(blocks)
+    }
+}
+
+/// All blocks, the first one first.
+fn walk_all<T>(blocks: &Option<Blocks<T>>) -> Rest<'_, T>
     requires { length (joined blocks.now) < 2 ^ 64 }
     ensures { result ≡ joined blocks.now }
 {

@@ -1,6 +1,7 @@
 //! The worker of a home server.
 
-ghost use Rattle.std.specs.Prelude.{◌≡◌, ◌<◌, ◌≤◌};
+ghost use Rattle.std.specs.Prelude.{◌≡◌, ◌<◌, ◌≤◌, ◌+◌, None, false, IfSome};
+ghost use Rattle.std.specs.Bool.{OnTrue, OnFalse};
 ghost use Rattle.rad_desk.specs.Sends.{SendsOnly, IsDeparture, GoesHome};
 ghost use Rattle.rad_desk.specs.Sending.{SendsUpToOne};
 
@@ -12,8 +13,13 @@ use crate::wire::{Received, Wire};
 use rad_lane::Action;
 use rad_packet::Datagram;
 use rad_realms::{Endpoint, Home};
+use rad_tables::Moment;
 use std::alloc::Global;
 use std::sync::Wait;
+
+/// How many milliseconds a worker leaves at least from one cut of a book that is not full to the next, so that each cuts many
+/// requests in place of a few.
+const CUTS_APART: u64 = 10;
 
 /// Works for a lane and its home server: so many turns at most, or until the gate stops it. In each turn it receives
 /// once and, where that came from the home server's address and port, has the lane hear it. Then the lane does one
@@ -162,8 +168,8 @@ fn send_home<W: Wire, G: Gate>(
     }
 }
 
-/// Has the lane cut off what is over, where its book is half full, and drops what was cut. It answers whether the worker
-/// goes on.
+/// Has the lane cut off what is over, where its book is full, or half full and the last cut not too near, and drops what was
+/// cut. It answers whether the worker goes on.
 fn cut<W: Wire, G: Gate>(
     rt: &impl Wait,
     alloc: Global,
@@ -177,18 +183,33 @@ fn cut<W: Wire, G: Gate>(
     ensures sends { W.log wire.new ≡ W.log wire.old }
     ensures turns { shift.new.tally.turns ≡ shift.old.tally.turns }
 {
+    let now = wire.now();
     let counts = proxy.counts(rt, lane);
     let held = counts.accepted - counts.opening;
-    if held.saturating_mul(2) < u64::from(home.limits().numbers().book) {
+    let book = u64::from(home.limits().numbers().book);
+    if held < book && (held.saturating_mul(2) < book || is_near(shift.cut_at, now)) {
         return true;
     }
     if !shift.may(Call::Turn) {
         return false;
     }
-    let turned = proxy.turn(rt, alloc, lane, wire.now());
+    shift.cut_at = Some(now);
+    let turned = proxy.turn(rt, alloc, lane, now);
     shift.made(Call::Turn);
     if let Ok(volume) = turned {
         shift.note(Note::Cut(volume.stamps.as_slice().len() as u64));
     }
     true
+}
+
+/// Whether a moment is less than [`CUTS_APART`] after the last cut.
+fn is_near(last: Option<Moment>, now: Moment) -> bool
+    ensures near { IfSome last (λ cut. OnTrue result (now < cut + 10)) }
+    ensures far { IfSome last (λ cut. OnFalse result (cut + 10 ≤ now)) }
+    ensures none { last ≡ None → result ≡ false }
+{
+    match last {
+        Some(cut) => now.get() < cut.get() + CUTS_APART,
+        None => false,
+    }
 }

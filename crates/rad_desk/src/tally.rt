@@ -6,6 +6,7 @@ ghost use Rattle.rad_desk.specs.Traffic.{went, Receives};
 use crate::gate::{Call, Gate, Go, Note, Worker};
 use crate::wire::{Delivery, Received, Wire};
 use rad_realms::Endpoint;
+use rad_tables::Moment;
 
 /// How much a worker did. A count at the greatest number stays there.
 #[derive(Clone, Copy, Debug, PartialEq, Eq)]
@@ -26,6 +27,8 @@ pub(crate) struct Shift<'a, G> {
     pub(crate) worker: Worker,
     pub(crate) gate: &'a G,
     pub(crate) tally: Tally,
+    /// When it last had its lane cut off what is over.
+    pub(crate) cut_at: Option<Moment>,
 }
 
 impl<'a, G: Gate> Shift<'a, G> {
@@ -43,6 +46,7 @@ impl<'a, G: Gate> Shift<'a, G> {
             worker,
             gate,
             tally,
+            cut_at: None,
         }
     }
 

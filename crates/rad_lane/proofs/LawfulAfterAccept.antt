@@ -148,3 +148,8 @@ module _ (setup : LaneSetup) (opening : ℕ) (accepted : List Stamp) (kept : Lis
         subst (λ (b : Book). IsConsistent b (kept ++ k ∷ []) ports (map.insert numbers (request_key request) number) (cells ++ None ∷ []) outstanding) (sym (as_request request now k s.lawful is_here))
         (subst (λ n. IsConsistent (with_request before request now) (kept ++ k ∷ []) ports (map.insert numbers (request_key request) n) (cells ++ None ∷ []) outstanding) (sym count_here)
         (stands_with_request before request now later_here taken_here new_here free_here record_here kept k ports numbers cells outstanding room s))
+
+    pub seen_accepted : IsConsistent before kept ports numbers cells outstanding → number ≡ next_number value → k.recorded ≡ record_of number request now → book_of setup opening (accepted ++ k.recorded.stamp ∷ []) (kept ++ k ∷ []) answered served slots drain watch now ≡ with_request value request now
+    seen_accepted s count is =
+        as_request request now k s.lawful (is ∙ ap (λ n. record_of n request now) (count ∙ ap (λ (b : Book). next_number b) (sym same)))
+        ∙ ap (λ (b : Book). with_request b request now) same

@@ -8,7 +8,7 @@ use Rattle.std.proofs.lemmas.Bool.Decides.{leb_tells}
 use Rattle.std.proofs.lemmas.List.Elements.{All-get_or}
 use Rattle.rad_tables.specs.declared.duplicates.Key.{Key}
 use Rattle.rad_tables.specs.Keys.{key_cmp}
-use Rattle.rad_tables.proofs.KeyLemmas.{exact_keys, keys_total}
+use Rattle.rad_tables.proofs.KeyLemmas.{exact_keys, keys_total, tied}
 use Rattle.rad_lane.specs.declared.stamp.Stamp.{Stamp}
 use Rattle.rad_lane.specs.Stamp.{key_of}
 use Rattle.rad_lane.specs.Outstanding.{AnswerKept}
@@ -19,13 +19,8 @@ use Rattle.rad_lane.specs.Lawful.{IsLawful, NoRepeatWithinSpan}
 abbrev has_key : Key → Stamp → Bool
 has_key key stamp = is_eq (key_cmp (key_of stamp) key)
 
-tie : (o : Ordering) → is_eq o ≡ true → o ≡ Equal
-tie Less h = cc
-tie Equal h = refl
-tie Greater h = cc
-
 pub same_key : (a b : Key) → is_eq (key_cmp a b) ≡ true → a ≡ b
-same_key a b h = exact_keys a b (tie (key_cmp a b) h)
+same_key a b h = exact_keys a b (tied a b h)
 
 pub ties_itself : (a : Key) → is_eq (key_cmp a a) ≡ true
 ties_itself a = (eq_by_cmp_equiv keys_total).refl a

@@ -1,5 +1,5 @@
 -- An answer is found by its serial, as the serials rise.
-use Rattle.std.proofs.Common.{◌≡◌, ℕ, zero, suc, ◌+◌, ◌<◌, Bool, true, false, cond, eqb, List, [], ◌∷◌, length, get_or, Option, Some, None, Result, Ok, Err, inl, inr, refl, sym, ap, ◌∙◌, subst, arith}
+use Rattle.std.proofs.Common.{◌≡◌, ℕ, zero, suc, ◌+◌, ◌<◌, Bool, true, false, cond, eqb, List, [], ◌∷◌, length, get_or, Option, Some, None, Result, Ok, Err, inl, inr, refl, sym, ap, ◌∙◌, arith}
 use Rattle.std.specs.Prelude.{map as each, All, AllPairs, slice_get, option_map, ◌==◌}
 use Rattle.std.specs.Result.{result_ok}
 use Rattle.std.specs.Ordering.{is_lt, nat_cmp}
@@ -11,9 +11,7 @@ use Rattle.std.proofs.lemmas.Cmp.{ranked, nat_cmp_total}
 use Rattle.std.proofs.lemmas.List.Sorted.{searchable_from_sorted}
 use Rattle.rad_lane.specs.declared.answered.Receipt.{Receipt}
 use Rattle.rad_lane.specs.Outstanding.{AnswerKept}
-use Rattle.rad_lane.specs.Book.{Book}
 use Rattle.rad_lane.specs.Repeat.{answer_to}
-use Rattle.rad_lane.specs.Lawful.{IsLawful}
 use Rattle.rad_lane.specs.Invariant.{at_place, answer_of, receipt_of, receipt_to}
 use Rattle.rad_lane.proofs.ListLemmas.{AllPairs-right, found_holds, pairs_rise}
 use Rattle.rad_lane.proofs.NumberLemmas.{test_since}
@@ -105,10 +103,6 @@ by_none (Some found) h = cc
 pub none_placed : (number : ℕ) (answers : List AnswerKept) → None ≡ receipt_to number answers → None ≡ answer_to number answers
 none_placed number answers h = by_none (answer_to number answers) h
 
--- the same of the book as it is seen
-pub answer_placed : (book value : Book) → book ≡ value → IsLawful book → (number : ℕ) (receipt : Receipt) (items : List AnswerKept) (place : Option ℕ) → items ≡ book.answered → Some receipt ≡ receipt_to number value.answered → at_place items place ≡ answer_of receipt.serial items → at_place value.answered place ≡ answer_to number value.answered
-answer_placed book value same l number receipt items place are has placed =
-    let seen : items ≡ value.answered = are ∙ ap (λ (b : Book). b.answered) same in
-    let rises : IsStrictlyIncreasing (each (λ a. a.serial) value.answered) = subst (λ (b : Book). IsStrictlyIncreasing (each (λ a. a.serial) b.answered)) same l.serials_rise in
-    ap (λ (xs : List AnswerKept). at_place xs place) (sym seen) ∙ placed ∙ ap (λ (xs : List AnswerKept). answer_of receipt.serial xs) seen
-    ∙ by_answer number receipt value.answered _ refl (pairs_rise (λ (a : AnswerKept). a.serial) value.answered rises) has
+pub answer_placed : (number : ℕ) (receipt : Receipt) (answers : List AnswerKept) (place : Option ℕ) → IsStrictlyIncreasing (each (λ a. a.serial) answers) → Some receipt ≡ receipt_to number answers → at_place answers place ≡ answer_of receipt.serial answers → at_place answers place ≡ answer_to number answers
+answer_placed number receipt answers place rises has placed =
+    placed ∙ by_answer number receipt answers _ refl (pairs_rise (λ (a : AnswerKept). a.serial) answers rises) has

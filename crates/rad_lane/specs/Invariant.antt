@@ -1,5 +1,5 @@
 -- What a lane keeps, and how it is the book (own). No public clause cites this module, but the model of a lane does.
-use Rattle.std.specs.Prelude.{◌≡◌, ℕ, ◌+◌, ◌-◌, ◌^◌, ◌≤◌, List, length, take, slice_get, map as each, All, Option, Some, find, ◌==◌, option_map, option_and_then}
+use Rattle.std.specs.Prelude.{◌≡◌, ℕ, ◌+◌, ◌-◌, ◌^◌, ◌≤◌, List, length, take, slice_get, map as each, All, Option, Some, None, find, ◌==◌, option_map, option_and_then}
 use Rattle.std.specs.Option.{option_flatten}
 use Rattle.std.specs.FinMap as map
 use Rattle.rad_tables.specs.declared.duplicates.Key.{Key}
@@ -13,7 +13,7 @@ use Rattle.rad_lane.specs.Stamp.{Kept}
 use Rattle.rad_lane.specs.Outstanding.{AnswerKept}
 use Rattle.rad_lane.specs.Setup.{LaneSetup}
 use Rattle.rad_lane.specs.Book.{Book, next_number, outstanding_count}
-use Rattle.rad_lane.specs.Repeat.{of_key, last_of, answer_to}
+use Rattle.rad_lane.specs.Repeat.{Repeats, fresh, repeats_answered, of_key, last_of, answer_to}
 use Rattle.rad_lane.specs.Lawful.{IsLawful}
 
 -- The book: those sent are all that were accepted but the queued ones.
@@ -55,6 +55,11 @@ answer_of serial answered = find (λ a. a.serial == serial) answered
 -- The last number of a key.
 abbrev pub last_number : Key → List Stamp → Option ℕ
 last_number key stamps = option_map (λ s. s.number) (last_of (of_key key stamps))
+
+-- What a request repeats whose key had this number last, if it had one.
+abbrev pub repeats_number : Book → ℕ → Option ℕ → Repeats
+repeats_number book now None = fresh
+repeats_number book now (Some number) = repeats_answered book now number (answer_to number book.answered)
 
 -- A record has room for the octets that will go out.
 abbrev pub HasRoom : Kept → Type 0

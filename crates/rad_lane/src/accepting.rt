@@ -1,14 +1,13 @@
 //! Taking a request in.
 
-ghost use Rattle.std.specs.Prelude.{◌≡◌, ◌+◌, ◌≤◌, length, IfOk, OnErr, MatchResult, IsTrue, ◌↔◌};
-ghost use Rattle.rad_lane.specs.Book.{next_number};
+ghost use Rattle.std.specs.Prelude.{◌≡◌, ◌+◌, ◌≤◌, length, IfOk, MatchResult, IsTrue, ◌↔◌};
 ghost use Rattle.rad_lane.specs.Repeat.{repeats, fresh};
 ghost use Rattle.rad_lane.specs.Invariant.{HasRoom};
 ghost use Rattle.rad_lane.specs.Datagrams.{Datagrams};
-ghost use Rattle.rad_lane.specs.Accepts.{Accepts, IsTaken, IsRefused, request_key, stamp_of as the_stamp, record_of as the_record, with_request};
+ghost use Rattle.rad_lane.specs.Accepts.{Accepts, IsTaken, IsRefused, request_key, stamp_of as the_stamp, record_of as the_record};
 
 use crate::answered::Receipt;
-use crate::repeats::Repeat;
+use crate::repeats::{Repeat, Seen};
 use crate::reserved_list::ReservedList;
 use crate::{Answered, Lane, Record, Stamp};
 use block_queue::Fifo;
@@ -78,24 +77,9 @@ impl<Q: Fifo<Record>> Lane<Q> {
         requires { IsTaken self.old request.now }
         ensures { Accepts self.old request.now moment result (record { before = datagram.old; after = datagram.new }) self.new }
     {
-        let now = self.moment_of(moment);
-        match self.find_repeat(&key_of(request), now) {
-            Repeat::Fresh => {
-                self.check_new(request)?;
-                match self.accept_new(alloc, request, now) {
-                    Ok(number) => Ok(Taken::New(number)),
-                    Err(AllocError) => Err(Refusal::OutOfMemory),
-                }
-            }
-            Repeat::Waits(number) => {
-                self.set_last(now);
-                Ok(Taken::Waiting(number))
-            }
-            Repeat::Answered(number, answer) => {
-                datagram.load(&response_of(answer));
-                self.set_last(now);
-                Ok(Taken::Again(number))
-            }
+        match self.check_new(request) {
+            Ok(()) => self.accept_free(alloc, request, moment, datagram),
+            Err(refusal) => self.accept_repeat(refusal, request, moment, datagram),
         }
     }
 
@@ -121,29 +105,81 @@ impl<Q: Fifo<Record>> Lane<Q> {
         Ok(())
     }
 
-    /// Accepts a request, and tells its number. All room is made before anything changes.
-    fn accept_new(
+    /// Takes a request where a new one is refused: a repeat alone.
+    fn accept_repeat(
+        &mut self,
+        refusal: Refusal,
+        request: &Checked<'_>,
+        moment: Moment,
+        datagram: &mut Datagram,
+    ) -> Result<Taken, Refusal>
+        requires { IsRefused self.old request.now refusal }
+        ensures { Accepts self.old request.now moment result (record { before = datagram.old; after = datagram.new }) self.new }
+    {
+        let now = self.moment_of(moment);
+        match self.find_repeat(&key_of(request), now) {
+            Repeat::Fresh => Err(refusal),
+            Repeat::Waits(number) => {
+                self.set_last(now);
+                Ok(Taken::Waiting(number))
+            }
+            Repeat::Answered(number, answer) => {
+                datagram.load(&response_of(answer));
+                self.set_last(now);
+                Ok(Taken::Again(number))
+            }
+        }
+    }
+
+    /// Takes a request where a new one is taken. One search finds the last number of its key and puts the new one in
+    /// its place; that is undone for a repeat, and where memory is refused.
+    fn accept_free(
         &mut self,
         alloc: Global,
         request: &Checked<'_>,
-        now: Moment,
-    ) -> Result<u64, AllocError>
+        moment: Moment,
+        datagram: &mut Datagram,
+    ) -> Result<Taken, Refusal>
         requires taken { IsTaken self.old request.now }
-        requires new { repeats self.old (request_key request.now) now ≡ fresh }
         requires free { IsRefused self.old request.now Refusal.OutOfMemory }
-        requires later { self.old.last ≤ now }
-        ensures ok { IfOk result (λ number. (number ≡ next_number self.old) × (self.new ≡ with_request self.old request.now now)) }
-        ensures err { OnErr result (self.new ≡ self.old) }
+        ensures { Accepts self.old request.now moment result (record { before = datagram.old; after = datagram.new }) self.new }
     {
+        let now = self.moment_of(moment);
         let number = self.next_number();
-        let record = record_of(alloc, request, number, now)?;
-        make_room(&mut self.accepted, &mut self.receipts, &mut self.queued)?;
-        self.duplicates.insert(key_of(request), number)?;
-        self.accepted.push(record.stamp());
-        self.receipts.push(None);
-        self.queued.push_back(record);
-        self.last = now;
-        Ok(number)
+        let key = key_of(request);
+        let seen = Seen::since(self.opening, &self.receipts, &self.answered, &self.setup);
+        let Ok(last) = self.duplicates.replace(key, number) else {
+            return Err(Refusal::OutOfMemory);
+        };
+        match seen.repeat_of(last, now) {
+            Repeat::Fresh => {
+                let Ok(record) = record_of(alloc, request, number, now) else {
+                    self.duplicates.restore(&key, last);
+                    return Err(Refusal::OutOfMemory);
+                };
+                let Ok(()) = make_room(&mut self.accepted, &mut self.receipts, &mut self.queued)
+                else {
+                    self.duplicates.restore(&key, last);
+                    return Err(Refusal::OutOfMemory);
+                };
+                self.accepted.push(record.stamp());
+                self.receipts.push(None);
+                self.queued.push_back(record);
+                self.last = now;
+                Ok(Taken::New(number))
+            }
+            Repeat::Waits(number) => {
+                self.duplicates.restore(&key, last);
+                self.set_last(now);
+                Ok(Taken::Waiting(number))
+            }
+            Repeat::Answered(number, answer) => {
+                datagram.load(&response_of(answer));
+                self.duplicates.restore(&key, last);
+                self.set_last(now);
+                Ok(Taken::Again(number))
+            }
+        }
     }
 }
 

@@ -11,15 +11,22 @@ use std::sync::Arc;
 /// Its type keeps that the response answers that request, after a verified reply to its forwarded packet.
 #[derive(Drop)]
 pub struct Answered {
+    /// How many answers of the lane there were before it.
+    serial: u64,
+    /// What else is known of it. It stands apart, so that a list of answers is small, and that a volume shares it with the
+    /// list that it was cut from, until that list lets go of it.
+    kept: Arc<Kept, Global>,
+}
+
+/// An answer but for its serial number.
+#[derive(Drop)]
+struct Kept {
     /// The stamp of the request.
     stamp: Stamp,
     /// When it was answered.
     moment: Moment,
-    /// How many answers of the lane there were before it.
-    serial: u64,
-    /// The home server's reply and the response, with the sending and the secrets that they rest on. They stand apart, so
-    /// that a volume shares them with the list that it was cut from, until that list lets go of them.
-    reply: Arc<Reply, Global>,
+    /// The home server's reply and the response, with the sending and the secrets that they rest on.
+    reply: Reply,
 }
 
 /// What a lane notes of an answer beside its request: the answer's serial number, by which it is found, and when it
@@ -38,9 +45,19 @@ impl Model for Answered {
 
     ghost Value = { AnswerKept };
 
-    ghost view = { λ a. record { stamp = a.stamp; moment = a.moment; serial = a.serial; reply = arc_value a.reply } };
+    ghost view = { λ a. record {
+      stamp = (arc_value a.kept).stamp;
+      moment = (arc_value a.kept).moment;
+      serial = a.serial;
+      reply = (arc_value a.kept).reply;
+    } };
 
-    ghost invariant = { λ a. IsAnswered (record { stamp = a.stamp; moment = a.moment; serial = a.serial; reply = arc_value a.reply }) };
+    ghost invariant = { λ a. IsAnswered (record {
+      stamp = (arc_value a.kept).stamp;
+      moment = (arc_value a.kept).moment;
+      serial = a.serial;
+      reply = (arc_value a.kept).reply;
+    }) };
 }
 
 impl Answered {
@@ -53,14 +70,14 @@ impl Answered {
         ensures value { result ≡ self.now.stamp }
         ensures answered { IsAnswered self.now }
     {
-        self.stamp
+        self.kept.stamp
     }
 
     /// When it was answered.
     pub fn moment(&self) -> Moment
         ensures { result ≡ self.now.moment }
     {
-        self.moment
+        self.kept.moment
     }
 
     /// How many answers there were before it.
@@ -75,7 +92,7 @@ impl Answered {
         ensures value { result.now ≡ self.now.reply }
         ensures answered { IsAnswered self.now }
     {
-        &self.reply
+        &self.kept.reply
     }
 
     /// An answer that was just made. An error means that memory was refused.
@@ -89,25 +106,24 @@ impl Answered {
         requires { IsAnswered (record { stamp = stamp; moment = moment; serial = serial; reply = reply }) }
         ensures { IfOk result (λ answer. answer ≡ record { stamp = stamp; moment = moment; serial = serial; reply = reply }) }
     {
-        let reply = Arc::new(alloc, reply)?;
-        Ok(Answered {
+        let kept = Kept {
             stamp,
             moment,
-            serial,
             reply,
+        };
+        Ok(Answered {
+            serial,
+            kept: Arc::new(alloc, kept)?,
         })
     }
 
-    /// The same answer, which shares its packets. An error means that too many share them.
+    /// The same answer, which shares what is kept of it. An error means that too many share them.
     pub(crate) fn share(&self) -> Result<Answered, AllocError>
         ensures { IfOk result (λ answer. answer ≡ self.now) }
     {
-        let reply = Arc::try_clone(&self.reply)?;
         Ok(Answered {
-            stamp: self.stamp,
-            moment: self.moment,
             serial: self.serial,
-            reply,
+            kept: Arc::try_clone(&self.kept)?,
         })
     }
 
@@ -115,12 +131,12 @@ impl Answered {
     pub(crate) fn outgoing(&self, alloc: Global) -> Result<Outgoing, AllocError>
         ensures { IfOk result (GoesOut self.now) }
     {
-        let client = self.stamp.client;
+        let client = self.kept.stamp.client;
         Ok(Outgoing {
             serial: self.serial,
             client,
-            port: self.stamp.port,
-            reply: self.reply.copy(alloc)?,
+            port: self.kept.stamp.port,
+            reply: self.kept.reply.copy(alloc)?,
         })
     }
 }

@@ -1,13 +1,15 @@
 //! Whether a request was seen before (RFC 2866 section 3, Identifier).
 
-ghost use Rattle.std.specs.Prelude.{◌≡◌, ◌≤◌, map as each};
+ghost use Rattle.std.specs.Prelude.{◌≡◌, ◌≤◌, ℕ, IfSome, map as each};
 ghost use Rattle.std.specs.List.Sorted.{IsStrictlyIncreasing};
 ghost use Rattle.std.specs.Option.{option_copied};
-ghost use Rattle.rad_lane.specs.Repeat.{answer_to, found, repeats, repeats_answered};
-ghost use Rattle.rad_lane.specs.Invariant.{answer_of as the_answer, at_place, receipt_to};
+ghost use Rattle.rad_lane.specs.Book.{Book};
+ghost use Rattle.rad_lane.specs.Repeat.{answer_to, found, repeats};
+ghost use Rattle.rad_lane.specs.Invariant.{answer_of as the_answer, at_place, receipt_in, receipt_to, repeats_number};
 
 use crate::answered::Receipt;
-use crate::{Answered, Lane, Record};
+use crate::reserved_list::ReservedList;
+use crate::{Answered, Lane, Record, Setup};
 use block_queue::Fifo;
 use rad_tables::{Key, Moment};
 
@@ -21,27 +23,55 @@ pub(crate) enum Repeat<'a> {
     Answered(u64, &'a Answered),
 }
 
-impl<Q: Fifo<Record>> Lane<Q> {
-    /// What a request of this key repeats at this moment. It looks at the last one of that key alone.
-    pub(crate) fn find_repeat(&self, key: &Key, now: Moment) -> Repeat<'_>
-        ensures { found result ≡ repeats self.now key.now now }
+/// What a lane answered, by which it knows what repeats. It is seen apart from the numbers of the keys.
+#[derive(Drop)]
+pub(crate) struct Seen<'a> {
+    /// The number of the first request that is kept.
+    opening: u64,
+    /// For each request from that number on the receipt of its answer, where it is answered.
+    receipts: &'a [Option<Receipt>],
+    /// The answers, in the order in which they came.
+    answered: &'a [Answered],
+    /// For so many milliseconds after its answer a request may be repeated.
+    span: u32,
+    ghost told: { (number : ℕ) → opening ≤ number → receipt_in receipts.now opening number ≡ receipt_to number answered.now },
+    ghost rising: { IsStrictlyIncreasing (each (λ a. a.serial) answered.now) },
+}
+
+impl<'a> Seen<'a> {
+    /// What was answered since the opening.
+    pub(crate) fn since(
+        opening: u64,
+        receipts: &'a ReservedList<Option<Receipt>>,
+        answered: &'a ReservedList<Answered>,
+        setup: &Setup,
+    ) -> Seen<'a>
+        requires told { (number : ℕ) → opening ≤ number → receipt_in receipts.now.items opening number ≡ receipt_to number answered.now.items }
+        requires rising { IsStrictlyIncreasing (each (λ a. a.serial) answered.now.items) }
+        ensures opening { result.opening ≡ opening }
+        ensures answered { result.answered.now ≡ answered.now.items }
+        ensures span { result.span ≡ setup.now.limits.span }
     {
-        match self.duplicates.find(key) {
-            Some(number) => self.repeat_of(number, now),
-            None => Repeat::Fresh,
+        Seen {
+            opening,
+            receipts: receipts.as_slice(),
+            answered: answered.as_slice(),
+            span: setup.limits().numbers().span,
         }
     }
 
-    /// What a request repeats whose key had this number last.
-    fn repeat_of(&self, number: u64, now: Moment) -> Repeat<'_>
-        requires { self.now.opening ≤ number }
-        ensures { found result ≡ repeats_answered self.now now number (answer_to number self.now.answered) }
+    /// What a request repeats whose key had this number last, if it had one.
+    pub(crate) fn repeat_of(&self, last: Option<u64>, now: Moment) -> Repeat<'a>
+        requires { IfSome last (λ number. self.now.opening ≤ number) }
+        ensures { (book : Book) → book.setup.limits.span ≡ self.now.span → book.answered ≡ self.now.answered.now → found result ≡ repeats_number book now last }
     {
+        let Some(number) = last else {
+            return Repeat::Fresh;
+        };
         let Some(answer) = self.answer_of(number) else {
             return Repeat::Waits(number);
         };
-        let span = u64::from(self.setup.limits().numbers().span);
-        if now.get() < answer.moment().get() + span {
+        if now.get() < answer.moment().get() + u64::from(self.span) {
             Repeat::Answered(number, answer)
         } else {
             Repeat::Fresh
@@ -49,9 +79,9 @@ impl<Q: Fifo<Record>> Lane<Q> {
     }
 
     /// The answer to the request of a number, which is none of those that are gone.
-    fn answer_of(&self, number: u64) -> Option<&Answered>
+    fn answer_of(&self, number: u64) -> Option<&'a Answered>
         requires { self.now.opening ≤ number }
-        ensures { option_copied result ≡ answer_to number self.now.answered }
+        ensures { option_copied result ≡ answer_to number self.now.answered.now }
     {
         self.answered.get(self.place_of(number)?)
     }
@@ -59,10 +89,10 @@ impl<Q: Fifo<Record>> Lane<Q> {
     /// Where the answer to the request of a number stands, if it is answered.
     fn place_of(&self, number: u64) -> Option<usize>
         requires { self.now.opening ≤ number }
-        ensures { at_place self.now.answered result ≡ answer_to number self.now.answered }
+        ensures { at_place self.now.answered.now result ≡ answer_to number self.now.answered.now }
     {
         match self.receipt_of(number) {
-            Some(receipt) => place_of_serial(self.answered.as_slice(), receipt.serial),
+            Some(receipt) => place_of_serial(self.answered, receipt.serial),
             None => None,
         }
     }
@@ -70,10 +100,20 @@ impl<Q: Fifo<Record>> Lane<Q> {
     /// The receipt of the answer to the request of a number, if it is answered.
     fn receipt_of(&self, number: u64) -> Option<Receipt>
         requires { self.now.opening ≤ number }
-        ensures { result ≡ receipt_to number self.now.answered }
+        ensures { result ≡ receipt_to number self.now.answered.now }
     {
         let place = (number - self.opening) as usize;
         self.receipts.get(place).copied().flatten()
+    }
+}
+
+impl<Q: Fifo<Record>> Lane<Q> {
+    /// What a request of this key repeats at this moment. It looks at the last one of that key alone.
+    pub(crate) fn find_repeat(&self, key: &Key, now: Moment) -> Repeat<'_>
+        ensures { found result ≡ repeats self.now key.now now }
+    {
+        let seen = Seen::since(self.opening, &self.receipts, &self.answered, &self.setup);
+        seen.repeat_of(self.duplicates.find(key), now)
     }
 }
 

@@ -1,16 +1,18 @@
 -- The keys of requests, and the finite map that entries with such keys make. Proofs of the crates above
 -- cite what is said of the order of the keys.
-use Rattle.std.proofs.Common.{◌≡◌, ℕ, cond, List, [], ◌∷◌, Option, Some, None, refl, sym, ap, ◌∙◌}
-use Rattle.std.specs.Ordering.{nat_cmp}
+use Rattle.std.proofs.Common.{◌≡◌, ℕ, Bool, true, false, cond, List, [], ◌∷◌, Option, Some, None, Ordering, refl, sym, ap, subst, ◌∙◌}
+use Rattle.std.specs.Prelude.{IsSome}
+use Rattle.std.specs.declared.cmp.Ordering.TheVariants.{Less, Equal, Greater}
+use Rattle.std.specs.Ordering.{nat_cmp, is_eq, eq_by_cmp}
 use Rattle.std.specs.Cmp.{IsTotalOrder, nat_cmp_total, eq_by_cmp_equiv}
 use Rattle.std.specs.Cmp.Lexicographic.{slice_cmp, nat_list_cmp_total}
-use Rattle.std.specs.FinMap.{from_entries, get, insert, remove, find, get-from_entries, get-insert, get-remove, same_map}
+use Rattle.std.specs.FinMap.{FinMap, from_entries, get, insert, remove, find, get_tied, get-from_entries, get-insert, get-remove, same_map}
 use Rattle.std.specs.BTreeMap.{is_at}
 use Rattle.std.specs.Map.{lookup}
 use Rattle.std.proofs.lemmas.Map.Lookups.{CmpEqualImpliesEq, exact_pairs, exact_unsigned, exact_bytes}
 use Rattle.std.proofs.lemmas.Cmp.{on_total, then_total}
 use Rattle.rad_tables.specs.declared.duplicates.Key.{Key}
-use Rattle.rad_tables.specs.Keys.{key_cmp}
+use Rattle.rad_tables.specs.Keys.{key_cmp, with_last}
 
 -- keys that compare alike are one
 pub exact_keys : CmpEqualImpliesEq key_cmp
@@ -50,3 +52,38 @@ pub one_removed : (before after : List (Key × ℕ)) (key : Key) → ((q : Key) 
 one_removed before after key h = same_map keys_total exact_keys _ _ (λ q.
     get_key after q ∙ h q ∙ ap (λ b. cond b None (number_at before q)) ((eq_by_cmp_equiv keys_total).symm key q)
     ∙ sym (get-remove keys_total (from_entries before) key q ∙ ap (cond (is_at (key_cmp q) key) None) (get_key before q)))
+
+equal_of : (o : Ordering) → is_eq o ≡ true → o ≡ Equal
+equal_of Less h = cc
+equal_of Equal h = refl
+equal_of Greater h = cc
+
+pub tied : (a b : Key) → is_eq (key_cmp a b) ≡ true → key_cmp a b ≡ Equal
+tied a b h = equal_of (key_cmp a b) h
+
+here_again : (b : Bool) (here last other : Option ℕ) → (b ≡ true → last ≡ here) → cond b last (cond b other here) ≡ here
+here_again true here last other h = h refl
+here_again false here last other h = refl
+
+pub there_inserted : (numbers : FinMap key_cmp ℕ) (key : Key) (number : ℕ) → IsSome (get (insert numbers key number) key)
+there_inserted numbers key number =
+    subst IsSome (sym (get-insert keys_total numbers key number key ∙ ap (λ b. cond b (Some number) (get numbers key)) ((eq_by_cmp_equiv keys_total).refl key))) refl
+
+-- a key that has again the last number that it had before one was inserted
+module _ (numbers : FinMap key_cmp ℕ) (key : Key) (number : ℕ) where
+  had_before : (last : Option ℕ) → last ≡ get numbers key → (q : Key) → eq_by_cmp key_cmp q key ≡ true → last ≡ get numbers q
+  had_before last is q same = is ∙ get_tied keys_total numbers q key (tied q key same)
+
+  restored : (last : Option ℕ) → last ≡ get numbers key → with_last (insert numbers key number) key last ≡ numbers
+  restored None is = same_map keys_total exact_keys _ _ (λ q.
+      get-remove keys_total (insert numbers key number) key q
+      ∙ ap (cond (eq_by_cmp key_cmp q key) None) (get-insert keys_total numbers key number q)
+      ∙ here_again (eq_by_cmp key_cmp q key) (get numbers q) None (Some number) (had_before None is q))
+  restored (Some last) is = same_map keys_total exact_keys _ _ (λ q.
+      get-insert keys_total (insert numbers key number) key last q
+      ∙ ap (cond (eq_by_cmp key_cmp q key) (Some last)) (get-insert keys_total numbers key number q)
+      ∙ here_again (eq_by_cmp key_cmp q key) (get numbers q) (Some last) (Some number) (had_before (Some last) is q))
+
+  -- so a replaced number that is restored leaves the table as it was
+  pub as_before : (last : Option ℕ) → last ≡ get numbers key → (replaced after : FinMap key_cmp ℕ) → replaced ≡ insert numbers key number → after ≡ with_last replaced key last → after ≡ numbers
+  as_before last is replaced after ok again = again ∙ ap (λ m. with_last m key last) ok ∙ restored last is

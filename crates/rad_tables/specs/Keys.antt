@@ -1,10 +1,11 @@
 -- What makes two requests the same one: the client's address and port and the Identifier
 -- (RFC 2866 section 3, Identifier), and the Request Authenticator (own).
-use Rattle.std.specs.Prelude.{ℕ, List, refl}
+use Rattle.std.specs.Prelude.{ℕ, List, Option, Some, None, refl}
 use Rattle.std.specs.declared.cmp.Ordering.{Ordering}
 use Rattle.std.specs.Ordering.{nat_cmp, ordering_then}
 use Rattle.std.specs.Cmp.Lexicographic.{slice_cmp}
 use Rattle.std.specs.Coded.{Coded, code_by, coded×, coded_ℕ, coded_list}
+use Rattle.std.specs.FinMap.{FinMap, insert, remove}
 use Rattle.rad_tables.specs.declared.duplicates.Key.{Key}
 
 -- an order of the keys, by one part after another
@@ -20,3 +21,8 @@ coded_key = code_by (List ℕ × (List ℕ × (ℕ × ℕ)))
     (λ k. (k.authenticator, (k.client, (k.port, k.identifier))))
     (λ p. record { authenticator = p.0; client = p.1.0; port = p.1.1.0; identifier = p.1.1.1 })
     (λ _. refl)
+
+-- the table in which a key's last number is this one, or which has none of it
+abbrev pub with_last : FinMap key_cmp ℕ → Key → Option ℕ → FinMap key_cmp ℕ
+with_last numbers key None = remove numbers key
+with_last numbers key (Some number) = insert numbers key number

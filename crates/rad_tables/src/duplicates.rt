@@ -1,7 +1,8 @@
 //! What was seen before: the last number of each request's key.
 
-ghost use Rattle.std.specs.Prelude.{◌≡◌, OnOk, OnErr};
+ghost use Rattle.std.specs.Prelude.{◌≡◌, IfOk, IsSome, None, OnOk, OnErr};
 ghost use Rattle.std.specs.FinMap as map;
+ghost use Rattle.rad_tables.specs.Keys.{with_last};
 
 use std::alloc::{AllocError, Global};
 use std::collections::BTreeMap;
@@ -72,8 +73,38 @@ impl Duplicates {
         ensures ok { OnOk result (self.new ≡ map.insert self.old key number) }
         ensures err { OnErr result (self.new ≡ self.old) }
     {
-        self.numbers.insert(key, number)?;
+        self.replace(key, number)?;
         Ok(())
+    }
+
+    /// Makes this the last number of the key, and tells which one was until now. One search does both;
+    /// [`Duplicates::restore`] undoes it.
+    ///
+    /// # Errors
+    ///
+    /// Where memory is refused, which only a key that isn't there needs: the table stays.
+    pub fn replace(&mut self, key: Key, number: u64) -> Result<Option<u64>, AllocError>
+        ensures last { IfOk result (λ last. last ≡ map.get self.old key) }
+        ensures ok { OnOk result (self.new ≡ map.insert self.old key number) }
+        ensures err { OnErr result (self.new ≡ self.old) }
+        ensures absent { OnErr result (map.get self.old key ≡ None) }
+    {
+        Ok(self.numbers.insert(key, number)?)
+    }
+
+    /// Gives a key that is there the last number that it had, or forgets it if it had none.
+    pub fn restore(&mut self, key: &Key, last: Option<u64>)
+        requires { IsSome (map.get self.old key.now) }
+        ensures { self.new ≡ with_last self.old key.now last }
+    {
+        match last {
+            Some(number) => {
+                let Ok(_) = self.replace(*key, number) else {
+                    unreachable!()
+                };
+            }
+            None => self.remove(key),
+        }
     }
 
     /// Forgets the key, if it is there.

@@ -200,5 +200,13 @@ fn duplicates_keep_the_last_number(rt: HostRuntime) -> Result<(), Fail> {
     duplicates.remove(&key);
     assert_eq!(rt; duplicates.find(&key), None);
     assert_eq!(rt; duplicates.find(&other), Some(1));
+    assert_eq!(rt; duplicates.replace(key, 2), Ok(None));
+    assert_eq!(rt; duplicates.find(&key), Some(2));
+    duplicates.restore(&key, None);
+    assert_eq!(rt; duplicates.find(&key), None);
+    assert_eq!(rt; duplicates.replace(other, 3), Ok(Some(1)));
+    assert_eq!(rt; duplicates.find(&other), Some(3));
+    duplicates.restore(&other, Some(1));
+    assert_eq!(rt; duplicates.find(&other), Some(1));
     Ok(())
 }

@@ -23,6 +23,8 @@ pub struct MemoryWire {
     passing: Option<u32>,
     /// How many receives there were.
     receives: u32,
+    /// How many milliseconds each is after the one before.
+    pub tick: u32,
     traffic: Traffic,
 }
 
@@ -34,6 +36,7 @@ impl MemoryWire {
             gone: None,
             passing: None,
             receives: 0,
+            tick: 1000,
             traffic: Traffic::new(),
         }
     }
@@ -94,9 +97,9 @@ impl MemoryWire {
 impl Wire for MemoryWire {
     ghost log = { λ w. w.traffic.passed };
 
-    /// A second after the receive before.
+    /// A tick after the receive before.
     fn now(&mut self) -> Moment {
-        at(self.receives.saturating_sub(1).saturating_mul(1000))
+        at(self.receives.saturating_sub(1).saturating_mul(self.tick))
     }
 
     fn random(&mut self) -> [u8; 16] {
@@ -136,10 +139,11 @@ impl Wire for MemoryWire {
     }
 }
 
-/// A gate that keeps what it was told last, and stops a worker before one call.
+/// A gate that keeps what it was told last and counts the cuts, and stops a worker before one call.
 #[derive(Drop)]
 pub struct TestGate {
     told: Cell<Option<Note>>,
+    turns: Cell<u64>,
     pub stops: Option<Call>,
 }
 
@@ -147,6 +151,7 @@ impl TestGate {
     pub fn new() -> TestGate {
         TestGate {
             told: Cell::new(None),
+            turns: Cell::new(0),
             stops: None,
         }
     }
@@ -154,6 +159,11 @@ impl TestGate {
     /// What it was told last. That is forgotten then.
     pub fn told(&self) -> Option<Note> {
         self.told.replace(None)
+    }
+
+    /// How many times a lane was to cut off what is over.
+    pub fn turns(&self) -> u64 {
+        self.turns.get()
     }
 }
 
@@ -166,7 +176,11 @@ impl Gate for TestGate {
         }
     }
 
-    fn after(&self, _worker: Worker, _call: Call) {}
+    fn after(&self, _worker: Worker, call: Call) {
+        if call == Call::Turn {
+            self.turns.set(self.turns.get().saturating_add(1));
+        }
+    }
 
     fn note(&self, _worker: Worker, note: Note) {
         self.told.set(Some(note));

@@ -106,3 +106,36 @@ fn a_half_full_book_is_cut(rt: HostRuntime) -> Result<(), Fail> {
     ];
     play(&rt, rt.alloc(), "book = 2\nspan = 0\n", &turns)
 }
+
+#[test]
+fn cuts_are_ten_milliseconds_apart_until_the_book_is_full(rt: HostRuntime) -> Result<(), Fail> {
+    assert_eq!(rt; turns_in_31_milliseconds(&rt, rt.alloc(), "book = 3\n")?, 0);
+    assert_eq!(rt; turns_in_31_milliseconds(&rt, rt.alloc(), "book = 2\n")?, 4);
+    assert_eq!(rt;
+        turns_in_31_milliseconds(&rt, rt.alloc(), "book = 1\n")?,
+        31
+    );
+    Ok(())
+}
+
+/// How many times a worker that has nothing else to do, and comes by each millisecond, has its lane cut off what is over, where
+/// the book holds one request that is out.
+fn turns_in_31_milliseconds<R: Wait + Abort>(
+    rt: &R,
+    alloc: Global,
+    more: &str,
+) -> Result<u64, Fail> {
+    let mut works = Works::new(alloc, more)?;
+    works.lane.tick = 1;
+    works.play(
+        rt,
+        &[
+            front(&REQUEST, [1, 0, 0], Some(Note::Accepted(0, 0)), &[]),
+            lane(&[], [0, 1, 0], None, &FORWARDED),
+        ],
+    );
+    assert_eq!(rt; works.lane(rt, 31), tally(31, [0, 0, 0]));
+    let turns = works.gate.turns();
+    works.end();
+    Ok(turns)
+}

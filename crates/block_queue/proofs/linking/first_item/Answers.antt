@@ -1,14 +1,14 @@
-use Rattle.std.proofs.Common.{◌∙◌, sym, ap, subst, drop}
+use Rattle.std.proofs.Common.{◌∙◌, ap, subst}
+use Rattle.std.specs.Map.Iter.{TakesFirst, deref}
 use Rattle.block_queue.specs.Queue.{oldest}
-use Rattle.block_queue.specs.Blocks.{items_of, IsChain}
-use Rattle.block_queue.specs.Chain.{joined}
-use Rattle.block_queue.proofs.Ends.{oldest_at_first, no_oldest}
+use Rattle.block_queue.proofs.Ends.{oldest_taken, none_taken}
 use Rattle.block_queue.proofs.linking.first_item.Goals as goal
 
 pub returns-in-Some : goal.returns-in-Some
 returns-in-Some g c =
-    c.first-in-Some.ensures ∙ oldest_at_first c.in-Some.blocks (drop 1 c.in-Some.blocks) c.first.result.now c.first.ensures (subst (λ o. IsChain (joined o)) c.in-Some.is c.requires)
-    ∙ ap (λ o. oldest (items_of (joined o))) (sym c.in-Some.is)
+    let w = c.walk-rest in
+    c.first.ensures ∙ oldest_taken w.result c.next.new.self c.in-Some.block w.ensures.shape (subst (λ r. TakesFirst deref w.result r c.next.new.self) c.in-Some.is c.next.ensures) ∙ ap oldest w.ensures.items
 
 pub returns-in-None : goal.returns-in-None
-returns-in-None g c = no_oldest (joined c.args.blocks.now) (ap joined c.in-None.is)
+returns-in-None g c =
+    let w = c.walk-rest in none_taken w.result c.next.new.self (subst (λ r. TakesFirst deref w.result r c.next.new.self) c.in-None.is c.next.ensures) ∙ ap oldest w.ensures.items

@@ -6,22 +6,22 @@ use Rattle.block_queue.proofs.linking.Blocks.filled.Goals as goal
 
 pub returns-then-is_empty-clause-items : goal.returns-then-is_empty-clause-items
 returns-then-is_empty-clause-items g c =
-    let b = c.self.inside in (without_last (joined b.front) c.args.self b.last.block c.self.view_is c.requires (sym c.is_empty.ensures ∙ c.if-is_empty.true)).1
+    let p = c.parts-front in (without_last (joined p.result.0) c.args.self p.result.1.block (sym p.ensures) c.requires (sym c.is_empty.ensures ∙ c.if-is_empty.true)).1
 
 pub returns-then-is_empty-clause-shape : goal.returns-then-is_empty-clause-shape
 returns-then-is_empty-clause-shape g c =
-    let b = c.self.inside in (without_last (joined b.front) c.args.self b.last.block c.self.view_is c.requires (sym c.is_empty.ensures ∙ c.if-is_empty.true)).0
+    let p = c.parts-front in (without_last (joined p.result.0) c.args.self p.result.1.block (sym p.ensures) c.requires (sym c.is_empty.ensures ∙ c.if-is_empty.true)).0
 
 pub returns-then-is_empty-clause-empty : goal.returns-then-is_empty-clause-empty
 returns-then-is_empty-clause-empty g c =
-    let b = c.self.inside in (without_last (joined b.front) c.args.self b.last.block c.self.view_is c.requires (sym c.is_empty.ensures ∙ c.if-is_empty.true)).2
+    let p = c.parts-front in (without_last (joined p.result.0) c.args.self p.result.1.block (sym p.ensures) c.requires (sym c.is_empty.ensures ∙ c.if-is_empty.true)).2
 
 pub returns-in-Some-clause-shape : goal.returns-in-Some-clause-shape
 returns-in-Some-clause-shape g c =
-    let b = c.self.inside in let is = ap (λ o. joined o ++ b.last.block ∷ []) (sym c.in-Some.is) ∙ c.self.view_is in
-    subst AllHaveItems (sym c.add.ensures) (with_last c.in-Some.front c.args.self b.last.block is c.requires (sym c.is_empty.ensures ∙ c.if-is_empty.false))
+    let p = c.parts-front in let is = ap (λ o. joined o ++ p.result.1.block ∷ []) (sym c.in-Some.is) ∙ sym p.ensures in
+    subst AllHaveItems (sym c.add.ensures) (with_last c.in-Some.front c.args.self p.result.1.block is c.requires (sym c.is_empty.ensures ∙ c.if-is_empty.false))
 
 pub returns-in-None-clause-shape : goal.returns-in-None-clause-shape
 returns-in-None-clause-shape g c =
-    let b = c.self.inside in let is = ap (λ o. joined o ++ b.last.block ∷ []) (sym c.in-None.is) ∙ c.self.view_is in
-    subst AllHaveItems (sym c.one.ensures) (with_last [] c.args.self b.last.block is c.requires (sym c.is_empty.ensures ∙ c.if-is_empty.false))
+    let p = c.parts-front in let is = ap (λ o. joined o ++ p.result.1.block ∷ []) (sym c.in-None.is) ∙ sym p.ensures in
+    subst AllHaveItems (sym c.one.ensures) (with_last [] c.args.self p.result.1.block is c.requires (sym c.is_empty.ensures ∙ c.if-is_empty.false))

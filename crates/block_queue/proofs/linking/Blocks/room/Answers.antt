@@ -1,8 +1,6 @@
-use Rattle.std.proofs.Common.{◌∙◌, sym, ap}
-use Rattle.block_queue.specs.Blocks.{room_of}
-use Rattle.block_queue.specs.Chain.{joined}
-use Rattle.block_queue.proofs.Ends.{room_at_end}
+use Rattle.std.proofs.Common.{◌∙◌}
+use Rattle.block_queue.proofs.Ends.{ends_room}
 use Rattle.block_queue.proofs.linking.Blocks.room.Goals as goal
 
 pub returns : goal.returns
-returns g c = let b = c.self.inside in c.room.ensures.room ∙ sym (room_at_end (joined b.front) b.last.block) ∙ ap room_of c.self.view_is
+returns g c = c.room.ensures.room ∙ ends_room c.args.self.now c.last.result.now c.last.ensures

@@ -1,10 +1,12 @@
-use Rattle.std.proofs.Common.{◌∙◌, sym}
-use Rattle.rad_lane.proofs.RepeatFound.{repeats_none, repeats_some}
+use Rattle.std.proofs.Common.{sym}
+use Rattle.rad_lane.proofs.RepeatFound.{repeats_seen, since_opening}
 use Rattle.rad_lane.proofs.lane.Lane.find_repeat.Goals as goal
 
-pub returns-in-Some : goal.returns-in-Some
-returns-in-Some g c =
-    c.repeat_of.ensures ∙ repeats_some _ _ c.self.view_is c.self.inside.duplicates c.self.invariant.last_numbers _ _ _ (sym (c.in-Some.ensures))
+pub repeat_of-requires : goal.repeat_of-requires
+repeat_of-requires g c =
+    rw c.since-seen.ensures.opening
+    (since_opening c.self.inside.duplicates _ c.self.invariant.since_opening _ _ c.find.ensures)
 
-pub returns-in-None : goal.returns-in-None
-returns-in-None g c = repeats_none _ _ c.self.view_is c.self.inside.duplicates c.self.invariant.last_numbers _ _ (sym (c.in-None.ensures))
+pub returns : goal.returns
+returns g c =
+    sym (repeats_seen _ _ c.self.view_is c.self.inside.duplicates c.self.invariant.last_numbers _ _ _ _ _ _ c.find.ensures c.since-seen.ensures.span c.since-seen.ensures.answered c.repeat_of.ensures)
