@@ -1,16 +1,24 @@
 #!/usr/bin/env python3
-"""Tries the wrong bodies that the gate leaves out, and says of each whether the prover refused it.
+"""Tries the wrong bodies that the gate leaves out, and says of each whether the prover refused it, and over which goal.
 
 usage: edits.py [CRATE ..]
        edits.py --check     tries none, and says which edits of must-fail/ and wrong-bodies/ can't be applied
 
 The edits are crates/CRATE/wrong-bodies/*.edit, of every crate where none is named. Each of these crates is proved first,
-over the work that is kept, and that work is where its edits begin. They are dealt into shares of one crate each. A share
-is tried by `rt must-fail`, one edit after the other, in a copy of the repository in which it stands as the crate's
-must-fail/, and the shares run side by side: on JOBS processors, or on as many as there are and memory holds. What
-`rt` says stands in out/edits.txt. A line comes for each edit as its share ends, and the last line is
-`N refused, M not`. `rt` keeps the verdicts of a share that ended, so a run that was stopped goes on where it was.
+over the work that is kept, and that work is where its edits begin.
+
+A function is proved from its own body and from the contracts of what it calls. So edits of different functions are tried
+together: a round applies up to MOST_OF_A_ROUND of them to a copy of the repository and checks the crate there once, and an
+edit is refused where a goal stays open in a function that it changes, or a proof by hand of that function shows another
+one. An edit is tried again in a smaller round where neither was told, as of a function whose callee another edit of the
+round changed; and what is left then is tried by `rt must-fail`, one at a time. Rounds run side by side: on JOBS processors,
+or on as many as there are and memory holds.
+
+What `rt` says stands in out/edits.txt. A line comes for each edit as its round ends, and the last line is
+`N refused, M not`.
 """
+import collections
+import dataclasses
 import os
 import pathlib
 import re
@@ -25,8 +33,13 @@ from concurrent.futures import ThreadPoolExecutor
 TOP = pathlib.Path(__file__).resolve().parent.parent
 RT = os.environ.get("RT", "rt").split()
 LOG = TOP / "out" / "edits.txt"
-MEMORY_OF_A_SHARE = 3_000_000_000
-MOST_OF_A_SHARE = 12
+MEMORY_OF_A_ROUND = 3_000_000_000
+MOST_OF_A_ROUND = 16
+FUNCTION = re.compile(r"( *)(?:pub(?:\([^)]*\))? )?(?:const )?(?:unsafe )?fn (\w+)", re.M)
+OPEN_GOAL = re.compile(r"^note: (?:\./)?(src/[^:]+):(\d+):\d+: (it is not proved that .*)", re.M)
+WRONG_PROOF = re.compile(r"^(?:\./)?(proofs/\S+/(\w+)/Answers\.antt:\d+):\d+: error: (.*)", re.M)
+# A proof that misses a name says nothing of the contract.
+NAME_MISSED = re.compile(r"has no field|is not in scope|has no `|was not admitted|were not checked")
 PRINTING = threading.Lock()
 RUNNING = set()
 STOPPED = threading.Event()
@@ -40,11 +53,11 @@ def crates():
 
 
 def places():
-    """How many shares run side by side: each takes a processor, and beyond the first one its memory too."""
+    """How many rounds run side by side: each takes a processor, and beyond the first one its memory too."""
     if os.environ.get("JOBS"):
         return max(1, int(os.environ["JOBS"]))
     free = re.search(r"MemAvailable:\s+(\d+) kB", pathlib.Path("/proc/meminfo").read_text())
-    return max(1, min(len(os.sched_getaffinity(0)), int(free[1]) * 1024 // MEMORY_OF_A_SHARE))
+    return max(1, min(len(os.sched_getaffinity(0)), int(free[1]) * 1024 // MEMORY_OF_A_ROUND))
 
 
 def height(name, uses):
@@ -52,15 +65,71 @@ def height(name, uses):
     return 1 + sum(it in uses for it in uses[name])
 
 
-def shares(names, uses):
-    """The edits of each crate, dealt into equal shares of MOST_OF_A_SHARE at most, those of the dearest crate first: a share
-    checks the whole crate at its begin and at its end, so few are better, and many end together."""
-    dealt = []
-    for name in names:
-        edits = sorted((TOP / "crates" / name / "wrong-bodies").glob("*.edit"))
-        parts = -(-len(edits) // MOST_OF_A_SHARE)
-        dealt += [(name, edits[part::parts]) for part in range(parts)]
-    return sorted(dealt, key=lambda share: -height(share[0], uses))
+@dataclasses.dataclass(frozen=True)
+class Function:
+    """A function: its file, its first and last line there, with its attributes, and its name."""
+    path: str
+    first: int
+    last: int
+    name: str
+
+
+@dataclasses.dataclass(frozen=True, eq=False)
+class Edit:
+    """A wrong body: its crate and file, what it makes of which lines, by path and number, and the functions that it changes."""
+    crate: str
+    file: pathlib.Path
+    lines: dict
+    functions: frozenset
+
+    def __str__(self):
+        return f"{self.crate}/{self.file.stem}"
+
+
+def function_at(path, lines, number):
+    """The function in which a line stands, by the layout of `rt fmt`, or None if it stands in none."""
+    for first in range(number, 0, -1):
+        head = FUNCTION.match(lines[first - 1])
+        if head:
+            last = next(it for it in range(first, len(lines) + 1) if lines[it - 1].startswith(head[1] + "}"))
+            while lines[first - 2].startswith(head[1] + "#["):
+                first -= 1
+            return Function(path, first, last, head[2]) if number <= last else None
+    return None
+
+
+def edit_of(name, file):
+    """Reads an edit of a crate, or tells why it can't be applied. Where it changes more than functions, its functions are none."""
+    crate = TOP / "crates" / name
+    texts, why = applied(crate, file)
+    if why:
+        return None, why
+    made, functions = {}, set()
+    for path, text in texts.items():
+        lines = (crate / path).read_text("utf-8").split("\n")
+        for number, (old, new) in enumerate(zip(lines, text.split("\n"), strict=True), 1):
+            if old != new:
+                made[path, number] = new
+                functions.add(function_at(path, lines, number))
+    return Edit(name, file, made, frozenset(() if None in functions else functions)), ""
+
+
+def names_of(name):
+    """How many functions of a crate have each name."""
+    texts = (file.read_text("utf-8") for file in (TOP / "crates" / name / "src").glob("**/*.rt"))
+    return collections.Counter(head[2] for text in texts for head in FUNCTION.finditer(text))
+
+
+def deal(edits, most):
+    """Deals a crate's edits into rounds of about as many, and at most so many, in each of which no two change one function."""
+    rounds = [[] for _ in range(-(-len(edits) // most))]
+    for edit in edits:
+        free = [it for it in rounds if len(it) < most and not any(edit.functions & other.functions for other in it)]
+        if not free:
+            free = [[]]
+            rounds += free
+        min(free, key=len).append(edit)
+    return rounds
 
 
 def told(words, folder, **more):
@@ -98,43 +167,104 @@ def prove(names, uses):
             sys.exit(f"{said[-2000:]}\n{name} is not proved, so no edit was tried")
 
 
-def copy_to(room, uses, name, edits):
-    """A copy of the repository without its edits but these. The libraries that are built are linked and not copied."""
+def copy_to(room, uses, name):
+    """A copy of the repository without its edits, in which one crate's are to be tried, and the folder of that crate there. The
+    libraries that are built are linked and not copied."""
+    (room / "tmp").mkdir()
     for file in ("crates.txt", "HANDLES"):
         shutil.copy(TOP / file, room)
     for it in uses:
-        crate = pathlib.Path(room, "crates", it)
+        crate = room / "crates" / it
         left_out = shutil.ignore_patterns("out", "must-fail", "wrong-bodies")
         shutil.copytree(TOP / "crates" / it, crate, ignore=left_out)
         built = TOP / "crates" / it / "out" / "rlib"
         if it != name and built.is_dir():
             (crate / "out").mkdir()
             (crate / "out" / "rlib").symlink_to(built)
-    folder = pathlib.Path(room, "crates", name, "must-fail")
-    folder.mkdir()
-    for edit in edits:
-        shutil.copy(edit, folder)
+    return room / "crates" / name
 
 
-def try_share(uses, name, edits, room):
-    """Tries a crate's edits in a copy, prints a line for each, and gives how many were refused."""
-    room = pathlib.Path(tempfile.mkdtemp(dir=room))
-    (room / "tmp").mkdir()
-    copy_to(room, uses, name, edits)
+def say(edit, verdict):
+    """Prints what an edit came to."""
     with PRINTING:
-        print(f"{name}: {len(edits)} edits ..", flush=True)
-    one_at_a_time = {**os.environ, "TMPDIR": str(room / "tmp"), "RT_JOBS": "1"}
-    _, said = told([*RT, "must-fail", name], room, env=one_at_a_time)
+        print(f"{edit}: {verdict}", flush=True)
+
+
+def begins(name, edits, how):
+    """Says that a crate's edits are tried now."""
+    with PRINTING:
+        print(f"{name}: {len(edits)} edits, {how} ..", flush=True)
+
+
+def why_refused(edit, said):
+    """The first goal that a check left open in a function of an edit, or what is wrong with a proof by hand of one; or nothing."""
+    for path, line, why in OPEN_GOAL.findall(said):
+        if any(it.path == path and it.first <= int(line) <= it.last for it in edit.functions):
+            return f"{path}:{line}: {why}"
+    counts = names_of(edit.crate)
+    for at, name, why in WRONG_PROOF.findall(said):
+        # (the folder of a proof is named by a type's module, which need not be the file)
+        if counts[name] == 1 and any(it.name == name for it in edit.functions) and not NAME_MISSED.search(why):
+            return f"{at}: {why}"
+    return ""
+
+
+def try_together(uses, edits, room):
+    """Tries edits of one crate in one check, and gives those that are refused. Of the others nothing is known."""
+    name, room = edits[0].crate, pathlib.Path(tempfile.mkdtemp(dir=room))
+    crate = copy_to(room, uses, name)
+    begins(name, edits, "together")
+    made = {at: line for edit in edits for at, line in edit.lines.items()}
+    for path in {path for path, _ in made}:
+        lines = (crate / path).read_text("utf-8").split("\n")
+        text = "\n".join(made.get((path, number), line) for number, line in enumerate(lines, 1))
+        (crate / path).write_text(text, "utf-8")
+    status, said = told([*RT, "check", "--jobs", "1"], crate, env={**os.environ, "TMPDIR": str(room / "tmp")})
+    shutil.rmtree(room)
+    if not status or not re.search("^logic=not-proved", said, re.M):
+        return []
+    refused = [(edit, why) for edit in edits if (why := why_refused(edit, said))]
+    for edit, why in refused:
+        say(edit, f"refused: {why[:160]}")
+    return [edit for edit, _ in refused]
+
+
+def try_alone(uses, edits, room):
+    """Tries edits of one crate one after the other, says what each came to, and gives those that are refused."""
+    name, room = edits[0].crate, pathlib.Path(tempfile.mkdtemp(dir=room))
+    crate = copy_to(room, uses, name)
+    (crate / "must-fail").mkdir()
+    for edit in edits:
+        shutil.copy(edit.file, crate / "must-fail")
+    begins(name, edits, "one at a time")
+    _, said = told([*RT, "must-fail", name], room, env={**os.environ, "TMPDIR": str(room / "tmp"), "RT_JOBS": "1"})
     shutil.rmtree(room)
     verdicts = dict(re.findall(rf"^rt: must-fail {name}/(\S+): (.*)", said, re.M))
-    refused = 0
-    with PRINTING:
-        for edit in edits:
-            verdict = verdicts.get(edit.name, f"NOT TRIED: {said[-400:]}")
-            is_refused = verdict.startswith("refused")
-            refused += is_refused
-            print(f"{name}/{edit.stem}: {'refused' if is_refused else verdict}", flush=True)
-    return refused
+    for edit in edits:
+        say(edit, verdicts.get(edit.file.name, f"NOT TRIED: {said[-400:]}"))
+    return [edit for edit in edits if verdicts.get(edit.file.name, "").startswith("refused")]
+
+
+def try_all(uses, names, count, room):
+    """Tries the edits of these crates, so many rounds side by side, and gives how many were refused and how many not."""
+    left, total, refused = [], 0, 0
+    # the dearest crates first: those over most libraries of this repository
+    for name in sorted(names, key=lambda it: -sum(below in uses for below in uses[it])):
+        for file in sorted((TOP / "crates" / name / "wrong-bodies").glob("*.edit")):
+            edit, why = edit_of(name, file)
+            total += 1
+            left += [edit] if edit else []
+            if why:
+                say(f"{name}/{file.stem}", f"NOT TRIED: {why}")
+    passes = [(try_together, MOST_OF_A_ROUND), (try_together, MOST_OF_A_ROUND // 4), (try_alone, MOST_OF_A_ROUND // 4)]
+    with ThreadPoolExecutor(count) as pool:
+        for tried_by, most in passes:
+            dealt = []
+            for name in dict.fromkeys(edit.crate for edit in left):
+                dealt += deal([it for it in left if it.crate == name and (it.functions or tried_by is try_alone)], most)
+            done = {edit for its in pool.map(lambda edits: tried_by(uses, edits, room), dealt) for edit in its}
+            left, refused = [edit for edit in left if edit not in done], refused + len(done)
+    return refused, total - refused
 
 
 def applied(crate, edit):
@@ -203,18 +333,14 @@ def main():
         signal.signal(number, stop)
     prove(names, uses)
     count = places()
-    dealt = shares(names, uses)
-    total = sum(len(edits) for _, edits in dealt)
-    print(f"{total} edits in {len(dealt)} shares, {count} of them at once; what rt says goes to {LOG}", flush=True)
+    print(f"{count} rounds at once; what rt says goes to {LOG}", flush=True)
     room = tempfile.mkdtemp(prefix="edits-")
     try:
-        with ThreadPoolExecutor(count) as pool:
-            tried = [pool.submit(try_share, uses, name, edits, room) for name, edits in dealt]
-            refused = sum(it.result() for it in tried)
+        refused, others = try_all(uses, names, count, room)
     finally:
         shutil.rmtree(room, ignore_errors=True)
-    print(f"{refused} refused, {total - refused} not")
-    sys.exit(1 if refused < total else 0)
+    print(f"{refused} refused, {others} not")
+    sys.exit(1 if others or not refused else 0)
 
 
 if __name__ == "__main__":
