@@ -167,9 +167,17 @@ def prove(names, uses):
             sys.exit(f"{said[-2000:]}\n{name} is not proved, so no edit was tried")
 
 
+def link(file, other):
+    """Gives a file another name, or copies it where it can't have one there."""
+    try:
+        os.link(file, other)
+    except OSError:
+        shutil.copy2(file, other)
+
+
 def copy_to(room, uses, name):
     """A copy of the repository without its edits, in which one crate's are to be tried, and the folder of that crate there. The
-    libraries that are built are linked and not copied."""
+    libraries that are built are in it by links: no check changes one that is up to date."""
     (room / "tmp").mkdir()
     for file in ("crates.txt", "HANDLES"):
         shutil.copy(TOP / file, room)
@@ -179,8 +187,7 @@ def copy_to(room, uses, name):
         shutil.copytree(TOP / "crates" / it, crate, ignore=left_out)
         built = TOP / "crates" / it / "out" / "rlib"
         if it != name and built.is_dir():
-            (crate / "out").mkdir()
-            (crate / "out" / "rlib").symlink_to(built)
+            shutil.copytree(built, crate / "out" / "rlib", copy_function=link)
     return room / "crates" / name
 
 
