@@ -31,9 +31,9 @@ run: build
 test:
 	@python3 tests/gate.py $(PROGRAM)
 
-# The wrong bodies that the gate leaves out: the prover has to refuse each one.
+# The wrong bodies that the gate leaves out: the prover has to refuse each one. ALONE=1 tries each by itself.
 edits:
-	@python3 tests/edits.py $(CRATES)
+	@python3 tests/edits.py $(if $(ALONE),--alone) $(CRATES)
 
 # Each growth refused in turn, in the program that was built and in the tests that were; the gate does it in the program.
 growths:

@@ -2,7 +2,8 @@
 """Tries the wrong bodies that the gate leaves out, and says of each whether the prover refused it, and over which goal.
 
 usage: edits.py [CRATE ..]
-       edits.py --check     tries none, and says which edits of must-fail/ and wrong-bodies/ can't be applied
+       edits.py --alone [CRATE ..]   tries each edit by itself, by `rt must-fail`
+       edits.py --check              tries none, and says which edits of must-fail/ and wrong-bodies/ can't be applied
 
 The edits are crates/CRATE/wrong-bodies/*.edit, of every crate where none is named. Each of these crates is proved first,
 over the work that is kept, and that work is where its edits begin.
@@ -61,8 +62,8 @@ def places():
 
 
 def height(name, uses):
-    """How many crates of this repository a check of the crate reads, with its own: as much does an edit cost, about."""
-    return 1 + sum(it in uses for it in uses[name])
+    """How many crates of this repository a check of the crate reads beside its own: the more, the dearer it is."""
+    return sum(it in uses for it in uses[name])
 
 
 @dataclasses.dataclass(frozen=True)
@@ -252,18 +253,17 @@ def try_alone(uses, edits, room):
     return [edit for edit in edits if verdicts.get(edit.file.name, "").startswith("refused")]
 
 
-def try_all(uses, names, count, room):
-    """Tries the edits of these crates, so many rounds side by side, and gives how many were refused and how many not."""
+def try_all(uses, names, passes, count, room):
+    """Tries the edits of these crates in one pass after the other, so many rounds side by side, and gives how many were refused
+    and how many not. A pass is a way to try them and how many a round has at most."""
     left, total, refused = [], 0, 0
-    # the dearest crates first: those over most libraries of this repository
-    for name in sorted(names, key=lambda it: -sum(below in uses for below in uses[it])):
+    for name in sorted(names, key=lambda it: -height(it, uses)):
         for file in sorted((TOP / "crates" / name / "wrong-bodies").glob("*.edit")):
             edit, why = edit_of(name, file)
             total += 1
             left += [edit] if edit else []
             if why:
                 say(f"{name}/{file.stem}", f"NOT TRIED: {why}")
-    passes = [(try_together, MOST_OF_A_ROUND), (try_together, MOST_OF_A_ROUND // 4), (try_alone, MOST_OF_A_ROUND // 4)]
     with ThreadPoolExecutor(count) as pool:
         for tried_by, most in passes:
             dealt = []
@@ -330,8 +330,11 @@ def stop(*_):
 def main():
     if sys.argv[1:] == ["--check"]:
         check()
-    uses = crates()
-    names = sys.argv[1:] or list(uses)
+    uses, words = crates(), sys.argv[1:]
+    passes = [(try_together, MOST_OF_A_ROUND), (try_together, MOST_OF_A_ROUND // 4), (try_alone, MOST_OF_A_ROUND // 4)]
+    if "--alone" in words[:1]:
+        words, passes = words[1:], [(try_alone, MOST_OF_A_ROUND)]
+    names = words or list(uses)
     if unknown := [it for it in names if it not in uses]:
         sys.exit(f"crates.txt has no crate {unknown[0]}")
     LOG.parent.mkdir(exist_ok=True)
@@ -343,7 +346,7 @@ def main():
     print(f"{count} rounds at once; what rt says goes to {LOG}", flush=True)
     room = tempfile.mkdtemp(prefix="edits-")
     try:
-        refused, others = try_all(uses, names, count, room)
+        refused, others = try_all(uses, names, passes, count, room)
     finally:
         shutil.rmtree(room, ignore_errors=True)
     print(f"{refused} refused, {others} not")
