@@ -81,6 +81,18 @@ module _ {T : Type 0} where
   all_have (b ∷ []) (inr room) none = absurd (omega arith)
   all_have (b ∷ c ∷ cs) h none = (h.0, all_have (c ∷ cs) h.1 none)
 
+  pub have_chained : (bs : List (Queue T)) → AllHaveItems bs → IsChain bs
+  unfolding AllHaveItems IsChain
+  have_chained [] all = tt
+  have_chained (b ∷ []) all = inl all.0
+  have_chained (b ∷ c ∷ cs) all = (all.0, have_chained (c ∷ cs) all.1)
+
+  pub pushed_have : (bs : List (Queue T)) (item : T) → AllHaveItems bs → AllHaveItems (pushed bs item)
+  unfolding AllHaveItems pushed
+  pushed_have [] item all = tt
+  pushed_have (b ∷ []) item all = (omega (arith, length-append b.items (item ∷ [])), tt)
+  pushed_have (b ∷ c ∷ cs) item all = (all.0, pushed_have (c ∷ cs) item all.1)
+
   pub chained : (bs cs : List (Queue T)) → AllHaveItems bs → IsChain cs → 0 < length cs → IsChain (bs ++ cs)
   unfolding AllHaveItems IsChain
   chained [] cs all h some = h
@@ -118,7 +130,7 @@ module _ {T : Type 0} where
   few_behind [] e = let two = e.followed in absurd (omega arith)
   few_behind (b ∷ bs) e =
       let freed = freed_first (b ∷ bs) e.emptied e.followed in let n : length (items_of bs) ≡ length (items_of (b ∷ bs)) = ap length freed.0 in
-      let m : room_of bs ≡ room_of (b ∷ bs) = freed.1 in let few = few_blocks bs e.chained in omega arith
+      let m : room_of bs ≡ room_of (b ∷ bs) = freed.1 in let few = few_blocks bs (have_chained bs e.filled) in omega arith
 
   few_lined : (bs : List (Queue T)) → IsLine bs → length bs ≤ length (items_of bs) + room_of bs + 1
   few_lined bs (inl h) = let few = few_blocks bs h in omega arith
@@ -131,8 +143,8 @@ module _ {T : Type 0} where
   unfolding pushed begins_empty
   emptied_pushed [] item e = let two = e.followed in absurd (omega arith)
   emptied_pushed (b ∷ []) item e = let two = e.followed in absurd (omega arith)
-  emptied_pushed (b ∷ c ∷ []) item e = record { emptied = e.emptied; followed = omega arith; chained = shape_pushed (c ∷ []) item e.chained }
-  emptied_pushed (b ∷ c ∷ d ∷ ds) item e = record { emptied = e.emptied; followed = omega arith; chained = shape_pushed (c ∷ d ∷ ds) item e.chained }
+  emptied_pushed (b ∷ c ∷ []) item e = record { emptied = e.emptied; followed = omega arith; filled = pushed_have (c ∷ []) item e.filled }
+  emptied_pushed (b ∷ c ∷ d ∷ ds) item e = record { emptied = e.emptied; followed = omega arith; filled = pushed_have (c ∷ d ∷ ds) item e.filled }
 
   lined_pushed : (bs : List (Queue T)) (item : T) → IsLine bs → IsLine (pushed bs item)
   lined_pushed bs item (inl h) = inl (shape_pushed bs item h)

@@ -1,11 +1,11 @@
 -- A list of blocks whose first or last one is at hand.
-use Rattle.std.proofs.Common.{◌≡◌, ◌-◌, ◌<◌, ◌≤◌, ◌⊎◌, inl, inr, true, false, List, [], ◌∷◌, ◌++◌, None, refl, sym, ap, ◌∙◌, subst, arith, length, get_or, drop, append-nil, length-append}
+use Rattle.std.proofs.Common.{◌≡◌, ◌-◌, ◌<◌, ◌≤◌, ◌⊎◌, inl, inr, true, false, List, [], ◌∷◌, ◌++◌, None, refl, sym, ap, ◌∙◌, subst, arith, length, get_or, drop, append-nil}
 use Rattle.std.specs.Prelude.{Option, Some, IfSome, IsSome}
 use Rattle.std.specs.Borrow.{Bor}
 use Rattle.std.specs.Map.Iter.{TakesFirst, deref}
 use Rattle.block_queue.specs.Queue.{Queue, oldest}
-use Rattle.block_queue.specs.Blocks.{fresh, items_of, first_items, first_count, room_of, pushed, has_none, begins_empty, AllHaveItems, IsChain, BeginsEmptied, IsLine, EndsWith, IsFirstPopped, IsSettled, IsJoined}
-use Rattle.block_queue.proofs.Blocks.{none_is, some_is, chained_rest, chain_begins, oldest_first, items_of_joined, room_of_joined, chained, last_room, last_items, freed_first}
+use Rattle.block_queue.specs.Blocks.{fresh, items_of, first_items, first_count, room_of, pushed, has_none, begins_empty, ends_empty, AllHaveItems, IsChain, BeginsEmptied, IsLine, EndsWith, IsFirstPopped, IsSettled, IsJoined}
+use Rattle.block_queue.proofs.Blocks.{none_is, some_is, have_chained, chain_begins, oldest_first, items_of_joined, room_of_joined, chained, last_room, last_items, freed_first}
 
 module _ {T : Type 0} where
   pub room_at_end : (front : List (Queue T)) (q : Queue T) → room_of (front ++ q ∷ []) ≡ q.room
@@ -35,12 +35,6 @@ module _ {T : Type 0} where
   unfolding AllHaveItems
   none_have [] e = tt
   none_have (b ∷ bs) e = cc
-
-  pub pushed_have : (bs : List (Queue T)) (item : T) → AllHaveItems bs → AllHaveItems (pushed bs item)
-  unfolding AllHaveItems pushed
-  pushed_have [] item all = tt
-  pushed_have (b ∷ []) item all = (omega (arith, length-append b.items (item ∷ [])), tt)
-  pushed_have (b ∷ c ∷ cs) item all = (all.0, pushed_have (c ∷ cs) item all.1)
 
   pub no_kept : {K : Type 0} (P : K → Type 0) (kept : Option K) (bs : List (Queue T)) → kept ≡ None → IfSome kept P × (IsSome kept → AllHaveItems bs)
   no_kept P None bs e = (tt, λ some. cc)
@@ -126,23 +120,33 @@ module _ {T : Type 0} where
   unfolding AllHaveItems
   first_have b left bs all some = (some, all.1)
 
+  have_rest : (b : Queue T) (bs : List (Queue T)) → AllHaveItems (b ∷ bs) → AllHaveItems bs
+  unfolding AllHaveItems
+  have_rest b bs all = all.1
+
   -- a first block that was emptied, alone or with others behind it
-  emptied_left : (b left : Queue T) (bs : List (Queue T)) → IsChain (b ∷ bs) → left ≡ fresh
+  emptied_left : (b left : Queue T) (bs : List (Queue T)) → AllHaveItems (b ∷ bs) → left ≡ fresh
       → IsLine (left ∷ bs) × ((room_of (left ∷ bs) ≡ room_of (b ∷ bs)) ⊎ ((items_of (left ∷ bs) ≡ []) × (room_of (left ∷ bs) ≡ 32)))
   unfolding IsChain room_of begins_empty has_none
-  emptied_left b left [] h is = (inl (inr (subst (λ q. 0 < q.room) (sym is) (omega arith))), inr (last_items left (ap (λ q. q.items) is), ap (λ q. q.room) is))
-  emptied_left b left (c ∷ cs) h is = (inr (record { emptied = ap (λ q. has_none q.items) is; followed = omega arith; chained = h.1 }), inl refl)
+  emptied_left b left [] all is = (inl (inr (subst (λ q. 0 < q.room) (sym is) (omega arith))), inr (last_items left (ap (λ q. q.items) is), ap (λ q. q.room) is))
+  emptied_left b left (c ∷ cs) all is = (inr (record { emptied = ap (λ q. has_none q.items) is; followed = omega arith; filled = have_rest b (c ∷ cs) all }), inl refl)
 
-  -- what the first item leaves behind
-  pub left_behind : (bs new : List (Queue T)) (item : T) → IsChain bs → IsFirstPopped bs item new
+  -- the first block had one item, where it begins again
+  only_left : (bs rest : List (Queue T)) (first left : Queue T) (item : T) → bs ≡ first ∷ rest → first.items ≡ item ∷ left.items → left ≡ fresh → (2 ≤ first_count bs) ⊎ AllHaveItems bs → AllHaveItems bs
+  only_left bs rest first left item e popped is (inl two) =
+      let n = ap length (at_first bs rest first e) in let m = ap length popped in let k = ap (λ q. length q.items) is in absurd (omega arith)
+  only_left bs rest first left item e popped is (inr all) = all
+
+  -- what the first item leaves behind, where it is not the only one of its block or no block is without an item
+  pub left_behind : (bs new : List (Queue T)) (item : T) → IsChain bs → (2 ≤ first_count bs) ⊎ AllHaveItems bs → IsFirstPopped bs item new
       → (items_of bs ≡ item ∷ items_of new) × IsLine new × ((room_of new ≡ room_of bs) ⊎ ((items_of new ≡ []) × (room_of new ≡ 32)))
-  left_behind bs new item h (first, left, rest, e, f, popped) =
+  left_behind bs new item h more (first, left, rest, e, f, popped) =
       let items = ap items_of e ∙ first_popped first left rest item popped.items ∙ ap (λ l. item ∷ items_of l) (sym f) in
       elim popped.room [
         | inl stays ↦
             (items, inl (subst IsChain (sym f) (first_chained first left rest (subst IsChain e h) stays.0)), inl (ap room_of f ∙ room_popped first left rest stays.1 ∙ ap room_of (sym e)))
         | inr is ↦
-            let behind = emptied_left first left rest (subst IsChain e h) is in (
+            let behind = emptied_left first left rest (subst AllHaveItems e (only_left bs rest first left item e popped.items is more)) is in (
               items,
               subst IsLine (sym f) behind.0,
               subst (λ l. (room_of l ≡ room_of bs) ⊎ ((items_of l ≡ []) × (room_of l ≡ 32))) (sym f)
@@ -165,6 +169,25 @@ module _ {T : Type 0} where
   filled_chain bs (inl h) two = h
   filled_chain bs (inr e) two = let none = none_first bs e.emptied in absurd (omega arith)
 
+  pub chain_first : (bs : List (Queue T)) → IsChain bs → 2 ≤ length bs → 0 < first_count bs
+  unfolding IsChain first_items
+  chain_first [] h two = absurd (omega arith)
+  chain_first (b ∷ []) h two = absurd (omega arith)
+  chain_first (b ∷ c ∷ cs) h two = h.0
+
+  pub no_items : (items : List T) → length items ≡ 0 → items ≡ []
+  no_items [] e = refl
+  no_items (item ∷ items) e = absurd (omega arith)
+
+  pub items_behind : (b : Queue T) (bs : List (Queue T)) → b.items ≡ [] → items_of (b ∷ bs) ≡ items_of bs
+  unfolding items_of
+  items_behind b bs none = ap (λ l. l ++ items_of bs) none
+
+  pub room_behind : (b : Queue T) (bs : List (Queue T)) → 1 ≤ length bs → room_of bs ≡ room_of (b ∷ bs)
+  unfolding room_of
+  room_behind b [] some = absurd (omega arith)
+  room_behind b (c ∷ cs) some = refl
+
   pub settled_same : (bs : List (Queue T)) → IsChain bs → IsSettled bs bs
   settled_same bs h = record { chained = h; items = refl; room = refl }
 
@@ -172,15 +195,15 @@ module _ {T : Type 0} where
   pub settled_without : (bs rest : List (Queue T)) (first : Queue T) → bs ≡ first ∷ rest → BeginsEmptied bs → IsSettled bs rest × (first.items ≡ [])
   settled_without bs rest first e is =
       let without = without_first bs rest first e is.emptied is.followed in let same : drop 1 bs ≡ rest = ap (drop 1) e in
-      (record { chained = subst IsChain same is.chained; items = without.0; room = without.1 }, without.2)
+      (record { chained = have_chained rest (subst AllHaveItems same is.filled); items = without.0; room = without.1 }, without.2)
 
   pub idle : (bs : List (Queue T)) → IsLine bs → begins_empty bs ≡ true → 2 ≤ length bs → BeginsEmptied bs
-  idle bs (inl h) none two = record { emptied = none; followed = two; chained = chained_rest bs h }
+  idle bs (inl h) none two = let some = chain_first bs h two in let none : first_count bs ≡ 0 = none_first bs none in absurd (omega arith)
   idle bs (inr e) none two = e
 
   pub busy : (bs : List (Queue T)) → IsLine bs → begins_empty bs ≡ false → IsChain bs
   busy bs (inl h) some = h
-  busy bs (inr e) some = chain_begins bs e.chained some
+  busy bs (inr e) some = chain_begins bs (have_chained (drop 1 bs) e.filled) some
 
   pub lone : (bs : List (Queue T)) → IsLine bs → length bs ≤ 1 → IsChain bs
   lone bs (inl h) one = h
@@ -192,13 +215,26 @@ module _ {T : Type 0} where
   pub ends_have : (bs : List (Queue T)) (last : Queue T) → EndsWith bs last → IsChain bs → has_none last.items ≡ false → AllHaveItems bs
   ends_have bs last (front, e) h some = subst AllHaveItems e (with_last front bs last e h some)
 
+  ends_at : (front : List (Queue T)) (q : Queue T) → ends_empty (front ++ q ∷ []) ≡ has_none q.items
+  unfolding ends_empty
+  ends_at [] q = refl
+  ends_at (b ∷ []) q = refl
+  ends_at (b ∷ c ∷ bs) q = ends_at (c ∷ bs) q
+
+  pub ends_none : (bs : List (Queue T)) (last : Queue T) → EndsWith bs last → has_none last.items ≡ ends_empty bs
+  ends_none bs last (front, e) = sym (ends_at front last) ∙ ap ends_empty e
+
+  pub no_end : (bs : List (Queue T)) → bs ≡ [] → false ≡ ends_empty bs
+  unfolding ends_empty
+  no_end bs e = ap ends_empty (sym e)
+
   pub after_taken : (bs new : List (Queue T)) (r : Option (Bor (Queue T))) → TakesFirst deref bs r new → new ≡ drop 1 bs
   after_taken bs new None e = e.1 ∙ ap (drop 1) (sym e.0)
   after_taken bs new (Some b) e = sym (ap (drop 1) e)
 
   -- the chain behind an emptied block
   pub passed_over : (bs rest : List (Queue T)) → BeginsEmptied bs → rest ≡ drop 1 bs → IsChain rest × (items_of rest ≡ items_of bs)
-  passed_over bs rest is e = (subst IsChain (sym e) is.chained, ap items_of e ∙ (freed_first bs is.emptied is.followed).0)
+  passed_over bs rest is e = (have_chained rest (subst AllHaveItems (sym e) is.filled), ap items_of e ∙ (freed_first bs is.emptied is.followed).0)
 
   pub oldest_taken : (bs new : List (Queue T)) (b : Bor (Queue T)) → IsChain bs → TakesFirst deref bs (Some b) new → oldest b.now.items ≡ oldest (items_of bs)
   oldest_taken bs new b h e = oldest_at_first bs new b.now e h

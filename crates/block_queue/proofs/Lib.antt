@@ -4,6 +4,7 @@ mod Ends
 mod Lending
 mod NodeSteps
 mod Places
+mod Ready
 mod Regions
 mod Rooms
 mod Sending

@@ -48,6 +48,12 @@ module _ {T : Type 0} where
   begins_empty [] = false
   begins_empty (block ∷ blocks) = has_none block.items
 
+  -- the last block has no item
+  unfoldable pub ends_empty : List (Queue T) → Bool
+  ends_empty [] = false
+  ends_empty (block ∷ []) = has_none block.items
+  ends_empty (block ∷ next ∷ blocks) = ends_empty (next ∷ blocks)
+
   -- no block is without an item
   unfoldable pub AllHaveItems : List (Queue T) → Type 0
   AllHaveItems [] = Unit {0}
@@ -59,13 +65,13 @@ module _ {T : Type 0} where
   IsChain (block ∷ []) = (0 < length block.items) ⊎ (0 < block.room)
   IsChain (block ∷ next ∷ blocks) = (0 < length block.items) × IsChain (next ∷ blocks)
 
-  -- the first block was emptied, and a chain follows it
+  -- the first block was emptied, and each of those that follow it has an item
   pub record BeginsEmptied (blocks : List (Queue T)) : Type 0 where
     pub emptied : begins_empty blocks ≡ true
     pub followed : 2 ≤ length blocks
-    pub chained : IsChain (drop 1 blocks)
+    pub filled : AllHaveItems (drop 1 blocks)
 
-  -- a chain, or one behind a block that was emptied
+  -- a chain, or blocks with items behind one that was emptied
   abbrev pub IsLine : List (Queue T) → Type 0
   IsLine blocks = IsChain blocks ⊎ BeginsEmptied blocks
 
@@ -78,6 +84,18 @@ module _ {T : Type 0} where
     pub chained : IsChain new
     pub items : items_of new ≡ items_of old
     pub room : room_of new ≡ room_of old
+
+  -- there is one block, with one item
+  abbrev pub IsLone : List (Queue T) → Type 0
+  IsLone blocks = (length blocks ≡ 1) × (first_count blocks ≡ 1)
+
+  -- a chain of the same items whose first one is not the only one of its block, or where each block has one. The room
+  -- is the same too, or there is one block with one item
+  pub record IsReady (old new : List (Queue T)) : Type 0 where
+    pub chained : IsChain new
+    pub items : items_of new ≡ items_of old
+    pub more : (2 ≤ first_count new) ⊎ AllHaveItems new
+    pub room : (room_of new ≡ room_of old) ⊎ IsLone new
 
   -- the first item is taken out of a block, which begins again where it has no other
   pub record IsPopped (old : Queue T) (item : T) (new : Queue T) : Type 0 where

@@ -13,9 +13,9 @@ const MOST: usize = 0x8000_0000_0000_0000;
 
 /// A queue in a chain of blocks, whose items stay where they are while it grows.
 ///
-/// Each block but the last has an item, or is the first one and was emptied by the last pop. The next
-/// pop, append or new block takes that one out of the chain, and it is kept for later. No block is kept
-/// while another one is empty.
+/// At most one block is empty: the last one, or the first one, which the last pop emptied, or one that is
+/// kept for later. The next pop, append or new block takes an emptied first one out of the chain, and it
+/// is the kept one then.
 #[derive(Drop)]
 pub struct BlockQueue<T> {
     blocks: Option<Blocks<T>>,

@@ -2,7 +2,7 @@
 ghost use Rattle.std.specs.Prelude.{◌≡◌, ◌^◌, ◌<◌, ◌≤◌, ◌⊎◌, true, false, ◌+◌, [], ◌∷◌, ◌++◌, None, OnOk, OnErr, IfOk, IfSome, IsSome, drop as without, length, option_copied, slice_set};
 ghost use Rattle.std.specs.Map.Iter.{TakesFirst, deref};
 ghost use Rattle.block_queue.specs.Queue.{oldest};
-ghost use Rattle.block_queue.specs.Blocks.{items_of, room_of, first_count, pushed, AllHaveItems, IsChain, BeginsEmptied, IsLine, EndsWith, IsFirstPopped, IsSettled, IsJoined};
+ghost use Rattle.block_queue.specs.Blocks.{items_of, room_of, first_count, pushed, ends_empty as has_empty_end, AllHaveItems, IsChain, BeginsEmptied, IsLine, EndsWith, IsFirstPopped, IsSettled, IsReady, IsJoined};
 ghost use Rattle.block_queue.specs.Chain.{joined};
 
 use crate::block::Block;
@@ -264,7 +264,8 @@ impl<T> Blocks<T> {
     /// Whether the last block has no item.
     fn ends_empty(&self) -> bool
         requires { IsChain self.now }
-        ensures { result ≡ false → AllHaveItems self.now }
+        ensures is { result ≡ has_empty_end self.now }
+        ensures no { result ≡ false → AllHaveItems self.now }
     {
         self.last().is_empty()
     }
@@ -476,14 +477,14 @@ pub(crate) fn pop<T>(blocks: &mut Option<Blocks<T>>, kept: &mut Option<Load<T>>)
     pop_first(blocks)
 }
 
-/// Makes ready for a pop: the first block has an item then, if there is one, and where it has no second
-/// one no block is kept.
+/// Makes ready for a pop, which then leaves no two blocks without an item, be they in the chain or kept.
 #[inline]
 fn prepare<T>(blocks: &mut Option<Blocks<T>>, kept: &mut Option<Load<T>>)
     requires shape { IsLine (joined blocks.old) }
+    requires filled { 0 < length (items_of (joined blocks.old)) }
     requires kept { IfSome kept.old (λ load. load.block.items ≡ []) }
     requires alone { IsSome kept.old → AllHaveItems (joined blocks.old) }
-    ensures blocks { IsSettled (joined blocks.old) (joined blocks.new) }
+    ensures blocks { IsReady (joined blocks.old) (joined blocks.new) }
     ensures kept { IfSome kept.new (λ load. load.block.items ≡ []) }
     ensures alone { IsSome kept.new → AllHaveItems (joined blocks.new) }
     ensures more { IsSome kept.new → 2 ≤ first_count (joined blocks.new) }
@@ -498,9 +499,10 @@ fn prepare<T>(blocks: &mut Option<Blocks<T>>, kept: &mut Option<Load<T>>)
 #[inline(never)]
 fn make_ready<T>(blocks: &mut Option<Blocks<T>>, kept: &mut Option<Load<T>>)
     requires shape { IsLine (joined blocks.old) }
+    requires filled { 0 < length (items_of (joined blocks.old)) }
     requires kept { IfSome kept.old (λ load. load.block.items ≡ []) }
     requires alone { IsSome kept.old → AllHaveItems (joined blocks.old) }
-    ensures blocks { IsSettled (joined blocks.old) (joined blocks.new) }
+    ensures blocks { IsReady (joined blocks.old) (joined blocks.new) }
     ensures kept { IfSome kept.new (λ load. load.block.items ≡ []) }
     ensures alone { IsSome kept.new → AllHaveItems (joined blocks.new) }
     ensures more { IsSome kept.new → 2 ≤ first_count (joined blocks.new) }
@@ -509,6 +511,57 @@ fn make_ready<T>(blocks: &mut Option<Blocks<T>>, kept: &mut Option<Load<T>>)
     let left = first_len(blocks);
     if left < 2 {
         let_go(kept);
+        let empty = ends_empty(blocks);
+        if empty {
+            join_first(blocks);
+        }
+    }
+}
+
+/// Joins the first block's only item with the next one, where the last block has none: so the pop of it
+/// leaves no second block without an item.
+fn join_first<T>(blocks: &mut Option<Blocks<T>>)
+    requires chained { IsChain (joined blocks.old) }
+    requires one { first_count (joined blocks.old) ≡ 1 }
+    requires empty { has_empty_end (joined blocks.old) ≡ true }
+    ensures { IsReady (joined blocks.old) (joined blocks.new) }
+{
+    let mut first = replace_with(blocks, (), parted);
+    let oldest = first.block.pop();
+    let left = first_len(blocks);
+    if left == 0 {
+        first.free();
+        push(blocks, oldest);
+    } else {
+        let next = pop_first(blocks);
+        free_emptied(blocks);
+        first.block.push(oldest);
+        first.block.push(next);
+        replace_with(blocks, first, put_in_front);
+    }
+}
+
+/// Frees the first block where it has no item.
+fn free_emptied<T>(blocks: &mut Option<Blocks<T>>)
+    requires chained { IsChain (without 1 (joined blocks.old)) }
+    requires followed { 2 ≤ length (joined blocks.old) }
+    ensures blocks { IsSettled (joined blocks.old) (joined blocks.new) }
+    ensures some { 0 < length (joined blocks.new) }
+{
+    let left = first_len(blocks);
+    if left == 0 {
+        let first = replace_with(blocks, (), parted);
+        first.free();
+    }
+}
+
+/// A block, and behind it the others.
+fn put_in_front<T>(blocks: Option<Blocks<T>>, load: Load<T>) -> (Option<Blocks<T>>, ())
+    ensures { joined result.0 ≡ load.block ∷ joined blocks }
+{
+    match blocks {
+        Some(blocks) => (Some(blocks.follow(Some(Front::one(load)))), ()),
+        None => (Some(Blocks::one(load)), ()),
     }
 }
 
@@ -550,8 +603,7 @@ fn first_len<T>(blocks: &Option<Blocks<T>>) -> usize
     }
 }
 
-/// Takes a first block without items away from the others, and keeps it unless another block is
-/// without items too.
+/// Takes a first block without items away from the others, and keeps it.
 #[inline(never)]
 fn part_empty<T>(blocks: &mut Option<Blocks<T>>, kept: &mut Option<Load<T>>)
     requires first { BeginsEmptied (joined blocks.old) }
@@ -562,7 +614,6 @@ fn part_empty<T>(blocks: &mut Option<Blocks<T>>, kept: &mut Option<Load<T>>)
 {
     let first = replace_with(blocks, (), parted);
     replace_with(kept, first, kept_one);
-    keep_one(blocks, kept);
 }
 
 /// Whether the first block has no item and others follow.
@@ -725,7 +776,8 @@ pub(crate) fn keep_one<T>(blocks: &Option<Blocks<T>>, kept: &mut Option<Load<T>>
 /// Whether the last block has no item.
 fn ends_empty<T>(blocks: &Option<Blocks<T>>) -> bool
     requires { IsChain (joined blocks.now) }
-    ensures { result ≡ false → AllHaveItems (joined blocks.now) }
+    ensures is { result ≡ has_empty_end (joined blocks.now) }
+    ensures no { result ≡ false → AllHaveItems (joined blocks.now) }
 {
     match blocks {
         Some(blocks) => blocks.ends_empty(),

@@ -113,6 +113,65 @@ fn shortened_queues_follow_one_another(rt: HostRuntime) -> Result<(), Fail> {
     Ok(())
 }
 
+/// Room that was asked for stays while items are popped, `popped` of them, and the items stay in order.
+fn keeps_its_room(
+    rt: &impl Abort,
+    mut queue: BlockQueue<u64>,
+    popped: u64,
+) -> Result<(), AllocError> {
+    queue.reserve_one()?;
+    for number in 0..popped {
+        let room = queue.spare();
+        assert_eq!(rt; queue.pop_front(), Some(number));
+        assert!(rt; queue.spare() >= room);
+    }
+    for number in (queue.len() as u64).wrapping_add(popped)..100 {
+        queue.reserve_one()?;
+        assert!(rt; queue.spare() > 0);
+        queue.push_back(number);
+    }
+    for number in popped..100 {
+        assert_eq!(rt; queue.front().copied(), Some(number));
+        assert_eq!(rt; queue.pop_front(), Some(number));
+    }
+    assert_eq!(rt; queue.pop_front(), None);
+    Ok(())
+}
+
+#[test]
+fn unused_room_stays(rt: HostRuntime) -> Result<(), Fail> {
+    for (count, popped) in [
+        (1u64, 1u64),
+        (32, 31),
+        (32, 32),
+        (33, 33),
+        (64, 32),
+        (64, 33),
+        (64, 64),
+        (96, 64),
+        (96, 96),
+    ] {
+        keeps_its_room(&rt, numbered(&rt, rt.alloc(), 0, count)?, popped)?;
+    }
+    Ok(())
+}
+
+/// A block between the first one and the last one may hold one item.
+#[test]
+fn unused_room_stays_behind_one_item(rt: HostRuntime) -> Result<(), Fail> {
+    for (more_popped, more_left) in [(31u64, 1u64), (30, 2), (0, 32)] {
+        for popped in [31u64, 32, 33] {
+            let mut queue = numbered::<BlockQueue<u64>>(&rt, rt.alloc(), 0, 32)?;
+            let other = shortened(&rt, rt.alloc(), 32, more_popped, more_left)?;
+            assert!(rt; queue.len() < 100);
+            assert!(rt; other.len() < 100);
+            queue.append(other);
+            keeps_its_room(&rt, queue, popped)?;
+        }
+    }
+    Ok(())
+}
+
 /// What may move to another thread.
 fn moved<S: Send>(value: S) -> S {
     value

@@ -1,8 +1,7 @@
 use Rattle.std.proofs.Common.{◌≤◌, ◌++◌, [], ◌∷◌, ◌∙◌, sym, ap, subst, arith}
 use Rattle.block_queue.specs.Blocks.{AllHaveItems}
 use Rattle.block_queue.specs.Chain.{joined}
-use Rattle.block_queue.proofs.Blocks.{queue_pushed}
-use Rattle.block_queue.proofs.Ends.{pushed_have}
+use Rattle.block_queue.proofs.Blocks.{queue_pushed, pushed_have}
 use Rattle.block_queue.proofs.block_queue.BlockQueueFifo.push_back.Goals as goal
 
 pub invariant_of-self : goal.invariant_of-self
