@@ -15,15 +15,29 @@ SEED ?= 1
 
 .PHONY: build run test edits growths spoiled soak bench figures bench-queue
 
+# The mark of a program that was proved and built: made by `make build` and by the gate, and as old as the sources that they saw.
+STAMP = out/rad_proxy.stamp
+KIT = $(dir $(shell $(RT) doc))
+
+# Whether the program is there, and nothing that it is made of is newer.
+IS_BUILT = test -x $(PROGRAM) && test -f $(STAMP) && \
+	test -z "$$(find crates/*/src crates/*/specs crates/*/proofs crates.txt $(KIT)bin -newer $(STAMP) -print -quit)"
+
 # Proves and builds the program, over what earlier checks kept, and runs it as stored.
 build:
+	@mkdir -p out && touch out/rad_proxy.begun
 	@cd crates/rad_proxy && python3 ../../tests/progress.py ../../out/build.txt $(RT) run < stdin
+	@mv out/rad_proxy.begun $(STAMP)
 
-# Shows how the example's request is answered.
-run: build
-	@cat $(EXAMPLE)
-	@echo "--- $(PROGRAM) replay < $(EXAMPLE)"
-	@$(PROGRAM) replay < $(EXAMPLE)
+# Shows how the example's request is answered: by the program, where it is built, and else by a run that is not proved.
+run:
+	@if $(IS_BUILT); then program="$(PROGRAM)"; else \
+		program=tests/unproved; \
+		echo "The program is not built: this run is not proved. 'make build' proves it, and leaves it at $(PROGRAM)."; \
+	fi; \
+	cat $(EXAMPLE); \
+	echo "--- $(PROGRAM) replay < $(EXAMPLE)"; \
+	$$program replay < $(EXAMPLE)
 
 # The whole gate: all proofs from nothing, the edits of must-fail/, the tests, the stored run; then that each wrong body can be
 # applied, and the octets that the tests expect; and the program that was built: the rows, the examples, growths refused in

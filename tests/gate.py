@@ -7,7 +7,8 @@ that loses.
 usage: gate.py PROGRAM
 
 What `rt ci` says goes to out/gate.txt, what each script of SCRIPTS says to out/NAME.txt, and what each crate took, as a
-table in Markdown, to out/times.md. The last line is `N passed, M failed`, of all of it together; what ends badly or
+table in Markdown, to out/times.md. Where `rt ci` passed, out/rad_proxy.stamp says that the program is built, and of when the
+sources are that it was built from. The last line is `N passed, M failed`, of all of it together; what ends badly or
 without such a line of its own counts as a failure.
 """
 import os
@@ -16,6 +17,7 @@ import re
 import resource
 import subprocess
 import sys
+import time
 
 sys.dont_write_bytecode = True
 
@@ -85,8 +87,13 @@ def taken(watch):
 def main():
     if len(sys.argv) != 2:
         sys.exit(__doc__)
-    gate, times = (TOP / "out" / name for name in ("gate.txt", "times.md"))
+    gate, times, stamp = (TOP / "out" / name for name in ("gate.txt", "times.md", "rad_proxy.stamp"))
+    stamp.unlink(missing_ok=True)
+    began = time.time()
     status, watch = progress.run([*RT, "ci"], TOP, gate, list(parts()))
+    if status == 0:
+        stamp.touch()
+        os.utime(stamp, (began, began))
     times.write_text(taken(watch))
     print(f"what each crate took stands in {times}", flush=True)
     counts = [counted(status, gate), *(told_by(name, sys.argv[1]) for name in SCRIPTS)]
