@@ -27,7 +27,7 @@ pub enum Command {
 
 impl Command {
     /// What a line without its line feed asks for.
-    fn of(line: &[u8]) -> Command
+    pub fn of(line: &[u8]) -> Command
         ensures { Asks line.now result }
     {
         if line == b"state".as_slice() {
