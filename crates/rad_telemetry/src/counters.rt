@@ -66,10 +66,7 @@ impl Counters {
 
     /// Counts what a worker sends, where that goes to a home server.
     pub fn count_sent(&self, worker: Worker, to: Endpoint, octets: &[u8]) {
-        if let Some(kind) = octets
-            .first()
-            .and_then(|code| EventKind::of_code(*code))
-        {
+        if let Some(kind) = octets.first().and_then(|code| EventKind::of_code(*code)) {
             self.add(worker, kind, to);
         }
     }

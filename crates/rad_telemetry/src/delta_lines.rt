@@ -42,7 +42,10 @@ impl fmt::Display for ClientDelta {
         let reason = ReasonText(self.kind);
         let count = self.count;
         let client = ClientText(self.client);
-        write!(f, "event={event} reason=\"{reason}\" count={count} {client}")
+        write!(
+            f,
+            "event={event} reason=\"{reason}\" count={count} {client}"
+        )
     }
 }
 

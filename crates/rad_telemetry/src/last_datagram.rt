@@ -71,10 +71,7 @@ impl LastDatagram {
         ensures last { result.last.now ≡ self.now }
         ensures worker { result.worker ≡ worker }
     {
-        LastWords {
-            last: self,
-            worker,
-        }
+        LastWords { last: self, worker }
     }
 }
 

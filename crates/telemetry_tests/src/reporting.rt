@@ -89,8 +89,7 @@ const GIVEN: &str = "some/file some/file.new # TYPE rad_proxy_dropped_total coun
     rad_proxy_dropped_total{reason=\"UnknownClient\"} 0\n";
 
 /// The sums of what each worker had.
-const SUMS: &str =
-    "event=dropped reason=\"NoRealm\" count=2 client=10.0.0.1 client_port=40000\n\
+const SUMS: &str = "event=dropped reason=\"NoRealm\" count=2 client=10.0.0.1 client_port=40000\n\
     event=refused reason=\"BookFull\" count=1 client=10.0.0.1 client_port=40000\n\
     event=send-fault worker=front count=1\n\
     event=unheard home=h2 reason=\"NotHome\" count=1\n\
@@ -127,10 +126,7 @@ fn a_file_is_replaced(rt: HostRuntime) -> Result<(), Fail> {
     let alloc = rt.alloc();
     let config = read_config(alloc, TWO_HOMES)?;
     let telemetry = Telemetry::new(alloc, &config, &Discard)?;
-    let file = Some(CounterFile::new(
-        alloc,
-        String::from_str(alloc, "some/file")?,
-    )?);
+    let file = Some(CounterFile::new(alloc, String::from_str(alloc, "some/file")?)?);
     let memory = Memory::new(alloc);
     let stop = StopFlag::new();
     stop.set();
@@ -145,10 +141,7 @@ fn a_file_that_is_not_replaced_is_logged(rt: HostRuntime) -> Result<(), Fail> {
     let config = read_config(alloc, TWO_HOMES)?;
     let log = Logged::new((), LevelFilter::Warn, Kept::new(alloc));
     let telemetry = Telemetry::new(alloc, &config, &log)?;
-    let file = Some(CounterFile::new(
-        alloc,
-        String::from_str(alloc, "some/file")?,
-    )?);
+    let file = Some(CounterFile::new(alloc, String::from_str(alloc, "some/file")?)?);
     let stop = StopFlag::new();
     stop.set();
     report(&rt, alloc, telemetry.reporter(&file, &Nowhere), &stop);
