@@ -1,5 +1,5 @@
 -- Numbers, addresses and ports as texts (own).
-use Rattle.std.specs.Prelude.{◌≡◌, ℕ, ◌+◌, ◌≤◌, List, [], ◌∷◌, ◌++◌, length, All, take, drop, position, Option, Some, None, option_map, option_and_then, Bool, ◌&&◌, not, ◌==◌, nat_lt, nat_le, slice_index, if◌then◌else◌}
+use Rattle.std.specs.Prelude.{◌≡◌, ℕ, ◌+◌, ◌≤◌, List, [], ◌∷◌, length, All, take, drop, position, Option, Some, None, option_map, option_and_then, Bool, ◌&&◌, not, ◌==◌, nat_lt, nat_le, slice_index, if◌then◌else◌}
 use Rattle.std.specs.List.{list_all}
 use Rattle.std.specs.Char.{is_ascii_digit}
 use Rattle.std.specs.Str.Parse.{digits_value}
