@@ -10,6 +10,7 @@ use rad_auth::{
     response_authenticator,
 };
 use rad_packet::{Datagram, PacketRef, read};
+use rad_realms::Home;
 use std::alloc::AllocError;
 
 /// The Authenticator of a Status-Server that is made.
@@ -22,6 +23,13 @@ pub enum Sender<'a> {
     Nas(Option<&'a Secret>),
     /// A home server, with its secret, which answers what its lane sent last from a source port, where the lane has it.
     Home(&'a Secret, Option<&'a LastSent>),
+}
+
+impl<'a> Sender<'a> {
+    /// A home server, which answers what its lane sent last from a source port, where the lane has it.
+    pub fn of_home(home: &'a Home, sent: Option<&'a LastSent>) -> Self {
+        Sender::Home(home.secret(), sent)
+    }
 }
 
 impl Sender<'_> {

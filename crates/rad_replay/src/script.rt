@@ -181,7 +181,14 @@ impl<'a> Script<'a> {
         packet: &Packet<'_>,
         output: &mut W,
     ) -> Result<(), Halt> {
-        self.build_from_home(lane, port, packet)?;
+        build_reply(
+            self.config,
+            &self.sent,
+            lane,
+            port,
+            packet,
+            &mut self.datagram,
+        )?;
         if lane >= self.proxy.lanes() {
             return Err(Halt::Malformed);
         }
@@ -194,15 +201,6 @@ impl<'a> Script<'a> {
             self.datagram.as_slice(),
         );
         print(output, &HomeLine { lane, outcome })
-    }
-
-    /// Makes the datagram of a lane's home server, which answers what this source port sent last.
-    fn build_from_home(&mut self, lane: u16, port: u16, packet: &Packet<'_>) -> Result<(), Halt> {
-        let Some(home) = self.config.homes().get(usize::from(lane)) else {
-            return Err(Halt::Malformed);
-        };
-        let sender = Sender::Home(home.secret(), self.sent.get(lane, port));
-        build(packet, sender, &mut self.datagram)
     }
 
     /// Writes what a lane's step does.
@@ -263,6 +261,22 @@ impl<'a> Script<'a> {
             Err(_) => Err(Halt::Output),
         }
     }
+}
+
+/// Makes the datagram of a lane's home server, which answers what this source port sent last.
+fn build_reply(
+    config: &Config,
+    sent: &Ports,
+    lane: u16,
+    port: u16,
+    packet: &Packet<'_>,
+    datagram: &mut Vec<u8>,
+) -> Result<(), Halt> {
+    let Some(home) = config.homes().get(usize::from(lane)) else {
+        return Err(Halt::Malformed);
+    };
+    let sent = sent.get(lane, port);
+    build(packet, Sender::Home(home.secret(), sent), datagram)
 }
 
 /// Writes a line.
