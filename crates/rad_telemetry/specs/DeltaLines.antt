@@ -13,8 +13,12 @@ abbrev pub peer_text : Endpoint → List ℕ
 peer_text peer = codes "address=" ++ address_text peer.address ++ codes " port=" ++ decimal peer.port
 
 -- A client's end of a datagram.
+unfoldable pub client_port_text : ℕ → List ℕ
+client_port_text port = codes "client_port=" ++ decimal port
+
+-- A client's address and port.
 abbrev pub client_text : Endpoint → List ℕ
-client_text client = codes "client=" ++ address_text client.address ++ codes " client_port=" ++ decimal client.port
+client_text client = codes "client=" ++ address_text client.address ++ codes " " ++ client_port_text client.port
 
 -- Dropped datagrams of clients, or refused requests, of one reason.
 abbrev pub client_delta : ClientDelta → List ℕ

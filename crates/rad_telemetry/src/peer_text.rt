@@ -11,6 +11,10 @@ pub struct PeerText(pub Endpoint);
 #[derive(Clone, Copy)]
 pub struct ClientText(pub Endpoint);
 
+/// A client's UDP port.
+#[derive(Clone, Copy)]
+struct ClientPort(u16);
+
 impl fmt::Display for PeerText {
     ghost use Rattle.std.specs.Prelude.{Some};
     ghost use Rattle.rad_telemetry.specs.DeltaLines.{peer_text};
@@ -32,7 +36,20 @@ impl fmt::Display for ClientText {
 
     fn fmt<W: fmt::Write>(&self, f: &mut fmt::Formatter<W>) -> fmt::Result {
         let address = AddressText(self.0.address);
-        let port = self.0.port;
-        write!(f, "client={address} client_port={port}")
+        let port = ClientPort(self.0.port);
+        write!(f, "client={address} {port}")
+    }
+}
+
+impl fmt::Display for ClientPort {
+    ghost use Rattle.std.specs.Prelude.{Some};
+    ghost use Rattle.rad_telemetry.specs.DeltaLines.{client_port_text};
+
+    ghost output = { λ port. Some (client_port_text port.0) };
+
+    #[tactic(auto, unfolding(crate::specs::DeltaLines::client_port_text))]
+    fn fmt<W: fmt::Write>(&self, f: &mut fmt::Formatter<W>) -> fmt::Result {
+        let port = self.0;
+        write!(f, "client_port={port}")
     }
 }
