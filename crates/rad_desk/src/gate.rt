@@ -40,33 +40,30 @@ pub enum Go {
 /// What a worker tells.
 #[derive(Clone, Copy, Debug, PartialEq, Eq)]
 pub enum Note {
-    /// A datagram from there was dropped, for this reason.
-    Dropped(Endpoint, Dropped),
-    /// A request from there was refused, for this reason.
-    Refused(Endpoint, Refusal),
-    /// A lane took a request, as this number.
-    Accepted(u16, u64),
-    /// A datagram came to a lane's socket from there, which is not its home server, and was dropped.
-    NotHome(Endpoint),
-    /// A datagram from the home server was dropped, for this reason.
+    /// The datagram that the front received last was dropped, for this reason.
+    Dropped(Dropped),
+    /// The request that the front received last was refused, for this reason.
+    Refused(Refusal),
+    /// The datagram that a lane's worker received last was dropped, since its home server did not send it.
+    NotHome,
+    /// The datagram that a lane's worker received last from the home server was dropped, for this reason.
     Unheard(DeskFault),
-    /// The response of this serial went into the ring of a lane.
-    Answered(u16, u64),
-    /// The home server is taken to be down from now on.
+    /// The home server is marked down from now on.
     WentDown,
-    /// The home server is taken to be up from now on.
+    /// The home server is marked up from now on.
     WentUp,
-    /// The response of this serial was taken from the ring of a lane, and was sent.
+    /// The response of this lane and serial was taken from the lane's ring, and its datagram was handed to the wire.
     Took(u16, u64),
-    /// So many requests were cut off, all answered and past their span.
-    Cut(u64),
     /// A receive failed.
     ReceiveFault,
-    /// A send failed. The datagram to there is lost.
-    SendFault(Endpoint),
+    /// A send failed. The datagram is lost.
+    SendFault,
+    /// So many requests were cut off, all answered and past their span.
+    Cut(u64),
 }
 
-/// What a worker asks before each call, and is told to after it.
+/// What a worker asks before each call, and tells. A gate has to answer [`Gate::before`] and [`Gate::after`]; it may leave out
+/// the rest.
 pub trait Gate {
     /// Whether a worker goes on to a call.
     fn before(&self, worker: Worker, call: Call) -> Go;
@@ -76,4 +73,16 @@ pub trait Gate {
 
     /// A worker tells something.
     fn note(&self, _worker: Worker, _note: Note) {}
+
+    /// A worker received a datagram from there. A note of it, where one comes, is the worker's next.
+    fn received(&self, _worker: Worker, _from: Endpoint, _octets: &[u8]) {}
+
+    /// A worker is about to send a datagram to there. A note that the send failed, where one comes, is the worker's next.
+    fn sends(&self, _worker: Worker, _to: Endpoint, _octets: &[u8]) {}
+
+    /// A lane took a new request, as this number, so that its worker has something to send.
+    fn accepted(&self, _lane: u16, _number: u64) {}
+
+    /// The response of this serial went into a lane's ring, so that the front has something to take.
+    fn answered(&self, _lane: u16, _serial: u64) {}
 }

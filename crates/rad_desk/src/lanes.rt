@@ -100,7 +100,7 @@ fn hear<W: Wire, G: Gate>(
     };
     let from = Endpoint { address, port };
     if from != endpoint_of(home) {
-        shift.note(Note::NotHome(from));
+        shift.note(Note::NotHome);
         return true;
     }
     if !shift.may(Call::Hear) {
@@ -109,7 +109,7 @@ fn hear<W: Wire, G: Gate>(
     let told = proxy.hear(rt, alloc, lane, wire.now(), socket, &octets[..count]);
     shift.made(Call::Hear);
     match told {
-        Ok(Told::Answer(serial)) => shift.note(Note::Answered(lane, serial)),
+        Ok(Told::Answer(serial)) => shift.gate.answered(lane, serial),
         Ok(Told::ProbeAnswered) => shift.note(Note::WentUp),
         Err(fault) => shift.note(Note::Unheard(fault)),
     }
@@ -164,7 +164,7 @@ fn send_home<W: Wire, G: Gate>(
     if u32::from(port) < home.limits().numbers().ports {
         shift.send(wire, port, to, datagram.bytes());
     } else {
-        shift.lose(to);
+        shift.lose();
     }
 }
 

@@ -79,8 +79,15 @@ impl<'a, G: Gate> Shift<'a, G> {
     {
         let received = wire.receive(datagram);
         match received {
-            Received::Got { .. } => {
+            Received::Got {
+                address,
+                port,
+                count,
+                ..
+            } => {
                 self.tally.received = self.tally.received.saturating_add(1);
+                let from = Endpoint { address, port };
+                self.gate.received(self.worker, from, &datagram[..count]);
             }
             Received::Nothing => {}
             Received::Fault => {
@@ -96,17 +103,18 @@ impl<'a, G: Gate> Shift<'a, G> {
         ensures sends { W.log wire.new ≡ W.log wire.old ++ went socket to.address to.port octets.now ∷ [] }
         ensures turns { self.new.tally.turns ≡ self.old.tally.turns }
     {
+        self.gate.sends(self.worker, to, octets);
         match wire.send(socket, to.address, to.port, octets) {
             Delivery::Sent => self.tally.sent = self.tally.sent.saturating_add(1),
-            Delivery::Fault => self.lose(to),
+            Delivery::Fault => self.lose(),
         }
     }
 
     /// Counts a datagram that could not be sent.
-    pub(crate) fn lose(&mut self, to: Endpoint)
+    pub(crate) fn lose(&mut self)
         ensures { self.new.tally.turns ≡ self.old.tally.turns }
     {
         self.tally.faults = self.tally.faults.saturating_add(1);
-        self.note(Note::SendFault(to));
+        self.note(Note::SendFault);
     }
 }

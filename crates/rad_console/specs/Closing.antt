@@ -1,0 +1,49 @@
+-- What is left at the end, of all lanes (own).
+use Rattle.std.specs.Prelude.{◌≡◌, ℕ, List, length, All, Option, MatchOption, ⊤}
+use Rattle.rad_desk.specs.declared.inlet.Inlet.{Inlet}
+use Rattle.rad_desk.specs.declared.report.LaneEnd.{LaneEnd}
+use Rattle.rad_desk.specs.declared.report.Report.{Report}
+use Rattle.rad_desk.specs.declared.report.Rest.{Rest}
+use Rattle.rad_desk.specs.declared.report.Rest.TheVariants.{Known, Unknown}
+use Rattle.rad_desk.specs.Ending.{IsReportOf}
+use Rattle.rad_console.specs.declared.lines.EndLine.{EndLine}
+use Rattle.rad_console.specs.Totals.{count_in_all}
+
+abbrev pub outstanding_at : LaneEnd → ℕ
+outstanding_at end = end.counts.outstanding
+
+-- Whether it is known which responses were not taken, and how many then.
+abbrev pub IsKnown : Rest → Type 0
+IsKnown (Known rest) = ⊤
+IsKnown Unknown = ⊥
+
+abbrev pub known_count : Rest → ℕ
+known_count (Known rest) = length rest
+known_count Unknown = 0
+
+abbrev pub IsKnownAt : LaneEnd → Type 0
+IsKnownAt end = IsKnown end.rest
+
+abbrev pub known_at : LaneEnd → ℕ
+known_at end = known_count end.rest
+
+-- So many responses were not taken, where that is known of each lane.
+abbrev pub CountsUntaken : List LaneEnd → Option ℕ → Type 0
+CountsUntaken ends untaken =
+    MatchOption untaken (¬ All IsKnownAt ends) (λ n. All IsKnownAt ends × (n ≡ count_in_all known_at ends))
+
+-- What a report tells: the requests never sent, those sent and not answered, and the responses that nobody took.
+pub record Tells (report : Report) (end : EndLine) : Type 0 where
+  pub queued : end.queued ≡ length report.queued.items
+  pub outstanding : end.outstanding ≡ count_in_all outstanding_at report.ends
+  pub untaken : CountsUntaken report.ends end.untaken
+
+-- What the report of so many lanes tells, with these inlets.
+pub record Closes (lanes : ℕ) (inlets : List Inlet) (end : EndLine) : Type 0 where
+  pub report : Report
+  pub report_of : IsReportOf lanes inlets report
+  pub told : Tells report end
+
+-- What is left of so many lanes, with some inlets.
+abbrev pub IsEndOf : ℕ → EndLine → Type 0
+IsEndOf lanes end = (inlets : List Inlet) × Closes lanes inlets end

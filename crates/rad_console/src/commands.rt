@@ -1,0 +1,232 @@
+//! The commands that come in by standard input while the proxy serves, one a line.
+
+ghost use Rattle.std.specs.Prelude.{◌≡◌, ◌≢◌, ◌≤◌, [], ◌++◌, ◌↔◌, length, take, drop, true, false, IfOk, OnErr, MatchOption, IsTrue};
+ghost use Rattle.std.specs.Io.KnownBytes.{Keeps, prepend_known};
+ghost use Rattle.rad_console.specs.Commands.{Asks, EndsLine, HasNoFeed, IsFront, ReadsNext, ReadsMore};
+
+use crate::pieces::find_first;
+use std::io::{Error, ErrorKind, Read, Result};
+use std::marker::Model;
+
+/// The most octets of a line that may be a command.
+const MOST: usize = 64;
+
+/// How many octets are read at once.
+const ROOM: usize = 512;
+
+/// What a line asks for.
+#[derive(Clone, Copy, Debug, PartialEq, Eq)]
+pub enum Command {
+    /// How each lane stands.
+    State,
+    /// That each lane takes no more requests.
+    Drain,
+    /// Nothing that there is.
+    Unknown,
+}
+
+impl Command {
+    /// What a line without its line feed asks for.
+    pub fn of(line: &[u8]) -> Command
+        ensures { Asks line.now result }
+    {
+        if line == b"state".as_slice() {
+            Command::State
+        } else if line == b"drain".as_slice() {
+            Command::Drain
+        } else {
+            Command::Unknown
+        }
+    }
+}
+
+/// The front of a line, as far as it was read: at most as many octets as a command may have.
+#[derive(Drop)]
+struct Line {
+    octets: [u8; MOST],
+    count: usize,
+}
+
+impl Model for Line {
+    ghost use Rattle.std.specs.Prelude.{ℕ, List, ◌≤◌, take};
+
+    ghost Value = { List ℕ };
+
+    ghost view = { λ line. take line.count line.octets };
+
+    ghost invariant = { λ line. line.count ≤ 64 };
+}
+
+impl Line {
+    fn new() -> Line
+        ensures { result ≡ [] }
+    {
+        Line {
+            octets: [0; MOST],
+            count: 0,
+        }
+    }
+
+    /// Adds octets, as far as there is room.
+    fn push(&mut self, octets: &[u8])
+        ensures { self.new ≡ take 64 (self.old ++ octets.now) }
+    {
+        let start = self.count;
+        let count = octets.len().min(MOST - start);
+        self.octets[start..start + count].copy_from_slice(&octets[..count]);
+        self.count = start + count;
+    }
+
+    fn is_empty(&self) -> bool
+        ensures { IsTrue result ↔ (self.now ≡ []) }
+    {
+        self.count == 0
+    }
+
+    /// What the line asks for. An empty one begins.
+    fn end(&mut self) -> Command
+        ensures asked { Asks self.old result }
+        ensures empty { self.new ≡ [] }
+    {
+        let command = Command::of(&self.octets[..self.count]);
+        self.count = 0;
+        command
+    }
+}
+
+/// The octets that were read and not yet looked at.
+#[derive(Drop)]
+struct Unread {
+    room: [u8; ROOM],
+    /// They stand from here,
+    at: usize,
+    /// to here.
+    end: usize,
+}
+
+impl Model for Unread {
+    ghost use Rattle.std.specs.Prelude.{ℕ, List, ◌≤◌, take, drop};
+
+    ghost Value = { List ℕ };
+
+    ghost view = { λ unread. drop unread.at (take unread.end unread.room) };
+
+    ghost invariant = { λ unread. (unread.at ≤ unread.end) × (unread.end ≤ 512) };
+}
+
+impl Unread {
+    fn new() -> Unread
+        ensures { result ≡ [] }
+    {
+        Unread {
+            room: [0; ROOM],
+            at: 0,
+            end: 0,
+        }
+    }
+
+    fn as_slice(&self) -> &[u8]
+        ensures { result.now ≡ self.now }
+    {
+        &self.room[self.at..self.end]
+    }
+
+    /// So many of the first ones were looked at.
+    fn skip(&mut self, count: usize)
+        requires { count ≤ length self.old }
+        ensures { self.new ≡ drop count self.old }
+    {
+        self.at += count;
+    }
+
+    /// Reads on, where all were looked at. It answers whether the end of input is not yet there.
+    fn read<R: Read>(&mut self, reader: &mut R) -> Result<bool>
+        requires { self.old ≡ [] }
+        ensures more { IfOk result (ReadsMore (R.remaining reader.old) self.new (R.remaining reader.new)) }
+        ensures none { OnErr result ((self.new ≡ []) × Keeps (R.remaining reader.old) (R.remaining reader.new)) }
+    {
+        self.at = 0;
+        self.end = 0;
+        let count = reader.read(&mut self.room)?;
+        self.end = count;
+        Ok(count > 0)
+    }
+}
+
+/// The commands of a reader, to its end. The last line may lack its line feed.
+#[derive(Drop)]
+pub struct Commands<R: Drop> {
+    reader: R,
+    line: Line,
+    unread: Unread,
+    ghost front: { IsFront line },
+}
+
+impl<R: Read + Drop> Commands<R> {
+    pub fn new(reader: R) -> Commands<R>
+        ensures reader { result.reader ≡ reader }
+        ensures none { (result.line ≡ []) × (result.unread ≡ []) }
+    {
+        Commands {
+            reader,
+            line: Line::new(),
+            unread: Unread::new(),
+        }
+    }
+
+    /// The next command, or none at the end of input. It waits for the reader.
+    ///
+    /// # Errors
+    ///
+    /// The reader's own. After `Interrupted` the next call goes on where this one ended.
+    pub fn next(&mut self) -> Result<Option<Command>>
+        ensures { ReadsNext (prepend_known (self.old.line ++ self.old.unread) (R.remaining self.old.reader)) result
+            (prepend_known (self.new.line ++ self.new.unread) (R.remaining self.new.reader)) }
+    {
+        for _ in 0..u64::MAX {
+            if let Some(command) = self.next_read() {
+                return Ok(Some(command));
+            }
+            match self.unread.read(&mut self.reader) {
+                Ok(true) => {}
+                Ok(false) => return Ok(self.last()),
+                Err(error) => return Err(error),
+            }
+        }
+        Err(Error::from(ErrorKind::Interrupted))
+    }
+
+    /// The next command whose line ends among the octets that were read.
+    fn next_read(&mut self) -> Option<Command>
+        ensures reader { self.new.reader ≡ self.old.reader }
+        ensures ends { MatchOption result
+            ((self.new.line ≡ take 64 (self.old.line ++ self.old.unread)) × (self.new.unread ≡ []) × HasNoFeed self.old.unread)
+            (λ command. EndsLine self.old.line self.old.unread command self.new.unread × (self.new.line ≡ [])) }
+    {
+        let unread = self.unread.as_slice();
+        match find_first(unread, b'\n') {
+            Some(count) => {
+                self.line.push(&unread[..count]);
+                self.unread.skip(count + 1);
+                Some(self.line.end())
+            }
+            None => {
+                let count = unread.len();
+                self.line.push(unread);
+                self.unread.skip(count);
+                None
+            }
+        }
+    }
+
+    /// The command of a line that the end of input ends.
+    fn last(&mut self) -> Option<Command>
+        ensures rest { (self.new.reader ≡ self.old.reader) × (self.new.unread ≡ self.old.unread) × (self.new.line ≡ []) }
+        ensures last { MatchOption result (self.old.line ≡ []) (λ command. (self.old.line ≢ []) × Asks self.old.line command) }
+    {
+        if self.line.is_empty() {
+            return None;
+        }
+        Some(self.line.end())
+    }
+}

@@ -1,0 +1,96 @@
+//! The lines that tell of each lane: how it stands, and that it was drained.
+
+ghost use Rattle.std.specs.Prelude.{◌≡◌};
+ghost use Rattle.rad_console.specs.Lanes.{watch_name as the_watch_name, mode_name as the_mode_name};
+
+use rad_lane::Counts;
+use std::fmt;
+
+/// How a lane stands.
+#[derive(Drop)]
+pub struct StateLine<'a> {
+    pub lane: usize,
+    /// The home server's name.
+    pub name: &'a str,
+    pub counts: Counts,
+}
+
+/// That a lane takes no more requests.
+#[derive(Clone, Copy)]
+pub struct DrainLine {
+    pub lane: usize,
+    /// How many requests it had accepted.
+    pub count: u64,
+}
+
+/// How many requests a lane has had, and has.
+#[derive(Drop)]
+struct CountsText(Counts);
+
+/// Whether a home server is up.
+fn watch_name(up: bool) -> &'static str
+    ensures { result.now ≡ the_watch_name up }
+{
+    if up { "up" } else { "down" }
+}
+
+/// Whether a lane takes requests, still has some, or is done.
+fn mode_name(counts: &Counts) -> &'static str
+    ensures { result.now ≡ the_mode_name counts.now.draining counts.now.queued counts.now.outstanding }
+{
+    match (counts.draining, counts.queued, counts.outstanding) {
+        (false, _, _) => "open",
+        (true, 0, 0) => "done",
+        (true, _, _) => "draining",
+    }
+}
+
+impl fmt::Display for StateLine<'_> {
+    ghost use Rattle.std.specs.Prelude.{Some};
+    ghost use Rattle.rad_console.specs.Lanes.{state_line};
+
+    ghost output = { λ line. Some (state_line line) };
+
+    fn fmt<W: fmt::Write>(&self, f: &mut fmt::Formatter<W>) -> fmt::Result {
+        let lane = self.lane;
+        let name = self.name;
+        let watch = watch_name(self.counts.up);
+        let mode = mode_name(&self.counts);
+        let counts = CountsText(self.counts);
+        write!(f, "lane {lane} {name} ")?;
+        write!(f, "{watch} {mode} {counts}")
+    }
+}
+
+impl fmt::Display for CountsText {
+    ghost use Rattle.std.specs.Prelude.{Some};
+    ghost use Rattle.rad_console.specs.Lanes.{counts_text};
+
+    ghost output = { λ line. Some (counts_text line.0) };
+
+    fn fmt<W: fmt::Write>(&self, f: &mut fmt::Formatter<W>) -> fmt::Result {
+        let accepted = self.0.accepted;
+        let queued = self.0.queued;
+        let outstanding = self.0.outstanding;
+        let answered = self.0.answered;
+        let opening = self.0.opening;
+        write!(f, "accepted {accepted} queued {queued} ")?;
+        write!(
+            f,
+            "outstanding {outstanding} answered {answered} opening {opening}"
+        )
+    }
+}
+
+impl fmt::Display for DrainLine {
+    ghost use Rattle.std.specs.Prelude.{Some};
+    ghost use Rattle.rad_console.specs.Lanes.{drain_line};
+
+    ghost output = { λ line. Some (drain_line line) };
+
+    fn fmt<W: fmt::Write>(&self, f: &mut fmt::Formatter<W>) -> fmt::Result {
+        let lane = self.lane;
+        let count = self.count;
+        write!(f, "drain: {lane} {count}")
+    }
+}

@@ -1,0 +1,29 @@
+//! What the commands `run` and `replay` share: configurations read from octets, the console, and the line of what is
+//! left at the end.
+//!
+//! [`Commands`] reads the commands of standard input, and [`obey`] obeys one and writes what it answers; an event of a
+//! script that is a command is obeyed by the same. The layer above uses the contract of [`close`]: the [`EndLine`] tells
+//! what the report of the closed proxy tells, so it is clean only where nothing is left.
+//!
+//! The definitions that the contracts cite stand in specs: `Closing` is what an end line tells, `Commands` what a line
+//! asks for, `Configurations` which octets are a configuration, `Pieces` how a text is cut, and `Lines` how each line
+//! is printed.
+#![tactic(auto)]
+
+mod bounded;
+mod closing;
+mod commands;
+mod configuration;
+mod console;
+mod lanes;
+mod lines;
+mod pieces;
+
+pub use bounded::read_at_most;
+pub use closing::close;
+pub use commands::{Command, Commands};
+pub use configuration::read_configuration;
+pub use console::obey;
+pub use lanes::{DrainLine, StateLine};
+pub use lines::{CountLine, EndLine, ListeningLine};
+pub use pieces::Pieces;

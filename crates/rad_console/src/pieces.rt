@@ -1,0 +1,67 @@
+//! Texts that are cut at each separator: a script into its lines, and a line into its words.
+
+ghost use Rattle.std.specs.Prelude.{◌≢◌, All, MatchOption};
+ghost use Rattle.rad_console.specs.Pieces.{IsFirstAt};
+
+/// The pieces of a text round each separator, in order; a text without one is one piece.
+#[derive(Drop)]
+pub struct Pieces<'a> {
+    /// The text that is left to be cut: none once the last piece was given.
+    rest: Option<&'a [u8]>,
+    separator: u8,
+}
+
+impl<'a> Pieces<'a> {
+    ghost use Rattle.std.specs.Prelude.{◌≡◌, Some};
+    ghost use Rattle.rad_console.specs.Pieces.{text_left};
+
+    /// Cuts a text.
+    pub fn new(text: &'a [u8], separator: u8) -> Self
+        ensures text { text_left result ≡ Some text.now }
+        ensures separator { result.separator ≡ separator }
+    {
+        Pieces {
+            rest: Some(text),
+            separator,
+        }
+    }
+
+    /// What follows the pieces that were given, where the last piece was not among them.
+    pub fn rest(&self) -> Option<&'a [u8]>
+        ensures { result ≡ self.now.rest }
+    {
+        self.rest
+    }
+}
+
+impl<'a> Iterator for Pieces<'a> {
+    type Item = &'a [u8];
+
+    ghost use Rattle.std.specs.Iterator.{at_most};
+    ghost use Rattle.rad_console.specs.Pieces.{CutsPiece, pieces_left};
+
+    ghost next_gives = { CutsPiece };
+
+    ghost remaining = { λ s. at_most (pieces_left s) };
+
+    fn next(&mut self) -> Option<&'a [u8]> {
+        let rest = self.rest?;
+        match find_first(rest, self.separator) {
+            Some(end) => {
+                self.rest = Some(&rest[end + 1..]);
+                Some(&rest[..end])
+            }
+            None => {
+                self.rest = None;
+                Some(rest)
+            }
+        }
+    }
+}
+
+/// Where an octet stands first in a text.
+pub fn find_first(text: &[u8], wanted: u8) -> Option<usize>
+    ensures { MatchOption result (All (λ octet. octet ≢ wanted) text.now) (λ place. IsFirstAt text.now wanted place) }
+{
+    text.iter().position(|octet| *octet == wanted)
+}

@@ -1,0 +1,6 @@
+pub mod Faults
+pub mod Hex
+pub mod Lines
+pub mod PacketText
+pub mod Path
+pub mod Sent

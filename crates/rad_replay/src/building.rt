@@ -1,0 +1,167 @@
+//! The octets of the datagrams that a script describes.
+
+ghost use Rattle.std.specs.Prelude.{◌≤◌, OnOk, length, vec_len};
+
+use crate::datagrams::{Changes, Make, Packet, Template};
+use crate::faults::Halt;
+use crate::sent::LastSent;
+use rad_auth::{
+    MESSAGE_AUTHENTICATOR, STATUS_SERVER, Secret, make_status, request_authenticator,
+    response_authenticator,
+};
+use rad_packet::{Datagram, PacketRef, read};
+use rad_realms::Home;
+use std::alloc::AllocError;
+
+/// The Authenticator of a Status-Server that is made.
+const STATUS_AUTHENTICATOR: [u8; 16] = [0xa5; 16];
+
+/// Who sends a datagram.
+#[derive(Clone, Copy)]
+pub enum Sender<'a> {
+    /// A NAS, with its client's secret, where its address is a client's.
+    Nas(Option<&'a Secret>),
+    /// A home server, with its secret, which answers what its lane sent last from a source port, where the lane has it.
+    Home(&'a Secret, Option<&'a LastSent>),
+}
+
+impl<'a> Sender<'a> {
+    /// A home server, which answers what its lane sent last from a source port, where the lane has it.
+    pub fn of_home(home: &'a Home, sent: Option<&'a LastSent>) -> Self {
+        Sender::Home(home.secret(), sent)
+    }
+}
+
+impl Sender<'_> {
+    /// The secret that it signs with, where it has one.
+    fn secret(&self) -> Option<&Secret> {
+        match self {
+            Sender::Nas(secret) => *secret,
+            Sender::Home(secret, _) => Some(*secret),
+        }
+    }
+
+    /// The Authenticator of its packet (RFC 2866 section 3): a Request Authenticator of a NAS, or zeros
+    /// without a secret; a Response Authenticator of a home server, for the packet that was sent to it last
+    /// under the packet's Identifier.
+    fn authenticator_of(&self, packet: &PacketRef<'_>) -> [u8; 16] {
+        match self {
+            Sender::Nas(None) => [0; 16],
+            Sender::Nas(Some(secret)) => request_authenticator(packet, secret),
+            Sender::Home(secret, sent) => {
+                let answered = match sent {
+                    Some(sent) => sent.authenticator(packet.identifier()),
+                    None => [0; 16],
+                };
+                response_authenticator(packet, &answered, secret)
+            }
+        }
+    }
+}
+
+/// Writes the octets of a datagram in place of what `octets` had. What is made is right for its sender.
+///
+/// # Errors
+///
+/// `Memory` where a growth was refused, `Malformed` where more octets are cut than there are.
+pub fn build(packet: &Packet<'_>, sender: Sender<'_>, octets: &mut Vec<u8>) -> Result<(), Halt> {
+    octets.clear();
+    match packet {
+        Packet::Raw(raw) => Ok(raw.push_to(octets)?),
+        Packet::Made(template, changes) => build_made(template, changes, sender, octets),
+    }
+}
+
+/// Writes a packet that is made, with its changes.
+fn build_made(
+    template: &Template<'_>,
+    changes: &Changes<'_>,
+    sender: Sender<'_>,
+    octets: &mut Vec<u8>,
+) -> Result<(), Halt> {
+    write_template(template, sender, octets)?;
+    if changes.spoil {
+        spoil(template, octets);
+    }
+    change(changes, octets)
+}
+
+/// Writes the packet that a template describes.
+fn write_template(
+    template: &Template<'_>,
+    sender: Sender<'_>,
+    octets: &mut Vec<u8>,
+) -> Result<(), AllocError>
+    ensures { OnOk result (20 ≤ vec_len octets.new) }
+{
+    match template {
+        Template::Make(make) => write_made(make, sender, octets),
+        Template::Status { identifier } => write_status(*identifier, sender.secret(), octets),
+    }
+}
+
+/// Writes a packet with these parts, signed by its sender where it reads as a packet.
+fn write_made(make: &Make<'_>, sender: Sender<'_>, octets: &mut Vec<u8>) -> Result<(), AllocError>
+    ensures { OnOk result (20 ≤ vec_len octets.new) }
+{
+    let attributes = &make.attributes;
+    let length = 20 + attributes.count();
+    let length = [(length / 256) as u8, (length % 256) as u8];
+    octets.extend_from_slice(&[make.code, make.identifier])?;
+    octets.extend_from_slice(&length)?;
+    octets.extend_from_slice(&[0; 16])?;
+    attributes.push_to(octets)?;
+    sign(octets, sender);
+    Ok(())
+}
+
+/// A Status-Server that is right under the secret. Without one, zeros stand in its Authenticator and in its
+/// Message-Authenticator.
+fn write_status(
+    identifier: u8,
+    secret: Option<&Secret>,
+    octets: &mut Vec<u8>,
+) -> Result<(), AllocError>
+    ensures { OnOk result (20 ≤ vec_len octets.new) }
+{
+    let mut status = Datagram::new();
+    match secret {
+        Some(secret) => make_status(identifier, STATUS_AUTHENTICATOR, secret, &mut status),
+        None => {
+            status.begin(STATUS_SERVER, identifier, [0; 16]);
+            let _ = status.push(MESSAGE_AUTHENTICATOR, &[0; 16]);
+        }
+    }
+    octets.extend_from_slice(status.bytes())
+}
+
+/// Sets the Authenticator to the sender's. Octets that read as no packet stay: they are dropped before
+/// anyone looks at their Authenticator.
+fn sign(octets: &mut [u8], sender: Sender<'_>) {
+    let authenticator = match read(octets) {
+        Ok(packet) => sender.authenticator_of(&packet),
+        Err(_) => return,
+    };
+    octets[4..20].copy_from_slice(&authenticator);
+}
+
+/// Makes what authenticates the packet wrong.
+fn spoil(template: &Template<'_>, octets: &mut [u8])
+    requires { 20 ≤ length octets.old }
+{
+    let place = match template {
+        Template::Make(_) => 19,
+        Template::Status { .. } => octets.len() - 1,
+    };
+    octets[place] ^= 1;
+}
+
+/// Pads and then cuts what was made.
+fn change(changes: &Changes<'_>, octets: &mut Vec<u8>) -> Result<(), Halt> {
+    changes.pad.push_to(octets)?;
+    if changes.cut > octets.len() {
+        return Err(Halt::Malformed);
+    }
+    octets.truncate(octets.len() - changes.cut);
+    Ok(())
+}

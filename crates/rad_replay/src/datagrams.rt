@@ -1,0 +1,136 @@
+//! How the datagrams of a script are made, and the words that say so.
+
+ghost use Rattle.std.specs.Prelude.{◌≤◌, length, IfSome};
+ghost use Rattle.rad_replay.specs.Hex.{octets_of};
+
+use crate::hex::Hex;
+use crate::numbers::{parse_u8, parse_usize};
+use rad_console::Pieces;
+
+/// How a datagram is made.
+#[derive(Clone, Copy)]
+pub enum Packet<'a> {
+    /// These octets.
+    Raw(Hex<'a>),
+    /// A packet, with these changes.
+    Made(Template<'a>, Changes<'a>),
+}
+
+/// A packet that is made for the script.
+#[derive(Clone, Copy)]
+pub enum Template<'a> {
+    /// A packet with the Authenticator that is right for its sender.
+    Make(Make<'a>),
+    /// A Status-Server (RFC 5997 section 3).
+    Status { identifier: u8 },
+}
+
+/// A packet with these parts.
+#[derive(Clone, Copy)]
+pub struct Make<'a> {
+    pub code: u8,
+    pub identifier: u8,
+    /// Written as they are, whether they are attributes or not.
+    pub attributes: Hex<'a>,
+    ghost short: { length (octets_of attributes) ≤ 4076 },
+}
+
+/// What is changed in a packet that was made, in this order.
+#[derive(Clone, Copy)]
+pub struct Changes<'a> {
+    /// The last octet of its Authenticator is changed, or of a Status-Server's Message-Authenticator.
+    pub spoil: bool,
+    /// These octets are added after it.
+    pub pad: Hex<'a>,
+    /// So many of the last octets are taken away.
+    pub cut: usize,
+}
+
+/// The most octets of a datagram (UDP over IPv4).
+const MOST_OCTETS: usize = 65_507;
+
+/// The most octets of attributes in a packet: its Length is at most 4096.
+const MOST_ATTRIBUTES: usize = 4076;
+
+/// Reads how a datagram is made.
+pub fn parse_packet<'a>(words: &mut Pieces<'a>) -> Option<Packet<'a>> {
+    let word = words.next()?;
+    if word == b"raw".as_slice() {
+        return parse_raw(words);
+    }
+    let (spoil, word) = parse_spoil(word, words)?;
+    let (pad, word) = parse_pad(word, words)?;
+    let (cut, word) = parse_cut(word, words)?;
+    let template = parse_template(word, words)?;
+    Some(Packet::Made(template, Changes { spoil, pad, cut }))
+}
+
+/// Reads the words behind `raw`.
+fn parse_raw<'a>(words: &mut Pieces<'a>) -> Option<Packet<'a>> {
+    let octets = parse_hex(words, MOST_OCTETS)?;
+    Some(Packet::Raw(octets))
+}
+
+/// Reads whether a packet is spoiled, and the word behind that.
+fn parse_spoil<'a>(word: &'a [u8], words: &mut Pieces<'a>) -> Option<(bool, &'a [u8])> {
+    if word == b"spoil".as_slice() {
+        return Some((true, words.next()?));
+    }
+    Some((false, word))
+}
+
+/// Reads the octets that are added to a packet, and the word behind them.
+fn parse_pad<'a>(word: &'a [u8], words: &mut Pieces<'a>) -> Option<(Hex<'a>, &'a [u8])> {
+    if word == b"pad".as_slice() {
+        let octets = Hex::parse(words.next()?)?;
+        return Some((octets, words.next()?));
+    }
+    Some((Hex::none(), word))
+}
+
+/// Reads how many octets are taken away from a packet, and the word behind that.
+fn parse_cut<'a>(word: &'a [u8], words: &mut Pieces<'a>) -> Option<(usize, &'a [u8])> {
+    if word == b"cut".as_slice() {
+        let count = parse_usize(words.next()?)?;
+        return Some((count, words.next()?));
+    }
+    Some((0, word))
+}
+
+/// Reads how a packet is made, from this word on.
+fn parse_template<'a>(word: &[u8], words: &mut Pieces<'a>) -> Option<Template<'a>> {
+    match word {
+        b"make" => parse_make(words),
+        b"status" => parse_status(words),
+        _ => None,
+    }
+}
+
+/// Reads the words behind `make`.
+fn parse_make<'a>(words: &mut Pieces<'a>) -> Option<Template<'a>> {
+    let code = parse_u8(words.next()?)?;
+    let identifier = parse_u8(words.next()?)?;
+    let attributes = parse_hex(words, MOST_ATTRIBUTES)?;
+    Some(Template::Make(Make {
+        code,
+        identifier,
+        attributes,
+    }))
+}
+
+/// Reads the word behind `status`.
+fn parse_status<'a>(words: &mut Pieces<'a>) -> Option<Template<'a>> {
+    let identifier = parse_u8(words.next()?)?;
+    Some(Template::Status { identifier })
+}
+
+/// Reads the next word as octets, where they are no more than `most`.
+fn parse_hex<'a>(words: &mut Pieces<'a>, most: usize) -> Option<Hex<'a>>
+    ensures { IfSome result (λ octets. length (octets_of octets) ≤ most) }
+{
+    let octets = Hex::parse(words.next()?)?;
+    if octets.count() > most {
+        return None;
+    }
+    Some(octets)
+}

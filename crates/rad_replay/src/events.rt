@@ -1,0 +1,133 @@
+//! The events of a script, one on each line.
+
+use crate::datagrams::{Packet, Template, parse_packet};
+use crate::numbers::{parse_address, parse_u16, parse_usize};
+use rad_console::{Command, Pieces};
+
+/// What happens to the proxy.
+#[derive(Clone, Copy)]
+pub enum Event<'a> {
+    /// A datagram comes from a NAS.
+    Nas {
+        address: [u8; 4],
+        port: u16,
+        packet: Packet<'a>,
+    },
+    /// A datagram comes from the home server of a lane to this source port.
+    Home {
+        lane: u16,
+        port: u16,
+        packet: Packet<'a>,
+    },
+    /// The first response that waits at a lane is taken.
+    Take {
+        lane: u16,
+    },
+    /// A lane is to do its next step.
+    Step {
+        lane: u16,
+    },
+    /// A lane is to cut off the front of its book.
+    Turn {
+        lane: u16,
+    },
+    /// The events from now on happen at this moment.
+    At {
+        milliseconds: u64,
+    },
+    /// The console is given a command.
+    Console(Command),
+}
+
+impl<'a> Event<'a> {
+    /// The event that a line writes, where it writes one.
+    pub fn parse(line: &'a [u8]) -> Option<Self> {
+        let mut words = Pieces::new(line, b' ');
+        let first = words.next()?;
+        let event = parse_event(first, &mut words)?;
+        match words.next() {
+            Some(_) => None,
+            None => Some(event),
+        }
+    }
+}
+
+/// Reads an event, from this word on.
+fn parse_event<'a>(first: &[u8], words: &mut Pieces<'a>) -> Option<Event<'a>> {
+    match first {
+        b"nas" => parse_nas(words),
+        b"home" => parse_home(words),
+        b"take" => parse_take(words),
+        b"step" => parse_step(words),
+        b"turn" => parse_turn(words),
+        b"at" => parse_at(words),
+        _ => parse_command(first),
+    }
+}
+
+/// Reads the words behind `nas`.
+fn parse_nas<'a>(words: &mut Pieces<'a>) -> Option<Event<'a>> {
+    let address = parse_address(words.next()?)?;
+    let port = parse_u16(words.next()?)?;
+    let packet = parse_packet(words)?;
+    Some(Event::Nas {
+        address,
+        port,
+        packet,
+    })
+}
+
+/// Reads the words behind `home`. A home server sends no Status-Server.
+fn parse_home<'a>(words: &mut Pieces<'a>) -> Option<Event<'a>> {
+    let (lane, port) = parse_source(words.next()?)?;
+    match parse_packet(words)? {
+        Packet::Made(Template::Status { .. }, _) => None,
+        packet => Some(Event::Home { lane, port, packet }),
+    }
+}
+
+/// Reads a lane, and behind a dot its source port, which is else the first.
+fn parse_source(word: &[u8]) -> Option<(u16, u16)> {
+    let mut numbers = Pieces::new(word, b'.');
+    let lane = parse_u16(numbers.next()?)?;
+    let port = match numbers.next() {
+        Some(port) => parse_u16(port)?,
+        None => 0,
+    };
+    match numbers.next() {
+        Some(_) => None,
+        None => Some((lane, port)),
+    }
+}
+
+/// Reads the word behind `at`.
+fn parse_at<'a>(words: &mut Pieces<'a>) -> Option<Event<'a>> {
+    let milliseconds = parse_usize(words.next()?)? as u64;
+    Some(Event::At { milliseconds })
+}
+
+/// Reads the lane behind `take`.
+fn parse_take<'a>(words: &mut Pieces<'a>) -> Option<Event<'a>> {
+    let lane = parse_u16(words.next()?)?;
+    Some(Event::Take { lane })
+}
+
+/// Reads the lane behind `step`.
+fn parse_step<'a>(words: &mut Pieces<'a>) -> Option<Event<'a>> {
+    let lane = parse_u16(words.next()?)?;
+    Some(Event::Step { lane })
+}
+
+/// Reads the lane behind `turn`.
+fn parse_turn<'a>(words: &mut Pieces<'a>) -> Option<Event<'a>> {
+    let lane = parse_u16(words.next()?)?;
+    Some(Event::Turn { lane })
+}
+
+/// Reads a command of the console.
+fn parse_command<'a>(word: &[u8]) -> Option<Event<'a>> {
+    match Command::of(word) {
+        Command::Unknown => None,
+        command => Some(Event::Console(command)),
+    }
+}

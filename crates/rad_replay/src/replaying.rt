@@ -1,0 +1,83 @@
+//! `replay`: a configuration and a script of events go in, and a line for each answer comes out.
+
+use crate::faults::ReplayFault;
+use crate::script::Script;
+use rad_console::{EndLine, Pieces, read_at_most, read_configuration};
+use rad_realms::{Config, ConfigFault};
+use std::alloc::Global;
+use std::io::{BufWriter, ErrorKind, Read, Write};
+use std::sync::Wait;
+
+/// The most octets of the input.
+const MOST_INPUT: u64 = 16_777_216;
+
+/// The line between the configuration and the events.
+const SEPARATOR: &[u8] = b"%%";
+
+/// Reads a configuration and events, and writes the answers. Returns what is left at the end.
+///
+/// # Errors
+///
+/// The first fault, once the answers of the events before it are written.
+pub fn replay<T: Wait, R: Read + Drop, W: Write + Drop>(
+    rt: &T,
+    alloc: Global,
+    reader: R,
+    writer: W,
+) -> Result<EndLine, ReplayFault> {
+    let input = read_input(alloc, reader)?;
+    let (configuration, events) = split_input(input.as_slice());
+    if str::from_utf8(events).is_err() {
+        return Err(ReplayFault::Configuration(ConfigFault::Toml));
+    }
+    match read_configuration(alloc, configuration) {
+        Ok(config) => run(rt, alloc, &config, events, writer),
+        Err(fault) => Err(ReplayFault::Configuration(fault)),
+    }
+}
+
+/// Runs events over a configuration, and writes the answers.
+fn run<T: Wait, W: Write + Drop>(
+    rt: &T,
+    alloc: Global,
+    config: &Config,
+    events: &[u8],
+    writer: W,
+) -> Result<EndLine, ReplayFault> {
+    let Ok(mut output) = BufWriter::new(alloc, writer) else {
+        return Err(ReplayFault::Memory);
+    };
+    let Ok(script) = Script::new(alloc, config) else {
+        return Err(ReplayFault::Memory);
+    };
+    let ran = script.run(rt, events, &mut output);
+    if output.flush().is_err() {
+        return Err(ReplayFault::Output);
+    }
+    ran
+}
+
+/// Reads the whole input, where it is no longer than the most.
+fn read_input<R: Read + Drop>(alloc: Global, reader: R) -> Result<Vec<u8>, ReplayFault> {
+    match read_at_most(alloc, reader, MOST_INPUT) {
+        Ok(input) => Ok(input),
+        Err(error) => match error.kind() {
+            ErrorKind::OutOfMemory => Err(ReplayFault::Memory),
+            _ => Err(ReplayFault::Input),
+        },
+    }
+}
+
+/// The lines before the separator, and those after it; without a separator all lines are before it.
+fn split_input(input: &[u8]) -> (&[u8], &[u8]) {
+    let mut lines = Pieces::new(input, b'\n');
+    let mut before = 0;
+    while let Some(line) = lines.next() {
+        let rest = lines.rest().unwrap_or(b"");
+        if line == SEPARATOR {
+            return (&input[..before], rest);
+        }
+        before = input.len() - rest.len();
+    }
+    (input, b"")
+}

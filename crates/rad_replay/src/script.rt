@@ -1,0 +1,288 @@
+//! A script of events that runs over the proxy.
+
+use crate::building::{Sender, build};
+use crate::datagrams::Packet;
+use crate::events::Event;
+use crate::faults::{Halt, ReplayFault};
+use crate::lines::{Cut, HomeLine, NasLine, StepLine, TakeLine, TurnLine};
+use crate::packet_text::{PacketText, SentText};
+use crate::path::{Arrival, take_in};
+use crate::sent::{Ports, source_port};
+use rad_console::{Command, EndLine, Pieces, close, obey};
+use rad_desk::{Inlet, OpenFault, Proxy, open};
+use rad_packet::Datagram;
+use rad_realms::Config;
+use rad_tables::Moment;
+use std::alloc::{AllocError, Global};
+use std::fmt::Display;
+use std::io::Write;
+use std::sync::Wait;
+
+/// The octets that every step gets in place of random ones.
+const RANDOM: [u8; 16] = [0x5a; 16];
+
+/// A script that runs: the proxy, the moment, and the room for a datagram.
+#[derive(Drop)]
+pub struct Script<'a> {
+    alloc: Global,
+    config: &'a Config,
+    proxy: Proxy,
+    /// One for each home server, in the order of the configuration.
+    inlets: Vec<Inlet>,
+    /// What each source port of each lane sent last.
+    sent: Ports,
+    /// The moment of the next event.
+    moment: Moment,
+    /// Room for the datagram of an event.
+    datagram: Vec<u8>,
+}
+
+impl<'a> Script<'a> {
+    /// A script at moment 0, over empty lanes.
+    ///
+    /// # Errors
+    ///
+    /// Where memory is refused.
+    pub fn new(alloc: Global, config: &'a Config) -> Result<Self, AllocError> {
+        let sent = Ports::new(alloc, config.homes())?;
+        match open(alloc, config) {
+            Ok((proxy, inlets)) => Ok(Script {
+                alloc,
+                config,
+                proxy,
+                inlets,
+                sent,
+                moment: Moment::new(0).unwrap(),
+                datagram: Vec::new(alloc),
+            }),
+            Err(OpenFault::OutOfMemory) => Err(AllocError),
+        }
+    }
+
+    /// Writes the answers of all events, and then what is left.
+    ///
+    /// # Errors
+    ///
+    /// The first event that has no answer, `Memory` or `Output`; the answers before it are written.
+    pub fn run<R: Wait, W: Write>(
+        mut self,
+        rt: &R,
+        events: &[u8],
+        output: &mut W,
+    ) -> Result<EndLine, ReplayFault> {
+        self.answer_all(rt, events, output)?;
+        let Ok(end) = close(self.alloc, self.proxy, self.inlets) else {
+            return Err(ReplayFault::Memory);
+        };
+        match print(output, &end) {
+            Ok(()) => Ok(end),
+            Err(_) => Err(ReplayFault::Output),
+        }
+    }
+
+    /// Writes the answers of all events. An empty line is none, nor is one that begins with `#`.
+    fn answer_all<R: Wait, W: Write>(
+        &mut self,
+        rt: &R,
+        events: &[u8],
+        output: &mut W,
+    ) -> Result<(), ReplayFault> {
+        for (index, line) in Pieces::new(events, b'\n').enumerate() {
+            if line.is_empty() || line[0] == b'#' {
+                continue;
+            }
+            if let Err(halt) = self.answer(rt, line, output) {
+                return Err(halt.at_line(index + 1));
+            }
+        }
+        Ok(())
+    }
+
+    /// Writes the answer of one event.
+    fn answer<R: Wait, W: Write>(
+        &mut self,
+        rt: &R,
+        line: &[u8],
+        output: &mut W,
+    ) -> Result<(), Halt> {
+        let Some(event) = Event::parse(line) else {
+            return Err(Halt::Malformed);
+        };
+        match event {
+            Event::Nas {
+                address,
+                port,
+                packet,
+            } => self.nas(rt, address, port, &packet, output),
+            Event::Home { lane, port, packet } => self.home(rt, lane, port, &packet, output),
+            Event::Take { lane } => self.take(lane, output),
+            Event::Step { lane } => self.step(rt, lane, output),
+            Event::Turn { lane } => self.turn(rt, lane, output),
+            Event::At { milliseconds } => self.set_moment(milliseconds),
+            Event::Console(command) => self.obey(rt, command, output),
+        }
+    }
+
+    /// Makes this the moment of the events from now on, where it is one.
+    fn set_moment(&mut self, milliseconds: u64) -> Result<(), Halt> {
+        match Moment::new(milliseconds) {
+            Some(moment) => {
+                self.moment = moment;
+                Ok(())
+            }
+            None => Err(Halt::Malformed),
+        }
+    }
+
+    /// Writes what a NAS's datagram comes to.
+    fn nas<R: Wait, W: Write>(
+        &mut self,
+        rt: &R,
+        address: [u8; 4],
+        port: u16,
+        packet: &Packet<'_>,
+        output: &mut W,
+    ) -> Result<(), Halt> {
+        self.build_from_nas(address, packet)?;
+        let mut written = Datagram::new();
+        let arrival = Arrival {
+            address,
+            port,
+            octets: self.datagram.as_slice(),
+            moment: self.moment,
+        };
+        let outcome = take_in(
+            rt,
+            self.alloc,
+            self.config,
+            &self.proxy,
+            arrival,
+            &mut written,
+        );
+        let written = PacketText::new(written.bytes());
+        print(output, &NasLine { outcome, written })
+    }
+
+    /// Makes the datagram of a NAS at this address.
+    fn build_from_nas(&mut self, address: [u8; 4], packet: &Packet<'_>) -> Result<(), Halt> {
+        let secret = match self.config.client_of(address) {
+            Some(client) => Some(client.secret()),
+            None => None,
+        };
+        build(packet, Sender::Nas(secret), &mut self.datagram)
+    }
+
+    /// Writes what a datagram of a lane's home server comes to.
+    fn home<R: Wait, W: Write>(
+        &mut self,
+        rt: &R,
+        lane: u16,
+        port: u16,
+        packet: &Packet<'_>,
+        output: &mut W,
+    ) -> Result<(), Halt> {
+        build_reply(
+            self.config,
+            &self.sent,
+            lane,
+            port,
+            packet,
+            &mut self.datagram,
+        )?;
+        if lane >= self.proxy.lanes() {
+            return Err(Halt::Malformed);
+        }
+        let outcome = self.proxy.hear(
+            rt,
+            self.alloc,
+            lane,
+            self.moment,
+            port,
+            self.datagram.as_slice(),
+        );
+        print(output, &HomeLine { lane, outcome })
+    }
+
+    /// Writes what a lane's step does.
+    fn step<R: Wait, W: Write>(&mut self, rt: &R, lane: u16, output: &mut W) -> Result<(), Halt> {
+        if lane >= self.proxy.lanes() {
+            return Err(Halt::Malformed);
+        }
+        let mut sent = Datagram::new();
+        let action = self.proxy.step(rt, lane, self.moment, RANDOM, &mut sent);
+        self.sent.keep(lane, &action, &sent);
+        let port = if self.has_ports(lane) {
+            source_port(&action)
+        } else {
+            None
+        };
+        let sent = SentText::new(PacketText::new(sent.bytes()), port);
+        print(output, &StepLine { action, sent })
+    }
+
+    /// Whether a lane has several source ports, so that the lines tell them.
+    fn has_ports(&self, lane: u16) -> bool {
+        match self.config.homes().get(usize::from(lane)) {
+            Some(home) => home.limits().numbers().ports > 1,
+            None => false,
+        }
+    }
+
+    /// Takes a lane's first response that waits, and writes it.
+    fn take<W: Write>(&mut self, lane: u16, output: &mut W) -> Result<(), Halt> {
+        let Some(inlet) = self.inlets.get_mut(usize::from(lane)) else {
+            return Err(Halt::Malformed);
+        };
+        let taken = inlet.take();
+        print(output, &TakeLine { taken })
+    }
+
+    /// Cuts off the front of a lane's book, and writes how much that was.
+    fn turn<R: Wait, W: Write>(&mut self, rt: &R, lane: u16, output: &mut W) -> Result<(), Halt> {
+        if lane >= self.proxy.lanes() {
+            return Err(Halt::Malformed);
+        }
+        let outcome = match self.proxy.turn(rt, self.alloc, lane, self.moment) {
+            Ok(volume) => Ok(Cut::of(&volume)),
+            Err(fault) => Err(fault),
+        };
+        print(output, &TurnLine { lane, outcome })
+    }
+
+    /// Obeys a command of the console, and writes what it answers.
+    fn obey<R: Wait, W: Write>(
+        &self,
+        rt: &R,
+        command: Command,
+        output: &mut W,
+    ) -> Result<(), Halt> {
+        match obey(rt, self.config, &self.proxy, command, output) {
+            Ok(()) => Ok(()),
+            Err(_) => Err(Halt::Output),
+        }
+    }
+}
+
+/// Makes the datagram of a lane's home server, which answers what this source port sent last.
+fn build_reply(
+    config: &Config,
+    sent: &Ports,
+    lane: u16,
+    port: u16,
+    packet: &Packet<'_>,
+    datagram: &mut Vec<u8>,
+) -> Result<(), Halt> {
+    let Some(home) = config.homes().get(usize::from(lane)) else {
+        return Err(Halt::Malformed);
+    };
+    let sent = sent.get(lane, port);
+    build(packet, Sender::Home(home.secret(), sent), datagram)
+}
+
+/// Writes a line.
+fn print<W: Write, L: Display>(output: &mut W, line: &L) -> Result<(), Halt> {
+    match writeln!(output, "{line}") {
+        Ok(()) => Ok(()),
+        Err(_) => Err(Halt::Output),
+    }
+}

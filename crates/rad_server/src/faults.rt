@@ -1,0 +1,34 @@
+//! Why a service ends early.
+
+use rad_desk::Worker;
+use rad_realms::Endpoint;
+use std::io::{Error, ErrorKind};
+
+/// Why a service ends before its reader does. The workers have ended then, and the lanes were not drained.
+#[derive(Clone, Copy, Debug, PartialEq, Eq)]
+pub enum ServeFault {
+    /// The socket for the clients can't be had at this address and port.
+    Listen(Endpoint),
+    /// The sockets of this lane can't be had.
+    LaneSocket(usize),
+    /// A worker's thread can't be started.
+    Threads,
+    /// This worker ended by itself, and it was the first.
+    Ended(Worker),
+    /// The reader failed, or the clock.
+    Input,
+    /// The writer takes nothing more.
+    Output,
+    /// A growth was refused.
+    Memory,
+}
+
+impl ServeFault {
+    /// `Memory` where the system refused memory, and else this fault.
+    pub(crate) fn or_memory(self, error: &Error) -> ServeFault {
+        match error.kind() {
+            ErrorKind::OutOfMemory => ServeFault::Memory,
+            _ => self,
+        }
+    }
+}

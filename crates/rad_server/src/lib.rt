@@ -1,0 +1,28 @@
+//! Serving a configuration over UDP: a thread for the clients and one for each home server, each over sockets of its own,
+//! while commands are read and obeyed.
+//!
+//! [`run`] binds the sockets and serves over them, and [`serve`] serves over any wires. Both end with what is left of as many
+//! lanes as the configuration has home servers, which is their contract; what the workers send is the contract of those
+//! of `rad_desk`. What is received, sent and noted only the gate is told: this crate knows no log and no counters.
+#![tactic(auto)]
+
+mod attending;
+mod faults;
+mod interrupting;
+mod lingering;
+mod notifying;
+mod polling;
+mod ready_socket;
+mod serving;
+mod sockets;
+mod supervising;
+mod threads;
+mod wires;
+mod wiring;
+mod working;
+
+pub use faults::ServeFault;
+pub use interrupting::Interruptible;
+pub use notifying::{Notifier, Notifiers};
+pub use serving::{run, serve};
+pub use wiring::Wires;

@@ -1,0 +1,204 @@
+//! The gate that the workers ask and tell: it stops them, notifies them where there is work, and counts what the front took.
+
+use crate::notifying::Notifiers;
+use rad_desk::{Call, Gate, Go, Note, Worker};
+use rad_realms::Endpoint;
+use std::alloc::{AllocError, Global};
+use std::sync::OnceLock;
+use std::sync::atomic::{AtomicBool, AtomicU64, Ordering};
+
+/// What is known of a lane from what the workers told.
+#[derive(Drop)]
+struct LaneState {
+    /// How many responses the front took from it and sent.
+    taken: AtomicU64,
+    /// Whether its home server was told to be down.
+    is_down: AtomicBool,
+}
+
+/// What is known of the lanes, in order.
+#[derive(Drop)]
+struct LaneStates(Vec<LaneState>);
+
+impl LaneStates {
+    /// So many lanes, of which nothing was taken, and whose home servers are up.
+    ///
+    /// # Errors
+    ///
+    /// Where memory is refused.
+    fn new(alloc: Global, count: usize) -> Result<LaneStates, AllocError> {
+        let mut lanes = Vec::with_capacity(alloc, count)?;
+        for _ in 0..count {
+            lanes.push(LaneState {
+                taken: AtomicU64::new(0),
+                is_down: AtomicBool::new(false),
+            })?;
+        }
+        Ok(LaneStates(lanes))
+    }
+
+    fn of(&self, lane: u16) -> Option<&LaneState> {
+        self.0.get(usize::from(lane))
+    }
+
+    /// How many responses the front took from a lane and sent.
+    fn taken(&self, lane: u16) -> u64 {
+        match self.of(lane) {
+            Some(state) => state.taken.load(Ordering::SeqCst),
+            None => 0,
+        }
+    }
+
+    /// The front took a response from a lane and sent it.
+    fn count_taken(&self, lane: u16) {
+        if let Some(state) = self.of(lane) {
+            state.taken.fetch_add(1, Ordering::SeqCst);
+        }
+    }
+
+    /// A lane's home server is down or up from now on. It answers whether that is news.
+    fn mark(&self, lane: u16, is_down: bool) -> bool {
+        match self.of(lane) {
+            Some(state) => state.is_down.swap(is_down, Ordering::SeqCst) != is_down,
+            None => false,
+        }
+    }
+}
+
+/// Whether the workers are to stop, and whether one ended before it was told to.
+#[derive(Drop)]
+struct Stopping {
+    is_stopped: AtomicBool,
+    ended: OnceLock<Worker>,
+}
+
+/// Supervises the workers. Another gate is asked and told too; that a home server went down or up it is told where that
+/// is news.
+#[derive(Drop)]
+pub(crate) struct Supervisor<'a, G> {
+    outer: &'a G,
+    notifiers: &'a Notifiers,
+    lanes: LaneStates,
+    stopping: Stopping,
+}
+
+impl<'a, G> Supervisor<'a, G> {
+    /// Supervises the workers of the front and of so many lanes.
+    ///
+    /// # Errors
+    ///
+    /// Where memory is refused.
+    pub(crate) fn new(
+        alloc: Global,
+        lanes: usize,
+        outer: &'a G,
+        notifiers: &'a Notifiers,
+    ) -> Result<Supervisor<'a, G>, AllocError> {
+        Ok(Supervisor {
+            outer,
+            notifiers,
+            lanes: LaneStates::new(alloc, lanes)?,
+            stopping: Stopping {
+                is_stopped: AtomicBool::new(false),
+                ended: OnceLock::new(),
+            },
+        })
+    }
+
+    /// Has all workers stop before their next call.
+    pub(crate) fn stop(&self) {
+        self.stopping.is_stopped.store(true, Ordering::SeqCst);
+        self.notifiers.notify_all();
+    }
+
+    /// Whether the workers are to stop.
+    pub(crate) fn is_stopped(&self) -> bool {
+        self.stopping.is_stopped.load(Ordering::SeqCst)
+    }
+
+    /// A worker ended. Where it was not told to, the others stop too; the first of several is known from then on.
+    pub(crate) fn end(&self, worker: Worker) {
+        if !self.is_stopped() && self.stopping.ended.try_set(worker).is_ok() {
+            self.stop();
+        }
+    }
+
+    /// The worker that ended before it was told to, where one did.
+    pub(crate) fn ended(&self) -> Option<Worker> {
+        self.stopping.ended.get().copied()
+    }
+
+    /// How many responses the front took from a lane and sent.
+    pub(crate) fn taken(&self, lane: u16) -> u64 {
+        self.lanes.taken(lane)
+    }
+}
+
+impl<G: Gate> Supervisor<'_, G> {
+    /// A worker's home server is down or up from now on, which is passed on where it is news.
+    fn mark(&self, worker: Worker, is_down: bool) {
+        let Worker::Lane(lane) = worker else {
+            return;
+        };
+        if self.lanes.mark(lane, is_down) {
+            let note = if is_down {
+                Note::WentDown
+            } else {
+                Note::WentUp
+            };
+            self.outer.note(worker, note);
+        }
+    }
+
+    /// A worker's home server went down or up. Its worker has more to do then: going down is all that a step did, and so
+    /// is going up, but where an answer took it up.
+    fn turn(&self, worker: Worker, is_down: bool) {
+        self.mark(worker, is_down);
+        self.notifiers.notify(worker);
+    }
+}
+
+impl<G: Gate> Gate for Supervisor<'_, G> {
+    fn before(&self, worker: Worker, call: Call) -> Go {
+        if self.outer.before(worker, call) == Go::Stop || self.is_stopped() {
+            return Go::Stop;
+        }
+        Go::On
+    }
+
+    fn after(&self, worker: Worker, call: Call) {
+        self.outer.after(worker, call);
+    }
+
+    fn note(&self, worker: Worker, note: Note) {
+        match note {
+            Note::WentDown => self.turn(worker, true),
+            Note::WentUp => self.turn(worker, false),
+            Note::Took(lane, _) => {
+                self.lanes.count_taken(lane);
+                self.outer.note(worker, note);
+            }
+            _ => self.outer.note(worker, note),
+        }
+    }
+
+    fn received(&self, worker: Worker, from: Endpoint, octets: &[u8]) {
+        self.outer.received(worker, from, octets);
+    }
+
+    fn sends(&self, worker: Worker, to: Endpoint, octets: &[u8]) {
+        self.outer.sends(worker, to, octets);
+    }
+
+    fn accepted(&self, lane: u16, number: u64) {
+        self.notifiers.notify(Worker::Lane(lane));
+        self.outer.accepted(lane, number);
+    }
+
+    /// An answer takes a home server up without a step.
+    fn answered(&self, lane: u16, serial: u64) {
+        self.mark(Worker::Lane(lane), false);
+        self.notifiers.notify(Worker::Front);
+        self.outer.answered(lane, serial);
+    }
+}

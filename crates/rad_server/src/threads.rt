@@ -1,0 +1,128 @@
+//! A thread for each worker.
+
+ghost use denote.Param.Send.{IsSend, IsSync};
+
+use crate::attending::attend;
+use crate::faults::ServeFault;
+use crate::wiring::Wires;
+use crate::working::Service;
+use rad_desk::{Gate, Inlet, Wire};
+use std::io::{Read, Write};
+use std::sync::Wait;
+use std::thread::{self, JoinHandle, Scope, Threads};
+use std::time::Clock;
+
+/// Has a thread work for each wire while the commands of the reader are obeyed, and gives back the inlets. All threads have
+/// ended when it returns.
+pub(crate) fn work<R, W, G, I, O>(
+    service: Service<'_, R, G>,
+    wires: Wires<W>,
+    inlets: Vec<Inlet>,
+    reader: I,
+    writer: &mut O,
+) -> Result<Vec<Inlet>, ServeFault>
+where
+    R: Clock + Threads + Wait + Sync,
+    W: Wire + Send + Drop,
+    G: Gate + Sync,
+    I: Read + Drop,
+    O: Write,
+{
+    thread::scope(
+        thread::scope_env(),
+        service.rt,
+        move |scope| -> Result<Vec<Inlet>, ServeFault>
+            requires { IsSync R.row × IsSend W.row × IsSync G.row }
+        {
+            work_in(scope, service, wires, inlets, reader, writer)
+        },
+    )
+}
+
+/// The same, by threads of this scope.
+fn work_in<'s, E, R, W, G, I, O>(
+    scope: &Scope<'s, E>,
+    service: Service<'s, R, G>,
+    wires: Wires<W>,
+    inlets: Vec<Inlet>,
+    reader: I,
+    writer: &mut O,
+) -> Result<Vec<Inlet>, ServeFault>
+where
+    R: Clock + Threads + Wait + Sync + 's,
+    W: Wire + Send + Drop + 's,
+    G: Gate + Sync + 's,
+    I: Read + Drop,
+    O: Write,
+{
+    let Wires { front, lanes } = wires;
+    let front = start_front(scope, service, inlets, front)?;
+    let outcome = if start_lanes(scope, service, lanes) {
+        attend(service, reader, writer)
+    } else {
+        Err(ServeFault::Threads)
+    };
+    service.supervisor.stop();
+    let inlets = front.join(service.rt);
+    match outcome {
+        Ok(()) => Ok(inlets),
+        Err(fault) => Err(fault),
+    }
+}
+
+/// Starts the worker of the clients' side. It gives back the inlets at its end.
+fn start_front<'s, E, R, W, G>(
+    scope: &Scope<'s, E>,
+    service: Service<'s, R, G>,
+    inlets: Vec<Inlet>,
+    wire: W,
+) -> Result<JoinHandle<Vec<Inlet>>, ServeFault>
+where
+    R: Wait + Sync + 's,
+    W: Wire + Send + Drop + 's,
+    G: Gate + Sync + 's,
+{
+    match scope.spawn(move || service.work_in_front(inlets, wire)) {
+        Ok(worker) => Ok(worker),
+        Err(_) => Err(ServeFault::Threads),
+    }
+}
+
+/// Starts a worker for each of these wires of the lanes, in order. It answers whether all were started; it starts no more
+/// after one that wasn't.
+fn start_lanes<'s, E, R, W, G>(
+    scope: &Scope<'s, E>,
+    service: Service<'s, R, G>,
+    wires: Vec<W>,
+) -> bool
+where
+    R: Wait + Sync + 's,
+    W: Wire + Send + Drop + 's,
+    G: Gate + Sync + 's,
+{
+    let mut started = true;
+    for (lane, wire) in wires.into_iter().enumerate() {
+        started = started && start_lane(scope, service, lane, wire);
+    }
+    started
+}
+
+/// Starts the worker of a lane, and answers whether it could.
+fn start_lane<'s, E, R, W, G>(
+    scope: &Scope<'s, E>,
+    service: Service<'s, R, G>,
+    lane: usize,
+    wire: W,
+) -> bool
+where
+    R: Wait + Sync + 's,
+    W: Wire + Send + Drop + 's,
+    G: Gate + Sync + 's,
+{
+    let Ok(lane) = u16::try_from(lane) else {
+        return false;
+    };
+    scope
+        .spawn(move || service.work_on_lane(lane, wire))
+        .is_ok()
+}

@@ -1,0 +1,65 @@
+//! What each worker does in its thread.
+
+use crate::supervising::Supervisor;
+use rad_desk::{Gate, Inlet, Proxy, Wire, Worker, front_worker, lane_worker};
+use rad_realms::Config;
+use std::alloc::{AllocError, Global};
+use std::sync::Wait;
+
+/// What all that serve share.
+pub(crate) struct Service<'a, R, G> {
+    pub(crate) rt: &'a R,
+    pub(crate) alloc: Global,
+    pub(crate) config: &'a Config,
+    pub(crate) proxy: &'a Proxy,
+    pub(crate) supervisor: &'a Supervisor<'a, G>,
+}
+
+impl<R, G> Clone for Service<'_, R, G> {
+    fn clone(&self) -> Result<Self, AllocError> {
+        Ok(*self)
+    }
+}
+
+impl<R, G> Copy for Service<'_, R, G> {}
+
+impl<R: Wait, G: Gate> Service<'_, R, G> {
+    /// Works for the clients until the worker is stopped, and gives back the inlets.
+    pub(crate) fn work_in_front<W: Wire + Drop>(
+        self,
+        mut inlets: Vec<Inlet>,
+        mut wire: W,
+    ) -> Vec<Inlet> {
+        let _ = front_worker(
+            self.rt,
+            self.alloc,
+            self.proxy,
+            self.config,
+            inlets.as_mut_slice(),
+            &mut wire,
+            self.supervisor,
+            u64::MAX,
+        );
+        self.supervisor.end(Worker::Front);
+        inlets
+    }
+
+    /// Works for a lane until the worker is stopped.
+    pub(crate) fn work_on_lane<W: Wire + Drop>(self, lane: u16, mut wire: W) {
+        if let Some(home) = self.config.homes().get(usize::from(lane)) {
+            if lane < self.proxy.lanes() {
+                let _ = lane_worker(
+                    self.rt,
+                    self.alloc,
+                    self.proxy,
+                    lane,
+                    home,
+                    &mut wire,
+                    self.supervisor,
+                    u64::MAX,
+                );
+            }
+        }
+        self.supervisor.end(Worker::Lane(lane));
+    }
+}

@@ -1,0 +1,45 @@
+//! An endpoint that many threads may read and write.
+
+use rad_realms::Endpoint;
+use std::sync::atomic::{AtomicU64, Ordering};
+
+/// An endpoint that is written and read in one step, as one word.
+#[derive(Drop)]
+pub struct AtomicEndpoint {
+    word: AtomicU64,
+}
+
+impl AtomicEndpoint {
+    /// Address 0.0.0.0 and port 0, which no datagram comes from.
+    pub fn new() -> AtomicEndpoint {
+        AtomicEndpoint {
+            word: AtomicU64::new(0),
+        }
+    }
+
+    /// Keeps an endpoint in place of the one before.
+    pub fn store(&self, endpoint: Endpoint) {
+        self.word.store(word_of(endpoint), Ordering::SeqCst);
+    }
+
+    /// The endpoint that is kept.
+    pub fn load(&self) -> Endpoint {
+        endpoint_of(self.word.load(Ordering::SeqCst))
+    }
+}
+
+/// The word of an endpoint: its address, and behind it its port.
+fn word_of(endpoint: Endpoint) -> u64 {
+    let [a, b, c, d] = endpoint.address;
+    let [high, low] = endpoint.port.to_be_bytes();
+    u64::from_be_bytes([0, 0, a, b, c, d, high, low])
+}
+
+/// The endpoint of a word.
+fn endpoint_of(word: u64) -> Endpoint {
+    let [_, _, a, b, c, d, high, low] = word.to_be_bytes();
+    Endpoint {
+        address: [a, b, c, d],
+        port: u16::from_be_bytes([high, low]),
+    }
+}

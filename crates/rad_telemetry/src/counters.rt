@@ -1,0 +1,118 @@
+//! How often each kind of event happened to each worker. Counting takes no lock and no memory.
+
+ghost use Rattle.std.specs.Prelude.{◌≡◌, ◌-◌};
+
+use crate::atomic_endpoint::AtomicEndpoint;
+use crate::event_kind::{EVENT_KINDS, EventKind};
+use crate::workers::worker_place;
+use rad_desk::{Note, Worker};
+use rad_realms::Endpoint;
+use std::alloc::{AllocError, Global};
+use std::sync::atomic::{AtomicU64, Ordering};
+
+/// How often one kind of event happened to one worker.
+#[derive(Drop)]
+struct Counter {
+    count: AtomicU64,
+    /// Of these so many were given as a delta.
+    given: AtomicU64,
+    /// Whom the last one was about.
+    last: AtomicEndpoint,
+}
+
+/// What is counted of all workers.
+#[derive(Drop)]
+pub struct Counters {
+    /// Those of the front in the order of the kinds, then those of each lane.
+    counters: Vec<Counter>,
+}
+
+/// What was counted of a kind since the delta before.
+#[derive(Clone, Copy, Debug, PartialEq, Eq)]
+pub struct Delta {
+    /// How many there were.
+    pub count: u64,
+    /// Whom the last one was about.
+    pub last: Endpoint,
+}
+
+impl Counters {
+    /// Nothing was counted yet of the front and of so many lanes.
+    ///
+    /// # Errors
+    ///
+    /// Where memory is refused.
+    pub fn new(alloc: Global, lanes: usize) -> Result<Counters, AllocError> {
+        let mut counters = Vec::new(alloc);
+        for _ in 0..lanes {
+            push_row(&mut counters)?;
+        }
+        push_row(&mut counters)?;
+        Ok(Counters { counters })
+    }
+
+    /// The counter of a worker and a kind.
+    fn counter(&self, worker: Worker, kind: EventKind) -> Option<&Counter> {
+        let row = worker_place(worker).checked_mul(EVENT_KINDS.len())?;
+        self.counters.get(row.checked_add(kind.place())?)
+    }
+
+    /// Counts a worker's note, where its kind is counted, and keeps whom it is about.
+    pub fn count(&self, worker: Worker, note: Note, peer: Endpoint) {
+        if let Some(kind) = EventKind::of(note) {
+            self.add(worker, kind, peer);
+        }
+    }
+
+    /// Counts what a worker sends, where that goes to a home server.
+    pub fn count_sent(&self, worker: Worker, to: Endpoint, octets: &[u8]) {
+        if let Some(kind) = octets.first().and_then(|code| EventKind::of_code(*code)) {
+            self.add(worker, kind, to);
+        }
+    }
+
+    /// Counts one more of a kind.
+    fn add(&self, worker: Worker, kind: EventKind, peer: Endpoint) {
+        if let Some(counter) = self.counter(worker, kind) {
+            counter.last.store(peer);
+            counter.count.fetch_add(1, Ordering::SeqCst);
+        }
+    }
+
+    /// How often a kind of event happened to a worker.
+    pub fn get(&self, worker: Worker, kind: EventKind) -> u64 {
+        match self.counter(worker, kind) {
+            Some(counter) => counter.count.load(Ordering::SeqCst),
+            None => 0,
+        }
+    }
+
+    /// What was counted of a kind since this was called last, where there is anything.
+    pub fn take_delta(&self, worker: Worker, kind: EventKind) -> Option<Delta> {
+        let counter = self.counter(worker, kind)?;
+        let now = counter.count.load(Ordering::SeqCst);
+        let given = counter.given.swap(now, Ordering::SeqCst);
+        let count = since(given, now);
+        let last = counter.last.load();
+        (count > 0).then_some(Delta { count, last })
+    }
+}
+
+/// Adds a worker's counters.
+fn push_row(counters: &mut Vec<Counter>) -> Result<(), AllocError> {
+    for _ in EVENT_KINDS {
+        counters.push(Counter {
+            count: AtomicU64::new(0),
+            given: AtomicU64::new(0),
+            last: AtomicEndpoint::new(),
+        })?;
+    }
+    Ok(())
+}
+
+/// How much a count rose.
+pub fn since(before: u64, now: u64) -> u64
+    ensures { result ≡ now - before }
+{
+    now.saturating_sub(before)
+}

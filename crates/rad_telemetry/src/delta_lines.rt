@@ -1,0 +1,84 @@
+//! The log lines of sums: how often a kind of event happened since the line before.
+
+use crate::event_kind::{EventKind, ReasonText};
+use crate::peer_text::ClientText;
+use rad_realms::Endpoint;
+use std::fmt;
+
+/// So many datagrams of clients were dropped, or so many requests refused, for one reason.
+#[derive(Clone, Copy)]
+pub struct ClientDelta {
+    pub kind: EventKind,
+    pub count: u64,
+    /// Whence the last one came.
+    pub client: Endpoint,
+}
+
+/// So many datagrams at a home server's sockets were dropped, for one reason.
+#[derive(Clone, Copy)]
+pub struct HomeDelta<'a> {
+    pub kind: EventKind,
+    /// The home server's name.
+    pub home: &'a str,
+    pub count: u64,
+}
+
+/// So many sends of a worker failed, or so many receives.
+#[derive(Clone, Copy)]
+pub struct FaultDelta<'a> {
+    pub kind: EventKind,
+    pub worker: &'a str,
+    pub count: u64,
+}
+
+impl fmt::Display for ClientDelta {
+    ghost use Rattle.std.specs.Prelude.{Some};
+    ghost use Rattle.rad_telemetry.specs.DeltaLines.{client_delta};
+
+    ghost output = { λ delta. Some (client_delta delta) };
+
+    fn fmt<W: fmt::Write>(&self, f: &mut fmt::Formatter<W>) -> fmt::Result {
+        let event = self.kind.metric().event();
+        let reason = ReasonText(self.kind);
+        let count = self.count;
+        let client = ClientText(self.client);
+        write!(
+            f,
+            "event={event} reason=\"{reason}\" count={count} {client}"
+        )
+    }
+}
+
+impl fmt::Display for HomeDelta<'_> {
+    ghost use Rattle.std.specs.Prelude.{Some};
+    ghost use Rattle.rad_telemetry.specs.DeltaLines.{home_delta};
+
+    ghost output = { λ delta. Some (home_delta delta) };
+
+    fn fmt<W: fmt::Write>(&self, f: &mut fmt::Formatter<W>) -> fmt::Result {
+        let HomeDelta { kind, home, count } = *self;
+        let event = kind.metric().event();
+        let reason = ReasonText(kind);
+        write!(
+            f,
+            "event={event} home={home} reason=\"{reason}\" count={count}"
+        )
+    }
+}
+
+impl fmt::Display for FaultDelta<'_> {
+    ghost use Rattle.std.specs.Prelude.{Some};
+    ghost use Rattle.rad_telemetry.specs.DeltaLines.{fault_delta};
+
+    ghost output = { λ delta. Some (fault_delta delta) };
+
+    fn fmt<W: fmt::Write>(&self, f: &mut fmt::Formatter<W>) -> fmt::Result {
+        let FaultDelta {
+            kind,
+            worker,
+            count,
+        } = *self;
+        let event = kind.metric().event();
+        write!(f, "event={event} worker={worker} count={count}")
+    }
+}

@@ -1,0 +1,156 @@
+//! What the workers note and what passes over their wires, as log lines: an event and what belongs to it, as
+//! `event=down home=h1`.
+
+use crate::last_datagram::LastDatagram;
+use crate::packet_words::DatagramWords;
+use crate::peer_text::{ClientText, PeerText};
+use crate::workers::worker_name;
+use log::{Level, Log, debug, error, info, log_enabled, trace, warn};
+use rad_desk::{DeskFault, Note, Worker};
+use rad_lane::Refusal;
+use rad_realms::{Config, Dropped, Endpoint};
+use std::alloc::{AllocError, Global};
+
+/// Logs what the workers of a configuration note, and what passes over their wires: at once what happens seldom, and each
+/// drop, refusal and fault where the level is `debug`, each packet where it is `trace`.
+#[derive(Drop)]
+pub struct EventLog<'a, L> {
+    log: &'a L,
+    config: &'a Config,
+    /// What the workers received last, where the level is `debug` or lower: what they note of a datagram follows at once.
+    last: LastDatagram,
+}
+
+impl<'a, L: Log> EventLog<'a, L> {
+    /// Writes its lines to a log.
+    ///
+    /// # Errors
+    ///
+    /// Where memory is refused.
+    pub fn new(
+        alloc: Global,
+        config: &'a Config,
+        log: &'a L,
+    ) -> Result<EventLog<'a, L>, AllocError> {
+        let last = if log_enabled!(log; Level::Debug) {
+            LastDatagram::new(alloc, config.homes().len())?
+        } else {
+            LastDatagram::none(alloc)
+        };
+        Ok(EventLog { log, config, last })
+    }
+
+    /// The name of a worker.
+    fn name(&self, worker: Worker) -> &str {
+        worker_name(self.config, worker)
+    }
+
+    /// A worker ended, which it was not told to.
+    pub fn ended(&self, worker: Worker) {
+        let name = self.name(worker);
+        error!(self.log; "event=stopped worker={name} reason=\"ended by itself\"");
+    }
+
+    /// A worker's note, of which the peer is the one that it is about.
+    pub fn note(&self, worker: Worker, note: Note, peer: Endpoint) {
+        match note {
+            Note::WentDown => self.went_down(worker),
+            Note::WentUp => self.went_up(worker),
+            Note::Cut(count) => self.cut(worker, count),
+            Note::ReceiveFault => self.receive_fault(worker),
+            Note::SendFault => self.send_fault(worker, peer),
+            Note::NotHome => self.not_home(worker, peer),
+            Note::Unheard(fault) => self.unheard(worker, fault),
+            Note::Dropped(reason) => self.dropped(worker, peer, reason),
+            Note::Refused(reason) => self.refused(worker, peer, reason),
+            Note::Took(lane, serial) => self.returned(lane, serial),
+        }
+    }
+
+    /// A worker received a datagram.
+    pub fn received(&self, worker: Worker, from: Endpoint, octets: &[u8]) {
+        self.last.keep(worker, octets);
+        self.passed("came", worker, from, octets);
+    }
+
+    /// A worker is about to send a datagram.
+    pub fn sends(&self, worker: Worker, to: Endpoint, octets: &[u8]) {
+        self.passed("went", worker, to, octets);
+    }
+
+    /// A lane took the request that the front received last.
+    pub fn accepted(&self, lane: u16, number: u64) {
+        let home = self.name(Worker::Lane(lane));
+        let packet = self.last.words(Worker::Front);
+        trace!(self.log; "event=accepted home={home} number={number}{packet}");
+    }
+
+    /// A request of a lane was answered.
+    pub fn answered(&self, lane: u16, serial: u64) {
+        let home = self.name(Worker::Lane(lane));
+        trace!(self.log; "event=answered home={home} serial={serial}");
+    }
+
+    fn passed(&self, event: &str, worker: Worker, peer: Endpoint, octets: &[u8]) {
+        let name = self.name(worker);
+        let peer = PeerText(peer);
+        let datagram = DatagramWords(octets);
+        trace!(self.log; "event={event} worker={name} {peer} {datagram}");
+    }
+
+    fn returned(&self, lane: u16, serial: u64) {
+        let home = self.name(Worker::Lane(lane));
+        trace!(self.log; "event=returned home={home} serial={serial}");
+    }
+
+    fn went_down(&self, worker: Worker) {
+        let home = self.name(worker);
+        warn!(self.log; "event=down home={home}");
+    }
+
+    fn went_up(&self, worker: Worker) {
+        let home = self.name(worker);
+        info!(self.log; "event=up home={home}");
+    }
+
+    fn cut(&self, worker: Worker, count: u64) {
+        let home = self.name(worker);
+        info!(self.log; "event=cut home={home} count={count}");
+    }
+
+    fn receive_fault(&self, worker: Worker) {
+        let name = self.name(worker);
+        debug!(self.log; "event=receive-fault worker={name}");
+    }
+
+    fn send_fault(&self, worker: Worker, to: Endpoint) {
+        let name = self.name(worker);
+        let to = PeerText(to);
+        debug!(self.log; "event=send-fault worker={name} {to}");
+    }
+
+    fn dropped(&self, worker: Worker, from: Endpoint, reason: Dropped) {
+        let from = ClientText(from);
+        let packet = self.last.words(worker);
+        debug!(self.log; "event=dropped {from}{packet} reason=\"{reason}\"");
+    }
+
+    fn refused(&self, worker: Worker, from: Endpoint, reason: Refusal) {
+        let from = ClientText(from);
+        let packet = self.last.words(worker);
+        debug!(self.log; "event=refused {from}{packet} reason=\"{reason}\"");
+    }
+
+    fn not_home(&self, worker: Worker, from: Endpoint) {
+        let home = self.name(worker);
+        let from = PeerText(from);
+        let packet = self.last.words(worker);
+        debug!(self.log; "event=unheard home={home} {from}{packet} reason=\"NotHome\"");
+    }
+
+    fn unheard(&self, worker: Worker, fault: DeskFault) {
+        let home = self.name(worker);
+        let packet = self.last.words(worker);
+        debug!(self.log; "event=unheard home={home}{packet} reason=\"{fault}\"");
+    }
+}

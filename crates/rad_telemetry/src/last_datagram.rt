@@ -1,0 +1,111 @@
+//! What each worker received last, for the lines that tell of a datagram where a note has not the datagram itself.
+
+ghost use Rattle.std.specs.Prelude.{◌≡◌, ◌+◌, [], IfOk, length};
+
+use crate::packet_words::PacketWords;
+use crate::workers::worker_place;
+use rad_desk::Worker;
+use rad_packet::read;
+use std::alloc::{AllocError, Global};
+use std::fmt;
+use std::sync::Mutex;
+
+/// The datagram that each worker received last: the front's, then those of the lanes in order. It is each worker's own, so
+/// no lock is ever waited for.
+#[derive(Drop)]
+pub struct LastDatagram {
+    received: Vec<Mutex<Received>>,
+}
+
+/// What was received.
+#[derive(Drop)]
+struct Received {
+    octets: [u8; 4096],
+    count: usize,
+}
+
+/// What a line tells of the packet that a worker received last: nothing where that was none.
+#[derive(Clone, Copy)]
+pub struct LastWords<'a> {
+    last: &'a LastDatagram,
+    worker: Worker,
+}
+
+impl LastDatagram {
+    /// Keeps nothing of any worker.
+    pub fn none(alloc: Global) -> LastDatagram
+        ensures { result.received.items ≡ [] }
+    {
+        LastDatagram {
+            received: Vec::new(alloc),
+        }
+    }
+
+    /// Keeps what the front receives, and so many lanes. It takes no more memory for it later.
+    ///
+    /// # Errors
+    ///
+    /// Where memory is refused.
+    pub fn new(alloc: Global, lanes: usize) -> Result<LastDatagram, AllocError>
+        ensures { IfOk result (λ last. length last.received.items ≡ lanes + 1) }
+    {
+        let mut received = Vec::new(alloc);
+        received.push(Mutex::new(Received::nothing()))?;
+        for _ in 0..lanes {
+            received.push(Mutex::new(Received::nothing()))?;
+        }
+        Ok(LastDatagram { received })
+    }
+
+    /// Keeps what a worker received, in place of what it received before. What stands behind a lock no contract tells.
+    pub fn keep(&self, worker: Worker, octets: &[u8]) {
+        if let Some(received) = self.received.get(worker_place(worker)) {
+            if let Some(mut received) = received.try_lock() {
+                received.set(octets);
+            }
+        }
+    }
+
+    /// The words of the packet that a worker received last.
+    pub fn words(&self, worker: Worker) -> LastWords<'_>
+        ensures last { result.last.now ≡ self.now }
+        ensures worker { result.worker ≡ worker }
+    {
+        LastWords { last: self, worker }
+    }
+}
+
+impl Received {
+    fn nothing() -> Received {
+        Received {
+            octets: [0; 4096],
+            count: 0,
+        }
+    }
+
+    fn set(&mut self, octets: &[u8]) {
+        let count = octets.len().min(self.octets.len());
+        self.octets[..count].copy_from_slice(&octets[..count]);
+        self.count = count;
+    }
+
+    fn octets(&self) -> &[u8] {
+        self.octets.get(..self.count).unwrap_or(&[])
+    }
+}
+
+impl fmt::Display for LastWords<'_> {
+    fn fmt<W: fmt::Write>(&self, f: &mut fmt::Formatter<W>) -> fmt::Result {
+        let Some(received) = self.last.received.get(worker_place(self.worker)) else {
+            return Ok(());
+        };
+        let Some(received) = received.try_lock() else {
+            return Ok(());
+        };
+        let Ok(packet) = read(received.octets()) else {
+            return Ok(());
+        };
+        let words = PacketWords::of(&packet);
+        write!(f, "{words}")
+    }
+}

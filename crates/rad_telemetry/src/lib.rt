@@ -1,0 +1,47 @@
+//! What is told and counted of the workers that serve: log lines on standard error, counters, and the file that the counters
+//! are written to.
+//!
+//! [`Telemetry`] is a gate that lets every worker pass. What a worker notes it counts by its [`EventKind`] and logs; the
+//! Accounting-Requests and Status-Servers that a lane's worker sends it counts too. A [`Reporter`] logs once a second what was
+//! counted since, and writes all counters in Prometheus' text format.
+//!
+//! The layer above uses one contract: [`EventKind::of`] says as what a note is counted. What stands behind a lock or in an
+//! atomic, such as a count, no contract tells, and tests show it. The definitions stand in specs: `EventKinds` has the kinds and
+//! the metrics, `Workers` the names of the workers, `DeltaLines` and `MetricLines` the texts of sums and of counters, and
+//! `PacketWords` what a log line tells of a packet.
+//!
+//! It is the one crate that uses `log`, and passes on what the program needs of it.
+#![tactic(auto)]
+
+mod atomic_endpoint;
+mod counter_file;
+mod counters;
+mod delta_lines;
+mod error_lines;
+mod event_kind;
+mod event_log;
+mod last_datagram;
+mod last_peers;
+mod levels;
+mod metric;
+mod metric_lines;
+mod packet_words;
+mod peer_text;
+mod reporter;
+mod telemetry;
+mod workers;
+
+pub use counter_file::{CounterFile, ReplaceFile, RuntimeFiles, find_counter_file};
+pub use counters::{Counters, Delta};
+pub use error_lines::{ErrorLines, open_log};
+pub use event_kind::{EVENT_KINDS, EventKind};
+pub use levels::{level_of, read_level};
+pub use log::kv::Source;
+pub use log::sink::Discard;
+pub use log::span::Spans;
+pub use log::{LevelFilter, Log, Logged, Metadata, Record};
+pub use metric::Metric;
+pub use packet_words::PacketWords;
+pub use reporter::{Reporter, StopFlag, report};
+pub use telemetry::Telemetry;
+pub use workers::{worker_name, worker_of_lane, worker_place};

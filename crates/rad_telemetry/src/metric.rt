@@ -1,0 +1,70 @@
+//! The metrics: what is counted under one name, each kind of it by a label of its own.
+
+ghost use Rattle.std.specs.Prelude.{◌≡◌};
+ghost use Rattle.rad_telemetry.specs.EventKinds.{event_of, metric_name};
+
+/// The kinds of events that differ by their reason alone.
+#[derive(Clone, Copy, Debug, PartialEq, Eq)]
+pub enum Metric {
+    /// A client's datagram was dropped.
+    Dropped,
+    /// A client's request was refused.
+    Refused,
+    /// A datagram at a home server's sockets was dropped.
+    Unheard,
+    SendFault,
+    ReceiveFault,
+    WentDown,
+    WentUp,
+    Sent,
+    Probed,
+}
+
+/// The metrics, in the order in which they are written.
+pub const METRICS: [Metric; 9] = [
+    Metric::Dropped,
+    Metric::Refused,
+    Metric::Unheard,
+    Metric::SendFault,
+    Metric::ReceiveFault,
+    Metric::WentDown,
+    Metric::WentUp,
+    Metric::Sent,
+    Metric::Probed,
+];
+
+impl Metric {
+    /// The event of a log line.
+    pub fn event(self) -> &'static str
+        ensures { result.now ≡ event_of self }
+    {
+        match self {
+            Metric::Dropped => "dropped",
+            Metric::Refused => "refused",
+            Metric::Unheard => "unheard",
+            Metric::SendFault => "send-fault",
+            Metric::ReceiveFault => "receive-fault",
+            Metric::WentDown => "down",
+            Metric::WentUp => "up",
+            Metric::Sent => "sent",
+            Metric::Probed => "probed",
+        }
+    }
+
+    /// The name of a counter, behind `rad_proxy_`.
+    pub fn name(self) -> &'static str
+        ensures { result.now ≡ metric_name self }
+    {
+        match self {
+            Metric::Dropped => "dropped_total",
+            Metric::Refused => "refused_total",
+            Metric::Unheard => "unheard_total",
+            Metric::SendFault => "send_faults_total",
+            Metric::ReceiveFault => "receive_faults_total",
+            Metric::WentDown => "downs_total",
+            Metric::WentUp => "ups_total",
+            Metric::Sent => "sent_total",
+            Metric::Probed => "probes_total",
+        }
+    }
+}

@@ -1,0 +1,105 @@
+//! What a log line tells of a packet, and of a datagram that is one or is none.
+
+ghost use Rattle.std.specs.Prelude.{◌≡◌, option_copied};
+ghost use Rattle.rad_packet.specs.Packet.{identifier_of};
+ghost use Rattle.rad_realms.specs.Realm.{realm_of_packet as the_realm};
+ghost use Rattle.rad_telemetry.specs.PacketWords.{session_id};
+
+use rad_packet::{PacketRef, read};
+use rad_realms::realm_of_packet;
+use std::fmt;
+
+/// The Type of an Acct-Session-Id (RFC 2866 section 5.5).
+const ACCT_SESSION_ID: u8 = 44;
+
+/// A packet's Identifier, and its session and its realm where it has them, each behind a space. The user is left out.
+#[derive(Clone, Copy)]
+pub struct PacketWords<'a> {
+    identifier: u8,
+    session: Option<&'a [u8]>,
+    realm: Option<&'a [u8]>,
+}
+
+/// A datagram's Code, Length and the words of its packet, or where it is none how many octets it has and why.
+#[derive(Clone, Copy)]
+pub struct DatagramWords<'a>(pub &'a [u8]);
+
+/// The octets of a text: those that are printed as they are, and the others by two hexadecimal digits behind a `%`.
+#[derive(Clone, Copy)]
+struct Escaped<'a>(&'a [u8]);
+
+impl<'a> PacketWords<'a> {
+    /// The words of a packet.
+    pub fn of(packet: &PacketRef<'a>) -> PacketWords<'a>
+        ensures identifier { result.identifier ≡ identifier_of packet.now }
+        ensures session { option_copied result.session ≡ session_id packet.now }
+        ensures realm { option_copied result.realm ≡ the_realm packet.now }
+    {
+        let session = session_of(packet);
+        let realm = realm_of_packet(packet);
+        PacketWords {
+            identifier: packet.identifier(),
+            session,
+            realm,
+        }
+    }
+}
+
+impl fmt::Display for PacketWords<'_> {
+    fn fmt<W: fmt::Write>(&self, f: &mut fmt::Formatter<W>) -> fmt::Result {
+        let identifier = self.identifier;
+        write!(f, " identifier={identifier}")?;
+        if let Some(session) = self.session {
+            let session = Escaped(session);
+            write!(f, " session={session}")?;
+        }
+        if let Some(realm) = self.realm {
+            let realm = Escaped(realm);
+            write!(f, " realm={realm}")?;
+        }
+        Ok(())
+    }
+}
+
+impl fmt::Display for DatagramWords<'_> {
+    fn fmt<W: fmt::Write>(&self, f: &mut fmt::Formatter<W>) -> fmt::Result {
+        match read(self.0) {
+            Ok(packet) => {
+                let code = packet.code();
+                let length = packet.octets().len();
+                let words = PacketWords::of(&packet);
+                write!(f, "code={code} length={length}{words}")
+            }
+            Err(fault) => {
+                let count = self.0.len();
+                write!(f, "octets={count} reason=\"Unread {fault}\"")
+            }
+        }
+    }
+}
+
+impl fmt::Display for Escaped<'_> {
+    fn fmt<W: fmt::Write>(&self, f: &mut fmt::Formatter<W>) -> fmt::Result {
+        for octet in self.0 {
+            match *octet {
+                b'%' | b'"' | b'=' | 0..=32 | 127..=255 => {
+                    write!(f, "%{:x}{:x}", octet / 16, octet % 16)?;
+                }
+                plain => f.write_char(char::from(plain))?,
+            }
+        }
+        Ok(())
+    }
+}
+
+/// The Acct-Session-Id of a packet, where it has one.
+fn session_of<'a>(packet: &PacketRef<'a>) -> Option<&'a [u8]>
+    ensures { option_copied result ≡ session_id packet.now }
+{
+    for attribute in packet.attributes() {
+        if attribute.kind == ACCT_SESSION_ID {
+            return Some(attribute.value);
+        }
+    }
+    None
+}

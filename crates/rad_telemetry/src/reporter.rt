@@ -1,0 +1,269 @@
+//! Once a second, by a thread of its own: what was counted since as log lines, and all counters into a file.
+
+use crate::counter_file::{CounterFile, ReplaceFile, log_fault};
+use crate::counters::{Counters, Delta};
+use crate::delta_lines::{ClientDelta, FaultDelta, HomeDelta};
+use crate::event_kind::{EVENT_KINDS, EventKind};
+use crate::metric::{METRICS, Metric};
+use crate::metric_lines::{CounterLine, Labels, TypeLine};
+use crate::workers::{worker_name, worker_of_lane};
+use log::{Log, info, warn};
+use rad_desk::Worker;
+use rad_realms::Config;
+use std::alloc::{AllocError, Global};
+use std::io::{self, Write};
+use std::sync::atomic::{AtomicU64, Ordering};
+use std::sync::{Wait, WaitMethods};
+use std::time::{Clock, Duration, Instant};
+
+/// How long it is from one report to the next, in milliseconds.
+const PERIOD: u64 = 1000;
+
+/// Whether a reporter is to stop, which it shares with the others.
+#[derive(Drop)]
+pub struct StopFlag {
+    is_set: AtomicU64,
+}
+
+impl StopFlag {
+    pub fn new() -> StopFlag {
+        StopFlag {
+            is_set: AtomicU64::new(0),
+        }
+    }
+
+    /// Has the reporter report once more and stop.
+    pub fn set(&self) {
+        self.is_set.store(1, Ordering::SeqCst);
+        self.is_set.wake_all();
+    }
+
+    fn is_set(&self) -> bool {
+        self.is_set.load(Ordering::SeqCst) != 0
+    }
+
+    /// Waits until the period is over or the flag is set.
+    fn wait<R: Clock + Wait>(&self, rt: &R) {
+        let Ok(start) = Instant::now(rt) else {
+            return;
+        };
+        for _ in rt.forever() {
+            let Ok(passed) = start.elapsed(rt) else {
+                return;
+            };
+            let Some(left) = Duration::from_millis(PERIOD).checked_sub(passed) else {
+                return;
+            };
+            if left.is_zero() || self.is_set() {
+                return;
+            }
+            self.is_set.park_timeout(rt, 0, left);
+        }
+    }
+}
+
+/// What a reporter reports, and where to.
+pub struct Reporter<'a, L, F> {
+    pub(crate) config: &'a Config,
+    pub(crate) counters: &'a Counters,
+    pub(crate) log: &'a L,
+    /// Where the counters are written to, if anywhere.
+    pub(crate) file: &'a Option<CounterFile>,
+    /// What replaces that file.
+    pub(crate) files: &'a F,
+}
+
+impl<L, F> Clone for Reporter<'_, L, F> {
+    fn clone(&self) -> Result<Self, AllocError> {
+        Ok(*self)
+    }
+}
+
+impl<L, F> Copy for Reporter<'_, L, F> {}
+
+/// Reports once a second until the flag is set, and then once more. A text of all counters is made anew each time, in the
+/// memory of the one before.
+pub fn report<R, L, F>(rt: &R, alloc: Global, reporter: Reporter<'_, L, F>, stop: &StopFlag)
+where
+    R: Clock + Wait,
+    L: Log,
+    F: ReplaceFile,
+{
+    let mut text = Vec::new(alloc);
+    let mut is_written = true;
+    for _ in rt.forever() {
+        let is_last = stop.is_set();
+        reporter.log_deltas();
+        is_written = reporter.write_file(&mut text, is_written);
+        if is_last {
+            return;
+        }
+        stop.wait(rt);
+    }
+}
+
+impl<L: Log, F: ReplaceFile> Reporter<'_, L, F> {
+    /// Logs what was counted since the last time, a line for each worker and kind of which there was any.
+    pub fn log_deltas(&self) {
+        self.log_deltas_of(Worker::Front);
+        for lane in 0..self.config.homes().len() {
+            self.log_deltas_of(worker_of_lane(lane));
+        }
+    }
+
+    fn log_deltas_of(&self, worker: Worker) {
+        for kind in EVENT_KINDS {
+            if let Some(delta) = self.counters.take_delta(worker, kind) {
+                log_delta(self.log, worker_name(self.config, worker), kind, delta);
+            }
+        }
+    }
+
+    /// Writes the counters to their file where there is one, by way of a text that is made anew. It answers whether they are
+    /// written; where they were and no longer are, that is logged.
+    fn write_file(&self, text: &mut Vec<u8>, was_written: bool) -> bool {
+        let Some(file) = self.file else {
+            return true;
+        };
+        text.clear();
+        let is_written = self.write(text).is_ok() && file.replace(self.files, text.as_slice());
+        if was_written && !is_written {
+            log_fault(self.log);
+        }
+        is_written
+    }
+
+    /// Writes all counters, a metric after the other.
+    ///
+    /// # Errors
+    ///
+    /// The writer's own.
+    pub fn write<W: Write>(&self, writer: &mut W) -> io::Result<()> {
+        for metric in METRICS {
+            self.write_metric(writer, metric)?;
+        }
+        Ok(())
+    }
+
+    /// Writes the counters of a metric: the front's, then those of the lanes in order.
+    fn write_metric<W: Write>(&self, writer: &mut W, metric: Metric) -> io::Result<()> {
+        let line = TypeLine(metric);
+        writeln!(writer, "{line}")?;
+        self.write_front(writer, metric)?;
+        for (lane, home) in self.config.homes().iter().enumerate() {
+            self.write_lane(writer, metric, lane, home.name())?;
+        }
+        Ok(())
+    }
+
+    /// Writes the front's counters of a metric, where it has some.
+    fn write_front<W: Write>(&self, writer: &mut W, metric: Metric) -> io::Result<()> {
+        for kind in EVENT_KINDS {
+            if kind.metric() == metric {
+                if let Some(labels) = front_labels(kind) {
+                    self.write_counter(writer, Worker::Front, kind, labels)?;
+                }
+            }
+        }
+        Ok(())
+    }
+
+    /// Writes a lane's counters of a metric, where it has some.
+    fn write_lane<W: Write>(
+        &self,
+        writer: &mut W,
+        metric: Metric,
+        lane: usize,
+        home: &str,
+    ) -> io::Result<()> {
+        for kind in EVENT_KINDS {
+            if kind.metric() == metric {
+                if let Some(labels) = lane_labels(kind, lane, home) {
+                    self.write_counter(writer, worker_of_lane(lane), kind, labels)?;
+                }
+            }
+        }
+        Ok(())
+    }
+
+    /// Writes a counter.
+    fn write_counter<W: Write>(
+        &self,
+        writer: &mut W,
+        worker: Worker,
+        kind: EventKind,
+        labels: Labels<'_>,
+    ) -> io::Result<()> {
+        let line = CounterLine {
+            metric: kind.metric(),
+            labels,
+            count: self.counters.get(worker, kind),
+        };
+        writeln!(writer, "{line}")
+    }
+}
+
+/// The labels of the front's counter of a kind, where it has one.
+fn front_labels(kind: EventKind) -> Option<Labels<'static>> {
+    match kind.metric() {
+        Metric::Dropped | Metric::Refused => Some(Labels::Reason(kind)),
+        Metric::SendFault | Metric::ReceiveFault => Some(Labels::Clients),
+        _ => None,
+    }
+}
+
+/// The labels of a lane's counter of a kind, where it has one.
+fn lane_labels(kind: EventKind, lane: usize, home: &str) -> Option<Labels<'_>> {
+    match kind.metric() {
+        Metric::Dropped | Metric::Refused => None,
+        Metric::Unheard => Some(Labels::HomeReason(lane, home, kind)),
+        _ => Some(Labels::Home(lane, home)),
+    }
+}
+
+/// Logs what was counted of a kind. That a home server went down or up is logged as it happens, and what is sent is not logged.
+fn log_delta<L: Log>(log: &L, name: &str, kind: EventKind, delta: Delta) {
+    match kind.metric() {
+        Metric::Dropped => log_dropped(log, kind, delta),
+        Metric::Refused => log_refused(log, kind, delta),
+        Metric::Unheard => log_unheard(log, name, kind, delta),
+        Metric::SendFault | Metric::ReceiveFault => log_faults(log, name, kind, delta),
+        Metric::WentDown | Metric::WentUp | Metric::Sent | Metric::Probed => {}
+    }
+}
+
+fn log_dropped<L: Log>(log: &L, kind: EventKind, delta: Delta) {
+    let Delta { count, last } = delta;
+    let line = ClientDelta {
+        kind,
+        count,
+        client: last,
+    };
+    info!(log; "{line}");
+}
+
+fn log_refused<L: Log>(log: &L, kind: EventKind, delta: Delta) {
+    let Delta { count, last } = delta;
+    let line = ClientDelta {
+        kind,
+        count,
+        client: last,
+    };
+    warn!(log; "{line}");
+}
+
+fn log_unheard<L: Log>(log: &L, home: &str, kind: EventKind, delta: Delta) {
+    let count = delta.count;
+    let line = HomeDelta { kind, home, count };
+    info!(log; "{line}");
+}
+
+fn log_faults<L: Log>(log: &L, worker: &str, kind: EventKind, delta: Delta) {
+    let count = delta.count;
+    let line = FaultDelta {
+        kind,
+        worker,
+        count,
+    };
+    warn!(log; "{line}");
+}

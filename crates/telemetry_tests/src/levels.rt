@@ -1,0 +1,47 @@
+//! What no clause says of the level: the variable of the environment that names it.
+
+use rad_telemetry::{LevelFilter, level_of, read_level};
+use std::env::{Env, FillError};
+use std::result::Result;
+
+/// An environment in which each variable has this value, or none.
+#[derive(Drop)]
+struct Given<'a>(Option<&'a str>);
+
+impl Env for Given<'_> {
+    fn arg(&self, _i: usize, _buf: &mut [u8]) -> Result<usize, FillError> {
+        Err(FillError::NotPresent)
+    }
+
+    fn var(&self, _name: &str, buf: &mut [u8]) -> Result<usize, FillError> {
+        let Some(value) = self.0 else {
+            return Err(FillError::NotPresent);
+        };
+        let Some(room) = buf.get_mut(..value.len()) else {
+            return Err(FillError::TooLong);
+        };
+        room.copy_from_slice(value.as_bytes());
+        Ok(value.len())
+    }
+
+    fn var_at(&self, _i: usize, _buf: &mut [u8]) -> Result<usize, FillError> {
+        Err(FillError::NotPresent)
+    }
+}
+
+#[test]
+fn a_word_names_a_level(rt: HostRuntime) {
+    assert!(rt; level_of("off") == Some(LevelFilter::Off));
+    assert!(rt; level_of("trace") == Some(LevelFilter::Trace));
+    assert!(rt; level_of("Debug") == Some(LevelFilter::Debug));
+    assert!(rt; level_of("verbose").is_none());
+    assert!(rt; level_of("").is_none());
+}
+
+#[test]
+fn the_environment_names_a_level(rt: HostRuntime) {
+    assert!(rt; read_level(&Given(None)) == Some(LevelFilter::Info));
+    assert!(rt; read_level(&Given(Some("warn"))) == Some(LevelFilter::Warn));
+    assert!(rt; read_level(&Given(Some("loud"))).is_none());
+    assert!(rt; read_level(&Given(Some("a word of more than sixteen"))).is_none());
+}

@@ -1,0 +1,147 @@
+//! What no clause says of the log: the line of each note and its level, and what it tells of the datagram that the note is about.
+
+use crate::packets::{OTHER_REPLY, OTHER_REQUEST, REQUEST, SHORT};
+use crate::shared::{HOME, Kept, NAS, TWO_HOMES};
+use rad_desk::{DeskFault, Gate, Note, Worker};
+use rad_lane::{HearFault, Refusal};
+use rad_packet::read;
+use rad_realms::{Dropped, read_config};
+use rad_telemetry::{LevelFilter, Log, Logged, PacketWords, Telemetry};
+use std::result::Result;
+use std::test::Fail;
+
+/// The lines of what two workers received, and of what they noted then; the worker of `h1` received nothing.
+const NOTES: &str =
+    "event=came worker=h2 address=127.0.0.1 port=2814 code=5 length=32 identifier=0\n\
+    event=unheard home=h2 identifier=0 reason=\"Unknown\"\n\
+    event=came worker=h2 address=10.0.0.1 port=40000 code=5 length=32 identifier=0\n\
+    event=unheard home=h2 address=10.0.0.1 port=40000 identifier=0 reason=\"NotHome\"\n\
+    event=unheard home=h1 reason=\"RingFull\"\n\
+    event=came worker=front address=10.0.0.1 port=40000 code=4 length=47 identifier=7 session=S1 realm=example.org\n\
+    event=accepted home=h1 number=3 identifier=7 session=S1 realm=example.org\n\
+    event=refused client=10.0.0.1 client_port=40000 identifier=7 session=S1 realm=example.org reason=\"BookFull\"\n\
+    event=came worker=front address=10.0.0.1 port=40000 octets=3 reason=\"Unread Short\"\n\
+    event=went worker=front address=10.0.0.1 port=40000 code=4 length=37 identifier=9 realm=example.net\n";
+
+/// The lines of the events that are about no datagram that was received.
+const EVENTS: &str = "event=stopped worker=h1 reason=\"ended by itself\"\n\
+    event=down home=h2\n\
+    event=up home=h2\n\
+    event=cut home=h2 count=3\n\
+    event=receive-fault worker=front\n\
+    event=went worker=h2 address=127.0.0.1 port=2814 octets=3 reason=\"Unread Short\"\n\
+    event=send-fault worker=h2 address=127.0.0.1 port=2814\n\
+    event=answered home=h2 serial=5\n\
+    event=returned home=h2 serial=5\n";
+
+/// Those of them that are logged at `error`.
+const ERRORS: &str = "event=stopped worker=h1 reason=\"ended by itself\"\n";
+
+/// Those that are logged at `warn`.
+const WARNINGS: &str = "event=stopped worker=h1 reason=\"ended by itself\"\n\
+    event=down home=h2\n";
+
+/// Those that are logged at `info`.
+const INFOS: &str = "event=stopped worker=h1 reason=\"ended by itself\"\n\
+    event=down home=h2\n\
+    event=up home=h2\n\
+    event=cut home=h2 count=3\n";
+
+/// Those that are logged at `debug`.
+const DETAILS: &str = "event=stopped worker=h1 reason=\"ended by itself\"\n\
+    event=down home=h2\n\
+    event=up home=h2\n\
+    event=cut home=h2 count=3\n\
+    event=receive-fault worker=front\n\
+    event=send-fault worker=h2 address=127.0.0.1 port=2814\n";
+
+/// A packet whose session and whose realm have octets that no value shows as they are.
+const ODD: [u8; 39] = [
+    4, 1, 0, 39, 0, 0, 0, 0, 0, 0, 0, 0, 0, 0, 0, 0, 0, 0, 0, 0, 1, 12, b'b', b'@', b'e', b'%',
+    b'x', b' ', b'=', b'"', 127, b'.', 44, 7, b'S', b' ', b'1', 255, b'@',
+];
+
+/// Tells of each event that is about no datagram that was received.
+fn tell_events<L: Log>(telemetry: &Telemetry<'_, L>) {
+    telemetry.tell_end(Worker::Lane(0));
+    telemetry.note(Worker::Lane(1), Note::WentDown);
+    telemetry.note(Worker::Lane(1), Note::WentUp);
+    telemetry.note(Worker::Lane(1), Note::Cut(3));
+    telemetry.note(Worker::Front, Note::ReceiveFault);
+    telemetry.sends(Worker::Lane(1), HOME, &SHORT);
+    telemetry.note(Worker::Lane(1), Note::SendFault);
+    telemetry.answered(1, 5);
+    telemetry.note(Worker::Front, Note::Took(1, 5));
+}
+
+#[test]
+fn each_note_tells_of_what_its_worker_received(rt: HostRuntime) -> Result<(), Fail> {
+    let alloc = rt.alloc();
+    let config = read_config(alloc, TWO_HOMES)?;
+    let log = Logged::new((), LevelFilter::Trace, Kept::new(alloc));
+    let telemetry = Telemetry::new(alloc, &config, &log)?;
+    let unknown = DeskFault::Lane(HearFault::Unknown);
+    telemetry.received(Worker::Lane(1), HOME, &OTHER_REPLY);
+    telemetry.note(Worker::Lane(1), Note::Unheard(unknown));
+    telemetry.received(Worker::Lane(1), NAS, &OTHER_REPLY);
+    telemetry.note(Worker::Lane(1), Note::NotHome);
+    telemetry.note(Worker::Lane(0), Note::Unheard(DeskFault::RingFull));
+    telemetry.received(Worker::Front, NAS, &REQUEST);
+    telemetry.accepted(0, 3);
+    telemetry.note(Worker::Front, Note::Refused(Refusal::BookFull));
+    telemetry.received(Worker::Front, NAS, &SHORT);
+    telemetry.sends(Worker::Front, NAS, &OTHER_REQUEST);
+    assert!(rt; log.sink().is(NOTES));
+    Ok(())
+}
+
+#[test]
+fn each_event_has_its_line(rt: HostRuntime) -> Result<(), Fail> {
+    let alloc = rt.alloc();
+    let config = read_config(alloc, TWO_HOMES)?;
+    let log = Logged::new((), LevelFilter::Trace, Kept::new(alloc));
+    tell_events(&Telemetry::new(alloc, &config, &log)?);
+    assert!(rt; log.sink().is(EVENTS));
+    Ok(())
+}
+
+#[test]
+fn each_event_has_its_level(rt: HostRuntime) -> Result<(), Fail> {
+    let alloc = rt.alloc();
+    let config = read_config(alloc, TWO_HOMES)?;
+    for (level, expected) in [
+        (LevelFilter::Off, ""),
+        (LevelFilter::Error, ERRORS),
+        (LevelFilter::Warn, WARNINGS),
+        (LevelFilter::Info, INFOS),
+        (LevelFilter::Debug, DETAILS),
+    ] {
+        let log = Logged::new((), level, Kept::new(alloc));
+        tell_events(&Telemetry::new(alloc, &config, &log)?);
+        assert!(rt; log.sink().is(expected), "{level:?}");
+    }
+    Ok(())
+}
+
+#[test]
+fn nothing_of_a_datagram_is_kept_above_debug(rt: HostRuntime) -> Result<(), Fail> {
+    let alloc = rt.alloc();
+    let config = read_config(alloc, TWO_HOMES)?;
+    let log = Logged::new((), LevelFilter::Info, Kept::new(alloc));
+    let telemetry = Telemetry::new(alloc, &config, &log)?;
+    telemetry.received(Worker::Front, NAS, &REQUEST);
+    telemetry.note(Worker::Front, Note::Dropped(Dropped::NoRealm));
+    assert!(rt; log.sink().is(""));
+    Ok(())
+}
+
+#[test]
+fn odd_octets_are_escaped(rt: HostRuntime) -> Result<(), Fail> {
+    let packet = read(&ODD)?;
+    let text = format!(in rt.alloc(); "{}", PacketWords::of(&packet))?;
+    assert_eq!(rt;
+        text.as_str(),
+        " identifier=1 session=S%201%ff@ realm=e%25x%20%3d%22%7f."
+    );
+    Ok(())
+}

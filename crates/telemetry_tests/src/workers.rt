@@ -1,0 +1,103 @@
+//! What no clause says of the gate beside the workers: that the lines of a drop tell of its datagram.
+
+use crate::packets::{OTHER_REQUEST, REQUEST, SHORT};
+use crate::shared::{Kept, NAS};
+use rad_desk::{Delivery, Received, Traffic, Wire, front_worker, open};
+use rad_realms::{Endpoint, read_config};
+use rad_tables::Moment;
+use rad_telemetry::{LevelFilter, Logged, Telemetry};
+use std::result::Result;
+use std::test::Fail;
+
+/// A configuration whose realms are not those of the requests.
+const OTHER_REALMS: &str = r#"
+listen = "127.0.0.1:1813"
+[[client]]
+address = "10.0.0.1"
+secret = "nas-secret"
+[[home]]
+name = "h1"
+address = "127.0.0.1:2813"
+secret = "home-secret"
+[[realm]]
+name = "a.example.org"
+home = "h1"
+"#;
+
+/// The lines of three drops: of a request, of what is no packet, and of a request without a session.
+const DROPS: &str =
+    "event=dropped client=10.0.0.1 client_port=40000 identifier=7 session=S1 realm=example.org reason=\"NoRealm\"\n\
+    event=dropped client=10.0.0.1 client_port=40000 reason=\"Unread Short\"\n\
+    event=dropped client=10.0.0.1 client_port=40000 identifier=9 realm=example.net reason=\"NoRealm\"\n";
+
+/// A wire in memory that gives datagrams of the client in order.
+#[derive(Drop)]
+struct Scripted<'a> {
+    gives: &'a [&'a [u8]],
+    /// The place of the one that it gives next.
+    next: usize,
+    traffic: Traffic,
+}
+
+impl Wire for Scripted<'_> {
+    ghost log = { λ w. w.traffic.passed };
+
+    fn now(&mut self) -> Moment {
+        Moment::new(0).unwrap()
+    }
+
+    fn random(&mut self) -> [u8; 16] {
+        [0x5a; 16]
+    }
+
+    fn receive(&mut self, datagram: &mut [u8; 4096]) -> Received {
+        let gives = self.gives;
+        let Some(given) = gives.get(self.next) else {
+            return Received::Nothing;
+        };
+        self.next = self.next.saturating_add(1);
+        let count = given.len().min(4096);
+        datagram[..count].copy_from_slice(&given[..count]);
+        let Endpoint { address, port } = NAS;
+        self.traffic.came(0, address, port, &datagram[..count]);
+        Received::Got {
+            address,
+            port,
+            socket: 0,
+            count,
+        }
+    }
+
+    fn send(&mut self, socket: u16, address: [u8; 4], port: u16, octets: &[u8]) -> Delivery {
+        self.traffic.went(socket, address, port, octets);
+        Delivery::Sent
+    }
+}
+
+#[test]
+fn a_drop_tells_of_its_datagram(rt: HostRuntime) -> Result<(), Fail> {
+    let alloc = rt.alloc();
+    let config = read_config(alloc, OTHER_REALMS)?;
+    let log = Logged::new((), LevelFilter::Debug, Kept::new(alloc));
+    let telemetry = Telemetry::new(alloc, &config, &log)?;
+    let Ok((proxy, mut inlets)) = open(alloc, &config) else {
+        return Err(Fail::from("no memory"));
+    };
+    let mut wire = Scripted {
+        gives: &[&REQUEST, &SHORT, &OTHER_REQUEST],
+        next: 0,
+        traffic: Traffic::new(),
+    };
+    front_worker(
+        &rt,
+        alloc,
+        &proxy,
+        &config,
+        inlets.as_mut_slice(),
+        &mut wire,
+        &telemetry,
+        4,
+    );
+    assert!(rt; log.sink().is(DROPS));
+    Ok(())
+}
