@@ -1,4 +1,6 @@
-use crate::{BlockQueue, Fifo, PlainQueue};
+//! What no contract says of queues: that calls succeed, that items are dropped once, and that both queues answer alike.
+
+use block_queue::{BlockQueue, Fifo, PlainQueue};
 use std::alloc::{AllocError, Global};
 use std::process::Abort;
 use std::sync::atomic::{AtomicU64, Ordering};

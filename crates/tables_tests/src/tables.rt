@@ -1,7 +1,9 @@
+//! What no contract says of the tables: that calls succeed where memory is there, and what they answer then.
+
 ghost use Rattle.std.specs.Prelude.{◌≡◌};
 ghost use Rattle.rad_tables.specs.Pairs.{IsInRange};
 
-use crate::{Change, Duplicates, Key, Moment, Slot, Slots, Timed, wait_after};
+use rad_tables::{Change, Duplicates, Key, Moment, Slot, Slots, Timed, wait_after};
 use std::test::Fail;
 
 #[derive(Debug, PartialEq, Drop)]

@@ -2,7 +2,6 @@
 
 use super::faults::{CLIENT, HOME, TOP};
 use super::reading::printed;
-use crate::*;
 use std::alloc::{AllocError, Global};
 use std::test::Fail;
 

@@ -1,16 +1,15 @@
 //! The fault that each faulty text has.
 
 use super::reading::printed;
-use crate::*;
 use std::alloc::{AllocError, Global};
 use std::process::Abort;
 use std::test::Fail;
 
-pub(super) const TOP: &str = "listen = \"127.0.0.1:1813\"\n";
+pub const TOP: &str = "listen = \"127.0.0.1:1813\"\n";
 
-pub(super) const CLIENT: &str = "[[client]]\naddress = \"10.0.0.1\"\nsecret = \"nas-secret\"\n";
+pub const CLIENT: &str = "[[client]]\naddress = \"10.0.0.1\"\nsecret = \"nas-secret\"\n";
 
-pub(super) const HOME: &str =
+pub const HOME: &str =
     "[[home]]\nname = \"h1\"\naddress = \"127.0.0.1:2813\"\nsecret = \"home-secret\"\n";
 
 const REALM: &str = "[[realm]]\nname = \"example.org\"\nhome = \"h1\"\n";

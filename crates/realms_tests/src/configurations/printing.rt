@@ -1,7 +1,7 @@
 //! What is printed of the reasons to drop a datagram and of the faults of limits, and which texts are addresses.
 
-use crate::*;
 use rad_packet::ReadFault;
+use rad_realms::{Dropped, LimitFault, read_address};
 use std::test::Fail;
 
 const REASONS: [(Dropped, &str); 10] = [

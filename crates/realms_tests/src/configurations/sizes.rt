@@ -1,7 +1,7 @@
 //! The largest configuration, and one more of each.
 
 use super::reading::{configuration, counts_of, lane_of, printed};
-use crate::*;
+use rad_realms::Config;
 use std::alloc::{AllocError, Global};
 use std::process::Abort;
 use std::test::Fail;
