@@ -13,6 +13,7 @@ mod packets;
 mod rings;
 mod spoiled;
 mod test_desk;
+mod test_gate;
 mod test_proxy;
 mod threads;
 mod through_locks;

@@ -8,5 +8,6 @@ pub mod Inlets
 pub mod Endings
 pub mod Untouched
 pub mod Sends
+pub mod Responses
 pub mod Returning
 pub mod OutletAfterTurn

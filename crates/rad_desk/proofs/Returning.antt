@@ -3,19 +3,16 @@ use Rattle.std.proofs.Common.{◌≡◌, ℕ, zero, suc, ◌<◌, List, [], ◌�
 use Rattle.std.specs.Prelude.{slice_get, Some}
 use Rattle.std.proofs.lemmas.List.{append-nil, length-set, get_or-set_same}
 use Rattle.std.proofs.lemmas.Option.{none-some, same_Some, slice_get-get_or, slice_get_read}
-use Rattle.rad_realms.specs.declared.reading.address.Endpoint.{Endpoint}
-use Rattle.rad_realms.specs.declared.checking.Incoming.TheVariants.{Request}
-use Rattle.rad_realms.specs.Checking.{Request as Asked}
+use Rattle.rad_realms.specs.declared.checking.Incoming.{Incoming}
 use Rattle.rad_realms.specs.Configuration.{Configuration}
 use Rattle.rad_realms.specs.Incoming.{Takes}
 use Rattle.rad_lane.specs.declared.outgoing.Outgoing.{Outgoing}
 use Rattle.rad_desk.specs.declared.inlet.Inlet.{Inlet}
-use Rattle.rad_desk.specs.Departures.{IsVerifiedResponse}
 use Rattle.rad_desk.specs.Inlet.{taken}
 use Rattle.rad_desk.specs.Traffic.{Passage, came}
 use Rattle.rad_desk.specs.Continues.{sent_as, WentOut, EachWentOut, Continues, AllContinue}
 use Rattle.rad_desk.specs.Sending.{SendsUpToOne, IsFrom}
-use Rattle.rad_desk.specs.Sends.{SendsOnly, Gave, OneGave, GoesBack, LeavesTheFront}
+use Rattle.rad_desk.specs.Sends.{SendsOnly, Gave, OneGave, IsAnswerTo, GoesBack, LeavesTheFront}
 use Rattle.rad_desk.proofs.Sends.{sends_came, sends_one, sends_join, sends_widen}
 
 -- What went out did so also with what passed later, and since a sooner moment.
@@ -168,14 +165,11 @@ given_join first mid last old between new a b s t =
     (sends_widen _ _ (λ before p. one_gave_later first mid last between new b p) old between s)
     (sends_widen _ _ (λ before p. one_gave_sooner first mid last old between a p) between new t)
 
--- A request came, and its lane answered it once more or not.
-pub goes_back : (config : Configuration) (old mid new : List Passage) (socket : ℕ) (address : List ℕ) (port : ℕ) (octets : List ℕ) (asked : Asked) → mid ≡ old ++ came socket address port octets ∷ [] → Takes config address port octets (Request asked) → SendsUpToOne (IsFrom socket (record { address = asked.client; port = asked.port }) IsVerifiedResponse) mid new → SendsOnly (GoesBack config) old new
-goes_back config old mid new socket address port octets asked came_last takes (inl none) =
+-- A datagram came and was taken, and it was answered or not.
+pub goes_back : (config : Configuration) (old mid new : List Passage) (socket : ℕ) (address : List ℕ) (port : ℕ) (octets : List ℕ) (incoming : Incoming) → mid ≡ old ++ came socket address port octets ∷ [] → Takes config address port octets incoming → SendsUpToOne (IsFrom socket (record { address = address; port = port }) (IsAnswerTo incoming)) mid new → SendsOnly (GoesBack config) old new
+goes_back config old mid new socket address port octets incoming came_last takes (inl none) =
     sends_came (GoesBack config) old new socket address port octets (none ∙ came_last)
-goes_back config old mid new socket address port octets asked came_last takes (inr one) =
-    let endpoint : List ℕ → ℕ → Endpoint = λ a n. record { address = a; port = n } in
-    let client = takes.packet.same_client ∙ takes.same_address in
-    let there = ap (λ a. endpoint a asked.port) client ∙ ap (endpoint address) takes.packet.same_port in
+goes_back config old mid new socket address port octets incoming came_last takes (inr one) =
     sends_join (GoesBack config) old mid new
     (sends_came (GoesBack config) old mid socket address port octets came_last)
     (sends_one (GoesBack config) mid new one.sent one.went
@@ -185,8 +179,8 @@ goes_back config old mid new socket address port octets asked came_last takes (i
       last = came_last;
       came = refl;
       socket = one.right.same_socket;
-      peer = one.right.same_peer ∙ there;
-      incoming = Request asked;
+      peer = one.right.same_peer;
+      incoming = incoming;
       right = takes;
       answers = one.right.right;
     })

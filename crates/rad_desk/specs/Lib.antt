@@ -3,6 +3,7 @@ pub mod Desk
 pub mod Inlet
 pub mod Tells
 pub mod Departures
+pub mod Handling
 pub mod Lawful
 pub mod Ending
 pub mod Refusing
@@ -11,3 +12,4 @@ pub mod Sends
 pub mod Continues
 pub mod Sending
 pub mod Turned
+pub mod Printed

@@ -1,23 +1,19 @@
 //! The worker of the clients' side.
 
-ghost use Rattle.std.specs.Prelude.{◌≡◌, ◌≤◌, [], ◌∷◌, ◌++◌};
-ghost use Rattle.rad_packet.specs.Packet.{identifier_of, authenticator_of};
-ghost use Rattle.rad_auth.specs.Authenticator.{accounting_response};
-ghost use Rattle.rad_desk.specs.Departures.{IsVerifiedResponse};
-ghost use Rattle.rad_desk.specs.Traffic.{went};
+ghost use Rattle.std.specs.Prelude.{◌≡◌, ◌≤◌};
 ghost use Rattle.rad_desk.specs.Continues.{Continues, AllContinue};
-ghost use Rattle.rad_desk.specs.Sends.{SendsOnly, Gave, OneGave, GoesBack, LeavesTheFront};
+ghost use Rattle.rad_desk.specs.Sends.{SendsOnly, Gave, OneGave, IsAnswerTo, GoesBack, LeavesTheFront};
 ghost use Rattle.rad_desk.specs.Sending.{SendsUpToOne, IsFrom};
 
 use crate::gate::{Call, Gate, Note, Worker};
+use crate::handling::{Handled, handle};
 use crate::inlet::Inlet;
 use crate::proxy::Proxy;
 use crate::tally::{Shift, Tally};
 use crate::wire::{Received, Wire};
-use rad_auth::answer_status;
 use rad_lane::Taken;
 use rad_packet::Datagram;
-use rad_realms::{Checked, CheckedStatus, Config, Endpoint, Incoming, check_in};
+use rad_realms::{Config, Endpoint, Incoming, check_in};
 use std::alloc::Global;
 use std::sync::Wait;
 
@@ -90,68 +86,52 @@ fn take_in<W: Wire, G: Gate>(
     else {
         return true;
     };
-    let from = Endpoint { address, port };
     match check_in(config, address, port, &octets[..count]) {
-        Ok(Incoming::Request(request)) => {
-            accept(rt, alloc, proxy, &request, wire, shift, socket, datagram)
-        }
-        Ok(Incoming::Status(status)) => {
-            answer(&status, wire, shift, socket, from, datagram);
-            true
+        Ok(incoming) => {
+            let from = Endpoint { address, port };
+            serve(
+                rt, alloc, proxy, &incoming, wire, shift, socket, from, datagram,
+            )
         }
         Err(reason) => {
-            shift.note(Note::Dropped(from, reason));
+            shift.note(Note::Dropped(reason));
             true
         }
     }
 }
 
-/// Has a lane take a request. It answers whether the worker goes on.
-fn accept<W: Wire, G: Gate>(
+/// Has a lane take a request, or answers a Status-Server. It answers whether the worker goes on.
+fn serve<W: Wire, G: Gate>(
     rt: &impl Wait,
     alloc: Global,
     proxy: &Proxy,
-    request: &Checked<'_>,
-    wire: &mut W,
-    shift: &mut Shift<'_, G>,
-    socket: u16,
-    datagram: &mut Datagram,
-) -> bool
-    ensures sends { SendsUpToOne (IsFrom socket (record { address = request.now.client; port = request.now.port }) IsVerifiedResponse) (W.log wire.old) (W.log wire.new) }
-    ensures turns { shift.new.tally.turns ≡ shift.old.tally.turns }
-{
-    if !shift.may(Call::Accept) {
-        return false;
-    }
-    let from = Endpoint {
-        address: request.client(),
-        port: request.port(),
-    };
-    let taken = proxy.accept(rt, alloc, request, wire.now(), datagram);
-    shift.made(Call::Accept);
-    match taken {
-        Ok(Taken::New(number)) => shift.note(Note::Accepted(request.lane(), number)),
-        Ok(Taken::Waiting(_)) => {}
-        Ok(Taken::Again(_)) => shift.send(wire, socket, from, datagram.bytes()),
-        Err(refusal) => shift.note(Note::Refused(from, refusal)),
-    }
-    true
-}
-
-/// Answers a Status-Server.
-fn answer<W: Wire, G: Gate>(
-    status: &CheckedStatus<'_>,
+    incoming: &Incoming<'_>,
     wire: &mut W,
     shift: &mut Shift<'_, G>,
     socket: u16,
     from: Endpoint,
     datagram: &mut Datagram,
-)
-    ensures sends { W.log wire.new ≡ W.log wire.old ++ went socket from.address from.port (accounting_response (identifier_of status.now.text) (authenticator_of status.now.text) [] status.now.secret) ∷ [] }
+) -> bool
+    ensures sends { SendsUpToOne (IsFrom socket from (IsAnswerTo incoming.now)) (W.log wire.old) (W.log wire.new) }
     ensures turns { shift.new.tally.turns ≡ shift.old.tally.turns }
 {
-    answer_status(status.packet(), status.secret(), datagram);
-    shift.send(wire, socket, from, datagram.bytes());
+    let is_request = matches!(incoming, Incoming::Request(_));
+    if is_request && !shift.may(Call::Accept) {
+        return false;
+    }
+    let handled = handle(rt, alloc, proxy, incoming, wire.now(), datagram);
+    if is_request {
+        shift.made(Call::Accept);
+    }
+    match handled {
+        Ok(Handled::Taken(lane, Taken::New(number))) => shift.gate.accepted(lane, number),
+        Ok(Handled::Taken(_, Taken::Waiting(_))) => {}
+        Ok(Handled::Taken(_, Taken::Again(_)) | Handled::Answered) => {
+            shift.send(wire, socket, from, datagram.bytes());
+        }
+        Err(refusal) => shift.note(Note::Refused(refusal)),
+    }
+    true
 }
 
 /// Takes from each inlet once at most, and sends what it took. It answers whether the worker goes on.

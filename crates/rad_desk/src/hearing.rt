@@ -6,6 +6,7 @@ use crate::laws::Desk;
 use rad_lane::{HearFault, Heard};
 use rad_tables::Moment;
 use std::alloc::Global;
+use std::fmt;
 
 /// What a datagram from the home server was.
 #[derive(Clone, Copy, Debug, PartialEq, Eq)]
@@ -16,13 +17,27 @@ pub enum Told {
     ProbeAnswered,
 }
 
-/// Why a datagram from the home server is not heard.
+/// Why a datagram from the home server is not heard. It is printed as `RingFull`, or as the lane's fault.
 #[derive(Clone, Copy, Debug, PartialEq, Eq)]
 pub enum DeskFault {
     /// The ring had no free place for a response. The datagram was not read.
     RingFull,
     /// Why the lane did not hear it.
     Lane(HearFault),
+}
+
+impl fmt::Display for DeskFault {
+    ghost use Rattle.std.specs.Prelude.{Some};
+    ghost use Rattle.rad_desk.specs.Printed.{desk_fault_text};
+
+    ghost output = { λ fault. Some (desk_fault_text fault) };
+
+    fn fmt<W: fmt::Write>(&self, f: &mut fmt::Formatter<W>) -> fmt::Result {
+        match self {
+            DeskFault::RingFull => f.write_str("RingFull"),
+            DeskFault::Lane(fault) => write!(f, "{fault}"),
+        }
+    }
 }
 
 impl Desk {

@@ -16,6 +16,7 @@ mod desk;
 mod ending;
 mod front;
 mod gate;
+mod handling;
 mod hearing;
 mod inlet;
 mod lanes;

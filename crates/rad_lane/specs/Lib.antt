@@ -23,3 +23,4 @@ pub mod Lawful
 pub mod Counting
 pub mod Closes
 pub mod Invariant
+pub mod Printed

@@ -16,6 +16,7 @@ use rad_packet::{Datagram, GREATEST_LENGTH, PacketRef};
 use rad_realms::Checked;
 use rad_tables::{Key, Moment};
 use std::alloc::{AllocError, Global};
+use std::fmt;
 
 /// How a request was taken.
 #[derive(Clone, Copy, Debug, PartialEq, Eq)]
@@ -29,7 +30,7 @@ pub enum Taken {
     Again(u64),
 }
 
-/// Why a new request is not taken. The first reason in this order is told.
+/// Why a new request is not taken. The first reason in this order is told. It is printed as its name.
 #[derive(Clone, Copy, Debug, PartialEq, Eq)]
 pub enum Refusal {
     /// The lane is drained.
@@ -44,6 +45,24 @@ pub enum Refusal {
     OutOfMemory,
     /// The request is of another lane. A lane itself never answers it.
     WrongLane,
+}
+
+impl fmt::Display for Refusal {
+    ghost use Rattle.std.specs.Prelude.{Some};
+    ghost use Rattle.rad_lane.specs.Printed.{refusal_text};
+
+    ghost output = { λ refusal. Some (refusal_text refusal) };
+
+    fn fmt<W: fmt::Write>(&self, f: &mut fmt::Formatter<W>) -> fmt::Result {
+        match self {
+            Refusal::Draining => f.write_str("Draining"),
+            Refusal::BookFull => f.write_str("BookFull"),
+            Refusal::QueueFull => f.write_str("QueueFull"),
+            Refusal::TooLong => f.write_str("TooLong"),
+            Refusal::OutOfMemory => f.write_str("OutOfMemory"),
+            Refusal::WrongLane => f.write_str("WrongLane"),
+        }
+    }
 }
 
 /// One more than the greatest number that a request can have.

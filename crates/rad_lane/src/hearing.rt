@@ -14,6 +14,7 @@ use rad_auth::{ACCOUNTING_RESPONSE, ReplyFault, check_response};
 use rad_packet::{PacketRef, ReadFault, read};
 use rad_tables::{Moment, Slot};
 use std::alloc::Global;
+use std::fmt;
 
 /// What a datagram from the home server was.
 #[derive(Drop)]
@@ -24,7 +25,8 @@ pub enum Heard {
     ProbeAnswered,
 }
 
-/// Why a datagram from the home server is not heard. The first reason in this order is told.
+/// Why a datagram from the home server is not heard. The first reason in this order is told. It is printed as its
+/// name, with the name of the read fault behind `Unread`.
 #[derive(Clone, Copy, Debug, PartialEq, Eq)]
 pub enum HearFault {
     /// It is no packet.
@@ -41,6 +43,25 @@ pub enum HearFault {
     NoProxyState,
     /// Memory was refused.
     OutOfMemory,
+}
+
+impl fmt::Display for HearFault {
+    ghost use Rattle.std.specs.Prelude.{Some};
+    ghost use Rattle.rad_lane.specs.Printed.{hear_fault_text};
+
+    ghost output = { λ fault. Some (hear_fault_text fault) };
+
+    fn fmt<W: fmt::Write>(&self, f: &mut fmt::Formatter<W>) -> fmt::Result {
+        match self {
+            HearFault::Unread(fault) => write!(f, "Unread {fault}"),
+            HearFault::WrongCode => f.write_str("WrongCode"),
+            HearFault::Unknown => f.write_str("Unknown"),
+            HearFault::BadAuthenticator => f.write_str("BadAuthenticator"),
+            HearFault::MessageAuthenticatorHere => f.write_str("MessageAuthenticatorHere"),
+            HearFault::NoProxyState => f.write_str("NoProxyState"),
+            HearFault::OutOfMemory => f.write_str("OutOfMemory"),
+        }
+    }
 }
 
 impl From<ReadFault> for HearFault {

@@ -18,6 +18,7 @@ use crate::{Answered, Lane, Record, Series, Stamp};
 use block_queue::Fifo;
 use rad_tables::{Duplicates, Key, Moment};
 use std::alloc::{AllocError, Global};
+use std::fmt;
 
 /// The front of a book that was cut off: requests that were all answered, and so long ago that none is repeated
 /// any more, with their answers.
@@ -31,7 +32,7 @@ pub struct Volume {
     pub answered: Series<Answered>,
 }
 
-/// Why there is no volume. The first reason in this order is told.
+/// Why there is no volume. The first reason in this order is told. It is printed as its name.
 #[derive(Clone, Copy, Debug, PartialEq, Eq)]
 pub enum TurnFault {
     /// The first request that the book holds is not over: it is unanswered, or was answered less than a span ago. Or
@@ -39,6 +40,20 @@ pub enum TurnFault {
     NothingToTurn,
     /// Memory was refused.
     OutOfMemory,
+}
+
+impl fmt::Display for TurnFault {
+    ghost use Rattle.std.specs.Prelude.{Some};
+    ghost use Rattle.rad_lane.specs.Printed.{turn_fault_text};
+
+    ghost output = { λ fault. Some (turn_fault_text fault) };
+
+    fn fmt<W: fmt::Write>(&self, f: &mut fmt::Formatter<W>) -> fmt::Result {
+        match self {
+            TurnFault::NothingToTurn => f.write_str("NothingToTurn"),
+            TurnFault::OutOfMemory => f.write_str("OutOfMemory"),
+        }
+    }
 }
 
 impl<Q: Fifo<Record>> Lane<Q> {

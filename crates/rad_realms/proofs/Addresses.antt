@@ -12,7 +12,8 @@ use Rattle.std.proofs.lemmas.List.Elements.{All-from_recursion, recursion_from_A
 use Rattle.std.proofs.lemmas.List.Folds.{list_all-append}
 use Rattle.std.proofs.lemmas.List.Quantifiers.{position-Some}
 use Rattle.rad_realms.specs.declared.reading.address.Endpoint.{Endpoint}
-use Rattle.rad_realms.specs.Address.{◌>>=◌, IsAddress, number_in, around_first, address_in, address_text, endpoint_in, endpoint_text}
+use Rattle.rad_realms.specs.Address.{◌>>=◌, IsAddress, number_in, around_first, address_in, endpoint_in}
+use Rattle.rad_realms.specs.Printed.{address_text, endpoint_text}
 use Rattle.rad_realms.proofs.Numbers.{number_read, number_text, number_least, number_most, digits_of}
 
 -- ---- what stands around an octet

@@ -1,9 +1,8 @@
 -- Numbers, addresses and ports as texts (own).
-use Rattle.std.specs.Prelude.{◌≡◌, ℕ, ◌+◌, ◌≤◌, List, [], ◌∷◌, ◌++◌, length, All, take, drop, position, Option, Some, None, option_map, option_and_then, Bool, ◌&&◌, not, ◌==◌, nat_lt, nat_le, slice_index, if◌then◌else◌}
+use Rattle.std.specs.Prelude.{◌≡◌, ℕ, ◌+◌, ◌≤◌, List, [], ◌∷◌, length, All, take, drop, position, Option, Some, None, option_map, option_and_then, Bool, ◌&&◌, not, ◌==◌, nat_lt, nat_le, slice_index, if◌then◌else◌}
 use Rattle.std.specs.List.{list_all}
 use Rattle.std.specs.Char.{is_ascii_digit}
 use Rattle.std.specs.Str.Parse.{digits_value}
-use Rattle.std.specs.Fmt.{decimal}
 use Rattle.rad_realms.specs.declared.reading.address.Endpoint.{Endpoint}
 
 infixl 10 ◌>>=◌
@@ -29,15 +28,6 @@ around_first octet text = option_map (λ i. (take i text, drop (i + 1) text)) (p
 pub record IsAddress (octets : List ℕ) : Type 0 where
   pub four : length octets ≡ 4
   pub octet : All (λ o. o ≤ 255) octets
-
--- The text of an address: its octets in decimal, joined by `.`
-abbrev pub address_text : List ℕ → List ℕ
-address_text octets =
-    decimal (slice_index octets 0) ++ 46 ∷ (decimal (slice_index octets 1) ++ 46 ∷ (decimal (slice_index octets 2) ++ 46 ∷ decimal (slice_index octets 3)))
-
--- The text of an address and port: the address, `:`, and the port in decimal.
-abbrev pub endpoint_text : Endpoint → List ℕ
-endpoint_text e = address_text e.address ++ 58 ∷ decimal e.port
 
 -- An address: four numbers from 0 to 255, joined by `.`
 unfoldable pub address_in : List ℕ → Option (List ℕ)

@@ -1,10 +1,21 @@
--- The reasons to drop a datagram and the faults of limits, as they are printed.
-use Rattle.std.specs.Prelude.{ℕ, List, ◌++◌, codes}
+-- Addresses, the reasons to drop a datagram and the faults of limits, as they are printed.
+use Rattle.std.specs.Prelude.{ℕ, List, ◌∷◌, ◌++◌, codes, slice_index}
+use Rattle.std.specs.Fmt.{decimal}
 use Rattle.rad_packet.specs.Faults.{read_fault_text}
+use Rattle.rad_realms.specs.declared.reading.address.Endpoint.{Endpoint}
 use Rattle.rad_realms.specs.declared.checking.Dropped.{Dropped}
 use Rattle.rad_realms.specs.declared.checking.Dropped.TheVariants.{UnknownClient, Unread, WrongCode, BadAuthenticator, BadMessageAuthenticator, MessageAuthenticatorHere, NoRealm}
 use Rattle.rad_realms.specs.declared.limits.LimitFault.{LimitFault}
 use Rattle.rad_realms.specs.declared.limits.LimitFault.TheVariants.{Window, Queue, Book, Tries, FirstWait, ProbeEvery, DownWait, Span, Ring, Ports}
+
+-- The text of an address: its octets in decimal, joined by `.`
+abbrev pub address_text : List ℕ → List ℕ
+address_text octets =
+    decimal (slice_index octets 0) ++ 46 ∷ (decimal (slice_index octets 1) ++ 46 ∷ (decimal (slice_index octets 2) ++ 46 ∷ decimal (slice_index octets 3)))
+
+-- The text of an address and port: the address, `:`, and the port in decimal.
+abbrev pub endpoint_text : Endpoint → List ℕ
+endpoint_text endpoint = address_text endpoint.address ++ 58 ∷ decimal endpoint.port
 
 abbrev pub dropped_text : Dropped → List ℕ
 dropped_text UnknownClient = codes "UnknownClient"

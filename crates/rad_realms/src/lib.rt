@@ -25,5 +25,5 @@ pub use laws::{
     no_fault_in_range, numbers_have_one_text, realm_follows_the_last_sign, taken_or_dropped_once,
 };
 pub use limits::{DEFAULT_LIMITS, LimitFault, LimitNumbers, Limits};
-pub use reading::{ConfigFault, Endpoint, Key, Part, Spot, read_address, read_config};
+pub use reading::{AddressText, ConfigFault, Endpoint, Key, Part, Spot, read_address, read_config};
 pub use realms::Realm;

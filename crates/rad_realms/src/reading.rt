@@ -8,6 +8,6 @@ mod faults;
 mod sections;
 mod walk;
 
-pub use address::{Endpoint, read_address};
+pub use address::{AddressText, Endpoint, read_address};
 pub use faults::{ConfigFault, Key, Part, Spot};
 pub use walk::read_config;

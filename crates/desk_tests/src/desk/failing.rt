@@ -2,7 +2,9 @@
 
 use super::octets::{FORWARDED, REPLY, REQUEST, RESPONSE};
 use super::workers::forward;
-use super::works::{CLIENT, HOME, Works, counts, front, lane, tally};
+use super::works::{
+    CLIENT, HOME, Works, accepted, answered, counts, front, lane, note, note_of, tally,
+};
 use rad_desk::{Note, Worker};
 use std::alloc::Global;
 use std::process::Abort;
@@ -82,8 +84,8 @@ fn a_failed_send_is_sent_again(rt: HostRuntime) -> Result<(), Fail> {
     let mut works = Works::new(rt.alloc(), "")?;
     works.lane.fail_after(1);
     let turns = [
-        front(&REQUEST, [1, 0, 0], Some(Note::Accepted(0, 0)), &[]),
-        lane(&[], [0, 0, 1], Some(Note::SendFault(HOME)), &FORWARDED),
+        front(&REQUEST, [1, 0, 0], accepted(0), &[]),
+        lane(&[], [0, 0, 1], note_of(HOME, Note::SendFault), &FORWARDED),
     ];
     works.play(&rt, &turns);
     assert_eq!(rt; works.counts(&rt), counts(1, 0, 1, 0));
@@ -101,8 +103,7 @@ fn a_failed_send_is_sent_again(rt: HostRuntime) -> Result<(), Fail> {
 #[test]
 fn a_failed_send_counts_once(rt: HostRuntime) -> Result<(), Fail> {
     let mut works = Works::new(rt.alloc(), "")?;
-    let accepted = Some(Note::Accepted(0, 0));
-    works.play(&rt, &[front(&REQUEST, [1, 0, 0], accepted, &[])]);
+    works.play(&rt, &[front(&REQUEST, [1, 0, 0], accepted(0), &[])]);
     works.lane.fail_after(1);
     assert_eq!(rt; works.lane(&rt, 3), tally(3, [0, 1, 1]));
     assert!(rt; works.lane.sent(HOME, &FORWARDED));
@@ -116,9 +117,9 @@ fn a_failed_receive_ends_nothing(rt: HostRuntime) -> Result<(), Fail> {
     works.front.fail_after(0);
     works.lane.fail_after(0);
     let turns = [
-        front(&REQUEST, [0, 0, 1], Some(Note::ReceiveFault), &[]),
-        lane(&[], [0, 0, 1], Some(Note::ReceiveFault), &[]),
-        front(&[], [1, 0, 0], Some(Note::Accepted(0, 0)), &[]),
+        front(&REQUEST, [0, 0, 1], note(Note::ReceiveFault), &[]),
+        lane(&[], [0, 0, 1], note(Note::ReceiveFault), &[]),
+        front(&[], [1, 0, 0], accepted(0), &[]).receives(&REQUEST),
         lane(&[], [0, 1, 0], None, &FORWARDED),
     ];
     works.play(&rt, &turns);
@@ -132,8 +133,8 @@ fn a_response_that_is_lost_is_given_again(rt: HostRuntime) -> Result<(), Fail> {
     forward(&rt, &mut works);
     works.front.fail_after(1);
     let turns = [
-        lane(&REPLY, [1, 0, 0], Some(Note::Answered(0, 0)), &[]),
-        front(&[], [0, 0, 1], Some(Note::Took(0, 0)), &RESPONSE),
+        lane(&REPLY, [1, 0, 0], answered(0), &[]),
+        front(&[], [0, 0, 1], note(Note::Took(0, 0)), &RESPONSE),
         front(&[], [0, 0, 0], None, &[]),
         front(&REQUEST, [1, 1, 0], None, &RESPONSE),
     ];

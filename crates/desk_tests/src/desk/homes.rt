@@ -2,10 +2,12 @@
 
 ghost use Rattle.std.specs.Prelude.{◌<◌};
 
-use super::memory::{MemoryWire, TestGate};
+use super::memory::MemoryWire;
 use super::octets::{FORWARDED, OTHER_FORWARDED, OTHER_REQUEST, REQUEST};
 use super::test_desk::{ONE_TRY, OTHER_HOME};
+use super::test_gate::{Telling, TestGate};
 use super::test_proxy::TestProxy;
+use super::works::note;
 use rad_desk::{Note, Proxy, lane_worker};
 use rad_lane::Taken;
 use rad_realms::{Config, Endpoint, Home};
@@ -39,11 +41,11 @@ fn three_turns(
     home: &Home,
     to: Endpoint,
     octets: &[u8],
-) -> (u64, Option<Note>, bool)
+) -> (u64, Option<Telling>, bool)
     requires { lane < proxy.now }
 {
     let mut wire = MemoryWire::new(alloc);
-    let gate = TestGate::new();
+    let gate = TestGate::new(alloc);
     let tally = lane_worker(rt, alloc, proxy, lane, home, &mut wire, &gate, 3);
     (tally.sent, gate.told(), wire.sent(to, octets))
 }
@@ -71,7 +73,7 @@ fn send_both<R: Wait + Abort>(
     }
     let to = local(1, 2813);
     let did = three_turns(rt, alloc, proxy, 0, first, to, &FORWARDED);
-    assert_eq!(rt; did, (1, Some(Note::WentDown), true));
+    assert_eq!(rt; did, (1, note(Note::WentDown), true));
     let to = local(2, 2814);
     let did = three_turns(rt, alloc, proxy, 1, second, to, &OTHER_FORWARDED);
     assert_eq!(rt; did, (2, None, true));

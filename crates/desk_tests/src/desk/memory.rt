@@ -1,14 +1,13 @@
-//! A wire and a gate in memory, for workers that take their turns in a test.
+//! A wire in memory, for workers that take their turns in a test.
 
 ghost use Rattle.std.specs.Prelude.{◌≡◌, [], ◌∷◌, ◌++◌};
 ghost use Rattle.rad_desk.specs.Traffic.{Passage, went, Receives};
 
 use super::test_desk::{RANDOM, at};
-use rad_desk::{Call, Delivery, Gate, Go, Note, Received, Traffic, Wire, Worker};
+use rad_desk::{Delivery, Received, Traffic, Wire};
 use rad_realms::Endpoint;
 use rad_tables::Moment;
 use std::alloc::Global;
-use std::cell::Cell;
 
 /// A wire that gives one datagram at most, and keeps what was sent last. One receive or send of it fails, where that is
 /// asked for; what was to be received then comes with the next receive.
@@ -136,53 +135,5 @@ impl Wire for MemoryWire {
         } else {
             Delivery::Sent
         }
-    }
-}
-
-/// A gate that keeps what it was told last and counts the cuts, and stops a worker before one call.
-#[derive(Drop)]
-pub struct TestGate {
-    told: Cell<Option<Note>>,
-    turns: Cell<u64>,
-    pub stops: Option<Call>,
-}
-
-impl TestGate {
-    pub fn new() -> TestGate {
-        TestGate {
-            told: Cell::new(None),
-            turns: Cell::new(0),
-            stops: None,
-        }
-    }
-
-    /// What it was told last. That is forgotten then.
-    pub fn told(&self) -> Option<Note> {
-        self.told.replace(None)
-    }
-
-    /// How many times a lane was to cut off what is over.
-    pub fn turns(&self) -> u64 {
-        self.turns.get()
-    }
-}
-
-impl Gate for TestGate {
-    fn before(&self, _worker: Worker, call: Call) -> Go {
-        if self.stops == Some(call) {
-            Go::Stop
-        } else {
-            Go::On
-        }
-    }
-
-    fn after(&self, _worker: Worker, call: Call) {
-        if call == Call::Turn {
-            self.turns.set(self.turns.get().saturating_add(1));
-        }
-    }
-
-    fn note(&self, _worker: Worker, note: Note) {
-        self.told.set(Some(note));
     }
 }

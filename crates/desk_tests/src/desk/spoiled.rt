@@ -2,9 +2,10 @@
 
 use super::octets::{REPLY, REQUEST, SECOND_REQUEST};
 use super::packets::{reply_to, request};
+use super::test_gate::Telling;
 use super::workers::forward;
-use super::works::{CLIENT, HOME, Works, counts, lane};
-use rad_desk::{DeskFault, Note};
+use super::works::{CLIENT, HOME, Works, answered, counts, lane, note_of};
+use rad_desk::{DeskFault, Note, Worker};
 use rad_lane::HearFault::{self, BadAuthenticator, Unknown, Unread};
 use rad_packet::{Datagram, ReadFault};
 use rad_realms::Dropped;
@@ -16,12 +17,15 @@ use std::test::Fail;
 fn drop_for<R: Wait + Abort>(rt: &R, works: &mut Works, octets: &[u8], reason: Dropped) {
     works.front.comes(CLIENT, octets);
     let _ = works.front(rt, 1);
-    assert_eq!(rt; works.gate.told(), Some(Note::Dropped(CLIENT, reason)));
+    let dropped = note_of(CLIENT, Note::Dropped(reason));
+    assert_eq!(rt; works.gate.told(), dropped);
+    let octets = octets.get(..4096).unwrap_or(octets);
+    assert!(rt; works.gate.has_received(Worker::Front, CLIENT, octets));
 }
 
 /// The datagram of a lane was dropped for this reason.
-fn unheard(fault: HearFault) -> Option<Note> {
-    Some(Note::Unheard(DeskFault::Lane(fault)))
+fn unheard(fault: HearFault) -> Option<Telling> {
+    note_of(HOME, Note::Unheard(DeskFault::Lane(fault)))
 }
 
 /// Why the first octets of a request are dropped.
@@ -99,7 +103,7 @@ fn spoiled_replies_leave_the_sending(rt: HostRuntime) -> Result<(), Fail> {
     works.play(&rt, &[lane(&REPLY[..41], [1, 0, 0], short, &[])]);
     assert_eq!(rt; works.counts(&rt), counts(1, 0, 1, 0));
     let turns = [
-        lane(&REPLY, [1, 0, 0], Some(Note::Answered(0, 0)), &[]),
+        lane(&REPLY, [1, 0, 0], answered(0), &[]),
         lane(&REPLY, [1, 0, 0], unheard(Unknown), &[]),
     ];
     works.play(&rt, &turns);
@@ -113,7 +117,11 @@ fn send(rt: &impl Wait, works: &mut Works, count: u16) -> Option<Datagram> {
     works.front.comes(CLIENT, request(count)?.bytes());
     let _ = works.front(rt, 1);
     let _ = works.lane(rt, 1);
-    reply_to(works.lane.take_sent()?.as_slice())
+    let sent = works.lane.take_sent()?;
+    if !works.gate.has_sent(Worker::Lane(0), HOME, sent.as_slice()) {
+        return None;
+    }
+    reply_to(sent.as_slice())
 }
 
 /// Has the requests of these counts answered, each before the next, and gives the reply to the first.
@@ -147,9 +155,8 @@ fn a_late_reply_leaves_another_sending(rt: HostRuntime) -> Result<(), Fail> {
 /// Has the lane hear the reply to number 0 while number 256 is outstanding, and then the reply to that.
 fn compare_late<R: Wait + Abort>(rt: &R, works: &mut Works, late: &[u8], reply: &[u8]) {
     assert_eq!(rt; works.counts(rt), counts(257, 0, 1, 256));
-    let answered = Some(Note::Answered(0, 256));
     works.play(rt, &[lane(late, [1, 0, 0], unheard(BadAuthenticator), &[])]);
     assert_eq!(rt; works.counts(rt), counts(257, 0, 1, 256));
-    works.play(rt, &[lane(reply, [1, 0, 0], answered, &[])]);
+    works.play(rt, &[lane(reply, [1, 0, 0], answered(256), &[])]);
     assert_eq!(rt; works.counts(rt), counts(257, 0, 0, 257));
 }

@@ -4,7 +4,7 @@ use super::octets::{
     FORWARDED, PROBE, PROBE_ANSWER, REPLY, REQUEST, RESPONSE, SECOND_FORWARDED, SECOND_REQUEST,
     STATUS, STATUS_ANSWER,
 };
-use super::works::{HOME, Works, front, lane, play, tally};
+use super::works::{HOME, Works, accepted, answered, front, lane, note, note_of, play, tally};
 use rad_desk::{Call, Note};
 use rad_realms::{Dropped, Endpoint};
 use std::alloc::Global;
@@ -15,10 +15,10 @@ use std::test::Fail;
 #[test]
 fn each_worker_does_its_part(rt: HostRuntime) -> Result<(), Fail> {
     let turns = [
-        front(&REQUEST, [1, 0, 0], Some(Note::Accepted(0, 0)), &[]),
+        front(&REQUEST, [1, 0, 0], accepted(0), &[]),
         lane(&[], [0, 1, 0], None, &FORWARDED),
-        lane(&REPLY, [1, 0, 0], Some(Note::Answered(0, 0)), &[]),
-        front(&[], [0, 1, 0], Some(Note::Took(0, 0)), &RESPONSE),
+        lane(&REPLY, [1, 0, 0], answered(0), &[]),
+        front(&[], [0, 1, 0], note(Note::Took(0, 0)), &RESPONSE),
         front(&REQUEST, [1, 1, 0], None, &RESPONSE),
         lane(&[], [0, 0, 0], None, &[]),
     ];
@@ -37,9 +37,9 @@ fn a_reply_from_elsewhere_is_dropped(rt: HostRuntime) -> Result<(), Fail> {
 fn drop_from<R: Wait + Abort>(rt: &R, alloc: Global, elsewhere: Endpoint) -> Result<(), Fail> {
     let mut works = Works::new(alloc, "")?;
     forward(rt, &mut works);
-    works.lane.comes(elsewhere, &REPLY);
+    let dropped = note_of(elsewhere, Note::NotHome);
     let turns = [
-        lane(&[], [1, 0, 0], Some(Note::NotHome(elsewhere)), &[]),
+        lane(&REPLY, [1, 0, 0], dropped, &[]).from(elsewhere),
         front(&[], [0, 0, 0], None, &[]),
     ];
     works.play(rt, &turns);
@@ -50,7 +50,7 @@ fn drop_from<R: Wait + Abort>(rt: &R, alloc: Global, elsewhere: Endpoint) -> Res
 /// A turn of each worker, after which the request is with its home server.
 pub fn forward<R: Wait + Abort>(rt: &R, works: &mut Works) {
     let turns = [
-        front(&REQUEST, [1, 0, 0], Some(Note::Accepted(0, 0)), &[]),
+        front(&REQUEST, [1, 0, 0], accepted(0), &[]),
         lane(&[], [0, 1, 0], None, &FORWARDED),
     ];
     works.play(rt, &turns);
@@ -60,9 +60,8 @@ pub fn forward<R: Wait + Abort>(rt: &R, works: &mut Works) {
 fn the_front_answers_and_drops(rt: HostRuntime) -> Result<(), Fail> {
     let mut works = Works::new(rt.alloc(), "")?;
     works.play(&rt, &[front(&STATUS, [1, 1, 0], None, &STATUS_ANSWER)]);
-    works.front.comes(HOME, &STATUS);
-    let dropped = Note::Dropped(HOME, Dropped::UnknownClient);
-    works.play(&rt, &[front(&[], [1, 0, 0], Some(dropped), &[])]);
+    let dropped = note_of(HOME, Note::Dropped(Dropped::UnknownClient));
+    works.play(&rt, &[front(&STATUS, [1, 0, 0], dropped, &[]).from(HOME)]);
     works.end();
     Ok(())
 }
@@ -73,8 +72,7 @@ fn a_gate_stops_each_worker(rt: HostRuntime) -> Result<(), Fail> {
     works.gate.stops = Some(Call::Take);
     assert_eq!(rt; works.front(&rt, 9), tally(1, [0, 0, 0]));
     works.gate.stops = Some(Call::Step);
-    let accepted = Some(Note::Accepted(0, 0));
-    works.play(&rt, &[front(&REQUEST, [1, 0, 0], accepted, &[])]);
+    works.play(&rt, &[front(&REQUEST, [1, 0, 0], accepted(0), &[])]);
     assert_eq!(rt; works.lane(&rt, 9), tally(1, [0, 0, 0]));
     assert!(rt; works.lane.sent(HOME, &[]));
     works.end();
@@ -83,15 +81,14 @@ fn a_gate_stops_each_worker(rt: HostRuntime) -> Result<(), Fail> {
 
 #[test]
 fn a_probes_answer_takes_a_lane_up(rt: HostRuntime) -> Result<(), Fail> {
-    let second = Some(Note::Accepted(0, 1));
     let turns = [
-        front(&REQUEST, [1, 0, 0], Some(Note::Accepted(0, 0)), &[]),
+        front(&REQUEST, [1, 0, 0], accepted(0), &[]),
         lane(&[], [0, 1, 0], None, &FORWARDED),
-        front(&SECOND_REQUEST, [1, 0, 0], second, &[]),
+        front(&SECOND_REQUEST, [1, 0, 0], accepted(1), &[]),
         lane(&[], [0, 1, 0], None, &SECOND_FORWARDED),
-        lane(&[], [0, 0, 0], Some(Note::WentDown), &[]),
+        lane(&[], [0, 0, 0], note(Note::WentDown), &[]),
         lane(&[], [0, 1, 0], None, &PROBE),
-        lane(&PROBE_ANSWER, [1, 1, 0], Some(Note::WentUp), &FORWARDED),
+        lane(&PROBE_ANSWER, [1, 1, 0], note(Note::WentUp), &FORWARDED),
     ];
     play(&rt, rt.alloc(), "tries = 1\n", &turns)
 }
@@ -99,10 +96,10 @@ fn a_probes_answer_takes_a_lane_up(rt: HostRuntime) -> Result<(), Fail> {
 #[test]
 fn a_half_full_book_is_cut(rt: HostRuntime) -> Result<(), Fail> {
     let turns = [
-        front(&REQUEST, [1, 0, 0], Some(Note::Accepted(0, 0)), &[]),
+        front(&REQUEST, [1, 0, 0], accepted(0), &[]),
         lane(&[], [0, 1, 0], None, &FORWARDED),
         lane(&[], [0, 0, 0], None, &[]),
-        lane(&REPLY, [1, 0, 0], Some(Note::Cut(1)), &[]),
+        lane(&REPLY, [1, 0, 0], note(Note::Cut(1)), &[]),
     ];
     play(&rt, rt.alloc(), "book = 2\nspan = 0\n", &turns)
 }
@@ -130,7 +127,7 @@ fn turns_in_31_milliseconds<R: Wait + Abort>(
     works.play(
         rt,
         &[
-            front(&REQUEST, [1, 0, 0], Some(Note::Accepted(0, 0)), &[]),
+            front(&REQUEST, [1, 0, 0], accepted(0), &[]),
             lane(&[], [0, 1, 0], None, &FORWARDED),
         ],
     );

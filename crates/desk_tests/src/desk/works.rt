@@ -1,7 +1,8 @@
 //! The workers of a home server over wires in memory, and the turns that they take in a test.
 
-use super::memory::{MemoryWire, TestGate};
+use super::memory::MemoryWire;
 use super::test_desk::{CLIENT_PORT, config};
+use super::test_gate::{Telling, TestGate};
 use rad_desk::{Inlet, Note, Proxy, Tally, Worker, front_worker, lane_worker, open};
 use rad_lane::Counts;
 use rad_realms::{Config, Endpoint};
@@ -24,36 +25,89 @@ pub const HOME: Endpoint = Endpoint {
 #[derive(Clone, Copy)]
 pub struct Turn<'a> {
     worker: Worker,
-    /// What comes to it from its peer. Where that is empty, nothing comes but what was to come before.
+    /// From where something comes.
+    from: Endpoint,
+    /// What comes. Where that is empty, nothing comes but what was to come before.
     comes: &'a [u8],
+    /// What it receives, where a receive does not fail.
+    receives: &'a [u8],
     /// How many datagrams come and are handed over, and how many receives and sends fail.
     did: [u64; 3],
     /// What it tells last.
-    tells: Option<Note>,
+    tells: Option<Telling>,
     /// What it sends last, which goes to its peer. Where that is empty, it sends nothing.
     sends: &'a [u8],
 }
 
-/// A turn of the front, whose peer is the client.
-pub fn front<'a>(comes: &'a [u8], did: [u64; 3], tells: Option<Note>, sends: &'a [u8]) -> Turn<'a> {
+impl<'a> Turn<'a> {
+    /// The same turn, in which it receives this, which was to come before.
+    pub fn receives(self, octets: &'a [u8]) -> Turn<'a> {
+        Turn {
+            receives: octets,
+            ..self
+        }
+    }
+
+    /// The same turn, where what comes is from there.
+    pub fn from(self, from: Endpoint) -> Turn<'a> {
+        Turn { from, ..self }
+    }
+}
+
+/// A turn of the front, whose peer is the client. What comes is from there.
+pub fn front<'a>(
+    comes: &'a [u8],
+    did: [u64; 3],
+    tells: Option<Telling>,
+    sends: &'a [u8],
+) -> Turn<'a> {
     Turn {
         worker: Worker::Front,
+        from: CLIENT,
         comes,
+        receives: comes,
         did,
         tells,
         sends,
     }
 }
 
-/// A turn of the lane, whose peer is the home server.
-pub fn lane<'a>(comes: &'a [u8], did: [u64; 3], tells: Option<Note>, sends: &'a [u8]) -> Turn<'a> {
+/// A turn of the lane, whose peer is the home server. What comes is from there.
+pub fn lane<'a>(
+    comes: &'a [u8],
+    did: [u64; 3],
+    tells: Option<Telling>,
+    sends: &'a [u8],
+) -> Turn<'a> {
     Turn {
         worker: Worker::Lane(0),
+        from: HOME,
         comes,
+        receives: comes,
         did,
         tells,
         sends,
     }
+}
+
+/// It tells that the first lane took a request as this number.
+pub fn accepted(number: u64) -> Option<Telling> {
+    Some(Telling::Accepted(0, number))
+}
+
+/// It tells that the response of this serial went into the first lane's ring.
+pub fn answered(serial: u64) -> Option<Telling> {
+    Some(Telling::Answered(0, serial))
+}
+
+/// It tells a note that is of no datagram.
+pub fn note(note: Note) -> Option<Telling> {
+    Some(Telling::Note(note))
+}
+
+/// It tells a note of the datagram that came from there last, or was sent there last.
+pub fn note_of(peer: Endpoint, note: Note) -> Option<Telling> {
+    Some(Telling::Of(peer, note))
 }
 
 /// What a worker did: its turns, what came, what was handed over and what failed.
@@ -103,7 +157,7 @@ impl Works {
             inlets,
             front: MemoryWire::new(alloc),
             lane: MemoryWire::new(alloc),
-            gate: TestGate::new(),
+            gate: TestGate::new(alloc),
         })
     }
 
@@ -146,12 +200,13 @@ impl Works {
         Some(self.proxy.counts(rt, 0))
     }
 
-    /// Has the workers take these turns, and compares what each does, tells and sends.
+    /// Has the workers take these turns, and compares what each does, tells and sends, and of which datagrams it tells.
     pub fn play<R: Wait + Abort>(&mut self, rt: &R, turns: &[Turn<'_>]) {
         for (place, turn) in turns.iter().enumerate() {
             let did = self.take(rt, turn);
             assert_eq!(rt; did, tally(1, turn.did), "turn {place}");
             assert_eq!(rt; self.gate.told(), turn.tells, "turn {place}");
+            assert!(rt; self.has_received(turn), "turn {place}");
             assert!(rt; self.has_sent(turn), "turn {place}");
         }
     }
@@ -161,25 +216,32 @@ impl Works {
         match turn.worker {
             Worker::Front => {
                 if !turn.comes.is_empty() {
-                    self.front.comes(CLIENT, turn.comes);
+                    self.front.comes(turn.from, turn.comes);
                 }
                 self.front(rt, 1)
             }
             Worker::Lane(_) => {
                 if !turn.comes.is_empty() {
-                    self.lane.comes(HOME, turn.comes);
+                    self.lane.comes(turn.from, turn.comes);
                 }
                 self.lane(rt, 1)
             }
         }
     }
 
-    /// Whether a turn has sent what it is to send.
+    /// Whether the gate was told of what a turn has received.
+    fn has_received(&self, turn: &Turn<'_>) -> bool {
+        let octets = if turn.did[0] == 0 { &[] } else { turn.receives };
+        self.gate.has_received(turn.worker, turn.from, octets)
+    }
+
+    /// Whether a turn has sent what it is to send, and told the gate of it.
     fn has_sent(&mut self, turn: &Turn<'_>) -> bool {
-        match turn.worker {
-            Worker::Front => self.front.sent(CLIENT, turn.sends),
-            Worker::Lane(_) => self.lane.sent(HOME, turn.sends),
-        }
+        let (peer, wire) = match turn.worker {
+            Worker::Front => (CLIENT, &mut self.front),
+            Worker::Lane(_) => (HOME, &mut self.lane),
+        };
+        wire.sent(peer, turn.sends) && self.gate.has_sent(turn.worker, peer, turn.sends)
     }
 
     /// Lets it go, so that no test has to show that it may.

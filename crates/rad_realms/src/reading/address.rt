@@ -1,4 +1,4 @@
-//! IPv4 addresses and UDP ports, and how they are read from text.
+//! IPv4 addresses and UDP ports, how they are read from text, and how they are printed.
 
 ghost use Rattle.std.specs.Prelude.{◌≡◌, ◌<◌, ◌≤◌, ◌^◌, true, option_map, MatchOption};
 ghost use Rattle.std.specs.List.{list_all};
@@ -6,13 +6,44 @@ ghost use Rattle.std.specs.Char.{is_ascii_digit};
 ghost use Rattle.std.specs.Str.Parse.{digits_value};
 ghost use Rattle.rad_realms.specs.Address.{is_number, number_in, around_first, address_in, endpoint_in};
 
-/// An IPv4 address and a UDP port.
+use std::fmt;
+
+/// An IPv4 address and a UDP port. It is printed as the address in dotted decimal, a colon, and the port.
 #[derive(Clone, Copy, Debug, PartialEq, Eq)]
 pub struct Endpoint {
     /// The address, its four octets in the order in which they are written.
     pub address: [u8; 4],
     /// The port.
     pub port: u16,
+}
+
+/// An IPv4 address, its four octets in the order in which they are written. It is printed in dotted decimal.
+#[derive(Clone, Copy, Debug, PartialEq, Eq)]
+pub struct AddressText(pub [u8; 4]);
+
+impl fmt::Display for AddressText {
+    ghost use Rattle.std.specs.Prelude.{Some};
+    ghost use Rattle.rad_realms.specs.Printed.{address_text};
+
+    ghost output = { λ address. Some (address_text address.0) };
+
+    fn fmt<W: fmt::Write>(&self, f: &mut fmt::Formatter<W>) -> fmt::Result {
+        let [a, b, c, d] = self.0;
+        write!(f, "{a}.{b}.{c}.{d}")
+    }
+}
+
+impl fmt::Display for Endpoint {
+    ghost use Rattle.std.specs.Prelude.{Some};
+    ghost use Rattle.rad_realms.specs.Printed.{endpoint_text};
+
+    ghost output = { λ endpoint. Some (endpoint_text endpoint) };
+
+    fn fmt<W: fmt::Write>(&self, f: &mut fmt::Formatter<W>) -> fmt::Result {
+        let address = AddressText(self.address);
+        let port = self.port;
+        write!(f, "{address}:{port}")
+    }
 }
 
 /// Reads an IPv4 address from its text: four decimal numbers from 0 to 255, with no leading zeros, joined by
