@@ -6,7 +6,6 @@ mod accepting;
 mod cutting;
 mod hearing;
 mod leaving;
-mod octets;
 mod ports;
 mod requests;
 mod running;

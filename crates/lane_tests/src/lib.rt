@@ -1,5 +1,5 @@
-//! Tests over the public calls of the crates below, apart from these so that no proof of theirs is made again for
-//! a test. It has no other code.
+//! Tests over the public calls of `rad_lane`, apart from it so that no proof of its own is made again for a test. It has
+//! no other code.
 #![tactic(auto)]
 
 #[cfg(test)]

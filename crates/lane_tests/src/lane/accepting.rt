@@ -1,6 +1,5 @@
 //! Requests that are taken, and those that are not.
 
-use super::octets::{EIGHTH, SEVENTH};
 use super::requests::request_of_length;
 use super::script::Call::{Accept, Counts as Count, Drain, IsDone, IsDraining};
 use super::script::Gives::{self, Counts as Counted, Drain as Drained, Is};
@@ -8,6 +7,7 @@ use super::script::{at, play, refused, stamp, taken};
 use super::test_lane::TestLane;
 use rad_lane::{Counts, Refusal, Taken};
 use std::test::Fail;
+use test_octets::nas::{EIGHTH, SEVENTH};
 
 /// The counts of a lane that accepted so many and sent none.
 fn unsent(accepted: usize, draining: bool) -> Gives {

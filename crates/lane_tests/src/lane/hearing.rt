@@ -1,6 +1,5 @@
 //! What is heard from the home server, and what is not.
 
-use super::octets::*;
 use super::requests::{reply_to, request};
 use super::script::Call::{Accept, Counts as Count, Hear, Step};
 use super::script::Gives::{self, Counts as Counted};
@@ -13,6 +12,12 @@ use rad_lane::{Action, Counts, Taken};
 use rad_packet::ReadFault;
 use std::process::Abort;
 use std::test::Fail;
+use test_octets::homes::{
+    FORWARDED, MARK_NOT_LAST, PROBE, PROBE_ANSWER, REPLY, REPLY_OF_3, SECOND_PROBE,
+    SECOND_PROBE_ANSWER, SPOILED_PROBE_ANSWER, SPOILED_REPLY, WITH_MESSAGE_AUTHENTICATOR,
+    WITHOUT_PROXY_STATE, WRAPPED_FORWARDED, WRAPPED_REPLY,
+};
+use test_octets::nas::{REQUEST, RESPONSE, WRAPPED, WRAPPED_RESPONSE};
 
 /// The counts of a lane that accepted one request and sent it.
 fn sent_one(answered: u64, up: bool) -> Gives {
@@ -55,7 +60,7 @@ fn what_is_not_heard_changes_nothing(rt: HostRuntime) -> Result<(), Fail> {
         at(1800, Hear(0, &FORWARDED), unheard(WrongCode)),
         at(1800, Hear(0, &REPLY_OF_3), unheard(Unknown)),
         at(1800, Hear(1, &REPLY), unheard(Unknown)),
-        at(1800, Hear(0, &SPOILED), unheard(BadAuthenticator)),
+        at(1800, Hear(0, &SPOILED_REPLY), unheard(BadAuthenticator)),
         at(
             1800,
             Hear(0, &WITH_MESSAGE_AUTHENTICATOR),
@@ -78,7 +83,7 @@ fn answers_are_kept(rt: HostRuntime) -> Result<(), Fail> {
         &[
             at(100, Accept(&REQUEST), taken(0)),
             puts(1000, Step, sent(0), &FORWARDED),
-            at(1800, Hear(0, &SPOILED), unheard(BadAuthenticator)),
+            at(1800, Hear(0, &SPOILED_REPLY), unheard(BadAuthenticator)),
             puts(1700, Hear(0, &REPLY), answer(0), &RESPONSE),
         ],
     );

@@ -1,6 +1,5 @@
 //! What a closed lane leaves, and whether two left the same.
 
-use super::octets::SECOND_PROBE;
 use super::requests::reply_to;
 use super::script::Call::{Hear, Step};
 use super::script::Gives::Step as Did;
@@ -11,6 +10,7 @@ use block_queue::{BlockQueue, Fifo};
 use rad_lane::{Action, Answered, Entry, Leftover, Record};
 use std::process::Abort;
 use std::test::Fail;
+use test_octets::homes::SECOND_PROBE;
 
 /// Whether two lanes left the same: the stamps, the answers with their octets, under each pair of four
 /// source ports what is outstanding, with its octets, its due and how often it was sent, and the queue.

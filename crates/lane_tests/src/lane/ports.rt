@@ -1,6 +1,5 @@
 //! A lane of several source ports.
 
-use super::octets::{FORWARDED, PROBE, PROBE_ANSWER, REPLY, REQUEST, RESPONSE};
 use super::requests::{reply_to, request};
 use super::running::{checked, did};
 use super::script::Call::{Accept, Hear, Step};
@@ -14,6 +13,8 @@ use rad_packet::Datagram;
 use std::alloc::Global;
 use std::process::Abort;
 use std::test::Fail;
+use test_octets::homes::{FORWARDED, PROBE, PROBE_ANSWER, REPLY};
+use test_octets::nas::{REQUEST, RESPONSE};
 
 /// The first sending of the request of this number, under the pair of this place.
 fn sent_under(number: u16, place: u16) -> Action {

@@ -1,6 +1,5 @@
 //! Runs of events.
 
-use super::octets::{FORWARDED, REPLY, REQUEST, RESPONSE};
 use super::script::{moment, slot};
 use super::test_lane::{CLIENT, CLIENT_PORT, RANDOM, TestLane};
 use rad_lane::{Action, Event, Given, GivenAnswer, Heard, Taken, run};
@@ -8,6 +7,8 @@ use rad_packet::Datagram;
 use rad_realms::{Checked, Config, Incoming, check_in};
 use std::process::Abort;
 use std::test::Fail;
+use test_octets::homes::{FORWARDED, REPLY};
+use test_octets::nas::{REQUEST, RESPONSE};
 
 impl TestLane {
     /// Runs no event.

@@ -1,6 +1,5 @@
 //! How what waits in the queue is sent.
 
-use super::octets::{EIGHTH, FORWARDED, REQUEST};
 use super::requests::request;
 use super::script::Call::{Accept, Step};
 use super::script::Gives::{self, Step as Did};
@@ -9,6 +8,8 @@ use super::test_lane::TestLane;
 use rad_lane::{Action, Refusal};
 use std::process::Abort;
 use std::test::Fail;
+use test_octets::homes::FORWARDED;
+use test_octets::nas::{EIGHTH, REQUEST};
 
 /// Has requests accepted, one for each of these numbers.
 pub fn accept_each(rt: &impl Abort, lane: &mut TestLane, first: u16, end: u16) -> Result<(), Fail> {
