@@ -75,7 +75,8 @@ FROM_NAS = attribute(PROXY_STATE, b"abc")
 A_CLASS = attribute(CLASS, b"CLS")
 
 
-def of_rad_auth():
+def of_auth_tests():
+    """Packets under secrets of their own, with a mark that has no octet twice."""
     client, home, its_mark = b"client secret", b"the secret of the home", mark(0x1234, 0x0123456789ABCDEF)
     asked = request(0x77, SESSION + FROM_NAS, client)
     forwarded = request(0xA5, SESSION + FROM_NAS + its_mark, home)
@@ -96,25 +97,24 @@ def of_rad_auth():
     }
 
 
-def of_rad_realms():
+def of_nas():
+    """What a NAS sends that is not as it should be, or leads nowhere."""
     secret, octets = b"nas-secret", bytes([0xA5] * 16)
-    asked = request(7, SESSION, secret)
     return {
-        "REQUEST": asked,
-        "SPOILED": turned(asked, 19),
+        "SPOILED_REQUEST": turned(request(7, SESSION, secret), 19),
         "LOUD": request(2, user_name(b"a@b@EXAMPLE.ORG"), secret),
         "EMPTY_REALM": request(3, user_name(b"bob@"), secret),
         "BARE": request(1, user_name(b"bob"), secret),
         "NAMELESS": request(4, b"", secret),
         "UNLISTED": request(5, user_name(b"a@b."), secret),
         "SIGNED": request(8, SESSION + attribute(MESSAGE_AUTHENTICATOR, ZEROS), secret),
-        "STATUS": status(9, octets, b"", b"", secret),
         "TWICE": status(9, octets, b"", attribute(MESSAGE_AUTHENTICATOR, ZEROS), secret),
-        "RESPONSE": signed(ACCOUNTING_RESPONSE, 1, ZEROS, b"", secret),
+        "UNASKED": signed(ACCOUNTING_RESPONSE, 1, ZEROS, b"", secret),
     }
 
 
 def of_lanes():
+    """What goes to and fro between a NAS, one lane and its home server."""
     client, home, octets = b"nas-secret", b"home-secret", bytes([0xA5] * 16)
     asked = request(7, SESSION + FROM_NAS, client)
     forwarded = request(0, SESSION + FROM_NAS + mark(0, 0), home)
@@ -131,7 +131,7 @@ def of_lanes():
         "FORWARDED": forwarded,
         "REPLY": reply,
         "RESPONSE": answer(asked, 7, FROM_NAS + A_CLASS, client),
-        "SPOILED": turned(reply, 19),
+        "SPOILED_REPLY": turned(reply, 19),
         "REPLY_OF_3": answer(forwarded, 3, FROM_NAS + mark(0, 0) + A_CLASS, home),
         "WITH_MESSAGE_AUTHENTICATOR": answer(forwarded, 0, empty + mark(0, 0), home),
         "WITHOUT_PROXY_STATE": answer(forwarded, 0, A_CLASS, home),
@@ -176,8 +176,8 @@ def sums_of_lanes():
 
 
 def of_desks():
+    """What else goes to and fro where there are two lanes."""
     client, home = b"nas-secret", b"home-secret"
-    lanes = of_lanes()
     second = BOB + attribute(ACCT_STATUS_TYPE, bytes([0, 0, 0, 2])) + attribute(ACCT_SESSION_ID, b"S1")
     asked = request(8, second, client)
     forwarded = request(1, second + mark(0, 1), home)
@@ -185,13 +185,10 @@ def of_desks():
     other_asked, other_home = request(9, other, client), b"other-secret"
     other_forwarded = request(0, other + mark(1, 0), other_home)
     return {
-        **{name: lanes[name] for name in ["REQUEST", "FORWARDED", "REPLY", "RESPONSE"]},
         "SECOND_REQUEST": asked,
         "SECOND_FORWARDED": forwarded,
         "SECOND_REPLY": answer(forwarded, 1, mark(0, 1), home),
         "SECOND_RESPONSE": answer(asked, 8, b"", client),
-        "PROBE": lanes["SECOND_PROBE"],
-        "PROBE_ANSWER": lanes["SECOND_PROBE_ANSWER"],
         "OTHER_REQUEST": other_asked,
         "OTHER_FORWARDED": other_forwarded,
         "OTHER_REPLY": answer(other_forwarded, 0, mark(1, 0), other_home),
@@ -215,10 +212,9 @@ def of_rad_proxy():
 
 
 MADE = {
-    "rad_auth": of_rad_auth(),
-    "rad_realms": of_rad_realms(),
-    "rad_tests": {**of_lanes(), **sums_of_lanes()},
-    "desk_tests": of_desks(),
+    "auth_tests": of_auth_tests(),
+    "test_octets": {**of_nas(), **of_lanes(), **of_desks()},
+    "lane_tests": sums_of_lanes(),
     "rad_proxy": of_rad_proxy(),
 }
 
@@ -240,7 +236,7 @@ def standing():
     found = []
     for file in sorted(TOP.glob("crates/*/src/**/*.rt")):
         path = file.relative_to(TOP)
-        if "tests" in str(path):
+        if "test" in str(path):
             text = file.read_text(encoding="utf-8")
             values = [(name, bytes.fromhex("".join(re.findall(r"0x(..)", array)))) for name, array in ARRAY.findall(text)]
             values += [(name, int(value, 16)) for name, value in SUM.findall(text)]

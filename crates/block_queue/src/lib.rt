@@ -17,8 +17,6 @@ mod linking;
 mod nodes;
 mod plain_queue;
 mod region;
-#[cfg(test)]
-mod tests;
 
 pub use block_queue::BlockQueue;
 pub use fifo::Fifo;

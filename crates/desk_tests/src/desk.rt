@@ -8,8 +8,6 @@ mod closing;
 mod failing;
 mod homes;
 mod memory;
-mod octets;
-mod packets;
 mod rings;
 mod spoiled;
 mod test_desk;

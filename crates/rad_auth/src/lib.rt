@@ -21,8 +21,6 @@ mod reply;
 mod responding;
 mod secret;
 mod status;
-#[cfg(test)]
-mod tests;
 
 pub use authenticators::{
     check_request, check_response, request_authenticator, response_authenticator, sign,

@@ -28,6 +28,3 @@ pub const HEADER_LENGTH: usize = 20;
 
 /// The greatest Length that is read and written (RFC 2865 section 3).
 pub const GREATEST_LENGTH: usize = 4096;
-
-#[cfg(test)]
-mod tests;

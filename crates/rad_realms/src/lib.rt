@@ -27,6 +27,3 @@ pub use laws::{
 pub use limits::{DEFAULT_LIMITS, LimitFault, LimitNumbers, Limits};
 pub use reading::{AddressText, ConfigFault, Endpoint, Key, Part, Spot, read_address, read_config};
 pub use realms::Realm;
-
-#[cfg(test)]
-mod tests;

@@ -18,8 +18,6 @@ mod changing;
 mod duplicates;
 mod moment;
 mod slots;
-#[cfg(test)]
-mod tests;
 mod timed;
 
 pub use changing::Change;

@@ -1,6 +1,5 @@
 //! Calls that are made again where memory was refused: nothing had changed, and they answer as ever.
 
-use super::octets::{REPLY, REQUEST, RESPONSE};
 use super::test_desk::slot;
 use super::test_proxy::TestProxy;
 use super::works::counts;
@@ -10,6 +9,8 @@ use std::alloc::Global;
 use std::process::Abort;
 use std::sync::Wait;
 use std::test::Fail;
+use test_octets::homes::REPLY;
+use test_octets::nas::{REQUEST, RESPONSE};
 
 /// The answer to the request, which is given once more where memory was refused.
 fn accept<R: Wait + Abort>(rt: &R, proxy: &TestProxy) -> Option<Result<Taken, Refusal>> {

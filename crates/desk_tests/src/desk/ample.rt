@@ -1,6 +1,5 @@
 //! What each call answers where memory is ample and the ring has a place. A body that always refuses meets its contract.
 
-use super::octets::{FORWARDED, REPLY, REQUEST, RESPONSE};
 use super::test_desk::{TestDesk, slot};
 use super::test_proxy::TestProxy;
 use rad_desk::{Report, Rest, Told};
@@ -8,6 +7,8 @@ use rad_lane::{Action, Taken};
 use std::process::Abort;
 use std::sync::Wait;
 use std::test::Fail;
+use test_octets::homes::{FORWARDED, REPLY};
+use test_octets::nas::{REQUEST, RESPONSE};
 
 /// A desk takes a request, sends it, hears its reply, gives the response and cuts the request off.
 fn serve(rt: &impl Abort, desk: &mut TestDesk) {

@@ -1,8 +1,5 @@
 //! The end of a proxy.
 
-use super::octets::{
-    OTHER_REQUEST, REPLY, REQUEST, RESPONSE, SECOND_REPLY, SECOND_REQUEST, SECOND_RESPONSE,
-};
 use super::test_desk::{OTHER_HOME, slot};
 use super::test_proxy::TestProxy;
 use block_queue::Fifo;
@@ -13,6 +10,8 @@ use std::alloc::Global;
 use std::process::Abort;
 use std::sync::Wait;
 use std::test::Fail;
+use test_octets::homes::{REPLY, SECOND_REPLY};
+use test_octets::nas::{OTHER_REQUEST, REQUEST, RESPONSE, SECOND_REQUEST, SECOND_RESPONSE};
 
 /// Two lanes: the first answered two requests, of which the first response was taken; a request waits in the queue
 /// of the second.

@@ -1,6 +1,5 @@
 //! What the workers make of wires of which one receive or send fails.
 
-use super::octets::{FORWARDED, REPLY, REQUEST, RESPONSE};
 use super::workers::forward;
 use super::works::{
     CLIENT, HOME, Works, accepted, answered, counts, front, lane, note, note_of, tally,
@@ -10,6 +9,8 @@ use std::alloc::Global;
 use std::process::Abort;
 use std::sync::Wait;
 use std::test::Fail;
+use test_octets::homes::{FORWARDED, REPLY};
+use test_octets::nas::{REQUEST, RESPONSE};
 
 /// The most turns of a run from a request to its response.
 const TURNS: u32 = 12;

@@ -3,7 +3,6 @@
 ghost use Rattle.std.specs.Prelude.{◌<◌};
 
 use super::memory::MemoryWire;
-use super::octets::{FORWARDED, OTHER_FORWARDED, OTHER_REQUEST, REQUEST};
 use super::test_desk::{ONE_TRY, OTHER_HOME};
 use super::test_gate::{Telling, TestGate};
 use super::test_proxy::TestProxy;
@@ -15,6 +14,8 @@ use std::alloc::Global;
 use std::process::Abort;
 use std::sync::Wait;
 use std::test::Fail;
+use test_octets::homes::{FORWARDED, OTHER_FORWARDED};
+use test_octets::nas::{OTHER_REQUEST, REQUEST};
 
 /// Two home servers. One sending without an answer takes the first to be down, and not the second.
 fn two_homes(alloc: Global) -> Result<TestProxy, Fail> {

@@ -1,13 +1,12 @@
 //! What a desk does where its ring is full.
 
-use super::octets::{
-    PROBE, PROBE_ANSWER, REPLY, REQUEST, RESPONSE, SECOND_REPLY, SECOND_REQUEST, SECOND_RESPONSE,
-};
 use super::test_desk::{TestDesk, slot};
 use rad_desk::{DeskFault, Told};
 use rad_lane::{Action, HearFault, Taken};
 use std::process::Abort;
 use std::test::Fail;
+use test_octets::homes::{REPLY, SECOND_PROBE, SECOND_PROBE_ANSWER, SECOND_REPLY};
+use test_octets::nas::{REQUEST, RESPONSE, SECOND_REQUEST, SECOND_RESPONSE};
 
 #[test]
 fn responses_go_through_the_ring(rt: HostRuntime) -> Result<(), Fail> {
@@ -46,10 +45,16 @@ fn a_full_ring_drops_a_probes_answer(rt: HostRuntime) -> Result<(), Fail> {
     let mut desk = TestDesk::new(rt.alloc())?;
     desk.send_both(&rt);
     probe(&rt, &mut desk);
-    assert_eq!(rt; desk.hear(2100, &PROBE_ANSWER), Err(DeskFault::RingFull));
+    assert_eq!(rt;
+        desk.hear(2100, &SECOND_PROBE_ANSWER),
+        Err(DeskFault::RingFull)
+    );
     assert!(rt; !desk.counts().up);
     desk.take(&rt, 0, &RESPONSE);
-    assert_eq!(rt; desk.hear(2200, &PROBE_ANSWER), Ok(Told::ProbeAnswered));
+    assert_eq!(rt;
+        desk.hear(2200, &SECOND_PROBE_ANSWER),
+        Ok(Told::ProbeAnswered)
+    );
     assert!(rt; desk.counts().up && !desk.is_draining());
     desk.end();
     Ok(())
@@ -61,5 +66,5 @@ fn probe(rt: &impl Abort, desk: &mut TestDesk) {
     assert_eq!(rt; desk.accept(100, &SECOND_REQUEST), Ok(Taken::Waiting(1)));
     assert_eq!(rt; desk.step(2000), Action::WentDown);
     assert_eq!(rt; desk.step(2000), Action::Probed(slot(2)));
-    assert!(rt; desk.octets() == PROBE.as_slice());
+    assert!(rt; desk.octets() == SECOND_PROBE.as_slice());
 }

@@ -1,7 +1,5 @@
 //! What the workers make of datagrams that are spoiled, come twice or come late.
 
-use super::octets::{REPLY, REQUEST, SECOND_REQUEST};
-use super::packets::{reply_to, request};
 use super::test_gate::Telling;
 use super::workers::forward;
 use super::works::{CLIENT, HOME, Works, answered, counts, lane, note_of};
@@ -12,6 +10,9 @@ use rad_realms::Dropped;
 use std::process::Abort;
 use std::sync::Wait;
 use std::test::Fail;
+use test_octets::homes::REPLY;
+use test_octets::nas::{REQUEST, SECOND_REQUEST};
+use test_octets::{reply_to, request};
 
 /// Has a datagram come from the client, which the front drops for this reason.
 fn drop_for<R: Wait + Abort>(rt: &R, works: &mut Works, octets: &[u8], reason: Dropped) {
@@ -121,7 +122,7 @@ fn send(rt: &impl Wait, works: &mut Works, count: u16) -> Option<Datagram> {
     if !works.gate.has_sent(Worker::Lane(0), HOME, sent.as_slice()) {
         return None;
     }
-    reply_to(sent.as_slice())
+    reply_to(sent.as_slice(), 0)
 }
 
 /// Has the requests of these counts answered, each before the next, and gives the reply to the first.

@@ -3,7 +3,6 @@
 ghost use Rattle.std.specs.Prelude.{IfOk};
 ghost use Rattle.rad_desk.specs.Inlet.{AreOfOneRing};
 
-use super::octets::{FORWARDED, REQUEST, SECOND_FORWARDED, SECOND_REQUEST};
 use rad_desk::laws::Desk;
 use rad_desk::{DeskFault, Inlet, Told};
 use rad_lane::{Action, Counts, Refusal, Setup, Taken, TurnFault, Volume};
@@ -13,6 +12,8 @@ use rad_tables::{Moment, Slot};
 use std::alloc::Global;
 use std::process::Abort;
 use std::test::Fail;
+use test_octets::homes::{FORWARDED, SECOND_FORWARDED};
+use test_octets::nas::{REQUEST, SECOND_REQUEST};
 
 /// A client, a realm and its home server, with the limits that stand where no other is said.
 const TEXT: &str = r#"

@@ -1,6 +1,5 @@
 //! A lane and the front in threads of their own.
 
-use super::packets::{reply_to, request};
 use super::test_desk::{RANDOM, at};
 use super::test_proxy::{TestProxy, accept};
 use rad_desk::laws::agrees;
@@ -15,6 +14,7 @@ use std::test::Fail;
 use std::thread;
 use std::thread::Threads;
 use std::time::{Clock, Duration};
+use test_octets::{reply_to, request};
 
 /// A ring of four places.
 const FOUR_PLACES: &str = "ring = 4\n";
@@ -59,7 +59,7 @@ fn answer<R: Wait + Clock>(rt: &R, alloc: Global, proxy: &Proxy) -> Option<u64> 
     let Action::Sent(..) = proxy.step(rt, 0, at(0), RANDOM, &mut datagram) else {
         return None;
     };
-    let reply = reply_to(datagram.bytes())?;
+    let reply = reply_to(datagram.bytes(), 0)?;
     for _ in 0..LOOKS {
         match proxy.hear(rt, alloc, 0, at(0), 0, reply.bytes()) {
             Ok(Told::Answer(serial)) => return Some(serial),

@@ -1,6 +1,5 @@
 //! The calls through the lock of a lane, of which no clause says which lane they reached.
 
-use super::octets::{OTHER_FORWARDED, OTHER_REPLY, OTHER_REQUEST, OTHER_RESPONSE, REQUEST};
 use super::test_desk::{OTHER_HOME, config, slot};
 use super::test_proxy::{TestProxy, accept};
 use rad_desk::{DeskFault, Told};
@@ -8,6 +7,8 @@ use rad_lane::{Action, HearFault, Refusal, Taken, TurnFault};
 use std::process::Abort;
 use std::sync::Wait;
 use std::test::Fail;
+use test_octets::homes::{OTHER_FORWARDED, OTHER_REPLY};
+use test_octets::nas::{OTHER_REQUEST, OTHER_RESPONSE, REQUEST};
 
 #[test]
 fn calls_reach_their_own_lane(rt: HostRuntime) -> Result<(), Fail> {

@@ -1,9 +1,5 @@
 //! What the workers do in a turn, over wires in memory: what each counts and tells, and where what it sends goes.
 
-use super::octets::{
-    FORWARDED, PROBE, PROBE_ANSWER, REPLY, REQUEST, RESPONSE, SECOND_FORWARDED, SECOND_REQUEST,
-    STATUS, STATUS_ANSWER,
-};
 use super::works::{HOME, Works, accepted, answered, front, lane, note, note_of, play, tally};
 use rad_desk::{Call, Note};
 use rad_realms::{Dropped, Endpoint};
@@ -11,6 +7,8 @@ use std::alloc::Global;
 use std::process::Abort;
 use std::sync::Wait;
 use std::test::Fail;
+use test_octets::homes::{FORWARDED, REPLY, SECOND_FORWARDED, SECOND_PROBE, SECOND_PROBE_ANSWER};
+use test_octets::nas::{REQUEST, RESPONSE, SECOND_REQUEST, STATUS, STATUS_ANSWER};
 
 #[test]
 fn each_worker_does_its_part(rt: HostRuntime) -> Result<(), Fail> {
@@ -87,8 +85,13 @@ fn a_probes_answer_takes_a_lane_up(rt: HostRuntime) -> Result<(), Fail> {
         front(&SECOND_REQUEST, [1, 0, 0], accepted(1), &[]),
         lane(&[], [0, 1, 0], None, &SECOND_FORWARDED),
         lane(&[], [0, 0, 0], note(Note::WentDown), &[]),
-        lane(&[], [0, 1, 0], None, &PROBE),
-        lane(&PROBE_ANSWER, [1, 1, 0], note(Note::WentUp), &FORWARDED),
+        lane(&[], [0, 1, 0], None, &SECOND_PROBE),
+        lane(
+            &SECOND_PROBE_ANSWER,
+            [1, 1, 0],
+            note(Note::WentUp),
+            &FORWARDED,
+        ),
     ];
     play(&rt, rt.alloc(), "tries = 1\n", &turns)
 }

@@ -1,0 +1,96 @@
+//! Requests that are checked and forwarded.
+
+use super::vectors::{FORWARDED, LONG_AUTHENTICATOR, REQUEST};
+use super::{CLIENT, HOME, MARK, secret_of};
+use rad_auth::{ACCOUNTING_REQUEST, Secret, check_request, forward, sign};
+use rad_packet::{Datagram, PacketRef, WriteFault, read};
+use std::alloc::Global;
+use std::process::Abort;
+use std::test::Fail;
+
+#[test]
+fn requests_are_checked(rt: HostRuntime) -> Result<(), Fail> {
+    let request = read(&REQUEST)?;
+    assert!(rt; check_request(&request, &secret_of(CLIENT)?));
+    assert!(rt; !check_request(&request, &secret_of(HOME)?));
+    Ok(())
+}
+
+/// REQUEST as it is forwarded under an identifier and a secret.
+fn forwarded(identifier: u8, secret: &[u8]) -> Result<Datagram, Fail> {
+    let mut datagram = Datagram::new();
+    forward(
+        &read(&REQUEST)?,
+        MARK,
+        identifier,
+        &secret_of(secret)?,
+        &mut datagram,
+    )?;
+    Ok(datagram)
+}
+
+#[test]
+fn requests_are_forwarded(rt: HostRuntime) -> Result<(), Fail> {
+    assert!(rt; forwarded(0xa5, HOME)?.bytes() == FORWARDED.as_slice());
+    Ok(())
+}
+
+/// Whether a request, signed anew, is FORWARDED.
+fn is_signed(alloc: Global, request: &[u8], home: &Secret) -> Result<bool, Fail> {
+    let packet = read(request)?;
+    if packet.code() != ACCOUNTING_REQUEST {
+        return Ok(false);
+    }
+    let mut signed = packet.octets().to_vec(alloc)?;
+    sign(signed.as_mut_slice(), 0xa5, home);
+    Ok(signed.as_slice() == FORWARDED.as_slice())
+}
+
+#[test]
+fn requests_are_signed(rt: HostRuntime) -> Result<(), Fail> {
+    let other = forwarded(0x5a, CLIENT)?;
+    assert!(rt; is_signed(rt.alloc(), other.bytes(), &secret_of(HOME)?)?);
+    Ok(())
+}
+
+/// A request that leaves room for the mark, and 212 octets more.
+fn long_request() -> Result<Datagram, Fail> {
+    let mut request = Datagram::new();
+    request.begin(ACCOUNTING_REQUEST, 7, [0; 16]);
+    request.push(1, b"bob@example.org")?;
+    request.push(40, &[0, 0, 0, 1])?;
+    request.push(44, b"S1")?;
+    for octet in b'A'..b'P' {
+        request.push(25, &[octet; 253])?;
+    }
+    Ok(request)
+}
+
+/// Forwards it with a Class of so many octets more.
+fn forward_with(
+    room: usize,
+    home: &Secret,
+    datagram: &mut Datagram,
+) -> Result<Result<(), WriteFault>, Fail> {
+    let mut request = long_request()?;
+    let class = [b'Z'; 253];
+    request.push(25, class.get(..room).ok_or("too much room")?)?;
+    Ok(forward(&request.packet(), MARK, 0xa5, home, datagram))
+}
+
+fn has_long_authenticator(packet: &PacketRef<'_>) -> bool {
+    packet.octets().len() == 4096 && packet.authenticator() == LONG_AUTHENTICATOR
+}
+
+#[test]
+fn the_longest_request_fits(rt: HostRuntime) -> Result<(), Fail> {
+    let home = secret_of(HOME)?;
+    let mut datagram = Datagram::new();
+    assert_eq!(rt; forward_with(210, &home, &mut datagram)?, Ok(()));
+    assert!(rt; has_long_authenticator(&datagram.packet()));
+    let before = datagram.copy();
+    let refused = forward_with(211, &home, &mut datagram)?;
+    assert_eq!(rt; refused, Err(WriteFault::PacketTooLong));
+    assert!(rt; datagram.bytes() == before.bytes());
+    Ok(())
+}

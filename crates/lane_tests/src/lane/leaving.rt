@@ -1,0 +1,102 @@
+//! What a closed lane leaves, and whether two left the same.
+
+use super::requests::reply_to;
+use super::script::Call::{Hear, Step};
+use super::script::Gives::Step as Did;
+use super::script::{answer, at, pair, puts, sent, slot};
+use super::test_lane::TestLane;
+use super::waiting::accept_each;
+use block_queue::{BlockQueue, Fifo};
+use rad_lane::{Action, Answered, Entry, Leftover, Record};
+use std::process::Abort;
+use std::test::Fail;
+use test_octets::homes::SECOND_PROBE;
+
+/// Whether two lanes left the same: the stamps, the answers with their octets, under each pair of four
+/// source ports what is outstanding, with its octets, its due and how often it was sent, and the queue.
+pub fn is_same(one: &Leftover<BlockQueue<Record>>, other: &Leftover<BlockQueue<Record>>) -> bool {
+    one.lane() == other.lane()
+        && one.opening() == other.opening()
+        && one.accepted() == other.accepted()
+        && one.sent() == other.sent()
+        && are_same_answers(one.answered(), other.answered())
+        && one.outstanding().used() == other.outstanding().used()
+        && (0..1024).all(|count| {
+            let pair = pair(count);
+            is_same_entry(one.outstanding().get(pair), other.outstanding().get(pair))
+        })
+        && one.queued().len() == other.queued().len()
+        && is_same_front(one.queued().front(), other.queued().front())
+}
+
+fn are_same_answers(one: &[Answered], other: &[Answered]) -> bool {
+    one.len() == other.len() && one.iter().zip(other).all(|(a, b)| is_same_answer(a, b))
+}
+
+/// Whether two answers are the same, with their octets.
+pub fn is_same_answer(one: &Answered, other: &Answered) -> bool {
+    one.stamp() == other.stamp()
+        && one.moment() == other.moment()
+        && one.serial() == other.serial()
+        && one.reply().head() == other.reply().head()
+        && one.reply().sending() == other.reply().sending()
+        && one.reply().reply() == other.reply().reply()
+        && one.reply().response() == other.reply().response()
+}
+
+fn is_same_entry(one: Option<&Entry>, other: Option<&Entry>) -> bool {
+    match (one, other) {
+        (None, None) => true,
+        (Some(Entry::Sending(one)), Some(Entry::Sending(other))) => {
+            is_same_record(one.request(), other.request())
+                && one.octets() == other.octets()
+                && one.sendings() == other.sendings()
+                && one.due() == other.due()
+        }
+        _ => false,
+    }
+}
+
+fn is_same_front(one: Option<&Record>, other: Option<&Record>) -> bool {
+    match (one, other) {
+        (None, None) => true,
+        (Some(one), Some(other)) => is_same_record(one, other),
+        _ => false,
+    }
+}
+
+fn is_same_record(one: &Record, other: &Record) -> bool {
+    one.stamp() == other.stamp()
+        && one.text() == other.text()
+        && one.client_secret().octets() == other.client_secret().octets()
+}
+
+/// One request is answered, one sent, with the home server down and a probe out, and one queued.
+fn have_one_of_each(rt: &impl Abort, lane: &mut TestLane) -> Result<(), Fail> {
+    accept_each(rt, lane, 0, 3)?;
+    assert_eq!(rt; lane.call(0, Step), sent(0));
+    let reply = reply_to(lane.octets(), 0)?;
+    assert_eq!(rt; lane.call(0, Hear(0, reply.bytes())), answer(0));
+    assert_eq!(rt; lane.call(0, Step), sent(1));
+    lane.play(
+        rt,
+        &[
+            at(2000, Step, Did(Action::WentDown)),
+            puts(2000, Step, Did(Action::Probed(slot(2))), &SECOND_PROBE),
+        ],
+    );
+    Ok(())
+}
+
+#[test]
+fn a_closed_lane_leaves_no_probe(rt: HostRuntime) -> Result<(), Fail> {
+    let mut lane = TestLane::new(rt.alloc(), "window = 1\ntries = 1\n")?;
+    let had = have_one_of_each(&rt, &mut lane);
+    let left = lane.close();
+    let stamps = [left.accepted().len(), left.sent().len()];
+    let others = [left.queued().len(), left.outstanding().used()];
+    let answered = left.answered().len();
+    had?;
+    assert_eq!(rt; (stamps, others, answered), ([3, 2], [1, 1], 1));
+    Ok(())
+}

@@ -1,0 +1,71 @@
+//! What is printed of the reasons to drop a datagram and of the faults of limits, and which texts are addresses.
+
+use rad_packet::ReadFault;
+use rad_realms::{Dropped, LimitFault, read_address};
+use std::test::Fail;
+
+const REASONS: [(Dropped, &str); 10] = [
+    (Dropped::UnknownClient, "UnknownClient"),
+    (Dropped::Unread(ReadFault::Short), "Unread Short"),
+    (Dropped::Unread(ReadFault::BadLength), "Unread BadLength"),
+    (Dropped::Unread(ReadFault::Truncated), "Unread Truncated"),
+    (
+        Dropped::Unread(ReadFault::BadAttribute(4095)),
+        "Unread BadAttribute 4095",
+    ),
+    (Dropped::WrongCode, "WrongCode"),
+    (Dropped::BadAuthenticator, "BadAuthenticator"),
+    (Dropped::BadMessageAuthenticator, "BadMessageAuthenticator"),
+    (
+        Dropped::MessageAuthenticatorHere,
+        "MessageAuthenticatorHere",
+    ),
+    (Dropped::NoRealm, "NoRealm"),
+];
+
+#[test]
+fn each_reason_is_printed(rt: HostRuntime) -> Result<(), Fail> {
+    for (reason, wanted) in REASONS {
+        let text = format!(in rt.alloc(); "{reason}")?;
+        assert_eq!(rt; text.as_str(), wanted);
+    }
+    Ok(())
+}
+
+const LIMITS: [(LimitFault, &str); 10] = [
+    (LimitFault::Ports, "Ports"),
+    (LimitFault::Window, "Window"),
+    (LimitFault::Queue, "Queue"),
+    (LimitFault::Book, "Book"),
+    (LimitFault::Tries, "Tries"),
+    (LimitFault::FirstWait, "FirstWait"),
+    (LimitFault::ProbeEvery, "ProbeEvery"),
+    (LimitFault::DownWait, "DownWait"),
+    (LimitFault::Span, "Span"),
+    (LimitFault::Ring, "Ring"),
+];
+
+#[test]
+fn each_limit_is_printed(rt: HostRuntime) -> Result<(), Fail> {
+    for (fault, wanted) in LIMITS {
+        let text = format!(in rt.alloc(); "{fault}")?;
+        assert_eq!(rt; text.as_str(), wanted);
+    }
+    Ok(())
+}
+
+#[test]
+fn addresses_are_read_from_text(rt: HostRuntime) {
+    for (text, wanted) in [
+        ("0.0.0.0", Some([0, 0, 0, 0])),
+        ("10.2.30.255", Some([10, 2, 30, 255])),
+        ("10.2.30.256", None),
+        ("10.2.30", None),
+        ("10.2.30.4.5", None),
+        ("10.2.030.4", None),
+        ("10.2.30.4 ", None),
+        ("10.2..4", None),
+    ] {
+        assert_eq!(rt; read_address(text), wanted);
+    }
+}

@@ -1,0 +1,92 @@
+//! Packets that are made: requests of `bob@example.org` under `nas-secret`, and replies to what was sent, under
+//! `home-secret`.
+
+use crate::signing::{sign_request, sign_response};
+use rad_auth::{ACCOUNTING_REQUEST, ACCOUNTING_RESPONSE, PROXY_STATE, Secret};
+use rad_packet::{Datagram, read};
+
+const USER_NAME: u8 = 1;
+
+const CLASS: u8 = 25;
+
+const ACCT_STATUS_TYPE: u8 = 40;
+
+const ACCT_SESSION_ID: u8 = 44;
+
+/// A request that differs from those of other counts; its Identifier goes round with the count.
+pub fn request(count: u16) -> Option<Datagram> {
+    let mut datagram = begun((count % 256) as u8)?;
+    push(&mut datagram, ACCT_SESSION_ID, &count.to_be_bytes())?;
+    signed(datagram)
+}
+
+/// A request of this Length, which is 47, or 49 and more.
+pub fn request_of_length(length: usize) -> Option<Datagram> {
+    let mut datagram = begun(9)?;
+    push(&mut datagram, ACCT_STATUS_TYPE, &[0, 0, 0, 1])?;
+    push(&mut datagram, ACCT_SESSION_ID, b"S1")?;
+    let missing = length.saturating_sub(datagram.len());
+    push_classes(&mut datagram, missing)?;
+    signed(datagram)
+}
+
+/// A request of this Identifier with its User-Name alone.
+fn begun(identifier: u8) -> Option<Datagram> {
+    let mut datagram = Datagram::new();
+    datagram.begin(ACCOUNTING_REQUEST, identifier, [0; 16]);
+    push(&mut datagram, USER_NAME, b"bob@example.org")?;
+    Some(datagram)
+}
+
+fn signed(mut request: Datagram) -> Option<Datagram> {
+    let secret = Secret::new(b"nas-secret").ok()?;
+    sign_request(&mut request, &secret);
+    Some(request)
+}
+
+/// The reply to a packet that was sent: under its Identifier, with the mark at its end and so many octets of Class, which
+/// are not 1.
+pub fn reply_to(sent: &[u8], classes: usize) -> Option<Datagram> {
+    let sent = read(sent).ok()?;
+    let mut reply = Datagram::new();
+    reply.begin(ACCOUNTING_RESPONSE, sent.identifier(), [0; 16]);
+    push(&mut reply, PROXY_STATE, last_of(sent.octets()))?;
+    push_classes(&mut reply, classes)?;
+    let secret = Secret::new(b"home-secret").ok()?;
+    sign_response(&mut reply, &sent.authenticator(), &secret);
+    Some(reply)
+}
+
+/// The last ten octets of a packet: the value of its mark, where it ends with one.
+fn last_of(packet: &[u8]) -> &[u8] {
+    &packet[packet.len().saturating_sub(10)..]
+}
+
+/// The value of a mark: the lane's number and the request's.
+pub fn mark_value(lane: u16, number: u64) -> [u8; 10] {
+    let mut value = [0; 10];
+    value[..2].copy_from_slice(&lane.to_be_bytes());
+    value[2..].copy_from_slice(&number.to_be_bytes());
+    value
+}
+
+/// Adds Class attributes of so many octets in all, which is not 1: each has 128, but for the last.
+pub fn push_classes(datagram: &mut Datagram, octets: usize) -> Option<()> {
+    for _ in 1..octets / 128 {
+        push(datagram, CLASS, &[b'A'; 126])?;
+    }
+    let rest = if octets < 128 {
+        octets
+    } else {
+        octets % 128 + 128
+    };
+    if rest == 0 {
+        return Some(());
+    }
+    push(datagram, CLASS, [b'A'; 253].get(..rest.saturating_sub(2))?)
+}
+
+/// Adds an attribute, where it fits.
+fn push(datagram: &mut Datagram, kind: u8, value: &[u8]) -> Option<()> {
+    datagram.push(kind, value).ok()
+}
