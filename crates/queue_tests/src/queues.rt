@@ -6,44 +6,90 @@ use std::process::Abort;
 use std::sync::atomic::{AtomicU64, Ordering};
 use std::test::Fail;
 
-/// A queue of the numbers from `first` on, `count` of them, the least first.
-fn numbered<Q: Fifo<u64> + Drop>(
+/// Pushes the numbers from `first` up to `end`.
+fn push_each<Q: Fifo<u64>>(
     rt: &impl Abort,
-    alloc: Global,
+    queue: &mut Q,
     first: u64,
-    count: u64,
-) -> Result<Q, AllocError> {
-    let mut queue = Q::new(alloc);
-    assert!(rt; queue.is_empty());
-    assert_eq!(rt; queue.pop_front(), None);
-    for number in 0..count {
+    end: u64,
+) -> Result<(), AllocError> {
+    for number in first..end {
         queue.reserve_one()?;
         assert!(rt; queue.spare() > 0);
-        queue.push_back(first.wrapping_add(number));
+        queue.push_back(number);
     }
-    Ok(queue)
+    Ok(())
 }
 
-/// Pops the numbers from 0 on, `count` of them, and finds nothing behind them.
-fn pops_all<Q: Fifo<u64> + Drop>(rt: &impl Abort, mut queue: Q, count: u64) {
-    for number in 0..count {
-        assert_eq!(rt; queue.front().copied(), Some(number));
-        assert_eq!(rt; queue.pop_front(), Some(number));
+/// Pops the numbers from `first` up to `end`.
+fn pop_each<Q: Fifo<u64>>(rt: &impl Abort, queue: &mut Q, first: u64, end: u64) {
+    for number in first..end {
+        assert!(rt; queue.front() == Some(&number));
+        assert!(rt; queue.pop_front() == Some(number));
     }
-    assert_eq!(rt; queue.front().copied(), None);
-    assert_eq!(rt; queue.pop_front(), None);
+}
+
+fn has_none<Q: Fifo<u64>>(rt: &impl Abort, queue: &mut Q) {
+    assert!(rt; queue.front().is_none());
+    assert!(rt; queue.pop_front().is_none());
     assert!(rt; queue.is_empty());
+}
+
+/// Pushes the numbers up to `end` into an empty queue, and pops them.
+fn is_in_order<Q: Fifo<u64>>(rt: &impl Abort, queue: &mut Q, end: u64) -> Result<(), AllocError> {
+    has_none(rt, queue);
+    push_each(rt, queue, 0, end)?;
+    assert!(rt; queue.len() as u64 == end);
+    pop_each(rt, queue, 0, end);
+    has_none(rt, queue);
+    Ok(())
 }
 
 #[test]
-fn first_in_is_first_out(rt: HostRuntime) -> Result<(), Fail> {
-    let plain = numbered::<PlainQueue<u64>>(&rt, rt.alloc(), 0, 70)?;
-    assert_eq!(rt; plain.len(), 70);
-    pops_all(&rt, plain, 70);
-    let blocks = numbered::<BlockQueue<u64>>(&rt, rt.alloc(), 0, 70)?;
-    assert_eq!(rt; blocks.len(), 70);
-    pops_all(&rt, blocks, 70);
-    Ok(())
+fn first_in_is_first_out_of_a_plain_queue(rt: HostRuntime) -> Result<(), Fail> {
+    let mut queue = PlainQueue::new(rt.alloc());
+    Ok(is_in_order(&rt, &mut queue, 70)?)
+}
+
+#[test]
+fn first_in_is_first_out_of_blocks(rt: HostRuntime) -> Result<(), Fail> {
+    let mut queue = BlockQueue::new(rt.alloc());
+    Ok(is_in_order(&rt, &mut queue, 70)?)
+}
+
+/// A queue of the numbers from `first` up to `end`, before which so many others were popped.
+fn numbered(
+    rt: &impl Abort,
+    alloc: Global,
+    popped: u64,
+    first: u64,
+    end: u64,
+) -> Result<BlockQueue<u64>, AllocError> {
+    let mut queue = BlockQueue::new(alloc);
+    push_each(rt, &mut queue, 0, popped)?;
+    push_each(rt, &mut queue, first, end)?;
+    pop_each(rt, &mut queue, 0, popped);
+    Ok(queue)
+}
+
+/// Appends a queue, where both are short.
+fn append(rt: &impl Abort, queue: &mut BlockQueue<u64>, other: BlockQueue<u64>) {
+    assert!(rt; queue.len() < 100);
+    assert!(rt; other.len() < 100);
+    queue.append(other);
+}
+
+/// Checks that a queue has the numbers up to `end`, and pops them.
+fn has_each(rt: &impl Abort, queue: &mut BlockQueue<u64>, end: u64) {
+    assert!(rt; queue.len() as u64 == end);
+    let mut expected = 0u64;
+    for number in queue.iter() {
+        assert!(rt; *number == expected);
+        expected = expected.wrapping_add(1);
+    }
+    assert!(rt; expected == end);
+    pop_each(rt, queue, 0, end);
+    has_none(rt, queue);
 }
 
 #[test]
@@ -51,109 +97,89 @@ fn joined_queues_follow_one_another(rt: HostRuntime) -> Result<(), Fail> {
     let lengths = [0u64, 1, 31, 32, 33, 64, 65];
     for first in lengths {
         for second in lengths {
-            let mut queue = numbered::<BlockQueue<u64>>(&rt, rt.alloc(), 0, first)?;
-            let other = numbered::<BlockQueue<u64>>(&rt, rt.alloc(), first, second)?;
-            assert!(rt; queue.len() < 100);
-            assert!(rt; other.len() < 100);
-            queue.append(other);
             let both = first.wrapping_add(second);
-            assert_eq!(rt; queue.len() as u64, both);
-            let mut expected = 0u64;
-            for number in queue.iter() {
-                assert_eq!(rt; *number, expected);
-                expected = expected.wrapping_add(1);
-            }
-            assert_eq!(rt; expected, both);
-            pops_all(&rt, queue, both);
+            let mut queue = numbered(&rt, rt.alloc(), 0, 0, first)?;
+            append(&rt, &mut queue, numbered(&rt, rt.alloc(), 0, first, both)?);
+            has_each(&rt, &mut queue, both);
         }
     }
     Ok(())
 }
 
-/// A queue that held `first` and so many more, of which the first ones were popped.
-fn shortened(
+/// Joins two queues of which some items were popped, and fills up.
+fn shortened_is_right(
     rt: &impl Abort,
     alloc: Global,
-    first: u64,
-    popped: u64,
-    left: u64,
-) -> Result<BlockQueue<u64>, AllocError> {
-    let before = first.wrapping_sub(popped);
-    let mut queue = numbered::<BlockQueue<u64>>(rt, alloc, before, popped.wrapping_add(left))?;
-    for number in 0..popped {
-        assert_eq!(rt; queue.pop_front(), Some(before.wrapping_add(number)));
-    }
-    Ok(queue)
+    one: (u64, u64),
+    other: (u64, u64),
+) -> Result<(), AllocError> {
+    let ((popped, left), (more_popped, more_left)) = (one, other);
+    let both = left.wrapping_add(more_left);
+    let mut queue = numbered(rt, alloc, popped, 0, left)?;
+    append(
+        rt,
+        &mut queue,
+        numbered(rt, alloc, more_popped, left, both)?,
+    );
+    push_each(rt, &mut queue, both, 100)?;
+    has_each(rt, &mut queue, 100);
+    Ok(())
 }
 
 /// Blocks that were emptied, and are kept, do not come between the items.
 #[test]
 fn shortened_queues_follow_one_another(rt: HostRuntime) -> Result<(), Fail> {
     let counts = [(0u64, 0u64), (1, 0), (40, 0), (40, 1), (70, 30), (64, 33)];
-    for (popped, left) in counts {
-        for (more_popped, more_left) in counts {
-            let mut queue = shortened(&rt, rt.alloc(), 0, popped, left)?;
-            let other = shortened(&rt, rt.alloc(), left, more_popped, more_left)?;
-            assert!(rt; queue.len() < 100);
-            assert!(rt; other.len() < 100);
-            queue.append(other);
-            let both = left.wrapping_add(more_left);
-            for number in both..100 {
-                queue.reserve_one()?;
-                assert!(rt; queue.spare() > 0);
-                queue.push_back(number);
-            }
-            let mut expected = 0u64;
-            for number in queue.iter() {
-                assert_eq!(rt; *number, expected);
-                expected = expected.wrapping_add(1);
-            }
-            assert_eq!(rt; expected, 100);
-            pops_all(&rt, queue, 100);
+    for one in counts {
+        for other in counts {
+            shortened_is_right(&rt, rt.alloc(), one, other)?;
         }
     }
     Ok(())
 }
 
+/// Pops the numbers up to `end`, while the room that was asked for stays.
+fn pop_with_room(rt: &impl Abort, queue: &mut BlockQueue<u64>, end: u64) {
+    for number in 0..end {
+        let room = queue.spare();
+        assert!(rt; queue.pop_front() == Some(number));
+        assert!(rt; queue.spare() >= room);
+    }
+}
+
 /// Room that was asked for stays while items are popped, `popped` of them, and the items stay in order.
 fn keeps_its_room(
     rt: &impl Abort,
-    mut queue: BlockQueue<u64>,
+    queue: &mut BlockQueue<u64>,
     popped: u64,
 ) -> Result<(), AllocError> {
     queue.reserve_one()?;
-    for number in 0..popped {
-        let room = queue.spare();
-        assert_eq!(rt; queue.pop_front(), Some(number));
-        assert!(rt; queue.spare() >= room);
-    }
-    for number in (queue.len() as u64).wrapping_add(popped)..100 {
-        queue.reserve_one()?;
-        assert!(rt; queue.spare() > 0);
-        queue.push_back(number);
-    }
-    for number in popped..100 {
-        assert_eq!(rt; queue.front().copied(), Some(number));
-        assert_eq!(rt; queue.pop_front(), Some(number));
-    }
-    assert_eq!(rt; queue.pop_front(), None);
+    pop_with_room(rt, queue, popped);
+    let end = (queue.len() as u64).wrapping_add(popped);
+    push_each(rt, queue, end, 100)?;
+    pop_each(rt, queue, popped, 100);
+    has_none(rt, queue);
     Ok(())
 }
 
+/// How many items there are, and how many of them are popped.
+const ROOMS: [(u64, u64); 9] = [
+    (1, 1),
+    (32, 31),
+    (32, 32),
+    (33, 33),
+    (64, 32),
+    (64, 33),
+    (64, 64),
+    (96, 64),
+    (96, 96),
+];
+
 #[test]
 fn unused_room_stays(rt: HostRuntime) -> Result<(), Fail> {
-    for (count, popped) in [
-        (1u64, 1u64),
-        (32, 31),
-        (32, 32),
-        (33, 33),
-        (64, 32),
-        (64, 33),
-        (64, 64),
-        (96, 64),
-        (96, 96),
-    ] {
-        keeps_its_room(&rt, numbered(&rt, rt.alloc(), 0, count)?, popped)?;
+    for (count, popped) in ROOMS {
+        let mut queue = numbered(&rt, rt.alloc(), 0, 0, count)?;
+        keeps_its_room(&rt, &mut queue, popped)?;
     }
     Ok(())
 }
@@ -163,12 +189,14 @@ fn unused_room_stays(rt: HostRuntime) -> Result<(), Fail> {
 fn unused_room_stays_behind_one_item(rt: HostRuntime) -> Result<(), Fail> {
     for (more_popped, more_left) in [(31u64, 1u64), (30, 2), (0, 32)] {
         for popped in [31u64, 32, 33] {
-            let mut queue = numbered::<BlockQueue<u64>>(&rt, rt.alloc(), 0, 32)?;
-            let other = shortened(&rt, rt.alloc(), 32, more_popped, more_left)?;
-            assert!(rt; queue.len() < 100);
-            assert!(rt; other.len() < 100);
-            queue.append(other);
-            keeps_its_room(&rt, queue, popped)?;
+            let end = more_left.wrapping_add(32);
+            let mut queue = numbered(&rt, rt.alloc(), 0, 0, 32)?;
+            append(
+                &rt,
+                &mut queue,
+                numbered(&rt, rt.alloc(), more_popped, 32, end)?,
+            );
+            keeps_its_room(&rt, &mut queue, popped)?;
         }
     }
     Ok(())
@@ -181,8 +209,8 @@ fn moved<S: Send>(value: S) -> S {
 
 #[test]
 fn a_queue_moves_to_another_thread(rt: HostRuntime) -> Result<(), Fail> {
-    let queue = moved(numbered::<BlockQueue<u64>>(&rt, rt.alloc(), 0, 33)?);
-    pops_all(&rt, queue, 33);
+    let mut queue = moved(numbered(&rt, rt.alloc(), 0, 0, 33)?);
+    has_each(&rt, &mut queue, 33);
     Ok(())
 }
 
@@ -197,73 +225,128 @@ impl Drop for Counted<'_> {
     }
 }
 
+/// A queue of 65 items that count their drops.
+fn counted<'a>(alloc: Global, drops: &'a AtomicU64) -> Result<BlockQueue<Counted<'a>>, AllocError> {
+    let mut queue = BlockQueue::new(alloc);
+    for _ in 0..65 {
+        queue.reserve_one()?;
+        queue.push_back(Counted { drops });
+    }
+    Ok(queue)
+}
+
+/// Moves 40 items on into another queue.
+fn take<'a>(
+    alloc: Global,
+    queue: &mut BlockQueue<Counted<'a>>,
+) -> Result<BlockQueue<Counted<'a>>, AllocError> {
+    let mut kept = BlockQueue::new(alloc);
+    for _ in 0..40 {
+        kept.reserve_one()?;
+        if let Some(item) = queue.pop_front() {
+            kept.push_back(item);
+        }
+    }
+    Ok(kept)
+}
+
 #[test]
 fn each_item_is_dropped_once(rt: HostRuntime) -> Result<(), Fail> {
     let drops = AtomicU64::new(0);
-    let mut queue = BlockQueue::new(rt.alloc());
-    for _ in 0..65 {
-        queue.reserve_one()?;
-        queue.push_back(Counted { drops: &drops });
-    }
-    let mut kept = Vec::new(rt.alloc());
-    for _ in 0..40 {
-        if let Some(item) = queue.pop_front() {
-            kept.push(item)?;
-        }
-    }
-    assert_eq!(rt; (queue.len(), kept.len()), (25, 40));
-    assert_eq!(rt; drops.load(Ordering::SeqCst), 0);
+    let mut queue = counted(rt.alloc(), &drops)?;
+    let kept = take(rt.alloc(), &mut queue)?;
+    assert!(rt; (queue.len(), kept.len()) == (25, 40));
+    assert!(rt; drops.load(Ordering::SeqCst) == 0);
     drop(queue);
-    assert_eq!(rt; drops.load(Ordering::SeqCst), 25);
+    assert!(rt; drops.load(Ordering::SeqCst) == 25);
     drop(kept);
-    assert_eq!(rt; drops.load(Ordering::SeqCst), 65);
+    assert!(rt; drops.load(Ordering::SeqCst) == 65);
     Ok(())
 }
 
-/// Both queues are asked the same, `steps` times, as the bits of a generator from `seed` say.
+/// A queue of each kind, which are asked the same.
+#[derive(Drop)]
+struct Both {
+    blocks: BlockQueue<u64>,
+    plain: PlainQueue<u64>,
+}
+
+impl Both {
+    fn push(&mut self, number: u64) -> Result<(), AllocError> {
+        self.blocks.reserve_one()?;
+        self.plain.reserve_one()?;
+        self.blocks.push_back(number);
+        self.plain.push_back(number);
+        Ok(())
+    }
+
+    fn pop(&mut self, rt: &impl Abort) {
+        assert!(rt; self.blocks.pop_front() == self.plain.pop_front());
+    }
+
+    fn compare(&self, rt: &impl Abort) {
+        assert!(rt; self.blocks.front() == self.plain.front());
+        assert!(rt; self.blocks.len() == self.plain.len());
+        assert!(rt; self.blocks.is_empty() == self.plain.is_empty());
+    }
+
+    /// Pushes or pops 20,000 times, as the bits of a generator say.
+    fn play(&mut self, rt: &impl Abort) -> Result<(), AllocError> {
+        let mut state = 0x2545_f491_4f6c_dd1du64;
+        for step in 0..20_000u64 {
+            state = next(state);
+            // Long stretches in which pushes win, and as long ones in which pops do.
+            if state % 8 < if step % 2_000 < 1_000 { 6 } else { 2 } {
+                self.push(step)?;
+            } else {
+                self.pop(rt);
+            }
+            self.compare(rt);
+        }
+        Ok(())
+    }
+}
+
+/// What a generator has next (Marsaglia's xorshift).
+fn next(state: u64) -> u64 {
+    let state = state ^ state << 13;
+    let state = state ^ state >> 7;
+    state ^ state << 17
+}
+
 #[test]
 fn both_queues_answer_alike(rt: HostRuntime) -> Result<(), Fail> {
-    let mut blocks = BlockQueue::new(rt.alloc());
-    let mut plain = PlainQueue::new(rt.alloc());
-    let mut state = 0x2545_f491_4f6c_dd1du64;
-    for step in 0..20_000u64 {
-        state ^= state << 13;
-        state ^= state >> 7;
-        state ^= state << 17;
-        // Long stretches in which pushes win, and as long ones in which pops do.
-        let pushes = state % 8 < if step % 2_000 < 1_000 { 6 } else { 2 };
-        if pushes {
-            blocks.reserve_one()?;
-            plain.reserve_one()?;
-            blocks.push_back(step);
-            plain.push_back(step);
-        } else {
-            assert_eq!(rt; blocks.pop_front(), plain.pop_front());
+    let mut both = Both {
+        blocks: BlockQueue::new(rt.alloc()),
+        plain: PlainQueue::new(rt.alloc()),
+    };
+    Ok(both.play(&rt)?)
+}
+
+/// Pushes a number where room is granted, and compares where it is refused.
+fn push_where_granted(rt: &impl Abort, queue: &mut BlockQueue<u64>, number: u64) -> bool {
+    let before = (queue.len(), queue.spare());
+    match queue.reserve_one() {
+        Ok(()) => {
+            queue.push_back(number);
+            true
         }
-        assert_eq!(rt; blocks.front().copied(), plain.front().copied());
-        assert_eq!(rt;
-            (blocks.len(), blocks.is_empty()),
-            (plain.len(), plain.is_empty())
-        );
+        Err(_) => {
+            assert!(rt; (queue.len(), queue.spare()) == before);
+            false
+        }
     }
-    Ok(())
 }
 
 /// Where room is refused, the queue is as it was. Run with each allocation refused in turn.
 #[test]
-fn a_refused_block_leaves_the_queue(rt: HostRuntime) -> Result<(), Fail> {
+fn a_refused_block_leaves_the_queue(rt: HostRuntime) {
     let mut queue = BlockQueue::new(rt.alloc());
     let mut taken = 0u64;
     for number in 0..97u64 {
-        let before = (queue.len(), queue.spare());
-        match queue.reserve_one() {
-            Ok(()) => {
-                queue.push_back(number);
-                taken = taken.wrapping_add(1);
-            }
-            Err(_) => assert_eq!(rt; (queue.len(), queue.spare()), before),
+        if push_where_granted(&rt, &mut queue, number) {
+            taken = taken.wrapping_add(1);
         }
     }
-    assert_eq!(rt; queue.len() as u64, taken);
-    Ok(())
+    assert!(rt; queue.len() as u64 == taken);
 }

@@ -98,19 +98,26 @@ impl<T> ReservedList<T> {
         self.start += count;
     }
 
+    /// How many items were let go of since the last move, where that is more than there are, and else none.
+    pub(crate) fn to_give_back(&self) -> usize {
+        if self.items.len() - self.start < self.start {
+            self.start
+        } else {
+            0
+        }
+    }
+
     /// Moves the items to the begin of the row, where more were let go of since the last move than there are, so that in
-    /// all no more items are moved than let go of. It answers whether it did, and takes no memory.
-    pub(crate) fn make_compact(&mut self) -> bool
+    /// all no more items are moved than let go of. It takes no memory.
+    pub(crate) fn make_compact(&mut self)
     where
         T: Drop,
         ensures { self.new.items ≡ self.old.items }
     {
-        if self.items.len() - self.start >= self.start {
-            return false;
+        if self.to_give_back() > 0 {
+            drop(self.items.drain(..self.start));
+            self.start = 0;
         }
-        drop(self.items.drain(..self.start));
-        self.start = 0;
-        true
     }
 
     /// The items, which no more are added to. It takes no memory.

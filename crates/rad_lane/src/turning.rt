@@ -114,15 +114,21 @@ impl<Q: Fifo<Record>> Lane<Q> {
         })
     }
 
-    /// Makes one of the lists compact, where one has let go of more than it has. The others wait for the next call, so that
-    /// no call moves two of them.
+    /// Makes one of the lists compact, where some have let go of more than they have: the one that let go of most, so that each
+    /// has its turn however large the cuts are. The others wait for the next call, so that no call moves two of them.
     fn tidy(&mut self)
         ensures { self.new ≡ self.old }
     {
-        if self.accepted.make_compact() || self.receipts.make_compact() {
-            return;
+        let accepted = self.accepted.to_give_back();
+        let receipts = self.receipts.to_give_back();
+        let answered = self.answered.to_give_back();
+        if accepted >= receipts && accepted >= answered {
+            self.accepted.make_compact();
+        } else if receipts >= answered {
+            self.receipts.make_compact();
+        } else {
+            self.answered.make_compact();
         }
-        self.answered.make_compact();
     }
 }
 
