@@ -237,11 +237,15 @@ impl Works {
 
     /// Whether a turn has sent what it is to send, and told the gate of it.
     fn has_sent(&mut self, turn: &Turn<'_>) -> bool {
-        let (peer, wire) = match turn.worker {
-            Worker::Front => (CLIENT, &mut self.front),
-            Worker::Lane(_) => (HOME, &mut self.lane),
+        let peer = match turn.worker {
+            Worker::Front => CLIENT,
+            Worker::Lane(_) => HOME,
         };
-        wire.sent(peer, turn.sends) && self.gate.has_sent(turn.worker, peer, turn.sends)
+        let is_sent = match turn.worker {
+            Worker::Front => self.front.sent(peer, turn.sends),
+            Worker::Lane(_) => self.lane.sent(peer, turn.sends),
+        };
+        is_sent && self.gate.has_sent(turn.worker, peer, turn.sends)
     }
 
     /// Lets it go, so that no test has to show that it may.
