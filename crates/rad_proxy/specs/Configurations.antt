@@ -1,21 +1,8 @@
--- Configurations that are read from octets, and what is counted of one (own).
-use Rattle.std.specs.Prelude.{◌≡◌, ◌≤◌, ℕ, List, length, Option, IfSome, Result, Ok, Err, ◌⊎◌}
-use Rattle.std.specs.Str.{IsUtf8}
+-- Configurations that are read from a file, and what is counted of one (own).
+use Rattle.std.specs.Prelude.{◌≡◌, ◌≤◌, ℕ, List, length, Option, IfSome, Ok}
 use Rattle.rad_realms.specs.Configuration.{Configuration}
-use Rattle.rad_realms.specs.Gives.{Gives}
-use Rattle.rad_realms.specs.Walk.{configuration_in}
-use Rattle.rad_realms.specs.declared.reading.faults.ConfigFault.{ConfigFault}
-use Rattle.rad_realms.specs.declared.reading.faults.ConfigFault.TheVariants.{Toml}
-use Rattle.rad_proxy.specs.declared.lines.CountLine.{CountLine}
-
--- Octets are read as the text that they are; those that are no UTF-8 are no TOML either.
-abbrev pub ReadsOctets : List ℕ → Result Configuration ConfigFault → Type 0
-ReadsOctets octets result =
-    (IsUtf8 octets × Gives result (configuration_in octets)) ⊎ (¬ (IsUtf8 octets) × (result ≡ Err Toml))
-
--- How many clients, home servers and realms a configuration has.
-abbrev pub counts_of : Configuration → CountLine
-counts_of config = record { clients = length config.clients; homes = length config.homes; realms = length config.realms }
+use Rattle.rad_console.specs.Configurations.{ReadsOctets, counts_of}
+use Rattle.rad_console.specs.declared.lines.CountLine.{CountLine}
 
 -- This is the configuration of a text of at most so many octets: the octets that were given, where those are known.
 pub record IsLoaded (given : Option (List ℕ)) (most : ℕ) (config : Configuration) : Type 0 where

@@ -2,8 +2,10 @@
 use Rattle.std.specs.Prelude.{ℕ}
 use Rattle.rad_proxy.specs.declared.faults.Fault.{Fault}
 use Rattle.rad_proxy.specs.declared.faults.Fault.TheVariants.{Usage, Input, File, Configuration, Listen, LaneSocket, Threads, Memory, Events, Output}
-use Rattle.rad_proxy.specs.declared.faults.Halt.{Halt}
-use Rattle.rad_proxy.specs.declared.faults.Halt.TheVariants as halt
+use Rattle.rad_replay.specs.declared.faults.ReplayFault.{ReplayFault}
+use Rattle.rad_replay.specs.declared.faults.ReplayFault.TheVariants as replaying
+use Rattle.rad_server.specs.declared.faults.ServeFault.{ServeFault}
+use Rattle.rad_server.specs.declared.faults.ServeFault.TheVariants as serving
 
 -- The status of each fault.
 abbrev pub status_of : Fault → ℕ
@@ -18,8 +20,20 @@ status_of Memory = 4
 status_of (Events line) = 4
 status_of Output = 4
 
--- What ends an event ends the program; a malformed event is told by its line.
-abbrev pub fault_at : Halt → ℕ → Fault
-fault_at halt.Malformed line = Events line
-fault_at halt.Memory line = Memory
-fault_at halt.Output line = Output
+-- What ends a replay ends the program.
+abbrev pub fault_of_replay : ReplayFault → Fault
+fault_of_replay replaying.Input = Input
+fault_of_replay (replaying.Configuration fault) = Configuration fault
+fault_of_replay replaying.Memory = Memory
+fault_of_replay (replaying.Events line) = Events line
+fault_of_replay replaying.Output = Output
+
+-- What ends a service ends the program; a worker that ends by itself is told as one that can't be started.
+abbrev pub fault_of_serving : ServeFault → Fault
+fault_of_serving (serving.Listen endpoint) = Listen endpoint
+fault_of_serving (serving.LaneSocket lane) = LaneSocket lane
+fault_of_serving serving.Threads = Threads
+fault_of_serving (serving.Ended worker) = Threads
+fault_of_serving serving.Input = Input
+fault_of_serving serving.Output = Output
+fault_of_serving serving.Memory = Memory

@@ -1,17 +1,2 @@
-pub mod Commands
 pub mod Configurations
 pub mod Faults
-pub mod Hex
-pub mod Kinds
-pub mod LeftOver
-pub mod Lines
-pub mod Names
-pub mod PacketText
-pub mod PacketWords
-pub mod Path
-pub mod Pieces
-pub mod ReportLines
-pub mod Sent
-pub mod Totals
-pub mod Wires
-pub mod Workers

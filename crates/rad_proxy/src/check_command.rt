@@ -1,11 +1,12 @@
 //! The command `check`: how much the configuration in a file has.
 
 ghost use Rattle.std.specs.Prelude.{◌≡◌, IfOk, None};
-ghost use Rattle.rad_proxy.specs.Configurations.{IsCounted, counts_of};
+ghost use Rattle.rad_console.specs.Configurations.{counts_of};
+ghost use Rattle.rad_proxy.specs.Configurations.{IsCounted};
 
 use crate::faults::Fault;
-use crate::lines::CountLine;
 use crate::loading::{MOST_FILE_OCTETS, load, load_text};
+use rad_console::CountLine;
 use rad_realms::Config;
 use std::alloc::Global;
 use std::io::Read;

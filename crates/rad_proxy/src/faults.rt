@@ -1,8 +1,8 @@
-//! The faults that end the program, and those that end a script.
+//! The faults that end the program.
 
-use crate::names::EndpointText;
-use rad_realms::ConfigFault;
-use std::alloc::AllocError;
+use rad_realms::{ConfigFault, Endpoint};
+use rad_replay::ReplayFault;
+use rad_server::ServeFault;
 use thiserror::Error;
 
 /// Why the program ends early. Its `Display` is the line for standard error.
@@ -19,7 +19,7 @@ pub enum Fault {
     Configuration(ConfigFault),
     /// The socket for the clients can't be had.
     #[error("socket: {0}")]
-    Listen(EndpointText),
+    Listen(Endpoint),
     /// The sockets of this lane can't be had.
     #[error("socket: lane {0}")]
     LaneSocket(usize),
@@ -60,35 +60,36 @@ impl Fault {
     }
 }
 
-/// Why an event ends the run.
-#[derive(Clone, Copy, Debug)]
-pub enum Halt {
-    /// Its line writes no event, names a lane or a moment that there is not, or cuts more octets than there are.
-    Malformed,
-    /// A growth was refused.
-    Memory,
-    /// Standard output takes nothing more.
-    Output,
-}
+impl From<ReplayFault> for Fault {
+    ghost use Rattle.rad_proxy.specs.Faults.{fault_of_replay};
 
-impl Halt {
-    ghost use Rattle.std.specs.Prelude.{◌≡◌};
-    ghost use Rattle.rad_proxy.specs.Faults.{fault_at};
+    ghost from_gives = { fault_of_replay };
 
-    /// The fault that this is at the event of this line, counted from 1.
-    pub fn at_line(self, number: usize) -> Fault
-        ensures { result ≡ fault_at self number }
-    {
-        match self {
-            Halt::Malformed => Fault::Events(number),
-            Halt::Memory => Fault::Memory,
-            Halt::Output => Fault::Output,
+    fn from(fault: ReplayFault) -> Fault {
+        match fault {
+            ReplayFault::Input => Fault::Input,
+            ReplayFault::Configuration(fault) => Fault::Configuration(fault),
+            ReplayFault::Memory => Fault::Memory,
+            ReplayFault::Events(line) => Fault::Events(line),
+            ReplayFault::Output => Fault::Output,
         }
     }
 }
 
-impl From<AllocError> for Halt {
-    fn from(_error: AllocError) -> Self {
-        Halt::Memory
+impl From<ServeFault> for Fault {
+    ghost use Rattle.rad_proxy.specs.Faults.{fault_of_serving};
+
+    ghost from_gives = { fault_of_serving };
+
+    /// A worker that ends by itself is told as one that can't be started.
+    fn from(fault: ServeFault) -> Fault {
+        match fault {
+            ServeFault::Listen(endpoint) => Fault::Listen(endpoint),
+            ServeFault::LaneSocket(lane) => Fault::LaneSocket(lane),
+            ServeFault::Threads | ServeFault::Ended(_) => Fault::Threads,
+            ServeFault::Input => Fault::Input,
+            ServeFault::Output => Fault::Output,
+            ServeFault::Memory => Fault::Memory,
+        }
     }
 }

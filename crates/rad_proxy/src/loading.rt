@@ -3,9 +3,8 @@
 ghost use Rattle.std.specs.Prelude.{IfOk, None};
 ghost use Rattle.rad_proxy.specs.Configurations.{IsLoaded};
 
-use crate::bounded::read_at_most;
-use crate::configuration::read_configuration;
 use crate::faults::Fault;
+use rad_console::{read_at_most, read_configuration};
 use rad_realms::Config;
 use std::alloc::Global;
 use std::fs;

@@ -1,79 +1,39 @@
-//! A RADIUS accounting proxy (RFC 2866 section 2.1).
+//! A RADIUS accounting proxy (RFC 2866 section 2.1): the words that it is called with, the files that it reads, and the
+//! status that it ends with. What it does stands in libraries: `rad_replay` answers a script, `rad_server` serves over UDP, and
+//! `rad_telemetry` logs and counts.
 #![tactic(auto)]
 
-ghost use denote.Param.Send.{IsSync};
-
-mod attending;
-mod bounded;
-mod building;
 mod check_command;
-mod commands;
-mod configuration;
-mod counters;
-mod events;
 mod faults;
-mod hex;
-mod interrupting;
-mod kinds;
-mod latest;
-mod left_over;
-mod levels;
-mod lines;
 mod loading;
-mod logging;
-mod names;
-mod packet_text;
-mod packet_words;
-mod path;
-mod pieces;
-mod replaying;
-mod report_lines;
-mod reporting;
-mod script;
-mod sent;
-mod serving;
-mod sockets;
-mod telling;
+mod run_command;
 #[cfg(test)]
 mod tests;
-mod waking;
-mod watching;
-mod wires;
 mod words;
-mod workers;
 
 use check_command::check_file;
-use counters::Counters;
 use faults::Fault;
-use levels::read_level;
-use libc::STDIN_FILENO;
-use lines::EndLine;
-use loading::load;
-use log::{LevelFilter, Log, Logged, warn};
-use logging::ErrorLines;
-use replaying::replay;
-use reporting::{CounterFile, Ending, Keep, Keeper, Reporter, report};
+use rad_console::EndLine;
+use rad_replay::replay;
+use rad_telemetry::{ReplaceFile, RuntimeFiles};
+use run_command::serve_file;
 use std::alloc::{AllocGlobal, Global};
-use std::env::{self, Env, VarError};
-use std::io::{self, ErrorKind, Read, Write};
+use std::env::{self, Env};
+use std::io::{self, ErrorKind, Print, Read, Write};
 use std::net::Net;
 use std::process::ExitCode;
 use std::random::RandomSource;
-use std::rt::Runtime;
+use std::rt::{Files, Runtime};
 use std::sync::Wait;
-use std::thread::{self, Scope, Threads};
-use std::time::Clock;
+use std::thread::Threads;
 use words::{Task, read_words};
 
 /// The status that a run ends with where something is left over.
 const LEFT_OVER: u8 = 3;
 
-/// The variable that names the file for the counters.
-const COUNTERS: &str = "RAD_PROXY_COUNTERS";
-
 fn main(rt: HostRuntime) -> ExitCode {
-    let keeper = Keeper::new(&rt);
-    let status = match obey_words(&rt, &keeper) {
+    let files = RuntimeFiles::new(&rt);
+    let status = match obey_words(&rt, &files) {
         Ok(status) => status,
         Err(fault) => {
             if !matches!(fault, Fault::Output) {
@@ -86,120 +46,51 @@ fn main(rt: HostRuntime) -> ExitCode {
 }
 
 /// Does what the words ask for, and gives the status.
-fn obey_words<R, K>(rt: &R, keeper: &K) -> Result<u8, Fault>
+fn obey_words<R, F>(rt: &R, files: &F) -> Result<u8, Fault>
 where
     R: Runtime + AllocGlobal + Net + RandomSource + Threads + Wait + Sync,
     R::File: Drop,
-    K: Keep + Sync,
+    F: ReplaceFile + Sync,
 {
     let alloc = rt.alloc();
-    let words = read_arguments(rt)?;
-    match read_words(alloc, words.as_slice())? {
-        Task::Replay => {
-            let end = replay(rt, alloc, rt.reader(), io::writer(rt))?;
+    match read_task(rt, alloc)? {
+        Task::Replay => status_of_replay(rt, alloc, rt.reader(), io::writer(rt)),
+        Task::Check(file) => print_counts(rt, alloc, file.as_str()),
+        Task::Run(file) => {
+            let end = serve_file(rt, files, alloc, file.as_str())?;
             Ok(status_at(&end))
         }
-        Task::Check(file) => {
-            let counts = check_file(rt, alloc, file.as_str())?;
-            match println!(rt; "{counts}") {
-                Ok(()) => Ok(0),
-                Err(_) => Err(Fault::Output),
-            }
-        }
-        Task::Run(file) => serve_file(rt, keeper, alloc, file.as_str()),
     }
 }
 
-/// Serves the configuration in a file until standard input ends, and gives the status.
-fn serve_file<R, K>(rt: &R, keeper: &K, alloc: Global, file: &str) -> Result<u8, Fault>
-where
-    R: Runtime + AllocGlobal + Net + RandomSource + Threads + Wait + Sync,
-    R::File: Drop,
-    K: Keep + Sync,
-{
-    let config = load(rt, alloc, file)?;
-    let level = read_level(rt);
-    let log = Logged::new((), level.unwrap_or(LevelFilter::Info), ErrorLines::new(rt));
-    if level.is_none() {
-        warn!(log; "event=no-such-level reason=\"RAD_PROXY_LOG is none of off, error, warn, info, debug, trace\"");
-    }
-    let file = find_counter_file(rt, alloc, &log)?;
-    let Ok(counters) = Counters::new(alloc, config.homes().len()) else {
-        return Err(Fault::Memory);
-    };
-    let reporter = Reporter {
-        config: &config,
-        counters: &counters,
-        log: &log,
-        file: &file,
-        keeper,
-    };
-    let end = serve_and_report(rt, alloc, reporter, rt.reader(), io::writer(rt))?;
-    Ok(status_at(&end))
+/// What the words ask for that the program was called with.
+fn read_task<R: Env + AllocGlobal>(rt: &R, alloc: Global) -> Result<Task, Fault> {
+    let words = read_arguments(rt)?;
+    read_words(alloc, words.as_slice())
 }
 
-/// Serves a configuration, while a thread of its own reports what is counted.
-fn serve_and_report<R, L, K, I, O>(
+/// Answers the script of a reader, and gives the status.
+fn status_of_replay<R: Wait, I: Read + Drop, O: Write + Drop>(
     rt: &R,
     alloc: Global,
-    reporter: Reporter<'_, L, K>,
     reader: I,
     writer: O,
-) -> Result<EndLine, Fault>
-where
-    R: Clock + Net + RandomSource + Threads + Wait + Sync,
-    L: Log + Sync,
-    K: Keep + Sync,
-    I: Read + Drop,
-    O: Write + Drop,
-{
-    let ending = Ending::new();
-    let ending = &ending;
-    let Reporter {
-        config,
-        counters,
-        log,
-        file: _,
-        keeper: _,
-    } = reporter;
-    thread::scope(
-        thread::scope_env(),
-        rt,
-        move |scope| -> Result<EndLine, Fault>
-            requires { IsSync R.row × IsSync L.row × IsSync K.row }
-        {
-            if scope
-                .spawn(move || report(rt, alloc, reporter, ending))
-                .is_err()
-            {
-                return Err(Fault::Threads);
-            }
-            let input = Some(STDIN_FILENO);
-            let end = serving::run(rt, alloc, config, counters, log, reader, input, writer);
-            ending.end();
-            end
-        },
-    )
+) -> Result<u8, Fault> {
+    match replay(rt, alloc, reader, writer) {
+        Ok(end) => Ok(status_at(&end)),
+        Err(fault) => Err(Fault::from(fault)),
+    }
 }
 
-/// The file that the environment names for the counters, if any.
-fn find_counter_file<R, L>(rt: &R, alloc: Global, log: &L) -> Result<Option<CounterFile>, Fault>
+/// Prints how much the configuration in a file has, and gives the status.
+fn print_counts<R: Files + Print>(rt: &R, alloc: Global, file: &str) -> Result<u8, Fault>
 where
-    R: Env + AllocGlobal,
-    L: Log,
+    R::File: Drop,
 {
-    let path = match env::var(rt, COUNTERS) {
-        Ok(path) => path,
-        Err(VarError::NotPresent) => return Ok(None),
-        Err(VarError::OutOfMemory) => return Err(Fault::Memory),
-        Err(VarError::NotUnicode) => {
-            warn!(log; "event=counters-fault");
-            return Ok(None);
-        }
-    };
-    match CounterFile::new(alloc, path) {
-        Ok(file) => Ok(Some(file)),
-        Err(_) => Err(Fault::Memory),
+    let counts = check_file(rt, alloc, file)?;
+    match println!(rt; "{counts}") {
+        Ok(()) => Ok(0),
+        Err(_) => Err(Fault::Output),
     }
 }
 

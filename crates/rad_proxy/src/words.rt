@@ -34,6 +34,11 @@ pub fn read_words(alloc: Global, words: &[String]) -> Result<Task, Fault> {
             };
         }
     };
+    task_of(alloc, &matches)
+}
+
+/// What the words that were matched ask for.
+fn task_of(alloc: Global, matches: &ArgMatches) -> Result<Task, Fault> {
     match matches.subcommand() {
         Some(("check", check)) => Ok(Task::Check(read_file_word(alloc, check)?)),
         Some(("run", run)) => Ok(Task::Run(read_file_word(alloc, run)?)),
@@ -54,10 +59,15 @@ fn read_file_word(alloc: Global, matches: &ArgMatches) -> Result<String, Fault> 
 
 /// The words that the program takes.
 fn command<'a>(alloc: Global) -> Result<Command<'a>, AllocError> {
-    Command::new(alloc, "rad_proxy")
-        .subcommand(Command::new(alloc, "replay"))?
-        .subcommand(Command::new(alloc, "check").arg(file(alloc))?)?
-        .subcommand(Command::new(alloc, "run").arg(file(alloc))?)
+    let program = Command::new(alloc, "rad_proxy");
+    let program = program.subcommand(Command::new(alloc, "replay"))?;
+    let program = program.subcommand(command_of_file(alloc, "check")?)?;
+    program.subcommand(command_of_file(alloc, "run")?)
+}
+
+/// A command of this name, and the word FILE after it.
+fn command_of_file<'a>(alloc: Global, name: &'a str) -> Result<Command<'a>, AllocError> {
+    Command::new(alloc, name).arg(file(alloc))
 }
 
 /// The word FILE, which has to be there.

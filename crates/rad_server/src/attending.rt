@@ -52,7 +52,10 @@ fn answer<R: Wait, G, O: Write>(
     writer: &mut O,
 ) -> Result<(), ServeFault> {
     let Service {
-        rt, config, proxy, ..
+        rt,
+        config,
+        proxy,
+        ..
     } = service;
     if obey(rt, config, proxy, command, writer).is_err() || writer.flush().is_err() {
         return Err(ServeFault::Output);

@@ -33,9 +33,7 @@ where
         service.rt,
         move |scope| -> Result<Vec<Inlet>, ServeFault>
             requires { IsSync R.row × IsSend W.row × IsSync G.row }
-        {
-            work_in(scope, service, wires, inlets, reader, writer)
-        },
+        { work_in(scope, service, wires, inlets, reader, writer) },
     )
 }
 

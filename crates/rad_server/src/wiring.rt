@@ -47,10 +47,7 @@ impl<'a, R: Clock + Net + RandomSource> WireMaker<'a, R> {
     }
 
     /// The wires of the lanes over these sockets, in order.
-    fn make_lanes(
-        &self,
-        lanes: Vec<Vec<UdpSocket>>,
-    ) -> Result<Vec<UdpWire<'a, R>>, ServeFault> {
+    fn make_lanes(&self, lanes: Vec<Vec<UdpSocket>>) -> Result<Vec<UdpWire<'a, R>>, ServeFault> {
         let mut wires = Vec::new(self.alloc);
         for (lane, sockets) in lanes.into_iter().enumerate() {
             let wire = self.make(sockets, ServeFault::LaneSocket(lane))?;

@@ -1,0 +1,151 @@
+//! The command `run`: a configuration is served over UDP, while what is counted is reported.
+
+ghost use denote.Param.Send.{IsSync};
+
+use crate::faults::Fault;
+use crate::loading::load;
+use libc::STDIN_FILENO;
+use rad_console::EndLine;
+use rad_realms::Config;
+use rad_server::{ServeFault, run};
+use rad_telemetry::{
+    CounterFile, Log, ReplaceFile, Reporter, StopFlag, Telemetry, find_counter_file, open_log,
+    report,
+};
+use std::alloc::{AllocError, AllocGlobal, Global};
+use std::io::{self, Read, Write};
+use std::net::Net;
+use std::random::RandomSource;
+use std::rt::Runtime;
+use std::sync::Wait;
+use std::thread::{self, Scope, Threads};
+use std::time::Clock;
+
+/// Serves the configuration in a file until standard input ends.
+///
+/// # Errors
+///
+/// As [`load`], and as [`run`]; `Threads` where the thread that reports can't be started.
+pub fn serve_file<R, F>(rt: &R, files: &F, alloc: Global, path: &str) -> Result<EndLine, Fault>
+where
+    R: Runtime + AllocGlobal + Net + RandomSource + Threads + Wait + Sync,
+    R::File: Drop,
+    F: ReplaceFile + Sync,
+{
+    let config = load(rt, alloc, path)?;
+    let log = open_log(rt, rt);
+    let Ok(file) = find_counter_file(rt, alloc, &log) else {
+        return Err(Fault::Memory);
+    };
+    let Ok(telemetry) = Telemetry::new(alloc, &config, &log) else {
+        return Err(Fault::Memory);
+    };
+    let service = Service {
+        rt,
+        alloc,
+        config: &config,
+        telemetry: &telemetry,
+        reporter: telemetry.reporter(&file, files),
+    };
+    match serve(service, rt.reader(), io::writer(rt)) {
+        Ok(end) => Ok(end),
+        Err(fault) => Err(Fault::from(fault)),
+    }
+}
+
+/// A configuration that is served, and what tells how that goes.
+struct Service<'a, R, L, F> {
+    rt: &'a R,
+    alloc: Global,
+    config: &'a Config,
+    telemetry: &'a Telemetry<'a, L>,
+    reporter: Reporter<'a, L, F>,
+}
+
+impl<R, L, F> Clone for Service<'_, R, L, F> {
+    fn clone(&self) -> Result<Self, AllocError> {
+        Ok(*self)
+    }
+}
+
+impl<R, L, F> Copy for Service<'_, R, L, F> {}
+
+/// Serves a configuration, while a thread of its own reports what is counted.
+fn serve<R, L, F, I, O>(
+    service: Service<'_, R, L, F>,
+    reader: I,
+    writer: O,
+) -> Result<EndLine, ServeFault>
+where
+    R: Clock + Net + RandomSource + Threads + Wait + Sync,
+    L: Log + Sync,
+    F: ReplaceFile + Sync,
+    I: Read + Drop,
+    O: Write + Drop,
+{
+    let stop = StopFlag::new();
+    let stop = &stop;
+    thread::scope(
+        thread::scope_env(),
+        service.rt,
+        move |scope| -> Result<EndLine, ServeFault>
+            requires { IsSync R.row × IsSync L.row × IsSync F.row }
+        {
+            if !start_reporter(scope, service, stop) {
+                return Err(ServeFault::Threads);
+            }
+            let end = serve_and_tell(service, reader, writer);
+            stop.set();
+            end
+        },
+    )
+}
+
+/// Starts the thread that reports until the flag is set, and answers whether it could.
+fn start_reporter<'s, E, R, L, F>(
+    scope: &Scope<'s, E>,
+    service: Service<'s, R, L, F>,
+    stop: &'s StopFlag,
+) -> bool
+where
+    R: Clock + Wait + Sync + 's,
+    L: Log + Sync + 's,
+    F: ReplaceFile + Sync + 's,
+{
+    let Service {
+        rt,
+        alloc,
+        reporter,
+        ..
+    } = service;
+    scope
+        .spawn(move || report(rt, alloc, reporter, stop))
+        .is_ok()
+}
+
+/// Serves a configuration. That a worker ended by itself is logged.
+fn serve_and_tell<R, L, F, I, O>(
+    service: Service<'_, R, L, F>,
+    reader: I,
+    writer: O,
+) -> Result<EndLine, ServeFault>
+where
+    R: Clock + Net + RandomSource + Threads + Wait + Sync,
+    L: Log + Sync,
+    I: Read + Drop,
+    O: Write + Drop,
+{
+    let Service {
+        rt,
+        alloc,
+        config,
+        telemetry,
+        ..
+    } = service;
+    let input = Some(STDIN_FILENO);
+    let end = run(rt, alloc, config, telemetry, reader, input, writer);
+    if let Err(ServeFault::Ended(worker)) = end {
+        telemetry.tell_end(worker);
+    }
+    end
+}

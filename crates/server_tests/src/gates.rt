@@ -1,0 +1,27 @@
+//! Gates that let every worker pass, or stop one.
+
+use rad_desk::{Call, Gate, Go, Worker};
+
+/// Lets every worker pass.
+#[derive(Clone, Copy)]
+pub struct Open;
+
+impl Gate for Open {
+    fn before(&self, _worker: Worker, _call: Call) -> Go {
+        Go::On
+    }
+
+    fn after(&self, _worker: Worker, _call: Call) {}
+}
+
+/// Has one worker end by itself.
+#[derive(Clone, Copy)]
+pub struct Ending(pub Worker);
+
+impl Gate for Ending {
+    fn before(&self, worker: Worker, _call: Call) -> Go {
+        if worker == self.0 { Go::Stop } else { Go::On }
+    }
+
+    fn after(&self, _worker: Worker, _call: Call) {}
+}

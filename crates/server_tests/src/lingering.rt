@@ -1,0 +1,84 @@
+//! That what lingers too long is left over.
+
+use crate::gates::Open;
+use crate::octets::REQUEST;
+use crate::serving::NO_LINGER;
+use crate::wires::{LOOKS, pause};
+use rad_realms::read_config;
+use rad_server::run;
+use std::cell::Cell;
+use std::io::{self, Read, Write};
+use std::net::{Ipv4Addr, SocketAddr, UdpSocket};
+use std::test::Fail;
+use std::time::Clock;
+
+/// Sends a request, asks how the lane stands until the request is accepted, and then ends.
+#[derive(Drop)]
+struct Sending<'a, R> {
+    clock: &'a R,
+    socket: UdpSocket,
+    is_sent: bool,
+    is_accepted: &'a Cell<bool>,
+    looks: u32,
+}
+
+impl<R: Clock> Read for Sending<'_, R> {
+    fn read(&mut self, buf: &mut [u8]) -> io::Result<usize> {
+        if !self.is_sent {
+            self.is_sent = true;
+            let listen = SocketAddr::from((Ipv4Addr::LOCALHOST, 1815));
+            self.socket.send_to(&REQUEST, listen)?;
+        }
+        if self.looks == 0 || self.is_accepted.get() {
+            return Ok(0);
+        }
+        self.looks -= 1;
+        pause(self.clock);
+        b"state\n".as_slice().read(buf)
+    }
+}
+
+/// Looks whether a line says that a request is accepted.
+#[derive(Drop)]
+struct Looking<'a> {
+    is_accepted: &'a Cell<bool>,
+}
+
+impl Write for Looking<'_> {
+    fn write(&mut self, buf: &[u8]) -> io::Result<usize> {
+        if buf
+            .windows(11)
+            .any(|part| part == b"accepted 1 ".as_slice())
+        {
+            self.is_accepted.set(true);
+        }
+        Ok(buf.len())
+    }
+
+    fn flush(&mut self) -> io::Result<()> {
+        Ok(())
+    }
+}
+
+#[test]
+fn what_lingers_is_left_over(rt: HostRuntime) -> Result<(), Fail> {
+    let alloc = rt.alloc();
+    let config = read_config(alloc, NO_LINGER)?;
+    let any = SocketAddr::from((Ipv4Addr::LOCALHOST, 0));
+    let is_accepted = Cell::new(false);
+    let reader = Sending {
+        clock: &rt,
+        socket: UdpSocket::bind(&rt, any)?,
+        is_sent: false,
+        is_accepted: &is_accepted,
+        looks: LOOKS,
+    };
+    let writer = Looking {
+        is_accepted: &is_accepted,
+    };
+    let end = run(&rt, alloc, &config, &Open, reader, None, writer)?;
+    assert!(rt; is_accepted.get());
+    assert_eq!(rt; end.queued.saturating_add(end.outstanding), 1);
+    assert!(rt; !end.is_clean());
+    Ok(())
+}

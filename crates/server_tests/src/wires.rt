@@ -1,0 +1,106 @@
+//! Wires in memory.
+
+use rad_desk::{Delivery, Received, Traffic, Wire};
+use rad_realms::Endpoint;
+use rad_tables::Moment;
+use std::sync::atomic::{AtomicU64, Ordering};
+use std::thread;
+use std::time::{Clock, Duration};
+
+/// The most looks at what another thread does, a millisecond apart.
+pub const LOOKS: u32 = 10_000;
+
+/// One client and two home servers.
+pub const TWO_HOMES: &str = r#"
+listen = "127.0.0.1:1813"
+[[client]]
+address = "10.0.0.1"
+secret = "nas-secret"
+[[home]]
+name = "h1"
+address = "127.0.0.1:2813"
+secret = "home-secret"
+[[home]]
+name = "h2"
+address = "127.0.0.1:2814"
+secret = "home2-secret"
+[[realm]]
+name = "example.org"
+home = "h1"
+[[realm]]
+name = "example.net"
+home = "h2"
+"#;
+
+pub fn pause(clock: &impl Clock) {
+    thread::sleep(clock, Duration::from_millis(1));
+}
+
+/// A wire in memory: it gives datagrams in order, once it sent as many as it waits for.
+#[derive(Drop)]
+pub struct Scripted<'a, R> {
+    pub clock: &'a R,
+    pub from: Endpoint,
+    pub gives: &'a [&'a [u8]],
+    /// The place of the one that it gives next.
+    pub next: usize,
+    pub waits_for: u64,
+    pub sent: &'a AtomicU64,
+    pub traffic: Traffic,
+}
+
+impl<R: Clock> Wire for Scripted<'_, R> {
+    ghost log = { λ w. w.traffic.passed };
+
+    fn now(&mut self) -> Moment {
+        Moment::new(0).unwrap()
+    }
+
+    fn random(&mut self) -> [u8; 16] {
+        [0x5a; 16]
+    }
+
+    fn receive(&mut self, datagram: &mut [u8; 4096]) -> Received {
+        pause(self.clock);
+        if self.sent.load(Ordering::SeqCst) < self.waits_for {
+            return Received::Nothing;
+        }
+        let gives = self.gives;
+        let Some(given) = gives.get(self.next) else {
+            return Received::Nothing;
+        };
+        self.next = self.next.saturating_add(1);
+        let count = given.len().min(4096);
+        datagram[..count].copy_from_slice(&given[..count]);
+        let Endpoint { address, port } = self.from;
+        self.traffic.came(0, address, port, &datagram[..count]);
+        Received::Got {
+            address,
+            port,
+            socket: 0,
+            count,
+        }
+    }
+
+    fn send(&mut self, socket: u16, address: [u8; 4], port: u16, octets: &[u8]) -> Delivery {
+        self.traffic.went(socket, address, port, octets);
+        self.sent.fetch_add(1, Ordering::SeqCst);
+        Delivery::Sent
+    }
+}
+
+/// A wire in memory on which nothing comes.
+pub fn quiet<'a, R: Clock>(clock: &'a R, sent: &'a AtomicU64) -> Scripted<'a, R> {
+    Scripted {
+        clock,
+        from: Endpoint {
+            address: [127, 0, 0, 1],
+            port: 2813,
+        },
+        gives: &[],
+        next: 0,
+        waits_for: 0,
+        sent,
+        traffic: Traffic::new(),
+    }
+}
