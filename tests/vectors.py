@@ -198,24 +198,22 @@ def of_desks():
     }
 
 
-def of_rad_proxy():
+def of_services():
     client, home, second_home = b"nas-secret", b"home-secret", b"home2-secret"
     other = user_name(b"bob@example.net")
     forwarded = request(0, SESSION + mark(0, 0), home)
     other_forwarded = request(0, other + mark(1, 0), second_home)
     return {
-        "REQUEST": request(7, SESSION, client),
-        "OTHER_REQUEST": request(9, other, client),
-        "REPLY": answer(forwarded, 0, mark(0, 0), home),
-        "OTHER_REPLY": answer(other_forwarded, 0, mark(1, 0), second_home),
+        "NAME_ONLY_REQUEST": request(9, other, client),
+        "SEVENTH_REPLY": answer(forwarded, 0, mark(0, 0), home),
+        "NAME_ONLY_REPLY": answer(other_forwarded, 0, mark(1, 0), second_home),
     }
 
 
 MADE = {
     "auth_tests": of_auth_tests(),
-    "test_octets": {**of_nas(), **of_lanes(), **of_desks()},
+    "test_octets": {**of_nas(), **of_lanes(), **of_desks(), **of_services()},
     "lane_tests": sums_of_lanes(),
-    "rad_proxy": of_rad_proxy(),
 }
 
 SUM = re.compile(r"const (\w+): u64 = 0x([0-9a-f_]+);")

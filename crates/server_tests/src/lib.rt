@@ -11,7 +11,6 @@ mod interrupting;
 #[cfg(test)]
 mod lingering;
 #[cfg(test)]
-mod octets;
 #[cfg(test)]
 mod serving;
 #[cfg(test)]

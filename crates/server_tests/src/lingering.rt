@@ -1,7 +1,6 @@
 //! That what lingers too long is left over.
 
 use crate::gates::Open;
-use crate::octets::REQUEST;
 use crate::serving::NO_LINGER;
 use crate::wires::{LOOKS, pause};
 use rad_realms::read_config;
@@ -11,6 +10,7 @@ use std::io::{self, Read, Write};
 use std::net::{Ipv4Addr, SocketAddr, UdpSocket};
 use std::test::Fail;
 use std::time::Clock;
+use test_octets::nas::SEVENTH;
 
 /// Sends a request, asks how the lane stands until the request is accepted, and then ends.
 #[derive(Drop)]
@@ -27,7 +27,7 @@ impl<R: Clock> Read for Sending<'_, R> {
         if !self.is_sent {
             self.is_sent = true;
             let listen = SocketAddr::from((Ipv4Addr::LOCALHOST, 1815));
-            self.socket.send_to(&REQUEST, listen)?;
+            self.socket.send_to(&SEVENTH, listen)?;
         }
         if self.looks == 0 || self.is_accepted.get() {
             return Ok(0);

@@ -1,6 +1,5 @@
 //! That the lanes have threads of their own.
 
-use crate::octets::{OTHER_REPLY, OTHER_REQUEST, REPLY, REQUEST};
 use crate::streams::Narrow;
 use crate::wires::{LOOKS, Scripted, TWO_HOMES, pause};
 use rad_desk::{Call, Gate, Go, Traffic, Worker};
@@ -10,6 +9,8 @@ use std::io::{self, Read};
 use std::sync::atomic::{AtomicBool, AtomicU64, Ordering};
 use std::test::Fail;
 use std::time::Clock;
+use test_octets::homes::{NAME_ONLY_REPLY, SEVENTH_REPLY};
+use test_octets::nas::{NAME_ONLY_REQUEST, SEVENTH};
 
 /// Asks how the lanes stand until enough datagrams went out, and then ends.
 #[derive(Drop)]
@@ -89,8 +90,8 @@ fn lanes_have_threads_of_their_own(rt: HostRuntime) -> Result<(), Fail> {
         sent,
         traffic: Traffic::new(),
     };
-    let requests = [REQUEST.as_slice(), OTHER_REQUEST.as_slice()];
-    let replies = [[REPLY.as_slice()], [OTHER_REPLY.as_slice()]];
+    let requests = [SEVENTH.as_slice(), NAME_ONLY_REQUEST.as_slice()];
+    let replies = [[SEVENTH_REPLY.as_slice()], [NAME_ONLY_REPLY.as_slice()]];
     let client = Endpoint {
         address: [10, 0, 0, 1],
         port: 40000,

@@ -1,6 +1,6 @@
 //! What no clause says of the log: the line of each note and its level, and what it tells of the datagram that the note is about.
 
-use crate::packets::{OTHER_REPLY, OTHER_REQUEST, REQUEST, SHORT};
+use crate::packets::SHORT;
 use crate::shared::{HOME, Kept, NAS, TWO_HOMES};
 use rad_desk::{DeskFault, Gate, Note, Worker};
 use rad_lane::{HearFault, Refusal};
@@ -9,6 +9,8 @@ use rad_realms::{Dropped, read_config};
 use rad_telemetry::{LevelFilter, Log, Logged, PacketWords, Telemetry};
 use std::result::Result;
 use std::test::Fail;
+use test_octets::homes::NAME_ONLY_REPLY;
+use test_octets::nas::{NAME_ONLY_REQUEST, SEVENTH};
 
 /// The lines of what two workers received, and of what they noted then; the worker of `h1` received nothing.
 const NOTES: &str =
@@ -81,16 +83,16 @@ fn each_note_tells_of_what_its_worker_received(rt: HostRuntime) -> Result<(), Fa
     let log = Logged::new((), LevelFilter::Trace, Kept::new(alloc));
     let telemetry = Telemetry::new(alloc, &config, &log)?;
     let unknown = DeskFault::Lane(HearFault::Unknown);
-    telemetry.received(Worker::Lane(1), HOME, &OTHER_REPLY);
+    telemetry.received(Worker::Lane(1), HOME, &NAME_ONLY_REPLY);
     telemetry.note(Worker::Lane(1), Note::Unheard(unknown));
-    telemetry.received(Worker::Lane(1), NAS, &OTHER_REPLY);
+    telemetry.received(Worker::Lane(1), NAS, &NAME_ONLY_REPLY);
     telemetry.note(Worker::Lane(1), Note::NotHome);
     telemetry.note(Worker::Lane(0), Note::Unheard(DeskFault::RingFull));
-    telemetry.received(Worker::Front, NAS, &REQUEST);
+    telemetry.received(Worker::Front, NAS, &SEVENTH);
     telemetry.accepted(0, 3);
     telemetry.note(Worker::Front, Note::Refused(Refusal::BookFull));
     telemetry.received(Worker::Front, NAS, &SHORT);
-    telemetry.sends(Worker::Front, NAS, &OTHER_REQUEST);
+    telemetry.sends(Worker::Front, NAS, &NAME_ONLY_REQUEST);
     assert!(rt; log.sink().is(NOTES));
     Ok(())
 }
@@ -129,7 +131,7 @@ fn nothing_of_a_datagram_is_kept_above_debug(rt: HostRuntime) -> Result<(), Fail
     let config = read_config(alloc, TWO_HOMES)?;
     let log = Logged::new((), LevelFilter::Info, Kept::new(alloc));
     let telemetry = Telemetry::new(alloc, &config, &log)?;
-    telemetry.received(Worker::Front, NAS, &REQUEST);
+    telemetry.received(Worker::Front, NAS, &SEVENTH);
     telemetry.note(Worker::Front, Note::Dropped(Dropped::NoRealm));
     assert!(rt; log.sink().is(""));
     Ok(())

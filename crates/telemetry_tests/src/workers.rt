@@ -1,6 +1,6 @@
 //! What no clause says of the gate beside the workers: that the lines of a drop tell of its datagram.
 
-use crate::packets::{OTHER_REQUEST, REQUEST, SHORT};
+use crate::packets::SHORT;
 use crate::shared::{Kept, NAS};
 use rad_desk::{Delivery, Received, Traffic, Wire, front_worker, open};
 use rad_realms::{Endpoint, read_config};
@@ -8,6 +8,7 @@ use rad_tables::Moment;
 use rad_telemetry::{LevelFilter, Logged, Telemetry};
 use std::result::Result;
 use std::test::Fail;
+use test_octets::nas::{NAME_ONLY_REQUEST, SEVENTH};
 
 /// A configuration whose realms are not those of the requests.
 const OTHER_REALMS: &str = r#"
@@ -84,7 +85,7 @@ fn a_drop_tells_of_its_datagram(rt: HostRuntime) -> Result<(), Fail> {
         return Err(Fail::from("no memory"));
     };
     let mut wire = Scripted {
-        gives: &[&REQUEST, &SHORT, &OTHER_REQUEST],
+        gives: &[&SEVENTH, &SHORT, &NAME_ONLY_REQUEST],
         next: 0,
         traffic: Traffic::new(),
     };
