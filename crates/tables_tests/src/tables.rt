@@ -4,9 +4,10 @@ ghost use Rattle.std.specs.Prelude.{◌≡◌};
 ghost use Rattle.rad_tables.specs.Pairs.{IsInRange};
 
 use rad_tables::{Change, Duplicates, Key, Moment, Slot, Slots, Timed, wait_after};
+use std::process::Abort;
 use std::test::Fail;
 
-#[derive(Debug, PartialEq, Drop)]
+#[derive(PartialEq, Drop)]
 struct Note {
     due: u64,
     number: u64,
@@ -82,133 +83,200 @@ fn put_next(slots: &mut Slots<Note>, entry: Note) -> Option<Slot> {
 
 #[test]
 fn moments_end_below_two_to_62(rt: HostRuntime) -> Result<(), Fail> {
-    assert_eq!(rt; Moment::new(1 << 62), None);
-    assert_eq!(rt; Moment::new(u64::MAX), None);
+    assert!(rt; Moment::new(1 << 62).is_none());
+    assert!(rt; Moment::new(u64::MAX).is_none());
     let last = Moment::new((1 << 62) - 1).ok_or("the last moment")?;
-    assert_eq!(rt; last.get(), 4_611_686_018_427_387_903);
+    assert!(rt; last.get() == 4_611_686_018_427_387_903);
     let first = Moment::new(0).ok_or("the first moment")?;
-    assert_eq!(rt; first.get(), 0);
+    assert!(rt; first.get() == 0);
     assert!(rt; first < last);
     Ok(())
 }
 
 #[test]
-fn waits_double_up_to_two_minutes(rt: HostRuntime) -> Result<(), Fail> {
-    assert_eq!(rt; wait_after(2000, 1), 2000);
-    assert_eq!(rt; wait_after(2000, 3), 8000);
-    assert_eq!(rt; wait_after(100, 10), 51_200);
-    assert_eq!(rt; wait_after(1000, 7), 64_000);
-    assert_eq!(rt; wait_after(1000, 8), 120_000);
-    assert_eq!(rt; wait_after(60_000, 10), 120_000);
-    assert_eq!(rt; wait_after(100, 1), 100);
-    assert_eq!(rt; wait_after(60_000, 1), 60_000);
-    Ok(())
+fn waits_double_up_to_two_minutes(rt: HostRuntime) {
+    assert!(rt; wait_after(2000, 1) == 2000);
+    assert!(rt; wait_after(2000, 3) == 8000);
+    assert!(rt; wait_after(100, 10) == 51_200);
+    assert!(rt; wait_after(1000, 7) == 64_000);
+    assert!(rt; wait_after(1000, 8) == 120_000);
+    assert!(rt; wait_after(60_000, 10) == 120_000);
+    assert!(rt; wait_after(100, 1) == 100);
+    assert!(rt; wait_after(60_000, 1) == 60_000);
+}
+
+/// Checks which pair is allotted next.
+fn allots(rt: &impl Abort, slots: &Slots<Note>, wanted: Option<Slot>) {
+    assert!(rt; slots.allot() == wanted);
+}
+
+/// Puts an entry at each pair of a port up to an identifier, as they are allotted.
+fn fill(rt: &impl Abort, slots: &mut Slots<Note>, port: u16, end: u16) {
+    for identifier in 0..end {
+        let wanted = pair(port, (identifier % 256) as u8);
+        assert!(rt; put_next(slots, unspent(1, 1)) == Some(wanted));
+    }
+}
+
+/// Checks what is taken from a pair.
+fn takes(rt: &impl Abort, slots: &mut Slots<Note>, slot: Slot, wanted: Option<Note>) {
+    assert!(rt; slots.take(slot) == wanted);
+}
+
+fn are_allotted_in_cyclic_order(rt: &impl Abort, slots: &mut Slots<Note>)
+    requires { slots.old.ports ≡ 1 }
+{
+    allots(rt, slots, Some(pair(0, 0)));
+    put_at(slots, pair(0, 255), unspent(1, 1));
+    allots(rt, slots, Some(pair(0, 0)));
+    put_at(slots, pair(0, 0), unspent(2, 2));
+    allots(rt, slots, Some(pair(0, 1)));
+    for _ in 0..254 {
+        assert!(rt; put_next(slots, unspent(3, 3)).is_some());
+    }
+    assert!(rt; slots.used() == 256);
+    allots(rt, slots, None);
+    takes(rt, slots, pair(0, 7), Some(unspent(3, 3)));
+    allots(rt, slots, Some(pair(0, 7)));
 }
 
 #[test]
 fn pairs_are_allotted_in_cyclic_order(rt: HostRuntime) -> Result<(), Fail> {
     let mut slots = Slots::new(rt.alloc(), 1)?;
-    assert_eq!(rt; slots.allot(), Some(pair(0, 0)));
-    put_at(&mut slots, pair(0, 255), unspent(1, 1));
-    assert_eq!(rt; slots.allot(), Some(pair(0, 0)));
-    put_at(&mut slots, pair(0, 0), unspent(2, 2));
-    assert_eq!(rt; slots.allot(), Some(pair(0, 1)));
-    for _ in 0..254 {
-        assert!(rt; put_next(&mut slots, unspent(3, 3)).is_some());
-    }
-    assert_eq!(rt; slots.used(), 256);
-    assert_eq!(rt; slots.allot(), None);
-    assert_eq!(rt; slots.take(pair(0, 7)), Some(unspent(3, 3)));
-    assert_eq!(rt; slots.allot(), Some(pair(0, 7)));
+    are_allotted_in_cyclic_order(&rt, &mut slots);
     Ok(())
 }
 
 #[test]
 fn the_second_port_follows_the_first(rt: HostRuntime) -> Result<(), Fail> {
     let mut slots = Slots::new(rt.alloc(), 2)?;
-    for identifier in 0..=255 {
-        assert_eq!(rt;
-            put_next(&mut slots, unspent(1, 1)),
-            Some(pair(0, identifier))
-        );
-    }
-    for identifier in 0..44 {
-        assert_eq!(rt;
-            put_next(&mut slots, unspent(1, 1)),
-            Some(pair(1, identifier))
-        );
-    }
-    assert_eq!(rt; slots.used(), 300);
-    let most = Slots::<Note>::new(rt.alloc(), 4)?;
-    assert_eq!(rt; most.allot(), Some(pair(0, 0)));
+    fill(&rt, &mut slots, 0, 256);
+    fill(&rt, &mut slots, 1, 44);
+    assert!(rt; slots.used() == 300);
     Ok(())
+}
+
+#[test]
+fn four_ports_are_the_most(rt: HostRuntime) -> Result<(), Fail> {
+    allots(&rt, &Slots::new(rt.alloc(), 4)?, Some(pair(0, 0)));
+    Ok(())
+}
+
+/// Checks which entries are due next: of those that are not spent, and of those that are.
+fn are_due(rt: &impl Abort, slots: &Slots<Note>, unspent: Option<Slot>, spent: Option<Slot>) {
+    assert!(rt; slots.least_due(false) == unspent);
+    assert!(rt; slots.least_due(true) == spent);
+}
+
+/// Has the entry of a pair spent.
+fn spend(slots: &mut Slots<Note>, slot: Slot) {
+    if let Some(entry) = slots.get_mut(slot) {
+        entry.spent = true;
+    }
+}
+
+fn are_due_by_number(rt: &impl Abort, slots: &mut Slots<Note>)
+    requires { slots.old.ports ≡ 1 }
+{
+    are_due(rt, slots, None, None);
+    put_at(slots, pair(0, 0), unspent(5, 9));
+    put_at(slots, pair(0, 1), unspent(5, 3));
+    put_at(slots, pair(0, 2), unspent(6, 1));
+    are_due(rt, slots, Some(pair(0, 1)), None);
+    spend(slots, pair(0, 1));
+    are_due(rt, slots, Some(pair(0, 0)), Some(pair(0, 1)));
+    slots.change_each(&Renewal { now: 8 });
+    are_due(rt, slots, Some(pair(0, 2)), None);
+    takes(rt, slots, pair(0, 1), Some(unspent(8, 3)));
+    assert!(rt; slots.used() == 2);
 }
 
 #[test]
 fn the_least_due_goes_by_number_at_one_due(rt: HostRuntime) -> Result<(), Fail> {
     let mut slots = Slots::new(rt.alloc(), 1)?;
-    assert_eq!(rt; slots.least_due(false), None);
-    put_at(&mut slots, pair(0, 0), unspent(5, 9));
-    put_at(&mut slots, pair(0, 1), unspent(5, 3));
-    put_at(&mut slots, pair(0, 2), unspent(6, 1));
-    assert_eq!(rt; slots.least_due(false), Some(pair(0, 1)));
-    assert_eq!(rt; slots.least_due(true), None);
-    if let Some(entry) = slots.get_mut(pair(0, 1)) {
-        entry.spent = true;
-    }
-    assert_eq!(rt; slots.least_due(true), Some(pair(0, 1)));
-    assert_eq!(rt; slots.least_due(false), Some(pair(0, 0)));
-    slots.change_each(&Renewal { now: 8 });
-    assert_eq!(rt; slots.least_due(true), None);
-    assert_eq!(rt; slots.least_due(false), Some(pair(0, 2)));
-    assert_eq!(rt; slots.take(pair(0, 1)), Some(unspent(8, 3)));
-    assert_eq!(rt; slots.used(), 2);
+    are_due_by_number(&rt, &mut slots);
     Ok(())
+}
+
+/// Checks that nothing is found at a pair.
+fn has_nothing(rt: &impl Abort, slots: &mut Slots<Note>, slot: Slot) {
+    assert!(rt; slots.get(slot).is_none());
+    assert!(rt; slots.get_mut(slot).is_none());
+    takes(rt, slots, slot, None);
+}
+
+fn answers_none(rt: &impl Abort, slots: &mut Slots<Note>)
+    requires { slots.old.ports ≡ 1 }
+{
+    put_at(slots, pair(0, 255), unspent(1, 7));
+    assert!(rt;
+        slots
+            .get(pair(0, 255))
+            .is_some_and(|entry| entry.number == 7)
+    );
+    has_nothing(rt, slots, pair(1, 0));
+    has_nothing(rt, slots, pair(1, 255));
+    has_nothing(rt, slots, pair(u16::MAX, 255));
+    takes(rt, slots, pair(0, 255), Some(unspent(1, 7)));
+    assert!(rt; slots.used() == 0);
 }
 
 #[test]
 fn a_slot_out_of_range_answers_none(rt: HostRuntime) -> Result<(), Fail> {
     let mut slots = Slots::new(rt.alloc(), 1)?;
-    put_at(&mut slots, pair(0, 255), unspent(1, 7));
-    assert_eq!(rt; slots.get(pair(0, 255)).map(|entry| entry.number), Some(7));
-    assert!(rt; slots.get(pair(1, 0)).is_none());
-    assert!(rt; slots.get(pair(u16::MAX, 255)).is_none());
-    assert!(rt; slots.get_mut(pair(1, 0)).is_none());
-    assert_eq!(rt; slots.take(pair(1, 255)), None);
-    assert_eq!(rt; slots.take(pair(0, 255)), Some(unspent(1, 7)));
-    assert_eq!(rt; slots.used(), 0);
+    answers_none(&rt, &mut slots);
     Ok(())
+}
+
+/// The key of a request of this identifier.
+fn key(identifier: u8) -> Key {
+    Key {
+        client: [10, 0, 0, 1],
+        port: 40_000,
+        identifier,
+        authenticator: [9; 16],
+    }
+}
+
+/// Checks the last number of a key.
+fn finds(rt: &impl Abort, duplicates: &Duplicates, key: &Key, number: Option<u64>) {
+    assert!(rt; duplicates.find(key) == number);
 }
 
 #[test]
 fn duplicates_keep_the_last_number(rt: HostRuntime) -> Result<(), Fail> {
-    let key = Key {
-        client: [10, 0, 0, 1],
-        port: 40_000,
-        identifier: 7,
-        authenticator: [9; 16],
-    };
-    let other = Key {
-        identifier: 8,
-        ..key
-    };
     let mut duplicates = Duplicates::new(rt.alloc());
-    assert_eq!(rt; duplicates.find(&key), None);
-    duplicates.insert(key, 0)?;
-    duplicates.insert(other, 1)?;
-    assert_eq!(rt; duplicates.find(&key), Some(0));
-    duplicates.insert(key, u64::MAX)?;
-    assert_eq!(rt; duplicates.find(&key), Some(u64::MAX));
-    duplicates.remove(&key);
-    assert_eq!(rt; duplicates.find(&key), None);
-    assert_eq!(rt; duplicates.find(&other), Some(1));
-    assert_eq!(rt; duplicates.replace(key, 2), Ok(None));
-    assert_eq!(rt; duplicates.find(&key), Some(2));
-    duplicates.restore(&key, None);
-    assert_eq!(rt; duplicates.find(&key), None);
-    assert_eq!(rt; duplicates.replace(other, 3), Ok(Some(1)));
-    assert_eq!(rt; duplicates.find(&other), Some(3));
-    duplicates.restore(&other, Some(1));
-    assert_eq!(rt; duplicates.find(&other), Some(1));
+    finds(&rt, &duplicates, &key(7), None);
+    duplicates.insert(key(7), 0)?;
+    duplicates.insert(key(8), 1)?;
+    finds(&rt, &duplicates, &key(7), Some(0));
+    duplicates.insert(key(7), u64::MAX)?;
+    finds(&rt, &duplicates, &key(7), Some(u64::MAX));
+    duplicates.remove(&key(7));
+    finds(&rt, &duplicates, &key(7), None);
+    finds(&rt, &duplicates, &key(8), Some(1));
+    Ok(())
+}
+
+/// Checks which number an insertion replaces, and that it can be taken back.
+fn replaces(
+    rt: &impl Abort,
+    duplicates: &mut Duplicates,
+    key: Key,
+    number: u64,
+    last: Option<u64>,
+) {
+    assert!(rt; duplicates.replace(key, number) == Ok(last));
+    finds(rt, duplicates, &key, Some(number));
+    duplicates.restore(&key, last);
+    finds(rt, duplicates, &key, last);
+}
+
+#[test]
+fn a_replaced_number_is_restored(rt: HostRuntime) -> Result<(), Fail> {
+    let mut duplicates = Duplicates::new(rt.alloc());
+    duplicates.insert(key(8), 1)?;
+    replaces(&rt, &mut duplicates, key(7), 2, None);
+    replaces(&rt, &mut duplicates, key(8), 3, Some(1));
     Ok(())
 }

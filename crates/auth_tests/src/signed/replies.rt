@@ -3,7 +3,8 @@
 use super::vectors::{FORWARDED, REPLY, REQUEST, RESPONSE};
 use super::{CLIENT, HOME, MARK, secret_of};
 use rad_auth::{
-    ACCOUNTING_RESPONSE, Buffer, PROXY_STATE, Reply, ReplyFault, RequestHead, forward, respond,
+    ACCOUNTING_RESPONSE, Buffer, PROXY_STATE, Reply, ReplyFault, RequestHead, Secret, forward,
+    respond,
 };
 use rad_packet::{Datagram, authenticator_of, read};
 use std::alloc::Global;
@@ -69,16 +70,14 @@ impl Pair {
         push_classes(&mut self.response, octets)
     }
 
-    fn sign(&mut self) -> Result<(), Fail> {
-        let (client, home) = (secret_of(CLIENT)?, secret_of(HOME)?);
-        sign_response(&mut self.reply, &authenticator_of(&FORWARDED), &home);
-        sign_response(&mut self.response, &authenticator_of(&REQUEST), &client);
-        Ok(())
+    fn sign(&mut self, client: &Secret, home: &Secret) {
+        sign_response(&mut self.reply, &authenticator_of(&FORWARDED), home);
+        sign_response(&mut self.response, &authenticator_of(&REQUEST), client);
     }
 
     /// Whether the reply, once it is signed, gives this response, once that is signed, kept and copied.
     fn is_right(&mut self, alloc: Global) -> Result<bool, Fail> {
-        self.sign()?;
+        self.sign(&secret_of(CLIENT)?, &secret_of(HOME)?);
         let copy = response_after(alloc, self.reply.bytes())??.copy(alloc)?;
         let mut buffer = Buffer::with_room(alloc, self.response.len())?;
         buffer.fill(self.response.bytes());
@@ -112,17 +111,22 @@ fn spoiled_replies_give_none(rt: HostRuntime) -> Result<(), Fail> {
     Ok(())
 }
 
+/// Whether a reply of so many octets of Class has its Length, and gives its response.
+fn has_its_response(alloc: Global, octets: usize) -> Result<bool, Fail> {
+    let mut pair = Pair::new();
+    pair.push_mark()?;
+    pair.push_classes(octets).ok_or("no room")?;
+    let length = pair.reply.len();
+    Ok(length == octets.saturating_add(32) && pair.is_right(alloc)?)
+}
+
 /// The longest reply has 4096 octets, and its response twelve fewer. Steps of 63 leave no length of the last
 /// block of MD5 out.
 #[test]
 fn replies_of_many_lengths_give_responses(rt: HostRuntime) -> Result<(), Fail> {
     for step in 0..=65usize {
-        let count = 4064usize.saturating_sub(63 * step);
-        let mut pair = Pair::new();
-        pair.push_mark()?;
-        pair.push_classes(count).ok_or("no room")?;
-        assert_eq!(rt; pair.reply.len(), 32 + count);
-        assert!(rt; pair.is_right(rt.alloc())?, "{count} octets");
+        let octets = 4064usize.saturating_sub(63 * step);
+        assert!(rt; has_its_response(rt.alloc(), octets)?, "{octets} octets");
     }
     Ok(())
 }

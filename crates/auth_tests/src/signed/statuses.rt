@@ -4,8 +4,8 @@ use super::vectors::{
     REQUEST, STATUS, STATUS_AMONG_OTHERS, STATUS_ANSWER, TWO_MESSAGE_AUTHENTICATORS,
 };
 use super::{CLIENT, HOME, secret_of};
-use rad_auth::{STATUS_SERVER, answer_status, check_status, make_status};
-use rad_packet::{Datagram, authenticator_of, read};
+use rad_auth::{STATUS_SERVER, Secret, answer_status, check_status, make_status};
+use rad_packet::{Datagram, PacketRef, authenticator_of, read};
 use std::test::Fail;
 
 #[test]
@@ -26,24 +26,36 @@ fn is_right(packet: &[u8], secret: &[u8]) -> Result<bool, Fail> {
     Ok(check_status(&read(packet)?, &secret_of(secret)?))
 }
 
+/// Packets, a secret, and whether the packet is a right Status-Server under it.
+const ROWS: [(&[u8], &[u8], bool); 5] = [
+    (&STATUS, CLIENT, true),
+    (&STATUS, HOME, false),
+    (&STATUS_AMONG_OTHERS, CLIENT, true),
+    (&TWO_MESSAGE_AUTHENTICATORS, CLIENT, false),
+    (&REQUEST, CLIENT, false),
+];
+
 #[test]
 fn status_servers_have_one_message_authenticator(rt: HostRuntime) -> Result<(), Fail> {
-    assert!(rt; is_right(&STATUS, CLIENT)?);
-    assert!(rt; !is_right(&STATUS, HOME)?);
-    assert!(rt; is_right(&STATUS_AMONG_OTHERS, CLIENT)?);
-    assert!(rt; !is_right(&TWO_MESSAGE_AUTHENTICATORS, CLIENT)?);
-    assert!(rt; !is_right(&REQUEST, CLIENT)?);
+    for (packet, secret, wanted) in ROWS {
+        assert!(rt; is_right(packet, secret)? == wanted);
+    }
     Ok(())
+}
+
+/// The answer to a Status-Server, where it is right.
+fn answer_to(status: &PacketRef<'_>, client: &Secret) -> Option<Datagram> {
+    if !check_status(status, client) || status.code() != STATUS_SERVER {
+        return None;
+    }
+    let mut datagram = Datagram::new();
+    answer_status(status, client, &mut datagram);
+    Some(datagram)
 }
 
 #[test]
 fn status_servers_are_answered(rt: HostRuntime) -> Result<(), Fail> {
-    let client = secret_of(CLIENT)?;
-    let status = read(&STATUS)?;
-    let mut datagram = Datagram::new();
-    if check_status(&status, &client) && status.code() == STATUS_SERVER {
-        answer_status(&status, &client, &mut datagram);
-    }
-    assert!(rt; datagram.bytes() == STATUS_ANSWER.as_slice());
+    let answer = answer_to(&read(&STATUS)?, &secret_of(CLIENT)?).ok_or("no answer")?;
+    assert!(rt; answer.bytes() == STATUS_ANSWER.as_slice());
     Ok(())
 }

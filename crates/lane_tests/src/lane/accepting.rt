@@ -2,69 +2,95 @@
 
 use super::requests::request_of_length;
 use super::script::Call::{Accept, Counts as Count, Drain, IsDone, IsDraining};
-use super::script::Gives::{self, Counts as Counted, Drain as Drained, Is};
-use super::script::{at, play, refused, stamp, taken};
+use super::script::Gives::{self, Drain as Drained, Is};
+use super::script::{NOTHING, Row, TAKEN_0, TAKEN_1, play, stamp};
 use super::test_lane::TestLane;
 use rad_lane::{Counts, Refusal, Taken};
 use std::test::Fail;
 use test_octets::nas::{EIGHTH, SEVENTH};
 
-/// The counts of a lane that accepted so many and sent none.
-fn unsent(accepted: usize, draining: bool) -> Gives {
-    Counted(Counts {
-        opening: 0,
-        accepted: accepted as u64,
-        answered: 0,
-        queued: accepted,
-        outstanding: 0,
-        up: true,
-        draining,
-    })
+/// Two requests wait.
+const TWO_QUEUED: Gives = Gives::Counts(Counts {
+    opening: 0,
+    accepted: 2,
+    answered: 0,
+    queued: 2,
+    outstanding: 0,
+    up: true,
+    draining: false,
+});
+
+const WAITING_0: Gives = Gives::Accept(Ok(Taken::Waiting(0)));
+
+const TWO: [Row<'static>; 4] = [
+    (100, Accept(&SEVENTH), TAKEN_0, NOTHING),
+    (250, Accept(&EIGHTH), TAKEN_1, NOTHING),
+    (300, Accept(&SEVENTH), WAITING_0, NOTHING),
+    (300, Count, TWO_QUEUED, NOTHING),
+];
+
+/// Whether a lane has these two requests accepted, and nothing sent.
+fn has_two(lane: &TestLane) -> bool {
+    let first = stamp(0, 7, 0xabd474eaa4dc7ff139b7618502f5bcc4, 100);
+    let second = stamp(1, 8, 0x91412bcb0370001fd09977f480beb620, 250);
+    lane.lane.accepted() == [first, second].as_slice()
+        && lane.lane.sent().is_empty()
+        && lane.lane.answered().is_empty()
 }
 
 #[test]
 fn new_requests_are_numbered(rt: HostRuntime) -> Result<(), Fail> {
-    let first = stamp(0, 7, 0xabd474eaa4dc7ff139b7618502f5bcc4, 100);
-    let second = stamp(1, 8, 0x91412bcb0370001fd09977f480beb620, 250);
     let mut lane = TestLane::new(rt.alloc(), "")?;
-    lane.play(
-        &rt,
-        &[
-            at(100, Accept(&SEVENTH), taken(0)),
-            at(250, Accept(&EIGHTH), taken(1)),
-            at(300, Accept(&SEVENTH), Gives::Accept(Ok(Taken::Waiting(0)))),
-            at(300, Count, unsent(2, false)),
-        ],
-    );
-    let is_right = lane.lane.accepted() == [first, second].as_slice();
-    let has_more = !lane.lane.sent().is_empty() || !lane.lane.answered().is_empty();
+    lane.play(&rt, &TWO);
+    let is_right = has_two(&lane);
     lane.end();
-    assert!(rt; is_right && !has_more);
+    assert!(rt; is_right);
     Ok(())
 }
+
+const DRAINING: Gives = Gives::Accept(Err(Refusal::Draining));
+
+const FULL_BOOK: [Row<'static>; 4] = [
+    (100, Accept(&SEVENTH), TAKEN_0, NOTHING),
+    (
+        400,
+        Accept(&EIGHTH),
+        Gives::Accept(Err(Refusal::BookFull)),
+        NOTHING,
+    ),
+    (400, Drain, Drained(1), NOTHING),
+    (400, Accept(&EIGHTH), DRAINING, NOTHING),
+];
+
+const FULL_QUEUE: [Row<'static>; 4] = [
+    (100, Accept(&SEVENTH), TAKEN_0, NOTHING),
+    (
+        400,
+        Accept(&EIGHTH),
+        Gives::Accept(Err(Refusal::QueueFull)),
+        NOTHING,
+    ),
+    (400, Drain, Drained(1), NOTHING),
+    (400, Accept(&EIGHTH), DRAINING, NOTHING),
+];
 
 #[test]
 fn refusals_change_nothing(rt: HostRuntime) -> Result<(), Fail> {
-    for (limits, reason) in [
-        ("book = 1\n", Refusal::BookFull),
-        ("queue = 1\n", Refusal::QueueFull),
-    ] {
-        let script = [
-            at(100, Accept(&SEVENTH), taken(0)),
-            at(400, Accept(&EIGHTH), refused(reason)),
-            at(400, Drain, Drained(1)),
-            at(400, Accept(&EIGHTH), refused(Refusal::Draining)),
-        ];
-        play(&rt, rt.alloc(), limits, &script)?;
-    }
-    Ok(())
+    play(&rt, rt.alloc(), "book = 1\n", &FULL_BOOK)?;
+    play(&rt, rt.alloc(), "queue = 1\n", &FULL_QUEUE)
 }
+
+/// Lengths of a request, and what becomes of it.
+const LENGTHS: [(usize, Gives); 2] = [
+    (4084, TAKEN_0),
+    (4085, Gives::Accept(Err(Refusal::TooLong))),
+];
 
 #[test]
 fn the_mark_has_to_fit(rt: HostRuntime) -> Result<(), Fail> {
-    for (length, gives) in [(4084, taken(0)), (4085, refused(Refusal::TooLong))] {
+    for (length, gives) in LENGTHS {
         let request = request_of_length(length)?;
-        let script = [at(100, Accept(request.bytes()), gives)];
+        let script = [(100, Accept(request.bytes()), gives, NOTHING)];
         play(&rt, rt.alloc(), "", &script)?;
     }
     Ok(())
@@ -81,36 +107,52 @@ name = "other.org"
 home = "h2"
 "#;
 
+/// The numbers of home servers, and what becomes of a request at the lane of each.
+const LANES: [(u16, Gives); 2] = [(0, TAKEN_0), (1, Gives::Accept(Err(Refusal::WrongLane)))];
+
 #[test]
 fn takes_requests_of_its_own_realms(rt: HostRuntime) -> Result<(), Fail> {
-    for (number, gives) in [(0, taken(0)), (1, refused(Refusal::WrongLane))] {
+    for (number, gives) in LANES {
         let mut lane = TestLane::of_home(rt.alloc(), OTHER_HOME, number)?;
-        assert_eq!(rt; lane.call(100, Accept(&SEVENTH)), gives);
+        assert!(rt; lane.call(100, Accept(&SEVENTH)) == gives);
         lane.end();
     }
     Ok(())
 }
 
+/// One request waits in a lane that drains.
+const ONE_DRAINING: Gives = Gives::Counts(Counts {
+    opening: 0,
+    accepted: 1,
+    answered: 0,
+    queued: 1,
+    outstanding: 0,
+    up: true,
+    draining: true,
+});
+
+const DRAINS_ONCE: [Row<'static>; 7] = [
+    (100, Accept(&SEVENTH), TAKEN_0, NOTHING),
+    (100, IsDraining, Is(false), NOTHING),
+    (100, Drain, Drained(1), NOTHING),
+    (100, Drain, Drained(1), NOTHING),
+    (100, Count, ONE_DRAINING, NOTHING),
+    (100, IsDraining, Is(true), NOTHING),
+    (100, IsDone, Is(false), NOTHING),
+];
+
 #[test]
 fn drains_once(rt: HostRuntime) -> Result<(), Fail> {
-    let script = [
-        at(100, Accept(&SEVENTH), taken(0)),
-        at(100, IsDraining, Is(false)),
-        at(100, Drain, Drained(1)),
-        at(100, Drain, Drained(1)),
-        at(100, Count, unsent(1, true)),
-        at(100, IsDraining, Is(true)),
-        at(100, IsDone, Is(false)),
-    ];
-    play(&rt, rt.alloc(), "", &script)
+    play(&rt, rt.alloc(), "", &DRAINS_ONCE)
 }
+
+const DONE_AT_ONCE: [Row<'static>; 3] = [
+    (0, IsDone, Is(false), NOTHING),
+    (0, Drain, Drained(0), NOTHING),
+    (0, IsDone, Is(true), NOTHING),
+];
 
 #[test]
 fn is_done_with_nothing_queued(rt: HostRuntime) -> Result<(), Fail> {
-    let script = [
-        at(0, IsDone, Is(false)),
-        at(0, Drain, Drained(0)),
-        at(0, IsDone, Is(true)),
-    ];
-    play(&rt, rt.alloc(), "", &script)
+    play(&rt, rt.alloc(), "", &DONE_AT_ONCE)
 }

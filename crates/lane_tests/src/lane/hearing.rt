@@ -2,14 +2,15 @@
 
 use super::requests::{reply_to, request};
 use super::script::Call::{Accept, Counts as Count, Hear, Step};
-use super::script::Gives::{self, Counts as Counted};
-use super::script::{Told, answer, at, moment, play, puts, sent, slot, stamp, taken, unheard};
-use super::test_lane::TestLane;
-use rad_lane::HearFault::{
-    BadAuthenticator, MessageAuthenticatorHere, NoProxyState, Unknown, Unread, WrongCode,
+use super::script::{
+    ANSWERED_0, FIRST, Gives, NOTHING, PROBE_ANSWERED, PROBED_AS_2, RESENT_0, Row, SENT_0, TAKEN_0,
+    TAKEN_1, Told, UNKNOWN, WENT_DOWN, WRONG, answer, moment, play, sent, stamp, taken,
 };
+use super::test_lane::{CLIENT, CLIENT_PORT, TestLane};
+use rad_lane::HearFault::{MessageAuthenticatorHere, NoProxyState, Unread, WrongCode};
 use rad_lane::{Action, Counts, Taken};
 use rad_packet::ReadFault;
+use rad_tables::Slot;
 use std::process::Abort;
 use std::test::Fail;
 use test_octets::homes::{
@@ -19,74 +20,96 @@ use test_octets::homes::{
 };
 use test_octets::nas::{REQUEST, RESPONSE, WRAPPED, WRAPPED_RESPONSE};
 
-/// The counts of a lane that accepted one request and sent it.
-fn sent_one(answered: u64, up: bool) -> Gives {
-    Counted(Counts {
-        opening: 0,
-        accepted: 1,
-        answered,
-        queued: 0,
-        outstanding: usize::from(answered == 0),
-        up,
-        draining: false,
-    })
-}
+/// One request was sent, and the home server is up.
+const OUTSTANDING: Gives = Gives::Counts(Counts {
+    opening: 0,
+    accepted: 1,
+    answered: 0,
+    queued: 0,
+    outstanding: 1,
+    up: true,
+    draining: false,
+});
 
-fn did(action: Action) -> Gives {
-    Gives::Step(action)
-}
+/// The same while the home server is down.
+const OUTSTANDING_DOWN: Gives = Gives::Counts(Counts {
+    opening: 0,
+    accepted: 1,
+    answered: 0,
+    queued: 0,
+    outstanding: 1,
+    up: false,
+    draining: false,
+});
+
+/// One request was answered.
+const ANSWERED: Gives = Gives::Counts(Counts {
+    opening: 0,
+    accepted: 1,
+    answered: 1,
+    queued: 0,
+    outstanding: 0,
+    up: true,
+    draining: false,
+});
+
+const AGAIN_0: Gives = Gives::Accept(Ok(Taken::Again(0)));
+
+const ONE_ANSWER: [Row<'static>; 7] = [
+    (100, Accept(&REQUEST), TAKEN_0, NOTHING),
+    (1000, Step, SENT_0, &FORWARDED),
+    (1000, Count, OUTSTANDING, NOTHING),
+    (1700, Hear(0, &REPLY), ANSWERED_0, &RESPONSE),
+    (1700, Count, ANSWERED, NOTHING),
+    (31_699, Accept(&REQUEST), AGAIN_0, &RESPONSE),
+    (31_700, Accept(&REQUEST), TAKEN_1, NOTHING),
+];
 
 #[test]
 fn a_request_is_answered(rt: HostRuntime) -> Result<(), Fail> {
-    let again = Gives::Accept(Ok(Taken::Again(0)));
-    let script = [
-        at(100, Accept(&REQUEST), taken(0)),
-        puts(1000, Step, sent(0), &FORWARDED),
-        at(1000, Count, sent_one(0, true)),
-        puts(1700, Hear(0, &REPLY), answer(0), &RESPONSE),
-        at(1700, Count, sent_one(1, true)),
-        puts(31_699, Accept(&REQUEST), again, &RESPONSE),
-        at(31_700, Accept(&REQUEST), taken(1)),
-    ];
-    play(&rt, rt.alloc(), "", &script)
+    play(&rt, rt.alloc(), "", &ONE_ANSWER)
 }
+
+const SHORT: Gives = Gives::Hear(Err(Unread(ReadFault::Short)));
+
+const WRONG_CODE: Gives = Gives::Hear(Err(WrongCode));
+
+const SIGNED: Gives = Gives::Hear(Err(MessageAuthenticatorHere));
+
+const UNMARKED: Gives = Gives::Hear(Err(NoProxyState));
+
+const UNHEARD: [Row<'static>; 13] = [
+    (100, Accept(&REQUEST), TAKEN_0, NOTHING),
+    (1000, Step, SENT_0, &FORWARDED),
+    (1800, Hear(0, &[5]), SHORT, NOTHING),
+    (1800, Hear(0, &FORWARDED), WRONG_CODE, NOTHING),
+    (1800, Hear(0, &REPLY_OF_3), UNKNOWN, NOTHING),
+    (1800, Hear(1, &REPLY), UNKNOWN, NOTHING),
+    (1800, Hear(0, &SPOILED_REPLY), WRONG, NOTHING),
+    (1800, Hear(0, &WITH_MESSAGE_AUTHENTICATOR), SIGNED, NOTHING),
+    (1800, Hear(0, &WITHOUT_PROXY_STATE), UNMARKED, NOTHING),
+    (1800, Hear(0, &MARK_NOT_LAST), UNMARKED, NOTHING),
+    (1700, Count, OUTSTANDING, NOTHING),
+    (1700, Hear(0, &REPLY), ANSWERED_0, &RESPONSE),
+    (1700, Hear(0, &REPLY), UNKNOWN, NOTHING),
+];
 
 #[test]
 fn what_is_not_heard_changes_nothing(rt: HostRuntime) -> Result<(), Fail> {
-    let script = [
-        at(100, Accept(&REQUEST), taken(0)),
-        puts(1000, Step, sent(0), &FORWARDED),
-        at(1800, Hear(0, &[5]), unheard(Unread(ReadFault::Short))),
-        at(1800, Hear(0, &FORWARDED), unheard(WrongCode)),
-        at(1800, Hear(0, &REPLY_OF_3), unheard(Unknown)),
-        at(1800, Hear(1, &REPLY), unheard(Unknown)),
-        at(1800, Hear(0, &SPOILED_REPLY), unheard(BadAuthenticator)),
-        at(
-            1800,
-            Hear(0, &WITH_MESSAGE_AUTHENTICATOR),
-            unheard(MessageAuthenticatorHere),
-        ),
-        at(1800, Hear(0, &WITHOUT_PROXY_STATE), unheard(NoProxyState)),
-        at(1800, Hear(0, &MARK_NOT_LAST), unheard(NoProxyState)),
-        at(1700, Count, sent_one(0, true)),
-        puts(1700, Hear(0, &REPLY), answer(0), &RESPONSE),
-        at(1700, Hear(0, &REPLY), unheard(Unknown)),
-    ];
-    play(&rt, rt.alloc(), "", &script)
+    play(&rt, rt.alloc(), "", &UNHEARD)
 }
+
+const KEPT: [Row<'static>; 4] = [
+    (100, Accept(&REQUEST), TAKEN_0, NOTHING),
+    (1000, Step, SENT_0, &FORWARDED),
+    (1800, Hear(0, &SPOILED_REPLY), WRONG, NOTHING),
+    (1700, Hear(0, &REPLY), ANSWERED_0, &RESPONSE),
+];
 
 #[test]
 fn answers_are_kept(rt: HostRuntime) -> Result<(), Fail> {
     let mut lane = TestLane::new(rt.alloc(), "")?;
-    lane.play(
-        &rt,
-        &[
-            at(100, Accept(&REQUEST), taken(0)),
-            puts(1000, Step, sent(0), &FORWARDED),
-            at(1800, Hear(0, &SPOILED_REPLY), unheard(BadAuthenticator)),
-            puts(1700, Hear(0, &REPLY), answer(0), &RESPONSE),
-        ],
-    );
+    lane.play(&rt, &KEPT);
     let is_right = keeps_the_answer(&lane);
     lane.end();
     assert!(rt; is_right);
@@ -109,27 +132,32 @@ fn keeps_the_answer(lane: &TestLane) -> bool {
         })
 }
 
+const FIRST_ANSWER: [Row<'static>; 3] = [
+    (0, Accept(&REQUEST), TAKEN_0, NOTHING),
+    (0, Step, SENT_0, &FORWARDED),
+    (0, Hear(0, &REPLY), ANSWERED_0, &RESPONSE),
+];
+
+const TAKEN_256: Gives = Gives::Accept(Ok(Taken::New(256)));
+
+const SENT_256: Gives = Gives::Step(Action::Sent(256, FIRST));
+
+const ANSWERED_256: Gives = Gives::Hear(Ok(Told::Answer(256, CLIENT, CLIENT_PORT)));
+
+/// What follows once each identifier was answered.
+const LATE_REPLY: [Row<'static>; 4] = [
+    (0, Accept(&WRAPPED), TAKEN_256, NOTHING),
+    (0, Step, SENT_256, &WRAPPED_FORWARDED),
+    (0, Hear(0, &REPLY), WRONG, NOTHING),
+    (0, Hear(0, &WRAPPED_REPLY), ANSWERED_256, &WRAPPED_RESPONSE),
+];
+
 #[test]
 fn a_late_reply_answers_no_other_sending(rt: HostRuntime) -> Result<(), Fail> {
     let mut lane = TestLane::new(rt.alloc(), "")?;
-    lane.play(
-        &rt,
-        &[
-            at(0, Accept(&REQUEST), taken(0)),
-            puts(0, Step, sent(0), &FORWARDED),
-            puts(0, Hear(0, &REPLY), answer(0), &RESPONSE),
-        ],
-    );
+    lane.play(&rt, &FIRST_ANSWER);
     let answered = answer_each_identifier(&rt, &mut lane);
-    lane.play(
-        &rt,
-        &[
-            at(0, Accept(&WRAPPED), taken(256)),
-            puts(0, Step, sent(256), &WRAPPED_FORWARDED),
-            at(0, Hear(0, &REPLY), unheard(BadAuthenticator)),
-            puts(0, Hear(0, &WRAPPED_REPLY), answer(256), &WRAPPED_RESPONSE),
-        ],
-    );
+    lane.play(&rt, &LATE_REPLY);
     lane.end();
     answered
 }
@@ -139,36 +167,40 @@ fn answer_each_identifier(rt: &impl Abort, lane: &mut TestLane) -> Result<(), Fa
     for count in 1..256 {
         let number = u64::from(count);
         let request = request(count)?;
-        assert_eq!(rt; lane.call(0, Accept(request.bytes())), taken(number));
-        assert_eq!(rt; lane.call(0, Step), sent(count));
+        assert!(rt; lane.call(0, Accept(request.bytes())) == taken(number));
+        assert!(rt; lane.call(0, Step) == sent(count));
         let reply = reply_to(lane.octets(), 0)?;
-        assert_eq!(rt; lane.call(0, Hear(0, reply.bytes())), answer(number));
+        assert!(rt; lane.call(0, Hear(0, reply.bytes())) == answer(number));
     }
     Ok(())
 }
 
+const PROBED_AS_1: Gives = Gives::Step(Action::Probed(Slot {
+    port: 0,
+    identifier: 1,
+}));
+
+const ANSWERS_TAKE_UP: [Row<'static>; 17] = [
+    (0, Accept(&REQUEST), TAKEN_0, NOTHING),
+    (1000, Step, SENT_0, &FORWARDED),
+    (3000, Step, WENT_DOWN, NOTHING),
+    (3000, Count, OUTSTANDING_DOWN, NOTHING),
+    (3000, Step, PROBED_AS_1, &PROBE),
+    (4000, Hear(0, &SPOILED_PROBE_ANSWER), WRONG, NOTHING),
+    (4000, Step, Gives::Idle(Some(13_000)), NOTHING),
+    (4000, Hear(0, &PROBE_ANSWER), PROBE_ANSWERED, NOTHING),
+    (4000, Count, OUTSTANDING, NOTHING),
+    (4000, Hear(0, &PROBE_ANSWER), UNKNOWN, NOTHING),
+    (4000, Step, RESENT_0, &FORWARDED),
+    (6000, Step, WENT_DOWN, NOTHING),
+    (6000, Step, PROBED_AS_2, &SECOND_PROBE),
+    (7000, Hear(0, &REPLY), ANSWERED_0, &RESPONSE),
+    (7000, Count, ANSWERED, NOTHING),
+    (7000, Hear(0, &SECOND_PROBE_ANSWER), UNKNOWN, NOTHING),
+    (7000, Step, Gives::Idle(None), NOTHING),
+];
+
 #[test]
 fn a_right_answer_takes_a_lane_up(rt: HostRuntime) -> Result<(), Fail> {
-    let probe_answered = Gives::Hear(Ok(Told::ProbeAnswered));
-    let spoiled = Hear(0, &SPOILED_PROBE_ANSWER);
-    let script = [
-        at(0, Accept(&REQUEST), taken(0)),
-        puts(1000, Step, sent(0), &FORWARDED),
-        at(3000, Step, did(Action::WentDown)),
-        at(3000, Count, sent_one(0, false)),
-        puts(3000, Step, did(Action::Probed(slot(1))), &PROBE),
-        at(4000, spoiled, unheard(BadAuthenticator)),
-        at(4000, Step, did(Action::Idle(Some(moment(13_000))))),
-        at(4000, Hear(0, &PROBE_ANSWER), probe_answered),
-        at(4000, Count, sent_one(0, true)),
-        at(4000, Hear(0, &PROBE_ANSWER), unheard(Unknown)),
-        puts(4000, Step, did(Action::Resent(0, slot(0))), &FORWARDED),
-        at(6000, Step, did(Action::WentDown)),
-        puts(6000, Step, did(Action::Probed(slot(2))), &SECOND_PROBE),
-        puts(7000, Hear(0, &REPLY), answer(0), &RESPONSE),
-        at(7000, Count, sent_one(1, true)),
-        at(7000, Hear(0, &SECOND_PROBE_ANSWER), unheard(Unknown)),
-        at(7000, Step, did(Action::Idle(None))),
-    ];
-    play(&rt, rt.alloc(), "tries = 1\n", &script)
+    play(&rt, rt.alloc(), "tries = 1\n", &ANSWERS_TAKE_UP)
 }

@@ -2,12 +2,11 @@
 
 use super::requests::reply_to;
 use super::script::Call::{Hear, Step};
-use super::script::Gives::Step as Did;
-use super::script::{answer, at, pair, puts, sent, slot};
+use super::script::{ANSWERED_0, NOTHING, PROBED_AS_2, Row, SENT_0, WENT_DOWN, pair, sent};
 use super::test_lane::TestLane;
 use super::waiting::accept_each;
 use block_queue::{BlockQueue, Fifo};
-use rad_lane::{Action, Answered, Entry, Leftover, Record};
+use rad_lane::{Answered, Entry, Leftover, Record};
 use std::process::Abort;
 use std::test::Fail;
 use test_octets::homes::SECOND_PROBE;
@@ -71,20 +70,19 @@ fn is_same_record(one: &Record, other: &Record) -> bool {
         && one.client_secret().octets() == other.client_secret().octets()
 }
 
+const PROBED: [Row<'static>; 2] = [
+    (2000, Step, WENT_DOWN, NOTHING),
+    (2000, Step, PROBED_AS_2, &SECOND_PROBE),
+];
+
 /// One request is answered, one sent, with the home server down and a probe out, and one queued.
 fn have_one_of_each(rt: &impl Abort, lane: &mut TestLane) -> Result<(), Fail> {
     accept_each(rt, lane, 0, 3)?;
-    assert_eq!(rt; lane.call(0, Step), sent(0));
+    assert!(rt; lane.call(0, Step) == SENT_0);
     let reply = reply_to(lane.octets(), 0)?;
-    assert_eq!(rt; lane.call(0, Hear(0, reply.bytes())), answer(0));
-    assert_eq!(rt; lane.call(0, Step), sent(1));
-    lane.play(
-        rt,
-        &[
-            at(2000, Step, Did(Action::WentDown)),
-            puts(2000, Step, Did(Action::Probed(slot(2))), &SECOND_PROBE),
-        ],
-    );
+    assert!(rt; lane.call(0, Hear(0, reply.bytes())) == ANSWERED_0);
+    assert!(rt; lane.call(0, Step) == sent(1));
+    lane.play(rt, &PROBED);
     Ok(())
 }
 

@@ -4,12 +4,15 @@ use super::requests::{reply_to, request};
 use super::running::{checked, did};
 use super::script::Call::{Accept, Hear, Step};
 use super::script::Gives::{self, Step as Did};
-use super::script::{Told, answer, at, moment, pair, play, puts, sent, taken, unheard};
+use super::script::{
+    ANSWERED_0, NOTHING, PROBE_ANSWERED, Row, SENT_0, TAKEN_0, UNKNOWN, WENT_DOWN, WRONG, answer,
+    moment, pair, play,
+};
 use super::test_lane::{RANDOM, TestLane};
-use super::waiting::accept_each;
-use rad_lane::HearFault::{BadAuthenticator, Unknown};
+use super::waiting::{NO_ROOM, accept_each};
 use rad_lane::{Action, Event, Given, run};
 use rad_packet::Datagram;
+use rad_tables::Slot;
 use std::alloc::Global;
 use std::process::Abort;
 use std::test::Fail;
@@ -55,8 +58,7 @@ fn fill(rt: &impl Abort, lane: &mut TestLane) -> Result<(), Fail> {
 fn sendings_go_on_to_the_second_port(rt: HostRuntime) -> Result<(), Fail> {
     let mut lane = TestLane::new(rt.alloc(), "ports = 2\nwindow = 300\n")?;
     let filled = fill(&rt, &mut lane);
-    let full = Did(Action::Idle(Some(moment(2000))));
-    lane.play(&rt, &[at(0, Step, full)]);
+    lane.play(&rt, &NO_ROOM);
     lane.end();
     filled
 }
@@ -65,10 +67,10 @@ fn sendings_go_on_to_the_second_port(rt: HostRuntime) -> Result<(), Fail> {
 fn serve_each(rt: &impl Abort, lane: &mut TestLane) -> Result<(), Fail> {
     for count in 0..770 {
         accept_each(rt, lane, count, count + 1)?;
-        assert_eq!(rt; lane.call(0, Step), Did(sent_under(count, count % 768)));
+        assert!(rt; lane.call(0, Step) == Did(sent_under(count, count % 768)));
         let reply = reply_to(lane.octets(), 0)?;
         let gives = lane.call(0, Hear(pair(count % 768).port, reply.bytes()));
-        assert_eq!(rt; gives, answer(u64::from(count)));
+        assert!(rt; gives == answer(u64::from(count)));
     }
     Ok(())
 }
@@ -91,7 +93,7 @@ fn replies_to(
 ) -> Result<Vec<Datagram>, Fail> {
     let mut replies = Vec::new(alloc);
     for number in 0..count {
-        assert_eq!(rt; lane.call(0, Step), Did(sent_under(number, number)));
+        assert!(rt; lane.call(0, Step) == Did(sent_under(number, number)));
         replies.push(reply_to(lane.octets(), 0)?)?;
     }
     Ok(replies)
@@ -101,21 +103,20 @@ fn replies_to(
 fn hears(lane: &mut TestLane, port: u16, replies: &[Datagram], number: usize) -> Gives {
     match replies.get(number) {
         Some(reply) => lane.call(0, Hear(port, reply.bytes())),
-        None => unheard(Unknown),
+        None => UNKNOWN,
     }
 }
 
 fn hear_on_each_port(rt: &impl Abort, alloc: Global, lane: &mut TestLane) -> Result<(), Fail> {
     accept_each(rt, lane, 0, 1022)?;
     let replies = replies_to(rt, alloc, lane, 1022)?;
-    let wrong = unheard(BadAuthenticator);
-    assert_eq!(rt; hears(lane, 1, replies.as_slice(), 7), wrong);
-    assert_eq!(rt; hears(lane, 0, replies.as_slice(), 263), wrong);
-    assert_eq!(rt; hears(lane, 4, replies.as_slice(), 7), unheard(Unknown));
-    assert_eq!(rt; hears(lane, 1, replies.as_slice(), 263), answer(0));
-    assert_eq!(rt; hears(lane, 1, replies.as_slice(), 263), unheard(Unknown));
-    assert_eq!(rt; hears(lane, 3, replies.as_slice(), 1021), answer(1));
-    assert_eq!(rt; hears(lane, 0, replies.as_slice(), 7), answer(2));
+    assert!(rt; hears(lane, 1, replies.as_slice(), 7) == WRONG);
+    assert!(rt; hears(lane, 0, replies.as_slice(), 263) == WRONG);
+    assert!(rt; hears(lane, 4, replies.as_slice(), 7) == UNKNOWN);
+    assert!(rt; hears(lane, 1, replies.as_slice(), 263) == ANSWERED_0);
+    assert!(rt; hears(lane, 1, replies.as_slice(), 263) == UNKNOWN);
+    assert!(rt; hears(lane, 3, replies.as_slice(), 1021) == answer(1));
+    assert!(rt; hears(lane, 0, replies.as_slice(), 7) == answer(2));
     Ok(())
 }
 
@@ -129,26 +130,40 @@ fn a_reply_is_heard_on_its_own_port(rt: HostRuntime) -> Result<(), Fail> {
     heard
 }
 
+const UNKNOWN_PORTS: [Row<'static>; 6] = [
+    (0, Accept(&REQUEST), TAKEN_0, NOTHING),
+    (0, Step, SENT_0, &FORWARDED),
+    (0, Hear(1, &REPLY), UNKNOWN, NOTHING),
+    (0, Hear(2, &REPLY), UNKNOWN, NOTHING),
+    (0, Hear(u16::MAX, &REPLY), UNKNOWN, NOTHING),
+    (0, Hear(0, &REPLY), ANSWERED_0, &RESPONSE),
+];
+
 #[test]
 fn ports_that_are_not_are_unknown(rt: HostRuntime) -> Result<(), Fail> {
-    let script = [
-        at(0, Accept(&REQUEST), taken(0)),
-        puts(0, Step, sent(0), &FORWARDED),
-        at(0, Hear(1, &REPLY), unheard(Unknown)),
-        at(0, Hear(2, &REPLY), unheard(Unknown)),
-        at(0, Hear(u16::MAX, &REPLY), unheard(Unknown)),
-        puts(0, Hear(0, &REPLY), answer(0), &RESPONSE),
-    ];
-    play(&rt, rt.alloc(), "ports = 2\n", &script)
+    play(&rt, rt.alloc(), "ports = 2\n", &UNKNOWN_PORTS)
 }
 
 fn send_each(rt: &impl Abort, lane: &mut TestLane, count: u16) -> Result<(), Fail> {
     accept_each(rt, lane, 0, count)?;
     for number in 0..count {
-        assert_eq!(rt; lane.call(0, Step), Did(sent_under(number, number)));
+        assert!(rt; lane.call(0, Step) == Did(sent_under(number, number)));
     }
     Ok(())
 }
+
+const PROBED: Gives = Gives::Step(Action::Probed(Slot {
+    port: 1,
+    identifier: 1,
+}));
+
+const PROBED_ON_THE_SECOND: [Row<'static>; 5] = [
+    (2000, Step, WENT_DOWN, NOTHING),
+    (2000, Step, PROBED, &PROBE),
+    (2000, Hear(0, &PROBE_ANSWER), WRONG, NOTHING),
+    (2000, Hear(1, &PROBE_ANSWER), PROBE_ANSWERED, NOTHING),
+    (2000, Hear(1, &PROBE_ANSWER), UNKNOWN, NOTHING),
+];
 
 /// Behind 257 sendings the probe has Identifier 1 of the second source port. Its answer is no reply to the sending under
 /// that Identifier of the first one.
@@ -157,16 +172,7 @@ fn a_probe_is_answered_on_its_own_port(rt: HostRuntime) -> Result<(), Fail> {
     let limits = "ports = 2\nwindow = 257\ntries = 1\n";
     let mut lane = TestLane::new(rt.alloc(), limits)?;
     let has_sent = send_each(&rt, &mut lane, 257);
-    let probed = Did(Action::Probed(pair(257)));
-    let probe_answered = Gives::Hear(Ok(Told::ProbeAnswered));
-    let script = [
-        at(2000, Step, Did(Action::WentDown)),
-        puts(2000, Step, probed, &PROBE),
-        at(2000, Hear(0, &PROBE_ANSWER), unheard(BadAuthenticator)),
-        at(2000, Hear(1, &PROBE_ANSWER), probe_answered),
-        at(2000, Hear(1, &PROBE_ANSWER), unheard(Unknown)),
-    ];
-    lane.play(&rt, &script);
+    lane.play(&rt, &PROBED_ON_THE_SECOND);
     lane.end();
     has_sent
 }

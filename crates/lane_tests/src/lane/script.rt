@@ -25,10 +25,12 @@ pub enum Call<'a> {
 }
 
 /// What a call answers, without the packets.
-#[derive(Clone, Copy, Debug, PartialEq, Eq)]
+#[derive(Clone, Copy, PartialEq, Eq)]
 pub enum Gives {
     Accept(Result<Taken, Refusal>),
     Step(Action),
+    /// A step has nothing to do until this moment in milliseconds.
+    Idle(Option<u64>),
     Hear(Result<Told, HearFault>),
     Drain(u64),
     Counts(Counts),
@@ -36,7 +38,7 @@ pub enum Gives {
 }
 
 /// What was heard.
-#[derive(Clone, Copy, Debug, PartialEq, Eq)]
+#[derive(Clone, Copy, PartialEq, Eq)]
 pub enum Told {
     /// An answer of this serial, which goes to this address and port.
     Answer(u64, [u8; 4], u16),
@@ -50,41 +52,60 @@ impl Gives {
 
     /// Whether memory was refused.
     pub fn wants_memory(&self) -> bool {
-        *self == refused(Refusal::OutOfMemory) || *self == unheard(HearFault::OutOfMemory)
+        matches!(
+            self,
+            Gives::Accept(Err(Refusal::OutOfMemory)) | Gives::Hear(Err(HearFault::OutOfMemory))
+        )
     }
 }
 
 /// A call at a moment in milliseconds, with what it answers and the octets that it puts into the datagram, which
 /// are none where it leaves that as it was.
-#[derive(Clone, Copy)]
-pub struct Row<'a> {
-    pub moment: u32,
-    pub call: Call<'a>,
-    pub gives: Gives,
-    pub octets: &'a [u8],
-}
+pub type Row<'a> = (u32, Call<'a>, Gives, &'a [u8]);
 
-/// A call that leaves the datagram as it was.
-pub fn at<'a>(moment: u32, call: Call<'a>, gives: Gives) -> Row<'a> {
-    puts(moment, call, gives, &[])
-}
+pub const NOTHING: &[u8] = &[];
 
-/// A call that puts these octets into the datagram.
-pub fn puts<'a>(moment: u32, call: Call<'a>, gives: Gives, octets: &'a [u8]) -> Row<'a> {
-    Row {
-        moment,
-        call,
-        gives,
-        octets,
-    }
-}
+pub const TAKEN_0: Gives = Gives::Accept(Ok(Taken::New(0)));
+
+pub const TAKEN_1: Gives = Gives::Accept(Ok(Taken::New(1)));
+
+/// Request 0 is sent under the first pair.
+pub const SENT_0: Gives = Gives::Step(Action::Sent(0, FIRST));
+
+pub const RESENT_0: Gives = Gives::Step(Action::Resent(0, FIRST));
+
+pub const WENT_DOWN: Gives = Gives::Step(Action::WentDown);
+
+pub const WENT_UP: Gives = Gives::Step(Action::WentUp);
+
+/// The home server is probed under Identifier 2 of the first source port.
+pub const PROBED_AS_2: Gives = Gives::Step(Action::Probed(THIRD));
+
+pub const ANSWERED_0: Gives = Gives::Hear(Ok(Told::Answer(0, CLIENT, CLIENT_PORT)));
+
+pub const PROBE_ANSWERED: Gives = Gives::Hear(Ok(Told::ProbeAnswered));
+
+pub const UNKNOWN: Gives = Gives::Hear(Err(HearFault::Unknown));
+
+pub const WRONG: Gives = Gives::Hear(Err(HearFault::BadAuthenticator));
+
+/// The first pair of a source port and an Identifier.
+pub const FIRST: Slot = Slot {
+    port: 0,
+    identifier: 0,
+};
+
+const THIRD: Slot = Slot {
+    port: 0,
+    identifier: 2,
+};
 
 /// Plays a script on a new lane, whose home server has these lines more in the configuration. After each call that
 /// is refused the lane has to leave what it leaves without that call, and so it has where a call was refused memory.
 pub fn play(rt: &impl Abort, alloc: Global, more: &str, script: &[Row<'_>]) -> Result<(), Fail> {
     let whole = leave(rt, alloc, more, script)?;
     for place in 0..script.len() {
-        if script[place].gives.is_refused() {
+        if script[place].2.is_refused() {
             let before = leave(rt, alloc, more, &script[..place])?;
             let after = leave(rt, alloc, more, &script[..place + 1])?;
             assert!(rt; is_same(&after, &before), "changed by call {place}");
@@ -143,10 +164,6 @@ pub fn taken(number: u64) -> Gives {
     Gives::Accept(Ok(Taken::New(number)))
 }
 
-pub fn refused(reason: Refusal) -> Gives {
-    Gives::Accept(Err(reason))
-}
-
 /// The first sending of the request of this number, under the Identifier that goes round with it.
 pub fn sent(number: u16) -> Gives {
     Gives::Step(Action::Sent(u64::from(number), slot(number)))
@@ -155,8 +172,4 @@ pub fn sent(number: u16) -> Gives {
 /// The client's answer of this serial.
 pub fn answer(serial: u64) -> Gives {
     Gives::Hear(Ok(Told::Answer(serial, CLIENT, CLIENT_PORT)))
-}
-
-pub fn unheard(fault: HearFault) -> Gives {
-    Gives::Hear(Err(fault))
 }

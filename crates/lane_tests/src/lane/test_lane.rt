@@ -1,6 +1,6 @@
 use super::script::{Call, Gives, Row, Told, moment};
 use block_queue::BlockQueue;
-use rad_lane::{HearFault, Heard, Lane, Leftover, Record, Refusal, Setup, Taken};
+use rad_lane::{Action, HearFault, Heard, Lane, Leftover, Record, Refusal, Setup, Taken};
 use rad_packet::{Datagram, read};
 use rad_realms::{Config, Incoming, check_in, read_config};
 use rad_tables::Moment;
@@ -66,10 +66,9 @@ impl TestLane {
 
     /// Makes the calls of a script, and compares what each gives and what it puts into the datagram.
     pub fn play(&mut self, rt: &impl Abort, script: &[Row<'_>]) {
-        for row in script {
-            let gives = self.call(row.moment, row.call);
-            assert_eq!(rt; gives, row.gives, "at {}", row.moment);
-            assert!(rt; self.octets() == row.octets, "octets at {}", row.moment);
+        for (moment, call, gives, octets) in script {
+            assert!(rt; self.call(*moment, *call) == *gives, "at {moment}");
+            assert!(rt; self.octets() == *octets, "octets at {moment}");
         }
     }
 
@@ -88,7 +87,7 @@ impl TestLane {
         let moment = moment(milliseconds);
         match call {
             Call::Accept(request) => Gives::Accept(self.accept(request, moment)),
-            Call::Step => Gives::Step(self.lane.step(moment, RANDOM, &mut self.datagram)),
+            Call::Step => self.step(moment),
             Call::Hear(port, reply) => Gives::Hear(self.hear(moment, port, reply)),
             Call::Drain => Gives::Drain(self.lane.drain()),
             Call::Counts => Gives::Counts(self.lane.counts()),
@@ -104,6 +103,14 @@ impl TestLane {
             return &[];
         }
         octets
+    }
+
+    /// What the lane does next.
+    fn step(&mut self, moment: Moment) -> Gives {
+        match self.lane.step(moment, RANDOM, &mut self.datagram) {
+            Action::Idle(due) => Gives::Idle(due.map(|due| due.get())),
+            action => Gives::Step(action),
+        }
     }
 
     /// The lane's answer to a datagram of its client; `WrongLane` where that is no request of the lane.

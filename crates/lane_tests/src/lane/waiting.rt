@@ -2,10 +2,11 @@
 
 use super::requests::request;
 use super::script::Call::{Accept, Step};
-use super::script::Gives::{self, Step as Did};
-use super::script::{at, moment, puts, refused, sent, slot, taken};
+use super::script::{
+    Gives, NOTHING, RESENT_0, Row, SENT_0, TAKEN_0, WENT_DOWN, WENT_UP, sent, taken,
+};
 use super::test_lane::TestLane;
-use rad_lane::{Action, Refusal};
+use rad_lane::Refusal;
 use std::process::Abort;
 use std::test::Fail;
 use test_octets::homes::FORWARDED;
@@ -16,7 +17,7 @@ pub fn accept_each(rt: &impl Abort, lane: &mut TestLane, first: u16, end: u16) -
     for count in first..end {
         let request = request(count)?;
         let gives = lane.call(0, Accept(request.bytes()));
-        assert_eq!(rt; gives, taken(u64::from(count)), "number {count}");
+        assert!(rt; gives == taken(u64::from(count)), "number {count}");
     }
     Ok(())
 }
@@ -24,44 +25,45 @@ pub fn accept_each(rt: &impl Abort, lane: &mut TestLane, first: u16, end: u16) -
 /// Has the requests of these numbers sent, each under the Identifier that goes round with its number.
 fn send_each(rt: &impl Abort, lane: &mut TestLane, first: u16, end: u16) {
     for count in first..end {
-        assert_eq!(rt; lane.call(0, Step), sent(count), "number {count}");
+        assert!(rt; lane.call(0, Step) == sent(count), "number {count}");
     }
 }
+
+const GOES_DOWN: [Row<'static>; 3] = [
+    (0, Accept(&REQUEST), TAKEN_0, NOTHING),
+    (0, Step, SENT_0, &FORWARDED),
+    (2000, Step, WENT_DOWN, NOTHING),
+];
+
+const QUEUE_FULL: Gives = Gives::Accept(Err(Refusal::QueueFull));
+
+const COMES_UP: [Row<'static>; 3] = [
+    (2000, Accept(&EIGHTH), QUEUE_FULL, NOTHING),
+    (62_000, Step, WENT_UP, NOTHING),
+    (62_000, Step, RESENT_0, &FORWARDED),
+];
 
 #[test]
 fn a_queue_waits_for_its_home(rt: HostRuntime) -> Result<(), Fail> {
     let limits = "tries = 1\nqueue = 65\nwindow = 100\n";
     let mut lane = TestLane::new(rt.alloc(), limits)?;
-    lane.play(
-        &rt,
-        &[
-            at(0, Accept(&REQUEST), taken(0)),
-            puts(0, Step, sent(0), &FORWARDED),
-            at(2000, Step, Did(Action::WentDown)),
-        ],
-    );
+    lane.play(&rt, &GOES_DOWN);
     let accepted = accept_each(&rt, &mut lane, 1, 66);
-    let resent = Did(Action::Resent(0, slot(0)));
-    lane.play(
-        &rt,
-        &[
-            at(2000, Accept(&EIGHTH), refused(Refusal::QueueFull)),
-            at(62_000, Step, Did(Action::WentUp)),
-            puts(62_000, Step, resent, &FORWARDED),
-        ],
-    );
+    lane.play(&rt, &COMES_UP);
     send_each(&rt, &mut lane, 1, 66);
     lane.end();
     accepted
 }
+
+/// Nothing is to be done until the first sending is due again.
+pub const NO_ROOM: [Row<'static>; 1] = [(0, Step, Gives::Idle(Some(2000)), NOTHING)];
 
 #[test]
 fn the_window_fills(rt: HostRuntime) -> Result<(), Fail> {
     let mut lane = TestLane::new(rt.alloc(), "window = 254\n")?;
     let accepted = accept_each(&rt, &mut lane, 0, 255);
     send_each(&rt, &mut lane, 0, 254);
-    let next = Did(Action::Idle(Some(moment(2000))));
-    lane.play(&rt, &[at(0, Step, next)]);
+    lane.play(&rt, &NO_ROOM);
     lane.end();
     accepted
 }
