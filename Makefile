@@ -132,13 +132,14 @@ uninstall:
 # Looks at the manual and at the scripts of packaging/: mandoc and shellcheck have to find nothing.
 manual:
 	mandoc -T lint -W warning man/man8/rad_proxy.8 man/man8/rad_proxyctl.8 man/man5/rad_proxy.toml.5
-	shellcheck packaging/serve.in packaging/rad_proxyctl.in packaging/deb packaging/try-deb packaging/try-service \
-		packaging/debian/postinst packaging/debian/prerm packaging/debian/postrm
+	shellcheck packaging/serve.in packaging/rad_proxyctl.in packaging/deb packaging/try-deb packaging/try-deb-inside \
+		packaging/try-package packaging/try-service packaging/debian/postinst packaging/debian/prerm packaging/debian/postrm
 
 # A Debian package of the program that `make build` left, in out/.
 deb:
 	@VERSION=$(VERSION) packaging/deb
 
-# Tries the installed scripts and the program over UDP on this machine's own address.
+# Tries the installed scripts and the program over UDP on this machine's own address: as they are used, and as they are misused.
 service:
 	@packaging/try-service
+	@python3 tests/service/run.py $(PROGRAM)

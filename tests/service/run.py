@@ -1,0 +1,452 @@
+#!/usr/bin/env python3
+"""Tries the scripts of the service, `serve` and `rad_proxyctl`, over a program that is built, as an operator would misuse them.
+
+usage: run.py PROGRAM [NAME ..]
+
+Each test is a function below, and its first line tells what holds. Names choose tests. It wants no right of root and no
+systemd, and uses loopback alone; what needs another user is tried where root runs this, and else told as left out. The last
+line is `N passed, M failed`.
+"""
+import contextlib
+import hashlib
+import os
+import pathlib
+import pty
+import re
+import shutil
+import signal
+import socket
+import stat
+import struct
+import subprocess
+import sys
+import tempfile
+import time
+
+HERE = pathlib.Path(__file__).resolve().parent.parent.parent
+PATIENCE = 30
+NAS_SECRET, HOME_SECRET = b"nas-secret", b"home-secret"
+STRANGER = 65534
+LINE = "lane 0 h1 up open accepted 0 queued 0 outstanding 0 answered 0 opening 0\n"
+NOTHING_LEFT = "end: queued 0 outstanding 0 untaken 0"
+
+
+class LeftOut(Exception):
+    """The test wants what is not here."""
+
+
+def hope(text, found, wanted):
+    if found != wanted:
+        raise AssertionError(f"{text}: {found!r}, and not {wanted!r}")
+
+
+def until(text, test, patience=PATIENCE):
+    """Waits until a test answers something, and answers that."""
+    last = time.monotonic() + patience
+    while time.monotonic() < last:
+        found = test()
+        if found:
+            return found
+        time.sleep(0.02)
+    raise AssertionError(f"never: {text}")
+
+
+def bound():
+    made = socket.socket(socket.AF_INET, socket.SOCK_DGRAM)
+    made.bind(("127.0.0.1", 0))
+    made.settimeout(PATIENCE)
+    return made
+
+
+def request(identifier=1):
+    attributes = b"\x01\x11bob@example.org" + b"\x28\x06\x00\x00\x00\x01"
+    head = struct.pack("!BBH", 4, identifier, 20 + len(attributes))
+    return head + hashlib.md5(head + bytes(16) + attributes + NAS_SECRET).digest() + attributes
+
+
+def answered(octets):
+    """The response of a home server, with the Proxy-State that stands last."""
+    attributes = octets[-12:]
+    head = struct.pack("!BBH", 5, octets[1], 20 + len(attributes))
+    return head + hashlib.md5(head + octets[4:20] + attributes + HOME_SECRET).digest() + attributes
+
+
+class Service:
+    """The scripts, installed in a folder of this test, with a configuration of one client and one home server."""
+
+    def __init__(self, program, room):
+        self.room, self.run = room, room / "run"
+        subprocess.run(["make", "-s", "install", f"DESTDIR={room}", "PREFIX=/usr", f"PROGRAM={program}"], cwd=HERE, check=True)
+        self.serve, self.ctl = room / "usr/libexec/rad_proxy/serve", room / "usr/sbin/rad_proxyctl"
+        self.home, self.nas = bound(), bound()
+        with bound() as free:
+            self.port = free.getsockname()[1]
+        self.file = room / "one.toml"
+        self.configure()
+        self.environment = os.environ | {"RUNTIME_DIRECTORY": str(self.run), "RAD_PROXY_PROGRAM": str(room / "usr/sbin/rad_proxy")}
+        for name in ("RAD_PROXY_COUNTERS", "RAD_PROXY_LOG", "NOTIFY_SOCKET", "JOURNAL_STREAM"):
+            self.environment.pop(name, None)
+        self.started = []
+
+    def configure(self, linger=5000):
+        self.file.write_text(
+            f'listen = "127.0.0.1:{self.port}"\nlinger = {linger}\n[[client]]\naddress = "127.0.0.1"\nsecret = "nas-secret"\n'
+            f'[[home]]\nname = "h1"\naddress = "127.0.0.1:{self.home.getsockname()[1]}"\nsecret = "home-secret"\n'
+            '[[realm]]\nname = "example.org"\nhome = "h1"\n')
+
+    def start(self, **options):
+        """Starts the service in a process group of its own, and waits until it listens."""
+        wait, name = options.pop("wait", True), f"printed{len(self.started)}"
+        self.printed, self.log = self.room / name, self.room / f"{name}.log"
+        with open(self.printed, "wb") as out, open(self.log, "wb") as err:
+            given = {"stdin": subprocess.DEVNULL, "stdout": out, "stderr": err, "env": self.environment,
+                     "start_new_session": True} | options
+            made = subprocess.Popen([self.serve, self.file], **given)
+        self.started.append(made)
+        if wait:
+            until("it listens", lambda: "listening" in self.printed.read_text())
+        return made
+
+    def ask(self, *words, **options):
+        given = {"capture_output": True, "text": True, "env": self.environment, "timeout": PATIENCE} | options
+        return subprocess.run([self.ctl, *words], **given)
+
+    def send(self, octets):
+        self.nas.sendto(octets, ("127.0.0.1", self.port))
+
+    def state_is(self, text="it answers"):
+        done = self.ask("state")
+        hope(text, (done.returncode, done.stdout), (0, LINE))
+
+    def children(self, process):
+        """The processes whose parent this one is, with the names of their programs."""
+        done = subprocess.run(["ps", "--ppid", str(process.pid), "-o", "pid=,comm="], capture_output=True, text=True)
+        return [(int(pid), name) for pid, name in (line.split() for line in done.stdout.splitlines())]
+
+    def end(self):
+        for process in self.started:
+            with contextlib.suppress(ProcessLookupError):
+                os.killpg(process.pid, signal.SIGKILL)
+            process.wait()
+
+
+def drains_where_its_group_gets_the_signal(service):
+    """TERM, INT, HUP and QUIT to the whole process group: the request that waits is answered, and the status is 0."""
+    for number in (signal.SIGTERM, signal.SIGINT, signal.SIGHUP, signal.SIGQUIT):
+        process = service.start()
+        service.send(request())
+        octets, proxy = service.home.recvfrom(4096)
+        os.killpg(process.pid, number)
+        time.sleep(0.3)
+        service.home.sendto(answered(octets), proxy)
+        response = service.nas.recv(4096)
+        hope(f"{number.name}: code", response[0], 5)
+        hope(f"{number.name}: status", process.wait(PATIENCE), 0)
+        hope(f"{number.name}: last line", service.printed.read_text().splitlines()[-1], NOTHING_LEFT)
+
+
+def drains_where_its_terminal_is_closed(service):
+    """A terminal that is closed sends HUP to the group, and takes standard output away: the request is answered."""
+    ours, theirs = pty.openpty()
+    script = f'exec setsid --ctty "{service.serve}" "{service.file}"'
+    process = service.start(wait=False, stdin=theirs, stdout=theirs, stderr=subprocess.DEVNULL)
+    process.kill()
+    process.wait()
+    process = subprocess.Popen(["sh", "-c", script], stdin=theirs, stdout=theirs, stderr=theirs, env=service.environment)
+    service.started.append(process)
+    os.close(theirs)
+    until("it listens", lambda: b"listening" in os.read(ours, 4096))
+    service.send(request())
+    octets, proxy = service.home.recvfrom(4096)
+    os.close(ours)
+    time.sleep(0.3)
+    service.home.sendto(answered(octets), proxy)
+    hope("code", service.nas.recv(4096)[0], 5)
+    hope("status", process.wait(PATIENCE), 0)
+
+
+def a_second_leaves_the_first_alone(service):
+    """A second serve in the same folder ends with 4 and says so; the first one's fifos and counters stay, and it answers."""
+    first = service.start()
+    until("counters", (service.run / "counters").exists)
+    before = {name: os.stat(service.run / name).st_ino for name in ("commands", "lines")}
+    second = service.start(wait=False)
+    hope("status of the second", second.wait(PATIENCE), 4)
+    hope("what it says", service.log.read_text(), f"serve: another one serves in {service.run}\n")
+    hope("fifos", {name: os.stat(service.run / name).st_ino for name in before}, before)
+    service.state_is()
+    first.terminate()
+    hope("status of the first", first.wait(PATIENCE), 0)
+    third = service.start()
+    service.state_is("one after it")
+    third.terminate()
+    hope("status of the third", third.wait(PATIENCE), 0)
+
+
+def the_lock_outlives_a_serve_that_was_killed(service):
+    """While the program of a serve that was killed still drains, the folder stays its own."""
+    service.configure(linger=3000)
+    first = service.start()
+    service.send(request())
+    service.home.recvfrom(4096)
+    first.kill()
+    first.wait()
+    second = service.start(wait=False)
+    hope("status of the second", second.wait(PATIENCE), 4)
+    until("the first is gone", lambda: subprocess.run(["flock", "-n", service.run, "true"]).returncode == 0)
+    service.start()
+
+
+def refuses_a_folder_that_others_write_in(service):
+    """Neither script uses a folder in which others may put links."""
+    service.run.mkdir()
+    service.run.chmod(0o777)
+    process = service.start(wait=False)
+    hope("status of serve", process.wait(PATIENCE), 4)
+    hope("what it says", service.log.read_text(), f"serve: others may write in {service.run}\n")
+    done = service.ask("state")
+    hope("rad_proxyctl", (done.returncode, done.stderr), (4, f"rad_proxyctl: others than its owner may write in {service.run}\n"))
+
+
+def whatever_the_umask(service):
+    """The fifos and the folder are its user's alone, whatever the umask of who starts it."""
+    for mask in (0o000, 0o077, 0o777):
+        shutil.rmtree(service.run, ignore_errors=True)
+        process = service.start(preexec_fn=lambda: os.umask(mask))
+        done = service.ask("state", preexec_fn=lambda: os.umask(mask))
+        hope(f"umask {mask:o}", (done.returncode, done.stdout), (0, LINE))
+        hope("folder", stat.S_IMODE(service.run.stat().st_mode), 0o700)
+        for name in ("commands", "lines", "answer"):
+            hope(name, oct(stat.S_IMODE((service.run / name).stat().st_mode)), oct(0o600))
+        process.terminate()
+        hope("status", process.wait(PATIENCE), 0)
+
+
+def a_stopped_asker_keeps_nobody_out(service):
+    """rad_proxyctl that is stopped, by Ctrl-Z say, while no answer comes: a second one is answered once there are answers."""
+    process = service.start()
+    program = until("program", lambda: [pid for pid, name in service.children(process) if name == "rad_proxy"])[0]
+    os.kill(program, signal.SIGSTOP)
+    asker = subprocess.Popen([service.ctl, "state"], env=service.environment, stdout=subprocess.PIPE, stderr=subprocess.PIPE,
+                             start_new_session=True)
+    time.sleep(1)
+    os.killpg(asker.pid, signal.SIGSTOP)
+    os.kill(program, signal.SIGCONT)
+    began = time.monotonic()
+    service.state_is("a second one")
+    hope("in time", time.monotonic() - began < 10, True)
+    os.killpg(asker.pid, signal.SIGCONT)
+    hope("the first", asker.wait(PATIENCE) in (0, 4), True)
+    service.state_is("a third one")
+
+
+def an_asker_without_an_answer_gives_up(service):
+    """Where the program is stopped, rad_proxyctl ends with 4 after 5 seconds and says why, and its lock is free then."""
+    process = service.start()
+    program = until("program", lambda: [pid for pid, name in service.children(process) if name == "rad_proxy"])[0]
+    os.kill(program, signal.SIGSTOP)
+    began = time.monotonic()
+    done = service.ask("state")
+    hope("it says", (done.returncode, done.stderr), (4, "rad_proxyctl: no answer in 5 seconds\n"))
+    hope("seconds", 4 < time.monotonic() - began < 15, True)
+    os.kill(program, signal.SIGCONT)
+    service.state_is()
+
+
+def many_ask_at_once(service):
+    """Ten ask at once, and each has the whole answer."""
+    service.start()
+    asking = [subprocess.Popen([service.ctl, "state"], env=service.environment, stdout=subprocess.PIPE, text=True) for _ in range(10)]
+    for one in asking:
+        hope("answer", (one.communicate(timeout=PATIENCE)[0], one.returncode), (LINE, 0))
+
+
+def a_hand_over_that_dies_is_started_anew(service):
+    """Where the process that hands on what the program prints is killed, the program goes on and is answered again."""
+    process = service.start()
+    for _ in range(3):
+        handing = until("hand-over", lambda: [pid for pid, name in service.children(process) if name != "rad_proxy"])[0]
+        os.kill(handing, signal.SIGKILL)
+        until("another one", lambda: [pid for pid, name in service.children(process) if name != "rad_proxy" and pid != handing])
+        service.state_is()
+    process.terminate()
+    hope("status", process.wait(PATIENCE), 0)
+    hope("last line", service.printed.read_text().splitlines()[-1], NOTHING_LEFT)
+
+
+def nobody_reads_its_output(service):
+    """Where standard output's reader is gone, the service goes on, and what it took is answered at the stop."""
+    reading, writing = os.pipe()
+    process = service.start(wait=False, stdout=writing)
+    os.close(writing)
+    hope("it listens", os.read(reading, 4096).startswith(b"listening"), True)
+    os.close(reading)
+    for _ in range(2):
+        subprocess.run(["sh", "-c", "echo nonsense 1<>commands"], cwd=service.run, check=True)
+        time.sleep(0.3)
+    service.state_is()
+    service.send(request())
+    octets, proxy = service.home.recvfrom(4096)
+    process.terminate()
+    time.sleep(0.3)
+    service.home.sendto(answered(octets), proxy)
+    hope("code", service.nas.recv(4096)[0], 5)
+    hope("status", process.wait(PATIENCE), 0)
+
+
+def what_is_left_over_is_a_warning(service):
+    """Status 3 comes with a line of the log at warn, and without it at error."""
+    for level, lines in (("warn", ["level=warn event=left-over queued=0 outstanding=1 untaken=0"]), ("error", [])):
+        service.configure(linger=200)
+        service.environment["RAD_PROXY_LOG"] = level
+        process = service.start()
+        service.send(request())
+        service.home.recvfrom(4096)
+        process.terminate()
+        hope("status", process.wait(PATIENCE), 3)
+        hope(f"log at {level}", service.log.read_text().splitlines(), lines)
+
+
+def counters_elsewhere_are_told(service):
+    """Where the counters go to another file, `metrics` prints the lanes, says what is missing, and ends with 4."""
+    service.environment["RAD_PROXY_COUNTERS"] = str(service.room / "elsewhere")
+    service.start()
+    done = service.ask("metrics")
+    hope("status", done.returncode, 4)
+    hope("what it says", done.stderr,
+         f"rad_proxyctl: no counters in {service.run}: RAD_PROXY_COUNTERS of the service names another file\n")
+    hope("lanes", 'rad_proxy_home_up{lane="0",home="h1"} 1' in done.stdout, True)
+
+
+def sent_again_is_never_less_than_nothing(service):
+    """While requests come, what `metrics` tells as sent is never less than what it tells as accepted and not queued."""
+    service.start()
+    sender = subprocess.Popen(
+        [sys.executable, "-c", NASES, str(service.port), str(service.home.fileno())], pass_fds=[service.home.fileno()])
+    try:
+        time.sleep(1)
+        for _ in range(4):
+            text = service.ask("metrics").stdout
+            accepted, queued, sent = (int(re.search(rf"^rad_proxy_{name}{{.*}} (\d+)$", text, re.M)[1])
+                                      for name in ("accepted_total", "queued", "sent_total"))
+            hope("requests come", accepted > 0, True)
+            hope(f"sent {sent} accepted {accepted} queued {queued}", sent >= accepted - queued, True)
+    finally:
+        sender.kill()
+        sender.wait()
+
+
+# Sends requests and answers them, some hundred a second, until it is killed.
+NASES = f"""
+import sys, time
+sys.path.insert(0, {str(pathlib.Path(__file__).resolve().parent)!r})
+import run, socket, select
+home = socket.socket(fileno=int(sys.argv[2]))
+ports, count = [run.bound() for _ in range(32)], 0
+while True:
+    nas = ports[count // 256 % 32]
+    nas.sendto(run.request(count % 256), ("127.0.0.1", int(sys.argv[1])))
+    count += 1
+    while select.select([home], [], [], 0.001)[0]:
+        octets, proxy = home.recvfrom(4096)
+        home.sendto(run.answered(octets), proxy)
+"""
+
+
+def relative_paths_hold(service):
+    """Paths of the configuration, the folder, the program and the scripts may be relative to where one stands."""
+    service.environment |= {"RUNTIME_DIRECTORY": "run", "RAD_PROXY_PROGRAM": "usr/sbin/rad_proxy", "CDPATH": "/tmp:."}
+    service.file = "one.toml"
+    service.serve = "usr/libexec/rad_proxy/serve"
+    process = service.start(cwd=service.room)
+    for ctl, room in (("usr/sbin/rad_proxyctl", service.room), ("./rad_proxyctl", service.room / "usr/sbin")):
+        done = subprocess.run([ctl, "-d", os.path.relpath(service.run, room), "state"], cwd=room, env=service.environment,
+                              capture_output=True, text=True, timeout=PATIENCE)
+        hope(ctl, (done.returncode, done.stdout), (0, LINE))
+    process.terminate()
+    hope("status", process.wait(PATIENCE), 0)
+
+
+def root_asks_as_the_owner(service):
+    """Asked by root, links that the service's user planted in its folder do nothing: no file of root's is emptied or shown."""
+    if os.getuid() != 0:
+        raise LeftOut("it wants root")
+    secret = service.room / "secret"
+    secret.write_text("root's own\n")
+    secret.chmod(0o600)
+    service.room.chmod(0o755)
+    service.run.mkdir(0o700)
+    os.chown(service.run, STRANGER, STRANGER)
+    service.file.chmod(0o644)
+    process = service.start(user=STRANGER, group=STRANGER, extra_groups=[])
+    done = service.ask("state")
+    hope("root is answered", (done.returncode, done.stdout), (0, LINE))
+    until("counters", (service.run / "counters").exists)
+    for name in ("lock", "counters", "answer", "answer.new", "commands"):
+        for words in ("state", "drain", "metrics"):
+            path = service.run / name
+            path.unlink(missing_ok=True)
+            path.symlink_to(secret)
+            done = service.ask(words)
+            hope(f"{name} {words}: the file", secret.read_text(), "root's own\n")
+            hope(f"{name} {words}: what is printed", "root's own" in done.stdout + done.stderr, False)
+            path.unlink(missing_ok=True)
+    mine = [str(path) for path in service.run.iterdir() if path.lstat().st_uid != STRANGER]
+    hope("root's files in the folder", mine, [])
+    process.kill()
+
+
+def root_serves_nobody_elses_folder(service):
+    """Root does not serve in a folder of another user."""
+    if os.getuid() != 0:
+        raise LeftOut("it wants root")
+    service.run.mkdir(0o700)
+    os.chown(service.run, STRANGER, STRANGER)
+    process = service.start(wait=False)
+    hope("status", process.wait(PATIENCE), 4)
+    hope("what it says", service.log.read_text(), f"serve: {service.run} is another user's\n")
+    hope("what is made", list(service.run.iterdir()), [])
+
+
+TESTS = [
+    drains_where_its_group_gets_the_signal, drains_where_its_terminal_is_closed, a_second_leaves_the_first_alone,
+    the_lock_outlives_a_serve_that_was_killed, refuses_a_folder_that_others_write_in, whatever_the_umask,
+    a_stopped_asker_keeps_nobody_out, an_asker_without_an_answer_gives_up, many_ask_at_once,
+    a_hand_over_that_dies_is_started_anew, nobody_reads_its_output, what_is_left_over_is_a_warning, counters_elsewhere_are_told,
+    sent_again_is_never_less_than_nothing, relative_paths_hold, root_asks_as_the_owner, root_serves_nobody_elses_folder,
+]
+
+
+def tried(program, test):
+    """What became of a test: a word, and what there is to say."""
+    with tempfile.TemporaryDirectory() as room:
+        service = Service(program, pathlib.Path(room))
+        try:
+            test(service)
+        except LeftOut as reason:
+            return "left out", str(reason)
+        except (AssertionError, OSError, subprocess.SubprocessError) as fault:
+            return "failed", f"{fault or type(fault).__name__}"
+        finally:
+            service.end()
+    return "passed", ""
+
+
+def main():
+    if len(sys.argv) < 2:
+        sys.exit(__doc__.splitlines()[2])
+    program, names = pathlib.Path(sys.argv[1]).resolve(), sys.argv[2:]
+    words = []
+    for test in TESTS:
+        if names and test.__name__ not in names:
+            continue
+        word, text = tried(program, test)
+        words.append(word)
+        if word != "passed":
+            print(f"{word}: {test.__name__}: {text}", flush=True)
+    print(f"{words.count('passed')} passed, {words.count('failed')} failed")
+    sys.exit(1 if "failed" in words else 0)
+
+
+if __name__ == "__main__":
+    main()
