@@ -3,4 +3,5 @@ pub mod Hex
 pub mod Lines
 pub mod PacketText
 pub mod Path
+pub mod Replaying
 pub mod Sent

@@ -2,11 +2,12 @@
 //!
 //! [`replay`] reads the events one on each line, gives each to a proxy as its workers would, and writes what it comes
 //! to. What a NAS's datagram leads to is decided by the same calls as of the front worker, `rad_realms::check_in` and
-//! `rad_desk::laws::handle`, and commands are obeyed by the same console. The layer above uses the contract of `replay`:
-//! the [`EndLine`](rad_console::EndLine) tells what is left of so many lanes as some configuration has homes.
+//! `rad_desk::laws::handle`, and commands are obeyed by the console that `run` has. The layer above uses the contract of
+//! `replay`: the [`EndLine`](rad_console::EndLine) that it gives tells what the report of a closed proxy tells.
 //!
-//! The definitions that the contracts cite stand in specs: `Lines`, `PacketText` and `Hex` are how the lines are
-//! printed and events are written, `Path` is what becomes of a NAS's datagram, `Sent` what each source port sent last.
+//! The definitions that the contracts cite stand in specs: `Lines`, `PacketText` and `Hex` are how the lines are printed
+//! and how events write octets, `Path` is what becomes of a NAS's datagram, `Sent` what each source port sent last, and
+//! `Replaying` what is told at the end.
 #![tactic(auto)]
 
 mod building;

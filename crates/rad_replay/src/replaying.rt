@@ -1,5 +1,8 @@
 //! `replay`: a configuration and a script of events go in, and a line for each answer comes out.
 
+ghost use Rattle.std.specs.Prelude.{IfOk};
+ghost use Rattle.rad_replay.specs.Replaying.{IsEnd};
+
 use crate::faults::ReplayFault;
 use crate::script::Script;
 use rad_console::{EndLine, Pieces, read_at_most, read_configuration};
@@ -24,7 +27,9 @@ pub fn replay<T: Wait, R: Read + Drop, W: Write + Drop>(
     alloc: Global,
     reader: R,
     writer: W,
-) -> Result<EndLine, ReplayFault> {
+) -> Result<EndLine, ReplayFault>
+    ensures { IfOk result IsEnd }
+{
     let input = read_input(alloc, reader)?;
     let (configuration, events) = split_input(input.as_slice());
     if str::from_utf8(events).is_err() {
@@ -43,7 +48,9 @@ fn run<T: Wait, W: Write + Drop>(
     config: &Config,
     events: &[u8],
     writer: W,
-) -> Result<EndLine, ReplayFault> {
+) -> Result<EndLine, ReplayFault>
+    ensures { IfOk result IsEnd }
+{
     let Ok(mut output) = BufWriter::new(alloc, writer) else {
         return Err(ReplayFault::Memory);
     };

@@ -1,5 +1,8 @@
 //! A script of events that runs over the proxy.
 
+ghost use Rattle.std.specs.Prelude.{IfOk};
+ghost use Rattle.rad_replay.specs.Replaying.{IsEnd};
+
 use crate::building::{Sender, build};
 use crate::datagrams::Packet;
 use crate::events::Event;
@@ -69,7 +72,9 @@ impl<'a> Script<'a> {
         rt: &R,
         events: &[u8],
         output: &mut W,
-    ) -> Result<EndLine, ReplayFault> {
+    ) -> Result<EndLine, ReplayFault>
+        ensures { IfOk result IsEnd }
+    {
         self.answer_all(rt, events, output)?;
         let Ok(end) = close(self.alloc, self.proxy, self.inlets) else {
             return Err(ReplayFault::Memory);
