@@ -12,11 +12,11 @@ use Rattle.rad_telemetry.specs.declared.delta_lines.FaultDelta.{FaultDelta}
 abbrev pub peer_text : Endpoint → List ℕ
 peer_text peer = codes "address=" ++ address_text peer.address ++ codes " port=" ++ decimal peer.port
 
--- A client's end of a datagram.
+-- A client's port.
 unfoldable pub client_port_text : ℕ → List ℕ
 client_port_text port = codes "client_port=" ++ decimal port
 
--- A client's address and port.
+-- A client's end of a datagram.
 abbrev pub client_text : Endpoint → List ℕ
 client_text client = codes "client=" ++ address_text client.address ++ codes " " ++ client_port_text client.port
 

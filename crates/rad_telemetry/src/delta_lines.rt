@@ -1,5 +1,8 @@
 //! The log lines of sums: how often a kind of event happened since the line before.
 
+ghost use Rattle.std.specs.Prelude.{◌≡◌};
+
+use crate::counters::Delta;
 use crate::event_kind::{EventKind, ReasonText};
 use crate::peer_text::ClientText;
 use rad_realms::Endpoint;
@@ -29,6 +32,22 @@ pub struct FaultDelta<'a> {
     pub kind: EventKind,
     pub worker: &'a str,
     pub count: u64,
+}
+
+impl ClientDelta {
+    /// What was counted of a kind, the last one of this client.
+    pub fn new(kind: EventKind, delta: Delta) -> ClientDelta
+        ensures kind { result.kind ≡ kind }
+        ensures count { result.count ≡ delta.count }
+        ensures client { result.client ≡ delta.last }
+    {
+        let Delta { count, last } = delta;
+        ClientDelta {
+            kind,
+            count,
+            client: last,
+        }
+    }
 }
 
 impl fmt::Display for ClientDelta {

@@ -5,7 +5,7 @@ ghost use Rattle.rad_packet.specs.Packet.{identifier_of};
 ghost use Rattle.rad_realms.specs.Realm.{realm_of_packet as the_realm};
 ghost use Rattle.rad_telemetry.specs.PacketWords.{session_id};
 
-use rad_packet::{PacketRef, read};
+use rad_packet::{PacketRef, ReadFault, read};
 use rad_realms::realm_of_packet;
 use std::fmt;
 
@@ -64,18 +64,27 @@ impl fmt::Display for PacketWords<'_> {
 impl fmt::Display for DatagramWords<'_> {
     fn fmt<W: fmt::Write>(&self, f: &mut fmt::Formatter<W>) -> fmt::Result {
         match read(self.0) {
-            Ok(packet) => {
-                let code = packet.code();
-                let length = packet.octets().len();
-                let words = PacketWords::of(&packet);
-                write!(f, "code={code} length={length}{words}")
-            }
-            Err(fault) => {
-                let count = self.0.len();
-                write!(f, "octets={count} reason=\"Unread {fault}\"")
-            }
+            Ok(packet) => write_packet(f, &packet),
+            Err(fault) => write_unread(f, self.0.len(), fault),
         }
     }
+}
+
+/// Writes the words of a datagram that is a packet.
+fn write_packet<W: fmt::Write>(f: &mut fmt::Formatter<W>, packet: &PacketRef<'_>) -> fmt::Result {
+    let code = packet.code();
+    let length = packet.octets().len();
+    let words = PacketWords::of(packet);
+    write!(f, "code={code} length={length}{words}")
+}
+
+/// Writes the words of a datagram of so many octets that is none.
+fn write_unread<W: fmt::Write>(
+    f: &mut fmt::Formatter<W>,
+    count: usize,
+    fault: ReadFault,
+) -> fmt::Result {
+    write!(f, "octets={count} reason=\"Unread {fault}\"")
 }
 
 impl fmt::Display for Escaped<'_> {

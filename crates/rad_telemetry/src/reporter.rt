@@ -160,7 +160,7 @@ impl<L: Log, F: ReplaceFile> Reporter<'_, L, F> {
     fn write_front<W: Write>(&self, writer: &mut W, metric: Metric) -> io::Result<()> {
         for kind in EVENT_KINDS {
             if kind.metric() == metric {
-                if let Some(labels) = front_labels(kind) {
+                if let Some(labels) = front_labels(metric, kind) {
                     self.write_counter(writer, Worker::Front, kind, labels)?;
                 }
             }
@@ -178,7 +178,7 @@ impl<L: Log, F: ReplaceFile> Reporter<'_, L, F> {
     ) -> io::Result<()> {
         for kind in EVENT_KINDS {
             if kind.metric() == metric {
-                if let Some(labels) = lane_labels(kind, lane, home) {
+                if let Some(labels) = lane_labels(metric, kind, lane, home) {
                     self.write_counter(writer, worker_of_lane(lane), kind, labels)?;
                 }
             }
@@ -203,18 +203,18 @@ impl<L: Log, F: ReplaceFile> Reporter<'_, L, F> {
     }
 }
 
-/// The labels of the front's counter of a kind, where it has one.
-fn front_labels(kind: EventKind) -> Option<Labels<'static>> {
-    match kind.metric() {
+/// The labels of the front's counter of a metric and a kind of it, where it has one.
+fn front_labels(metric: Metric, kind: EventKind) -> Option<Labels<'static>> {
+    match metric {
         Metric::Dropped | Metric::Refused => Some(Labels::Reason(kind)),
         Metric::SendFault | Metric::ReceiveFault => Some(Labels::Clients),
         _ => None,
     }
 }
 
-/// The labels of a lane's counter of a kind, where it has one.
-fn lane_labels(kind: EventKind, lane: usize, home: &str) -> Option<Labels<'_>> {
-    match kind.metric() {
+/// The labels of a lane's counter of a metric and a kind of it, where it has one.
+fn lane_labels(metric: Metric, kind: EventKind, lane: usize, home: &str) -> Option<Labels<'_>> {
+    match metric {
         Metric::Dropped | Metric::Refused => None,
         Metric::Unheard => Some(Labels::HomeReason(lane, home, kind)),
         _ => Some(Labels::Home(lane, home)),
@@ -233,22 +233,12 @@ fn log_delta<L: Log>(log: &L, name: &str, kind: EventKind, delta: Delta) {
 }
 
 fn log_dropped<L: Log>(log: &L, kind: EventKind, delta: Delta) {
-    let Delta { count, last } = delta;
-    let line = ClientDelta {
-        kind,
-        count,
-        client: last,
-    };
+    let line = ClientDelta::new(kind, delta);
     info!(log; "{line}");
 }
 
 fn log_refused<L: Log>(log: &L, kind: EventKind, delta: Delta) {
-    let Delta { count, last } = delta;
-    let line = ClientDelta {
-        kind,
-        count,
-        client: last,
-    };
+    let line = ClientDelta::new(kind, delta);
     warn!(log; "{line}");
 }
 
