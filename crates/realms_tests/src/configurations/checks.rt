@@ -46,7 +46,7 @@ home = "h1"
 "#;
 
 /// What became of a datagram: the lane of a request, or a word.
-#[derive(Clone, Copy, Debug, PartialEq, Eq)]
+#[derive(Clone, Copy, PartialEq, Eq)]
 enum Told {
     Lane(u16),
     Status,
@@ -55,8 +55,18 @@ enum Told {
 
 const CLIENT: [u8; 4] = [10, 0, 0, 1];
 
+/// What becomes of a datagram from a port of an address.
+fn checked<'a>(
+    config: &'a Config,
+    address: [u8; 4],
+    port: u16,
+    datagram: &'a [u8],
+) -> Result<Incoming<'a>, Dropped> {
+    check_in(config, address, port, datagram)
+}
+
 fn answer_of(config: &Config, address: [u8; 4], datagram: &[u8]) -> Told {
-    match check_in(config, address, 40_000, datagram) {
+    match checked(config, address, 40_000, datagram) {
         Ok(Incoming::Request(request)) => Told::Lane(request.lane()),
         Ok(Incoming::Status(_)) => Told::Status,
         Err(reason) => Told::Dropped(reason),
@@ -66,7 +76,7 @@ fn answer_of(config: &Config, address: [u8; 4], datagram: &[u8]) -> Told {
 /// Checks that each of these datagrams has the answer beside it.
 fn each_is_told(rt: &impl Abort, config: &Config, rows: &[(&str, [u8; 4], &[u8], Told)]) {
     for (what, address, datagram, wanted) in rows {
-        assert_eq!(rt; answer_of(config, *address, datagram), *wanted, "{what}");
+        assert!(rt; answer_of(config, *address, datagram) == *wanted, "{what}");
     }
 }
 
@@ -135,10 +145,8 @@ const ANSWERS: [(&str, [u8; 4], &[u8], Told); 13] = [
 fn each_datagram_has_its_answer(rt: HostRuntime) -> Result<(), Fail> {
     let config = configuration(rt.alloc(), TEXT)?;
     each_is_told(&rt, &config, ANSWERS.as_slice());
-    assert_eq!(rt;
-        answer_of(&config, CLIENT, &SEVENTH[..46]),
-        Told::Dropped(Dropped::Unread(ReadFault::Truncated))
-    );
+    let cut = answer_of(&config, CLIENT, &SEVENTH[..46]);
+    assert!(rt; cut == Told::Dropped(Dropped::Unread(ReadFault::Truncated)));
     Ok(())
 }
 
@@ -173,7 +181,7 @@ fn a_default_home_takes_what_has_no_realm(rt: HostRuntime) -> Result<(), Fail> {
 
 /// A request that was checked.
 fn request_of<'a>(config: &'a Config, datagram: &'a [u8]) -> Option<Checked<'a>> {
-    match check_in(config, CLIENT, 40_001, datagram) {
+    match checked(config, CLIENT, 40_001, datagram) {
         Ok(Incoming::Request(request)) => Some(request),
         _ => None,
     }
@@ -218,7 +226,7 @@ fn checked_requests_tell_their_parts(rt: HostRuntime) -> Result<(), Fail> {
 
 /// A Status-Server that was checked.
 fn status_of<'a>(config: &'a Config, datagram: &'a [u8]) -> Option<CheckedStatus<'a>> {
-    match check_in(config, CLIENT, 40_001, datagram) {
+    match checked(config, CLIENT, 40_001, datagram) {
         Ok(Incoming::Status(status)) => Some(status),
         _ => None,
     }

@@ -1,12 +1,18 @@
 //! Texts at both ends of what they may be, and faults behind the first tables.
 
-use super::faults::{CLIENT, HOME, TOP};
-use super::reading::printed;
+use super::faults::{CLIENT, HOME, TOP, prints};
+use super::reading::{push_each, push_times};
 use std::alloc::{AllocError, Global};
 use std::test::Fail;
 
-/// The text of a configuration with one client and one home server, and behind them a part: what stands before
-/// a unit, the unit so many times, and what stands behind it.
+/// The text of a configuration with one client and one home server.
+fn one_of_each(alloc: Global) -> Result<String, AllocError> {
+    let mut text = String::new(alloc);
+    push_each(&mut text, &[TOP, CLIENT, HOME])?;
+    Ok(text)
+}
+
+/// That text and behind it a part: what stands before a unit, the unit so many times, and what stands behind it.
 fn text_of(
     alloc: Global,
     before: &str,
@@ -14,10 +20,9 @@ fn text_of(
     count: u32,
     behind: &str,
 ) -> Result<String, AllocError> {
-    let mut text = format!(in alloc; "{TOP}{CLIENT}{HOME}{before}")?;
-    for _ in 0..count {
-        text.push_str(unit)?;
-    }
+    let mut text = one_of_each(alloc)?;
+    text.push_str(before)?;
+    push_times(&mut text, unit, count)?;
     text.push_str(behind)?;
     Ok(text)
 }
@@ -122,11 +127,8 @@ const ENDS: [(&str, &str, u32, &str); 36] = [
 fn each_text_at_both_ends(rt: HostRuntime) -> Result<(), Fail> {
     for (before, unit, count, wanted) in ENDS {
         let text = text_of(rt.alloc(), before, unit, count, "\"\n")?;
-        assert_eq!(rt;
-            printed(rt.alloc(), text.as_str())?.as_str(),
-            wanted,
-            "{before}{unit}"
-        );
+        let is_right = prints(rt.alloc(), text.as_str(), wanted)?;
+        assert!(rt; is_right, "{before}{unit}");
     }
     Ok(())
 }

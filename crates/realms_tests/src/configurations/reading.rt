@@ -1,13 +1,31 @@
-//! How a test reads a configuration.
+//! How a test writes a text, and reads a configuration.
 
 use rad_realms::{Config, read_config};
 use std::alloc::{AllocError, Global};
 use std::test::Fail;
 
+/// Adds these pieces to a text.
+pub fn push_each(text: &mut String, pieces: &[&str]) -> Result<(), AllocError> {
+    for piece in pieces {
+        text.push_str(piece)?;
+    }
+    Ok(())
+}
+
+/// Adds a unit to a text, so many times.
+pub fn push_times(text: &mut String, unit: &str, count: u32) -> Result<(), AllocError> {
+    for _ in 0..count {
+        text.push_str(unit)?;
+    }
+    Ok(())
+}
+
 /// The configuration of a text.
 pub fn configuration(alloc: Global, text: &str) -> Result<Config, Fail> {
-    let config = read_config(alloc, text)?;
-    Ok(config)
+    match read_config(alloc, text) {
+        Ok(config) => Ok(config),
+        Err(_) => Err(Fail::from("a configuration")),
+    }
 }
 
 /// What is printed of a text: its first fault, or `read`.

@@ -1,6 +1,7 @@
 //! The largest configuration, and one more of each.
 
-use super::reading::{configuration, counts_of, lane_of, printed};
+use super::faults::prints;
+use super::reading::{configuration, counts_of, lane_of, push_times};
 use rad_realms::Config;
 use std::alloc::{AllocError, Global};
 use std::process::Abort;
@@ -72,26 +73,30 @@ fn each_realm_leads_to_its_lane(
     for i in 0..256u32 {
         let name = format!(in alloc; "someone@r{i}")?;
         let lane = (i % 64) as u16;
-        assert_eq!(rt; lane_of(config, Some(name.as_bytes())), Some(lane));
+        assert!(rt; lane_of(config, Some(name.as_bytes())) == Some(lane));
     }
     Ok(())
 }
 
+/// Checks that no realm is found behind the last one, and none that is too long.
+fn no_other_is_found(rt: &impl Abort, config: &Config) {
+    assert!(rt; lane_of(config, Some(b"someone@r256")).is_none());
+    assert!(rt; lane_of(config, Some(&[b'@'; 255])).is_none());
+}
+
+/// The largest configuration.
+fn largest(alloc: Global) -> Result<Config, Fail> {
+    let text = text_of(alloc, 256, 64, 256)?;
+    configuration(alloc, text.as_str())
+}
+
 #[test]
 fn the_largest_configuration_is_read(rt: HostRuntime) -> Result<(), Fail> {
-    let text = text_of(rt.alloc(), 256, 64, 256)?;
-    let config = configuration(rt.alloc(), text.as_str())?;
-    assert_eq!(rt; counts_of(&config), (256, 64, 256));
+    let config = largest(rt.alloc())?;
+    assert!(rt; counts_of(&config) == (256, 64, 256));
     each_client_is_found(&rt, &config);
-    each_realm_leads_to_its_lane(&rt, rt.alloc(), &config)?;
-    assert_eq!(rt;
-        (
-            lane_of(&config, Some(b"someone@r256")),
-            lane_of(&config, Some(&[b'@'; 255]))
-        ),
-        (None, None)
-    );
-    Ok(())
+    no_other_is_found(&rt, &config);
+    Ok(each_realm_leads_to_its_lane(&rt, rt.alloc(), &config)?)
 }
 
 /// How many clients, home servers and realms a text has, what stands behind them, and what is printed.
@@ -127,7 +132,7 @@ fn faults_of_the_last_and_of_one_too_many(rt: HostRuntime) -> Result<(), Fail> {
     for (clients, homes, realms, more, wanted) in SIZES {
         let mut text = text_of(rt.alloc(), clients, homes, realms)?;
         text.push_str(more)?;
-        assert_eq!(rt; printed(rt.alloc(), text.as_str())?.as_str(), wanted);
+        assert!(rt; prints(rt.alloc(), text.as_str(), wanted)?, "{wanted}");
     }
     Ok(())
 }
@@ -135,9 +140,8 @@ fn faults_of_the_last_and_of_one_too_many(rt: HostRuntime) -> Result<(), Fail> {
 #[test]
 fn a_long_text_is_read(rt: HostRuntime) -> Result<(), Fail> {
     let mut text = text_of(rt.alloc(), 1, 1, 1)?;
-    for _ in 0..2048 {
-        text.push_str("# sixty-four octets of a comment, so that the text becomes long.\n")?;
-    }
-    assert_eq!(rt; printed(rt.alloc(), text.as_str())?.as_str(), "read");
+    let line = "# sixty-four octets of a comment, so that the text becomes long.\n";
+    push_times(&mut text, line, 2048)?;
+    assert!(rt; prints(rt.alloc(), text.as_str(), "read")?);
     Ok(())
 }
