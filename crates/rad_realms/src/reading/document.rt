@@ -7,7 +7,7 @@ ghost use Rattle.toml.specs.View.{view, table_view};
 ghost use Rattle.rad_realms.specs.Spot.{key_name};
 ghost use Rattle.rad_realms.specs.Values.{Reads};
 ghost use Rattle.rad_realms.specs.declared.reading.faults.ConfigFault.TheVariants.{OutOfRange};
-ghost use Rattle.rad_realms.specs.Walk.{needed, text_in, text_at, address_at, endpoint_at, has_length, secret_at, is_name_octet, is_home_name as names_a_home, home_name_at, is_realm_name as names_a_realm, realm_name_at, number_in_value, number_at, optional_text_at};
+ghost use Rattle.rad_realms.specs.Walk.{needed, text_in, text_at, address_at, endpoint_at, has_length, secret_at, is_name_octet as is_octet_of_a_name, is_home_name as names_a_home, home_name_at, is_realm_name as names_a_realm, realm_name_at, number_in_value, number_at, optional_text_at};
 
 use super::address::{Endpoint, read_address, read_endpoint};
 use super::faults::{ConfigFault, Key, Spot};
@@ -117,12 +117,16 @@ fn is_home_name(text: &[u8]) -> bool
 
 /// Whether these are octets that a home server's name may have.
 fn are_name_octets(text: &[u8]) -> bool
-    ensures { result ≡ list_all is_name_octet text.now }
+    ensures { result ≡ list_all is_octet_of_a_name text.now }
 {
-    text.iter().all(|octet| octet.is_ascii_alphanumeric()
-        || *octet == b'-'
-        || *octet == b'_'
-        || *octet == b'.')
+    text.iter().all(|octet| is_name_octet(*octet))
+}
+
+/// Whether a home server's name may have this octet.
+fn is_name_octet(octet: u8) -> bool
+    ensures { result ≡ is_octet_of_a_name octet }
+{
+    octet.is_ascii_alphanumeric() || octet == b'-' || octet == b'_' || octet == b'.'
 }
 
 /// Reads a realm's name.
