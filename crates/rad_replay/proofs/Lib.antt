@@ -1,3 +1,1 @@
-pub mod Among
 pub mod HexLemmas
-pub mod LastSent

@@ -4,13 +4,13 @@ ghost use Rattle.std.specs.Prelude.{◌≤◌, OnOk, length, vec_len};
 
 use crate::datagrams::{Changes, Make, Packet, Template};
 use crate::faults::Halt;
-use crate::sent::LastSent;
+use crate::sent::{LastSent, Ports};
 use rad_auth::{
     MESSAGE_AUTHENTICATOR, STATUS_SERVER, Secret, make_status, request_authenticator,
     response_authenticator,
 };
 use rad_packet::{Datagram, PacketRef, read};
-use rad_realms::Home;
+use rad_realms::Config;
 use std::alloc::AllocError;
 
 /// The Authenticator of a Status-Server that is made.
@@ -18,18 +18,11 @@ const STATUS_AUTHENTICATOR: [u8; 16] = [0xa5; 16];
 
 /// Who sends a datagram.
 #[derive(Clone, Copy)]
-pub enum Sender<'a> {
+enum Sender<'a> {
     /// A NAS, with its client's secret, where its address is a client's.
     Nas(Option<&'a Secret>),
     /// A home server, with its secret, which answers what its lane sent last from a source port, where the lane has it.
     Home(&'a Secret, Option<&'a LastSent>),
-}
-
-impl<'a> Sender<'a> {
-    /// A home server, which answers what its lane sent last from a source port, where the lane has it.
-    pub fn of_home(home: &'a Home, sent: Option<&'a LastSent>) -> Self {
-        Sender::Home(home.secret(), sent)
-    }
 }
 
 impl Sender<'_> {
@@ -59,12 +52,54 @@ impl Sender<'_> {
     }
 }
 
+/// Writes the octets of a datagram of a NAS at this address in place of what `octets` had. What is made is right for
+/// its client, where it is one's.
+///
+/// # Errors
+///
+/// `Memory` where a growth was refused, `Malformed` where more octets are cut than there are.
+pub fn build_request(
+    config: &Config,
+    address: [u8; 4],
+    packet: &Packet<'_>,
+    octets: &mut Vec<u8>,
+) -> Result<(), Halt> {
+    match config.client_of(address) {
+        Some(client) => {
+            let secret = Some(client.secret());
+            build(packet, Sender::Nas(secret), octets)
+        }
+        None => build(packet, Sender::Nas(None), octets),
+    }
+}
+
+/// Writes the octets of a datagram of a lane's home server in place of what `octets` had. What is made is right for it,
+/// and answers what this source port sent last.
+///
+/// # Errors
+///
+/// `Memory` where a growth was refused, `Malformed` where there is no such lane or more octets are cut than there are.
+pub fn build_reply(
+    config: &Config,
+    sent: &Ports,
+    lane: u16,
+    port: u16,
+    packet: &Packet<'_>,
+    octets: &mut Vec<u8>,
+) -> Result<(), Halt> {
+    let Some(home) = config.homes().get(usize::from(lane)) else {
+        return Err(Halt::Malformed);
+    };
+    let sent = sent.get(lane, port);
+    build(packet, Sender::Home(home.secret(), sent), octets)
+}
+
 /// Writes the octets of a datagram in place of what `octets` had. What is made is right for its sender.
 ///
 /// # Errors
 ///
 /// `Memory` where a growth was refused, `Malformed` where more octets are cut than there are.
-pub fn build(packet: &Packet<'_>, sender: Sender<'_>, octets: &mut Vec<u8>) -> Result<(), Halt> {
+fn build(packet: &Packet<'_>, sender: Sender<'_>, octets: &mut Vec<u8>) -> Result<(), Halt> {
     octets.clear();
     match packet {
         Packet::Raw(raw) => Ok(raw.push_to(octets)?),

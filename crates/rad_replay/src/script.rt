@@ -3,7 +3,7 @@
 ghost use Rattle.std.specs.Prelude.{IfOk};
 ghost use Rattle.rad_replay.specs.Replaying.{IsEnd};
 
-use crate::building::{Sender, build};
+use crate::building::{build_reply, build_request};
 use crate::datagrams::Packet;
 use crate::events::Event;
 use crate::faults::{Halt, ReplayFault};
@@ -148,7 +148,7 @@ impl<'a> Script<'a> {
         packet: &Packet<'_>,
         output: &mut W,
     ) -> Result<(), Halt> {
-        self.build_from_nas(address, packet)?;
+        build_request(self.config, address, packet, &mut self.datagram)?;
         let mut written = Datagram::new();
         let arrival = Arrival {
             address,
@@ -166,15 +166,6 @@ impl<'a> Script<'a> {
         );
         let written = PacketText::new(written.bytes());
         print(output, &NasLine { outcome, written })
-    }
-
-    /// Makes the datagram of a NAS at this address.
-    fn build_from_nas(&mut self, address: [u8; 4], packet: &Packet<'_>) -> Result<(), Halt> {
-        let secret = match self.config.client_of(address) {
-            Some(client) => Some(client.secret()),
-            None => None,
-        };
-        build(packet, Sender::Nas(secret), &mut self.datagram)
     }
 
     /// Writes what a datagram of a lane's home server comes to.
@@ -266,22 +257,6 @@ impl<'a> Script<'a> {
             Err(_) => Err(Halt::Output),
         }
     }
-}
-
-/// Makes the datagram of a lane's home server, which answers what this source port sent last.
-fn build_reply(
-    config: &Config,
-    sent: &Ports,
-    lane: u16,
-    port: u16,
-    packet: &Packet<'_>,
-    datagram: &mut Vec<u8>,
-) -> Result<(), Halt> {
-    let Some(home) = config.homes().get(usize::from(lane)) else {
-        return Err(Halt::Malformed);
-    };
-    let sent = sent.get(lane, port);
-    build(packet, Sender::Home(home.secret(), sent), datagram)
 }
 
 /// Writes a line.

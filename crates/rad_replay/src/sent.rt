@@ -41,10 +41,8 @@ impl LastSent {
     pub fn new(alloc: Global) -> Result<Self, AllocError>
         ensures { IfOk result (λ sent. (k : ℕ) → k < 256 → slice_get sent k ≡ Some (replicate 16 0)) }
     {
-        let mut authenticators = Vec::with_capacity(alloc, IDENTIFIERS)?;
-        for _ in 0..IDENTIFIERS {
-            authenticators.push([0; 16])?;
-        }
+        let mut authenticators = Vec::new(alloc);
+        authenticators.resize(IDENTIFIERS, [0; 16])?;
         Ok(LastSent { authenticators })
     }
 
