@@ -58,8 +58,8 @@ def bound():
     return made
 
 
-def request(identifier=1):
-    attributes = b"\x01\x11bob@example.org" + b"\x28\x06\x00\x00\x00\x01"
+def request(identifier=1, more=b""):
+    attributes = b"\x01\x11bob@example.org" + b"\x28\x06\x00\x00\x00\x01" + more
     head = struct.pack("!BBH", 4, identifier, 20 + len(attributes))
     return head + hashlib.md5(head + bytes(16) + attributes + NAS_SECRET).digest() + attributes
 
@@ -75,7 +75,7 @@ class Service:
     """The scripts, installed in a folder of this test, with a configuration of one client and one home server."""
 
     def __init__(self, program, room):
-        self.room, self.run = room, room / "run"
+        self.program, self.room, self.run = program, room, room / "run"
         subprocess.run(["make", "-s", "install", f"DESTDIR={room}", "PREFIX=/usr", f"PROGRAM={program}"], cwd=HERE, check=True)
         self.serve, self.ctl = room / "usr/libexec/rad_proxy/serve", room / "usr/sbin/rad_proxyctl"
         self.home, self.nas = bound(), bound()
@@ -83,7 +83,8 @@ class Service:
             self.port = free.getsockname()[1]
         self.file = room / "one.toml"
         self.configure()
-        self.environment = os.environ | {"RUNTIME_DIRECTORY": str(self.run), "RAD_PROXY_PROGRAM": str(room / "usr/sbin/rad_proxy")}
+        installed = str(room / "usr/sbin/rad_proxy")
+        self.environment = os.environ | {"RUNTIME_DIRECTORY": str(self.run), "RAD_PROXY_PROGRAM": installed}
         for name in ("RAD_PROXY_COUNTERS", "RAD_PROXY_LOG", "NOTIFY_SOCKET", "JOURNAL_STREAM"):
             self.environment.pop(name, None)
         self.started = []
@@ -205,7 +206,8 @@ def refuses_a_folder_that_others_write_in(service):
     hope("status of serve", process.wait(PATIENCE), 4)
     hope("what it says", service.log.read_text(), f"serve: others may write in {service.run}\n")
     done = service.ask("state")
-    hope("rad_proxyctl", (done.returncode, done.stderr), (4, f"rad_proxyctl: others than its owner may write in {service.run}\n"))
+    hope("rad_proxyctl", (done.returncode, done.stderr),
+         (4, f"rad_proxyctl: others than its owner may write in {service.run}\n"))
 
 
 def whatever_the_umask(service):
@@ -256,7 +258,8 @@ def an_asker_without_an_answer_gives_up(service):
 def many_ask_at_once(service):
     """Ten ask at once, and each has the whole answer."""
     service.start()
-    asking = [subprocess.Popen([service.ctl, "state"], env=service.environment, stdout=subprocess.PIPE, text=True) for _ in range(10)]
+    given = {"env": service.environment, "stdout": subprocess.PIPE, "text": True}
+    asking = [subprocess.Popen([service.ctl, "state"], **given) for _ in range(10)]
     for one in asking:
         hope("answer", (one.communicate(timeout=PATIENCE)[0], one.returncode), (LINE, 0))
 
@@ -353,6 +356,28 @@ while True:
 """
 
 
+def memory_is_refused_and_nothing_ends(service):
+    """Under a limit of its data, as LimitDATA sets it, requests are refused as OutOfMemory, and the service goes on."""
+    if b"__asan_init" in service.program.read_bytes():
+        raise LeftOut("the program is built with AddressSanitizer, which runs under no such limit")
+    process = service.start()
+    program = until("program", lambda: [pid for pid, name in service.children(process) if name == "rad_proxy"])[0]
+    status = pathlib.Path(f"/proc/{program}/status").read_text()
+    data = int(re.search(r"VmData:\s+(\d+) kB", status)[1]) * 1024
+    subprocess.run(["prlimit", f"--pid={program}", f"--data={data + 4 * 2**20}"], check=True)
+    filling = b"".join(bytes([26, 255]) + bytes(253) for _ in range(15))
+
+    def refused():
+        for identifier in range(256):
+            service.send(request(identifier, filling + b"\x2c\x04" + os.urandom(2)))
+        time.sleep(0.5)
+        return 'reason="OutOfMemory"' in service.log.read_text()
+
+    until("requests are refused", refused)
+    done = service.ask("state")
+    hope("it answers", (done.returncode, process.poll()), (0, None))
+
+
 def relative_paths_hold(service):
     """Paths of the configuration, the folder, the program and the scripts may be relative to where one stands."""
     service.environment |= {"RUNTIME_DIRECTORY": "run", "RAD_PROXY_PROGRAM": "usr/sbin/rad_proxy", "CDPATH": "/tmp:."}
@@ -413,7 +438,8 @@ TESTS = [
     the_lock_outlives_a_serve_that_was_killed, refuses_a_folder_that_others_write_in, whatever_the_umask,
     a_stopped_asker_keeps_nobody_out, an_asker_without_an_answer_gives_up, many_ask_at_once,
     a_hand_over_that_dies_is_started_anew, nobody_reads_its_output, what_is_left_over_is_a_warning, counters_elsewhere_are_told,
-    sent_again_is_never_less_than_nothing, relative_paths_hold, root_asks_as_the_owner, root_serves_nobody_elses_folder,
+    sent_again_is_never_less_than_nothing, memory_is_refused_and_nothing_ends, relative_paths_hold,
+    root_asks_as_the_owner, root_serves_nobody_elses_folder,
 ]
 
 
