@@ -226,7 +226,10 @@ impl Drop for Counted<'_> {
 }
 
 /// A queue of 65 items that count their drops.
-fn counted<'a>(alloc: Global, drops: &'a AtomicU64) -> Result<BlockQueue<Counted<'a>>, AllocError> {
+fn counted_items<'a>(
+    alloc: Global,
+    drops: &'a AtomicU64,
+) -> Result<BlockQueue<Counted<'a>>, AllocError> {
     let mut queue = BlockQueue::new(alloc);
     for _ in 0..65 {
         queue.reserve_one()?;
@@ -253,7 +256,7 @@ fn take<'a>(
 #[test]
 fn each_item_is_dropped_once(rt: HostRuntime) -> Result<(), Fail> {
     let drops = AtomicU64::new(0);
-    let mut queue = counted(rt.alloc(), &drops)?;
+    let mut queue = counted_items(rt.alloc(), &drops)?;
     let kept = take(rt.alloc(), &mut queue)?;
     assert!(rt; (queue.len(), kept.len()) == (25, 40));
     assert!(rt; drops.load(Ordering::SeqCst) == 0);
