@@ -265,18 +265,19 @@ fn replaces(
     key: Key,
     number: u64,
     last: Option<u64>,
-) {
-    assert!(rt; duplicates.replace(key, number) == Ok(last));
+) -> Result<(), Fail> {
+    let before = duplicates.replace(key, number)?;
+    assert!(rt; before == last);
     finds(rt, duplicates, &key, Some(number));
     duplicates.restore(&key, last);
     finds(rt, duplicates, &key, last);
+    Ok(())
 }
 
 #[test]
 fn a_replaced_number_is_restored(rt: HostRuntime) -> Result<(), Fail> {
     let mut duplicates = Duplicates::new(rt.alloc());
     duplicates.insert(key(8), 1)?;
-    replaces(&rt, &mut duplicates, key(7), 2, None);
-    replaces(&rt, &mut duplicates, key(8), 3, Some(1));
-    Ok(())
+    replaces(&rt, &mut duplicates, key(7), 2, None)?;
+    replaces(&rt, &mut duplicates, key(8), 3, Some(1))
 }
