@@ -61,9 +61,10 @@ impl Fault {
 }
 
 impl From<ReplayFault> for Fault {
+    ghost use Rattle.std.specs.Prelude.{◌≡◌};
     ghost use Rattle.rad_proxy.specs.Faults.{fault_of_replay};
 
-    ghost from_gives = { fault_of_replay };
+    ghost from_gives = { λ replayed fault. fault ≡ fault_of_replay replayed };
 
     fn from(fault: ReplayFault) -> Fault {
         match fault {
@@ -77,9 +78,10 @@ impl From<ReplayFault> for Fault {
 }
 
 impl From<ServeFault> for Fault {
+    ghost use Rattle.std.specs.Prelude.{◌≡◌};
     ghost use Rattle.rad_proxy.specs.Faults.{fault_of_serving};
 
-    ghost from_gives = { fault_of_serving };
+    ghost from_gives = { λ served fault. fault ≡ fault_of_serving served };
 
     /// A worker that ends by itself is told as one that can't be started.
     fn from(fault: ServeFault) -> Fault {
