@@ -1,9 +1,10 @@
-//! What `open` gives each lane: the secret, the number and the limits of its own home server.
+//! What `open` gives each lane: the secret, the number and the limits of its own home server; and which lane a gate is
+//! told.
 
 ghost use Rattle.std.specs.Prelude.{◌<◌};
 
 use super::memory::MemoryWire;
-use super::octets::{FORWARDED, OTHER_FORWARDED, OTHER_REQUEST, REQUEST};
+use super::octets::{FORWARDED, OTHER_FORWARDED, OTHER_REPLY, OTHER_REQUEST, REQUEST};
 use super::test_desk::{ONE_TRY, OTHER_HOME};
 use super::test_gate::{Telling, TestGate};
 use super::test_proxy::TestProxy;
@@ -87,4 +88,31 @@ fn open_gives_each_lane_its_home(rt: HostRuntime) -> Result<(), Fail> {
     let sent = send_both(&rt, rt.alloc(), &proxy.proxy, &proxy.config);
     proxy.end();
     sent
+}
+
+/// Has the second lane send its request and hear the reply to it. It gives what was told last.
+fn hear_second(rt: &impl Wait, alloc: Global, proxy: &Proxy, home: &Home) -> Option<Telling>
+    requires { 1 < proxy.now }
+{
+    let mut wire = MemoryWire::new(alloc);
+    let gate = TestGate::new(alloc);
+    let _ = lane_worker(rt, alloc, proxy, 1, home, &mut wire, &gate, 1);
+    wire.comes(local(2, 2814), &OTHER_REPLY);
+    let _ = lane_worker(rt, alloc, proxy, 1, home, &mut wire, &gate, 1);
+    gate.told()
+}
+
+#[test]
+fn a_gate_is_told_whose_response_waits(rt: HostRuntime) -> Result<(), Fail> {
+    let proxy = two_homes(rt.alloc())?;
+    accept_both(&rt, &proxy);
+    let told = match proxy.config.homes() {
+        [_, second] if proxy.proxy.lanes() == 2 => {
+            hear_second(&rt, rt.alloc(), &proxy.proxy, second)
+        }
+        _ => None,
+    };
+    assert_eq!(rt; told, Some(Telling::Answered(1, 0)));
+    proxy.end();
+    Ok(())
 }
