@@ -104,7 +104,12 @@ fn bind<R: Net>(rt: &R, endpoint: Endpoint) -> io::Result<UdpSocket> {
 
 /// Asks for a longer receive buffer. Without it the socket serves as well, and loses datagrams earlier.
 fn widen(socket: &UdpSocket) {
-    let mut value = [0; 16];
-    value[..4].copy_from_slice(&RECEIVE_BUFFER.to_ne_bytes());
+    let value = option_value(RECEIVE_BUFFER);
     let _ = unsafe { setsockopt(socket.as_raw_fd(), SOL_SOCKET, SO_RCVBUF, &value, 4) };
+}
+
+/// A number as the value of a socket's option, in the room that there is for any.
+fn option_value(number: i32) -> [u8; 16] {
+    let [a, b, c, d] = number.to_ne_bytes();
+    [a, b, c, d, 0, 0, 0, 0, 0, 0, 0, 0, 0, 0, 0, 0]
 }

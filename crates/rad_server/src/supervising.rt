@@ -16,6 +16,16 @@ struct LaneState {
     is_down: AtomicBool,
 }
 
+impl LaneState {
+    /// Nothing was taken yet, and the home server is up.
+    fn new() -> LaneState {
+        LaneState {
+            taken: AtomicU64::new(0),
+            is_down: AtomicBool::new(false),
+        }
+    }
+}
+
 /// What is known of the lanes, in order.
 #[derive(Drop)]
 struct LaneStates(Vec<LaneState>);
@@ -29,10 +39,7 @@ impl LaneStates {
     fn new(alloc: Global, count: usize) -> Result<LaneStates, AllocError> {
         let mut lanes = Vec::with_capacity(alloc, count)?;
         for _ in 0..count {
-            lanes.push(LaneState {
-                taken: AtomicU64::new(0),
-                is_down: AtomicBool::new(false),
-            })?;
+            lanes.push(LaneState::new())?;
         }
         Ok(LaneStates(lanes))
     }
@@ -72,6 +79,12 @@ struct Stopping {
     ended: OnceLock<Worker>,
 }
 
+impl Stopping {
+    fn set(&self) {
+        self.is_stopped.store(true, Ordering::SeqCst);
+    }
+}
+
 /// Supervises the workers. Another gate is asked and told too; that a home server went down or up it is told where that
 /// is news.
 #[derive(Drop)]
@@ -107,7 +120,7 @@ impl<'a, G> Supervisor<'a, G> {
 
     /// Has all workers stop before their next call.
     pub(crate) fn stop(&self) {
-        self.stopping.is_stopped.store(true, Ordering::SeqCst);
+        self.stopping.set();
         self.notifiers.notify_all();
     }
 
@@ -125,7 +138,10 @@ impl<'a, G> Supervisor<'a, G> {
 
     /// The worker that ended before it was told to, where one did.
     pub(crate) fn ended(&self) -> Option<Worker> {
-        self.stopping.ended.get().copied()
+        match self.stopping.ended.get() {
+            Some(worker) => Some(*worker),
+            None => None,
+        }
     }
 
     /// How many responses the front took from a lane and sent.

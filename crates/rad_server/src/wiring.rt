@@ -48,7 +48,9 @@ impl<'a, R: Clock + Net + RandomSource> WireMaker<'a, R> {
 
     /// The wires of the lanes over these sockets, in order.
     fn make_lanes(&self, lanes: Vec<Vec<UdpSocket>>) -> Result<Vec<UdpWire<'a, R>>, ServeFault> {
-        let mut wires = Vec::new(self.alloc);
+        let Ok(mut wires) = Vec::with_capacity(self.alloc, lanes.len()) else {
+            return Err(ServeFault::Memory);
+        };
         for (lane, sockets) in lanes.into_iter().enumerate() {
             let wire = self.make(sockets, ServeFault::LaneSocket(lane))?;
             if wires.push(wire).is_err() {

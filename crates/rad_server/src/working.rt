@@ -2,7 +2,7 @@
 
 use crate::supervising::Supervisor;
 use rad_desk::{Gate, Inlet, Proxy, Wire, Worker, front_worker, lane_worker};
-use rad_realms::Config;
+use rad_realms::{Config, Home};
 use std::alloc::{AllocError, Global};
 use std::sync::Wait;
 
@@ -47,19 +47,22 @@ impl<R: Wait, G: Gate> Service<'_, R, G> {
     /// Works for a lane until the worker is stopped.
     pub(crate) fn work_on_lane<W: Wire + Drop>(self, lane: u16, mut wire: W) {
         if let Some(home) = self.config.homes().get(usize::from(lane)) {
-            if lane < self.proxy.lanes() {
-                let _ = lane_worker(
-                    self.rt,
-                    self.alloc,
-                    self.proxy,
-                    lane,
-                    home,
-                    &mut wire,
-                    self.supervisor,
-                    u64::MAX,
-                );
-            }
+            self.work_for(lane, home, &mut wire);
         }
         self.supervisor.end(Worker::Lane(lane));
+    }
+
+    /// Works for a lane and its home server, where there is such a lane.
+    fn work_for<W: Wire>(self, lane: u16, home: &Home, wire: &mut W) {
+        let Self {
+            rt,
+            alloc,
+            proxy,
+            supervisor,
+            ..
+        } = self;
+        if lane < proxy.lanes() {
+            let _ = lane_worker(rt, alloc, proxy, lane, home, wire, supervisor, u64::MAX);
+        }
     }
 }
