@@ -6,8 +6,8 @@
 //! what the report of the closed proxy tells, so it is clean only where nothing is left.
 //!
 //! The definitions that the contracts cite stand in specs: `Closing` is what an end line tells, `Commands` what a line
-//! asks for, `Configurations` which octets are a configuration, `Pieces` how a text is cut, and `Lines` how each line
-//! is printed.
+//! asks for, `Configurations` which octets are a configuration, `Pieces` how a text is cut, and `Lanes` and `Lines` how
+//! the lines are printed.
 #![tactic(auto)]
 
 mod bounded;
