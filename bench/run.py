@@ -19,20 +19,9 @@ sys.dont_write_bytecode = True
 
 import selftest
 import tables
+from compiling import compile_all
 from measuring import Bench
 from pictures import draw
-
-HERE = pathlib.Path(__file__).parent
-PROGRAMS = ["generator", "home", "launch", "digest"]
-SHARED = ["common.c", "packet.c", "md5.c", "histogram.c"]
-FLAGS = ["-std=c11", "-O2", "-Wall", "-Wextra", "-Werror"]
-
-
-def compile_all(work):
-    """Compiles the programs of this folder."""
-    for name in PROGRAMS:
-        sources = [HERE / f"{name}.c", *(HERE / other for other in SHARED)]
-        subprocess.run(["cc", *FLAGS, "-o", work / name, *sources], check=True)
 
 
 def read_plan():

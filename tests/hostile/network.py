@@ -52,7 +52,7 @@ class Network:
 
     def __init__(self, loop, chance):
         self.loop, self.chance, self.is_calm = loop, chance, False
-        self.counts = Counter()
+        self.counts, self.under_way = Counter(), 0
 
     def carry(self, octets, deliver):
         """Carries a datagram; a calm network hands it on at once."""
@@ -75,9 +75,14 @@ class Network:
         if self.chance.random() < self.DELAYED:
             self.counts["delayed"] += 1
             seconds = self.chance.uniform(0, 1.5 if self.chance.random() < self.LATE else 0.03)
-            self.loop.later(seconds, lambda: deliver(octets, is_spoiled))
+            self.under_way += 1
+            self.loop.later(seconds, lambda: self.deliver_late(octets, is_spoiled, deliver))
         else:
             deliver(octets, is_spoiled)
+
+    def deliver_late(self, octets, is_spoiled, deliver):
+        self.under_way -= 1
+        deliver(octets, is_spoiled)
 
 
 class Port:

@@ -5,25 +5,36 @@
  * The first refusal makes the file REFUSE_NOTE, so that whoever set the numbers sees whether they were reached.
  *
  * A call that asks for no octets is no growth, and neither is a realloc to nothing.
+ *
+ * Or it refuses nothing, and counts: the file LIVE_OCTETS then has at each moment, as a machine's number of 64 bits, how many
+ * octets the program has taken and not given back. Of each block that is all that can be used of it.
  */
 #define _GNU_SOURCE
 #include <dlfcn.h>
 #include <errno.h>
 #include <fcntl.h>
+#include <malloc.h>
 #include <pthread.h>
 #include <stdatomic.h>
 #include <stddef.h>
+#include <stdint.h>
 #include <stdlib.h>
+#include <sys/mman.h>
 #include <unistd.h>
 
 extern void *__libc_malloc(size_t size);
 extern void *__libc_calloc(size_t count, size_t size);
 extern void *__libc_realloc(void *old, size_t size);
 extern void *__libc_memalign(size_t alignment, size_t size);
+extern void __libc_free(void *old);
 
 static long first, last, thread;
 static const char *note;
 static atomic_long counted, started;
+
+/* The octets that are live: counted here until the file is there, and nowhere where none is asked for. */
+static _Atomic int64_t live_so_far;
+static _Atomic int64_t *live = &live_so_far;
 
 static long number_in(const char *name)
 {
@@ -31,8 +42,30 @@ static long number_in(const char *name)
     return text ? strtol(text, NULL, 10) : 0;
 }
 
+/* Has the octets that are live counted in a file, which is there from now on. */
+static void count_in(const char *name)
+{
+    int file = open(name, O_CREAT | O_RDWR | O_TRUNC | O_CLOEXEC, 0600);
+    void *shared = MAP_FAILED;
+    if (file >= 0 && ftruncate(file, sizeof *live) == 0) {
+        shared = mmap(NULL, sizeof *live, PROT_READ | PROT_WRITE, MAP_SHARED, file, 0);
+    }
+    if (shared == MAP_FAILED) {
+        _exit(127);
+    }
+    close(file);
+    live = shared;
+    atomic_store(live, atomic_load(&live_so_far));
+}
+
 __attribute__((constructor)) static void begin(void)
 {
+    const char *name = getenv("LIVE_OCTETS");
+    if (name) {
+        count_in(name);
+    } else {
+        live = NULL;
+    }
     note = getenv("REFUSE_NOTE");
     thread = number_in("REFUSE_THREAD");
     last = number_in("REFUSE_LAST");
@@ -64,24 +97,54 @@ static int is_refused(void)
     return 1;
 }
 
+/* Counts a block as taken, where there is one, and hands it on. */
+static void *taken(void *block)
+{
+    if (live && block) {
+        atomic_fetch_add_explicit(live, (int64_t)malloc_usable_size(block), memory_order_relaxed);
+    }
+    return block;
+}
+
+/* Counts a block as given back. */
+static void *given_back(void *block)
+{
+    if (live && block) {
+        atomic_fetch_sub_explicit(live, (int64_t)malloc_usable_size(block), memory_order_relaxed);
+    }
+    return block;
+}
+
 void *malloc(size_t size)
 {
-    return size && is_refused() ? NULL : __libc_malloc(size);
+    return size && is_refused() ? NULL : taken(__libc_malloc(size));
 }
 
 void *calloc(size_t count, size_t size)
 {
-    return count && size && is_refused() ? NULL : __libc_calloc(count, size);
+    return count && size && is_refused() ? NULL : taken(__libc_calloc(count, size));
 }
 
 void *realloc(void *old, size_t size)
 {
-    return size && is_refused() ? NULL : __libc_realloc(old, size);
+    if (size && is_refused()) {
+        return NULL;
+    }
+    void *moved = __libc_realloc(given_back(old), size);
+    if (!moved && size) {
+        taken(old);
+    }
+    return taken(moved);
+}
+
+void free(void *old)
+{
+    __libc_free(given_back(old));
 }
 
 void *aligned_alloc(size_t alignment, size_t size)
 {
-    return size && is_refused() ? NULL : __libc_memalign(alignment, size);
+    return size && is_refused() ? NULL : taken(__libc_memalign(alignment, size));
 }
 
 int posix_memalign(void **place, size_t alignment, size_t size)
@@ -89,7 +152,7 @@ int posix_memalign(void **place, size_t alignment, size_t size)
     if (size && is_refused()) {
         return ENOMEM;
     }
-    *place = __libc_memalign(alignment, size);
+    *place = taken(__libc_memalign(alignment, size));
     return *place || !size ? 0 : ENOMEM;
 }
 

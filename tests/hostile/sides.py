@@ -2,6 +2,7 @@
 
 What is not as it should be goes to the `faults` of the `Findings` that all of them share.
 """
+import time
 from array import array
 from collections import Counter, deque
 from dataclasses import dataclass, field
@@ -14,6 +15,7 @@ from vectors import answer, attribute, mark, request, status, user_name
 MOST_FAULTS = 20
 FIRST_WAIT, LONGEST_WAIT = 0.3, 2.0
 EARLIER_KEPT = 12
+CLOCK_STEP = 0.01
 
 
 @dataclass
@@ -31,17 +33,33 @@ class Findings:
 
 @dataclass(slots=True)
 class Arrived:
-    """A request as a home server's log has it: what it came under, what it has, and the attributes of replies to it."""
+    """A request as a home server's log has it: what it came under, what it has, the attributes of replies to it, when the
+    first of them was on its way, and whether the proxy took it anew after that."""
 
     identity: tuple
     number: int
     attributes: bytes
     replies: set = field(default_factory=set)
-    is_answered: bool = False
+    replied: float | None = None
+    is_anew: bool = False
 
-    def note_reply(self, attributes):
-        self.is_answered = True
+    @property
+    def is_answered(self):
+        return self.replied is not None
+
+    def note_reply(self, attributes, moment):
+        self.replied = moment if self.replied is None else self.replied
         self.replies.add(attributes)
+
+    def is_over(self, span):
+        """Whether the proxy may have seen a repeat of it later than so many seconds after its answer. The repeat was seen
+        before now, and the answer not before the first reply was on its way."""
+        return self.is_answered and self.replied + span <= time.monotonic() + CLOCK_STEP
+
+    def come_anew(self, identity, number, attributes):
+        """Takes a repeat down that the proxy took as a new request."""
+        self.identity, self.number, self.attributes = identity, number, attributes
+        self.replied, self.is_anew = None, True
 
     def forget_texts(self):
         """Once it is acknowledged its texts are not needed any more."""
@@ -52,9 +70,9 @@ class Arrived:
 class Home:
     """A home server: it answers each right request, and each time with another Class."""
 
-    def __init__(self, loop, network, findings, lane, name, secret, window, chance):
+    def __init__(self, loop, network, findings, lane, name, secret, window, span, chance):
         self.network, self.findings, self.chance = network, findings, chance
-        self.lane, self.name, self.secret, self.window = lane, name, secret, window
+        self.lane, self.name, self.secret, self.window, self.span = lane, name, secret, window, span
         self.realm = f"{name}.example"
         self.port = Port(loop, "127.0.0.1", self.arrive)
         self.log, self.sessions = {}, {}
@@ -96,7 +114,10 @@ class Home:
         """Puts a request into the log, or sees that it is what came before."""
         session, identity = came.of_type(ACCT_SESSION_ID)[0][0], (port, came.identifier, came.authenticator)
         known = self.log.setdefault(session, Arrived(identity, number, came.octets[20:-12]))
-        if known.identity != identity:
+        if known.identity != identity and known.is_over(self.span):
+            self.findings.counts["taken anew after their span"] += 1
+            known.come_anew(identity, number, came.octets[20:-12])
+        elif known.identity != identity:
             self.findings.fault(f"{self.name}: {session} came under two identifiers or authenticators, or from two ports")
         if self.sessions.setdefault(number, session) != session:
             self.findings.fault(f"{self.name}: number {number} is that of {session} and of {self.sessions[number]}")
@@ -132,22 +153,24 @@ class Home:
         last = attribute(CLASS, b"last") if self.chance.random() < 0.5 else b""
         known = self.log[came.of_type(ACCT_SESSION_ID)[0][0]]
         octets = answer(octets, came.identifier, first + kept + own + last, self.secret)
-        self.reply(octets, sender, lambda: known.note_reply(first + kept + last))
+        self.reply(octets, sender, lambda moment: known.note_reply(first + kept + last, moment))
 
     def reply(self, octets, sender, note):
         """Sends a reply through the network, and takes it down once it is on its way to the proxy unspoiled."""
 
         def deliver(carried, is_spoiled):
             self.findings.counts["datagrams of home servers"] += 1
+            moment = time.monotonic()
             if self.port.send(carried, sender) and not is_spoiled and note is not None:
-                note()
+                note(moment)
 
         self.network.carry(octets, deliver)
 
 
 @dataclass(slots=True)
 class Asked:
-    """A request of a NAS's: what it sent, to whose home server, and what came of it."""
+    """A request of a NAS's: what it sent, to whose home server, and what came of it. It has more than one right response only
+    where the proxy took a repeat of it anew."""
 
     session: bytes
     octets: bytes
@@ -155,7 +178,7 @@ class Asked:
     home: Home
     copies: int = 0
     place: int = 0
-    response: bytes | None = None
+    responses: list = field(default_factory=list)
 
     def is_answered_by(self, response, secret):
         return is_signed(response, self.octets[4:20], secret)
@@ -204,7 +227,7 @@ class Nas:
     def ask_status(self):
         """Asks whether the proxy is there; the answer is checked where one comes."""
         octets = status(self.chance.randrange(256), self.chance.randbytes(16), b"", b"", self.secret)
-        self.earlier[octets[1]].append(Asked(b"", octets, b"", None, response=answer(octets, octets[1], b"", self.secret)))
+        self.earlier[octets[1]].append(Asked(b"", octets, b"", None, responses=[answer(octets, octets[1], b"", self.secret)]))
         self.network.carry(octets, lambda carried, _: self.port.send(carried, self.proxy))
 
     def arrive(self, octets, sender):
@@ -226,13 +249,11 @@ class Nas:
             self.findings.fault(f"{self.name}: a response to nothing that was asked came: {octets.hex()}")
         elif asked.home is None:
             self.findings.counts["answers to Status-Servers"] += 1
-            if asked.response != octets:
+            if octets not in asked.responses:
                 self.findings.fault(f"{self.name}: a Status-Server was answered by {octets.hex()}")
-        elif asked.response is None:
-            asked.response = octets
+        elif octets not in asked.responses:
             self.check_answer(asked, octets)
-        elif asked.response != octets:
-            self.findings.fault(f"{self.name}: {asked.session} was answered in two ways")
+            asked.responses.append(octets)
 
     def asked_under(self, came):
         """The request that a response answers."""
@@ -244,6 +265,8 @@ class Nas:
         known = asked.home.log.get(asked.session)
         if known is None or octets[20:] not in known.replies:
             self.findings.fault(f"{self.name}: {asked.home.name} replied nothing of what {asked.session} was answered")
+        elif asked.responses and not known.is_anew:
+            self.findings.fault(f"{self.name}: {asked.session} was answered in two ways")
         elif known.attributes != asked.octets[20:]:
             self.findings.fault(f"{self.name}: {asked.session} is at {asked.home.name} with other attributes")
         elif asked.copies == 1:
@@ -255,7 +278,7 @@ class Nas:
         if is_spoiled:
             return
         asked = self.out.get(octets[1])
-        if asked is None or asked.response != octets:
+        if asked is None or octets not in asked.responses:
             return
         del self.out[octets[1]]
         self.earlier[octets[1]].append(asked)

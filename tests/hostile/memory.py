@@ -1,0 +1,211 @@
+#!/usr/bin/env python3
+"""Gives the program a load and then the same load again, and looks whether it keeps more memory after the second time.
+
+usage: memory.py PROGRAM                 each load of LOADS, with some ten thousand requests and as many again
+       memory.py PROGRAM --seconds N     the same in N seconds, an equal part for each load
+
+The requests are those of bench/generator.c, for a home server of bench/home.c, which answers at once. So many are out at one
+moment, whatever the machine does meanwhile; by that, by `book` and by `span` it is settled how much of the book is cut off
+each time. Memory is looked at when all is answered and cut. Neither what is resident nor what refuse.c counts as live may be
+more than MOST octets higher after the second load than after the first one. The last line is `N passed, M failed`.
+"""
+import contextlib
+import itertools
+import json
+import math
+import os
+import pathlib
+import re
+import select
+import signal
+import socket
+import subprocess
+import sys
+import tempfile
+import time
+from dataclasses import dataclass
+
+sys.dont_write_bytecode = True
+
+HERE = pathlib.Path(__file__).resolve().parent
+sys.path.append(str(HERE.parent.parent / "bench"))
+
+from compiling import compile_all  # noqa: E402
+from growths import Refuser  # noqa: E402
+from proxies import CLIENT_SECRET, HOME_SECRET, end, end_with_parent  # noqa: E402
+from readings import resident_kilobytes  # noqa: E402
+
+MOST = 1_000_000
+REQUESTS = 10_000
+PATIENCE, LONGEST, TOOK_NO_ANSWER = 120, 3600, 1000
+OUT_OF_A_SOCKET = 200
+STATE = re.compile(r"lane 0 h0 up open accepted (\d+) queued (\d+) outstanding (\d+) answered (\d+) opening (\d+)")
+NOTHING_LEFT = "end: queued 0 outstanding 0 untaken 0"
+
+
+@dataclass
+class Load:
+    """How much the book has room for, how long an answered request stays in it, and how many requests are out, in turn."""
+
+    name: str
+    book: int
+    span: int
+    out: list
+
+
+LOADS = [
+    Load("a cut takes more than stays", 320, 0, [8, 8, 8, 8]),
+    Load("a cut takes as much as stays", 320, 0, [160, 160, 160, 160]),
+    Load("a cut takes less than stays", 320, 0, [240, 240, 240, 240]),
+    Load("a cut takes now more and now less", 320, 5, [8, 240, 160, 40]),
+]
+
+
+class Failed(Exception):
+    """The load could not be given."""
+
+
+def until(text, is_so):
+    last = time.monotonic() + PATIENCE
+    while not is_so():
+        if time.monotonic() > last:
+            raise Failed(f"never: {text}")
+        time.sleep(0.05)
+
+
+def free_port():
+    """A port of loopback that nobody has."""
+    with socket.socket(socket.AF_INET, socket.SOCK_DGRAM) as tried:
+        tried.bind(("127.0.0.1", 0))
+        return tried.getsockname()[1]
+
+
+class Proxy:
+    """The program under `run`, whose live octets are counted in a file."""
+
+    def __init__(self, program, folder, load, home, library):
+        self.port, self.live, self.load = free_port(), folder / "live", load
+        file = folder / "proxy.toml"
+        file.write_text(
+            f'listen = "127.0.0.1:{self.port}"\n[[client]]\naddress = "127.0.0.1"\nsecret = "{CLIENT_SECRET}"\n'
+            f'[[home]]\nname = "h0"\naddress = "127.0.0.1:{home}"\nsecret = "{HOME_SECRET}"\nwindow = 254\n'
+            f'book = {load.book}\nspan = {load.span}\n[[realm]]\nname = "r00.bench"\nhome = "h0"\n', "utf-8")
+        more = {"LD_PRELOAD": str(library), "LIVE_OCTETS": str(self.live)}
+        how = {"stdin": subprocess.PIPE, "stdout": subprocess.PIPE, "bufsize": 0, "preexec_fn": end_with_parent}
+        with (folder / "log").open("wb") as log:
+            self.ran = subprocess.Popen([program, "run", str(file)], env={**os.environ, **more}, stderr=log, **how)
+
+    def line(self):
+        """The next line that it prints."""
+        if not select.select([self.ran.stdout], [], [], PATIENCE)[0]:
+            raise Failed("the program says nothing")
+        return self.ran.stdout.readline().decode("utf-8", "replace").strip()
+
+    def is_at_rest(self):
+        """Whether all is answered, and the book is cut as far as it ever is."""
+        self.ran.stdin.write(b"state\n")
+        line = self.line()
+        found = STATE.fullmatch(line)
+        if not found:
+            raise Failed(f"the program says {line!r}")
+        accepted, queued, outstanding, _, opening = map(int, found.groups())
+        return queued == outstanding == 0 and 2 * (accepted - opening) < self.load.book
+
+    def octets(self):
+        """What is live and what is resident, once the program is at rest."""
+        until("the program is at rest", self.is_at_rest)
+        live = int.from_bytes(self.live.read_bytes(), sys.byteorder, signed=True)
+        return {"live": live, "resident": 1024 * resident_kilobytes(self.ran.pid)}
+
+    def end(self):
+        """Ends its input, and sees that it ends well."""
+        self.ran.stdin.close()
+        line = self.line()
+        if (line, self.ran.wait(PATIENCE)) != (NOTHING_LEFT, 0):
+            raise Failed(f"it ended in {line!r} with status {self.ran.returncode}")
+
+
+@contextlib.contextmanager
+def started(words, **pipes):
+    """A process, which is ended whatever happens."""
+    process = subprocess.Popen(words, preexec_fn=end_with_parent, **pipes)
+    try:
+        yield process
+    finally:
+        end(process)
+
+
+class Nas:
+    """Gives the load, each time under other sessions."""
+
+    def __init__(self, work, port):
+        self.work, self.port, self.series = work, port, itertools.count()
+
+    def ask(self, out, count, seconds):
+        """Sends so many requests, as far as there is time, with so many out at once, and gives how many it sent."""
+        options = {"port": self.port, "secret": CLIENT_SECRET, "window": out, "count": count, "seconds": seconds}
+        options |= {"timeout": TOOK_NO_ANSWER, "sockets": math.ceil(out / OUT_OF_A_SOCKET), "series": next(self.series)}
+        words = [self.work / "generator", *(word for name, value in options.items() for word in (f"--{name}", str(value)))]
+        with started(words, stdout=subprocess.PIPE, text=True) as process:
+            told = json.loads(process.stdout.readlines()[-1])
+        if 2 * told["answered"] < told["sent"]:
+            raise Failed(f"of {told['sent']} requests {told['answered']} were answered")
+        return told["sent"]
+
+
+def grown(program, work, load, library, count, seconds):
+    """How many octets more there are of each kind after the second load than after the first one."""
+    with tempfile.TemporaryDirectory(dir=work) as folder, contextlib.ExitStack() as stack:
+        home = free_port()
+        stack.enter_context(started([work / "home", str(home), HOME_SECRET, "86400"], stdout=subprocess.DEVNULL))
+        proxy = Proxy(program, pathlib.Path(folder), load, home, library)
+        stack.callback(proxy.ran.wait)
+        stack.callback(proxy.ran.kill)
+        if not proxy.line().startswith("listening "):
+            raise Failed("the program does not listen")
+        nas = Nas(work, proxy.port)
+        sent = [nas.ask(out, count, seconds) for out in load.out]
+        before = proxy.octets()
+        for out, again in zip(load.out, sent):
+            nas.ask(out, again, LONGEST)
+        after = proxy.octets()
+        proxy.end()
+    told = ", ".join(f"{name} {before[name]:,} and then {after[name]:,}" for name in before)
+    print(f"{load.name}, {sum(sent):,} requests and as many again: octets {told}", flush=True)
+    return {name: after[name] - before[name] for name in before}
+
+
+def tried(program, work, load, library, count, seconds):
+    """How many of the two kinds of octets did not rise under a load, and how many did."""
+    try:
+        risen = [name for name, more in grown(program, work, load, library, count, seconds).items() if more > MOST]
+    except (Failed, OSError, ValueError, IndexError) as failed:
+        print(f"{load.name}: {failed}")
+        return 0, 2
+    for name in risen:
+        print(f"{load.name}: what is {name} rose by more than {MOST:,} octets")
+    return 2 - len(risen), len(risen)
+
+
+def main():
+    words = sys.argv[1:]
+    if len(words) == 1:
+        count, seconds = REQUESTS, LONGEST
+    elif len(words) == 3 and words[1] == "--seconds":
+        parts = 2 * sum(len(load.out) for load in LOADS)
+        count, seconds = 2**32 - 1, max(1, round(int(words[2]) / parts))
+    else:
+        sys.exit(__doc__)
+    signal.signal(signal.SIGTERM, lambda *_: sys.exit("stopped"))
+    program = str(pathlib.Path(words[0]).resolve())
+    with tempfile.TemporaryDirectory() as folder:
+        work = pathlib.Path(folder)
+        compile_all(work, ["generator", "home"])
+        library = Refuser(work).library
+        passed, failed = map(sum, zip(*(tried(program, work, load, library, count, seconds) for load in LOADS)))
+    print(f"{passed} passed, {failed} failed")
+    sys.exit(1 if failed else 0)
+
+
+if __name__ == "__main__":
+    main()
