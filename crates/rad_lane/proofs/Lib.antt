@@ -24,3 +24,4 @@ pub mod NoRepeatOfFresh
 pub mod LawfulAfterWatch
 pub mod LeadsToItsLane
 pub mod UnknownPort
+pub mod Sessions

@@ -2,14 +2,15 @@
 
 use crate::counter_file::{CounterFile, ReplaceFile, log_fault};
 use crate::counters::{Counters, Delta};
-use crate::delta_lines::{ClientDelta, FaultDelta, HomeDelta};
+use crate::delta_lines::{ClientDelta, CutDelta, FaultDelta, HomeDelta, MarkedDelta};
 use crate::event_kind::{EVENT_KINDS, EventKind};
+use crate::last_realm::LastRealm;
 use crate::metric::{METRICS, Metric};
 use crate::metric_lines::{CounterLine, Labels, TypeLine};
 use crate::workers::{worker_name, worker_of_lane};
 use log::{Log, info, warn};
 use rad_desk::Worker;
-use rad_realms::Config;
+use rad_realms::{Config, Dropped};
 use std::alloc::{AllocError, Global};
 use std::io::{self, Write};
 use std::sync::atomic::{AtomicU64, Ordering};
@@ -111,10 +112,33 @@ impl<L: Log, F: ReplaceFile> Reporter<'_, L, F> {
         }
     }
 
+    /// Logs what was counted of a kind. That a home server went down or up is logged as it happens, and what is sent is not
+    /// logged.
+    fn log_delta(&self, name: &str, kind: EventKind, delta: Delta) {
+        match kind.metric() {
+            Metric::Dropped => self.log_dropped(kind, delta),
+            Metric::Refused => log_refused(self.log, kind, delta),
+            Metric::Unheard => log_unheard(self.log, name, kind, delta),
+            Metric::SendFault | Metric::ReceiveFault => log_faults(self.log, name, kind, delta),
+            Metric::Cut => log_cut(self.log, name, delta),
+            Metric::Marked => log_marked(self.log, name, delta),
+            Metric::WentDown | Metric::WentUp | Metric::Sent | Metric::Probed => {}
+        }
+    }
+
+    /// Logs drops, and the last one's realm where they were for their realms.
+    fn log_dropped(&self, kind: EventKind, delta: Delta) {
+        if kind == EventKind::Dropped(Dropped::NoRealm) {
+            log_no_realm(self.log, kind, delta, self.counters.last_realm());
+        } else {
+            log_dropped(self.log, kind, delta);
+        }
+    }
+
     fn log_deltas_of(&self, worker: Worker) {
         for kind in EVENT_KINDS {
             if let Some(delta) = self.counters.take_delta(worker, kind) {
-                log_delta(self.log, worker_name(self.config, worker), kind, delta);
+                self.log_delta(worker_name(self.config, worker), kind, delta);
             }
         }
     }
@@ -221,20 +245,15 @@ fn lane_labels(metric: Metric, kind: EventKind, lane: usize, home: &str) -> Opti
     }
 }
 
-/// Logs what was counted of a kind. That a home server went down or up is logged as it happens, and what is sent is not logged.
-fn log_delta<L: Log>(log: &L, name: &str, kind: EventKind, delta: Delta) {
-    match kind.metric() {
-        Metric::Dropped => log_dropped(log, kind, delta),
-        Metric::Refused => log_refused(log, kind, delta),
-        Metric::Unheard => log_unheard(log, name, kind, delta),
-        Metric::SendFault | Metric::ReceiveFault => log_faults(log, name, kind, delta),
-        Metric::WentDown | Metric::WentUp | Metric::Sent | Metric::Probed => {}
-    }
-}
 
 fn log_dropped<L: Log>(log: &L, kind: EventKind, delta: Delta) {
     let line = ClientDelta::new(kind, delta);
     info!(log; "{line}");
+}
+
+fn log_no_realm<L: Log>(log: &L, kind: EventKind, delta: Delta, realm: &LastRealm) {
+    let line = ClientDelta::new(kind, delta);
+    info!(log; "{line}{realm}");
 }
 
 fn log_refused<L: Log>(log: &L, kind: EventKind, delta: Delta) {
@@ -256,4 +275,26 @@ fn log_faults<L: Log>(log: &L, worker: &str, kind: EventKind, delta: Delta) {
         count,
     };
     warn!(log; "{line}");
+}
+
+fn log_cut<L: Log>(log: &L, home: &str, delta: Delta) {
+    let count = delta.count;
+    let line = CutDelta { home, count };
+    info!(log; "{line}");
+}
+
+/// Logs requests that this proxy or one like it sent before. One such Proxy-State each they have behind another one; more of them
+/// tell of a loop.
+fn log_marked<L: Log>(log: &L, home: &str, delta: Delta) {
+    let line = MarkedDelta {
+        home,
+        count: delta.count,
+        most: delta.most_marks,
+        client: delta.last,
+    };
+    if delta.most_marks > 1 {
+        warn!(log; "{line}");
+    } else {
+        info!(log; "{line}");
+    }
 }
