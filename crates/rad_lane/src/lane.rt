@@ -1,4 +1,4 @@
-ghost use Rattle.std.specs.Prelude.{◌≡◌, ◌≤◌, ◌^◌, IfOk};
+ghost use Rattle.std.specs.Prelude.{◌≡◌, ◌≤◌, ◌^◌, max, IfOk};
 ghost use Rattle.rad_lane.specs.Book.{moment_in, next_number};
 ghost use Rattle.rad_lane.specs.Drains.{drained_at};
 ghost use Rattle.rad_lane.specs.Empty.{empty_book};
@@ -134,11 +134,7 @@ impl<Q: Fifo<Record>> Lane<Q> {
         ensures value { result ≡ moment_in self.now moment }
         ensures later { self.now.last ≤ result }
     {
-        if moment.get() < self.last.get() {
-            self.last
-        } else {
-            moment
-        }
+        later_of(self.last, moment)
     }
 
     /// Makes this the last moment, where a call changes nothing else. A call that does writes the field itself,
@@ -148,5 +144,16 @@ impl<Q: Fifo<Record>> Lane<Q> {
         ensures { self.new ≡ record self.old { last = now } }
     {
         self.last = now;
+    }
+}
+
+/// The later of two moments.
+fn later_of(last: Moment, moment: Moment) -> Moment
+    ensures { result ≡ max last moment }
+{
+    if moment.get() < last.get() {
+        last
+    } else {
+        moment
     }
 }

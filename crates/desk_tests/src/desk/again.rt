@@ -42,25 +42,40 @@ fn turn<R: Wait + Abort>(rt: &R, proxy: &TestProxy) -> Option<Result<usize, Turn
     proxy.turn(rt, 0)
 }
 
-/// The same of the end.
-fn close(rt: &impl Abort, alloc: Global, proxy: TestProxy) -> Option<Report> {
+/// The same of the end. It says whether the request is served there.
+fn closes_served(rt: &impl Abort, alloc: Global, proxy: TestProxy) -> bool {
     match proxy.close() {
-        Ok(report) => Some(report),
+        Ok(report) => is_served(&report),
         Err(CloseFault::OutOfMemory(proxy, inlets)) => {
             assert_eq!(rt; (proxy.lanes(), inlets.as_slice().len()), (1, 1));
-            proxy.close(alloc, inlets.into_vec()).ok()
+            match proxy.close(alloc, inlets.into_vec()) {
+                Ok(report) => is_served(&report),
+                Err(_) => false,
+            }
         }
     }
 }
 
-/// Serves the request, and cuts it off.
-fn serve<R: Wait + Abort>(rt: &R, proxy: &mut TestProxy) {
+/// Has the request accepted and sent.
+fn send<R: Wait + Abort>(rt: &R, proxy: &mut TestProxy) {
     assert_eq!(rt; accept(rt, proxy), Some(Ok(Taken::New(0))));
     assert_eq!(rt; proxy.counts(rt, 0), counts(1, 1, 0, 0));
     assert_eq!(rt; proxy.step(rt, 0), Some(Action::Sent(0, slot(0))));
+}
+
+/// Has it answered, and cut off.
+fn answer<R: Wait + Abort>(rt: &R, proxy: &TestProxy) {
     assert_eq!(rt; hear(rt, proxy), Some(Ok(Told::Answer(0))));
     assert_eq!(rt; proxy.counts(rt, 0), counts(1, 0, 0, 1));
     assert_eq!(rt; turn(rt, proxy), Some(Ok(1)));
+}
+
+/// A proxy that served the request.
+fn served<R: Wait + Abort>(rt: &R, alloc: Global) -> Result<TestProxy, Fail> {
+    let mut proxy = TestProxy::new(alloc, "")?;
+    send(rt, &mut proxy);
+    answer(rt, &proxy);
+    Ok(proxy)
 }
 
 /// Whether a lane's end knows the one response, which nobody took.
@@ -84,9 +99,7 @@ fn is_served(report: &Report) -> bool {
 
 #[test]
 fn a_call_is_made_again_after_a_refused_growth(rt: HostRuntime) -> Result<(), Fail> {
-    let mut proxy = TestProxy::new(rt.alloc(), "")?;
-    serve(&rt, &mut proxy);
-    let report = close(&rt, rt.alloc(), proxy).ok_or("a report")?;
-    assert!(rt; is_served(&report));
+    let proxy = served(&rt, rt.alloc())?;
+    assert!(rt; closes_served(&rt, rt.alloc(), proxy));
     Ok(())
 }

@@ -1,4 +1,5 @@
-//! What `open` gives each lane: the secret, the number and the limits of its own home server.
+//! What `open` gives each lane: the secret, the number and the limits of its own home server; and which lane a gate is
+//! told.
 
 ghost use Rattle.std.specs.Prelude.{◌<◌};
 
@@ -14,7 +15,7 @@ use std::alloc::Global;
 use std::process::Abort;
 use std::sync::Wait;
 use std::test::Fail;
-use test_octets::homes::{FORWARDED, OTHER_FORWARDED};
+use test_octets::homes::{FORWARDED, OTHER_FORWARDED, OTHER_REPLY};
 use test_octets::nas::{OTHER_REQUEST, REQUEST};
 
 /// Two home servers. One sending without an answer takes the first to be down, and not the second.
@@ -88,4 +89,31 @@ fn open_gives_each_lane_its_home(rt: HostRuntime) -> Result<(), Fail> {
     let sent = send_both(&rt, rt.alloc(), &proxy.proxy, &proxy.config);
     proxy.end();
     sent
+}
+
+/// Has the second lane send its request and hear the reply to it. It gives what was told last.
+fn hear_second(rt: &impl Wait, alloc: Global, proxy: &Proxy, home: &Home) -> Option<Telling>
+    requires { 1 < proxy.now }
+{
+    let mut wire = MemoryWire::new(alloc);
+    let gate = TestGate::new(alloc);
+    let _ = lane_worker(rt, alloc, proxy, 1, home, &mut wire, &gate, 1);
+    wire.comes(local(2, 2814), &OTHER_REPLY);
+    let _ = lane_worker(rt, alloc, proxy, 1, home, &mut wire, &gate, 1);
+    gate.told()
+}
+
+#[test]
+fn a_gate_is_told_whose_response_waits(rt: HostRuntime) -> Result<(), Fail> {
+    let proxy = two_homes(rt.alloc())?;
+    accept_both(&rt, &proxy);
+    let told = match proxy.config.homes() {
+        [_, second] if proxy.proxy.lanes() == 2 => {
+            hear_second(&rt, rt.alloc(), &proxy.proxy, second)
+        }
+        _ => None,
+    };
+    assert_eq!(rt; told, Some(Telling::Answered(1, 0)));
+    proxy.end();
+    Ok(())
 }

@@ -190,15 +190,24 @@ fn compare_end(rt: &impl Abort, report: &Report, taken: &[Outgoing], numbers: &[
     }
 }
 
+/// Answers all requests and takes most of the responses. It gives the numbers of the requests, and what was taken.
+fn give_all<R: Clock + Threads + Wait + Abort + Sync>(
+    rt: &R,
+    alloc: Global,
+    proxy: &mut TestProxy,
+) -> (Vec<u64>, Vec<Outgoing>) {
+    let inlet = proxy.inlets.pop().expect(rt, "an inlet");
+    let (numbers, took) = in_threads(rt, alloc, &proxy.proxy, &proxy.config, inlet);
+    let (inlet, taken) = took.expect(rt, "responses");
+    assert!(rt; give_back(proxy, inlet));
+    (numbers.expect(rt, "an answer to each request"), taken)
+}
+
 #[test]
 fn each_response_goes_through_once(rt: HostRuntime) -> Result<(), Fail> {
     let mut proxy = TestProxy::new(rt.alloc(), FOUR_PLACES)?;
-    let inlet = proxy.inlets.pop().expect(&rt, "an inlet");
-    let (numbers, took) = in_threads(&rt, rt.alloc(), &proxy.proxy, &proxy.config, inlet);
-    let numbers = numbers.expect(&rt, "an answer to each request");
-    let (inlet, taken) = took.expect(&rt, "responses");
-    assert!(rt; give_back(&mut proxy, inlet));
-    let report = proxy.close().ok().expect(&rt, "memory");
+    let (numbers, taken) = give_all(&rt, rt.alloc(), &mut proxy);
+    let report = proxy.report()?;
     compare_end(&rt, &report, taken.as_slice(), numbers.as_slice());
     Ok(())
 }

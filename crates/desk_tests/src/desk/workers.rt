@@ -1,14 +1,21 @@
 //! What the workers do in a turn, over wires in memory: what each counts and tells, and where what it sends goes.
 
-use super::works::{HOME, Works, accepted, answered, front, lane, note, note_of, play, tally};
+use super::test_desk::OTHER_HOME;
+use super::test_gate::Telling;
+use super::works::{
+    CLIENT, HOME, Works, accepted, answered, front, lane, note, note_of, play, tally,
+};
 use rad_desk::{Call, Note};
+use rad_lane::Refusal;
 use rad_realms::{Dropped, Endpoint};
 use std::alloc::Global;
 use std::process::Abort;
 use std::sync::Wait;
 use std::test::Fail;
 use test_octets::homes::{FORWARDED, REPLY, SECOND_FORWARDED, SECOND_PROBE, SECOND_PROBE_ANSWER};
-use test_octets::nas::{REQUEST, RESPONSE, SECOND_REQUEST, STATUS, STATUS_ANSWER};
+use test_octets::nas::{
+    OTHER_REQUEST, REQUEST, RESPONSE, SECOND_REQUEST, STATUS, STATUS_ANSWER,
+};
 
 #[test]
 fn each_worker_does_its_part(rt: HostRuntime) -> Result<(), Fail> {
@@ -62,6 +69,27 @@ fn the_front_answers_and_drops(rt: HostRuntime) -> Result<(), Fail> {
     works.play(&rt, &[front(&STATUS, [1, 0, 0], dropped, &[]).from(HOME)]);
     works.end();
     Ok(())
+}
+
+#[test]
+fn a_gate_is_told_whose_lane_has_work(rt: HostRuntime) -> Result<(), Fail> {
+    let other = Some(Telling::Accepted(1, 0));
+    let turns = [
+        front(&OTHER_REQUEST, [1, 0, 0], other, &[]),
+        front(&REQUEST, [1, 0, 0], accepted(0), &[]),
+        front(&REQUEST, [1, 0, 0], None, &[]),
+    ];
+    play(&rt, rt.alloc(), OTHER_HOME, &turns)
+}
+
+#[test]
+fn a_refusal_is_of_what_came_last(rt: HostRuntime) -> Result<(), Fail> {
+    let refused = note_of(CLIENT, Note::Refused(Refusal::QueueFull));
+    let turns = [
+        front(&REQUEST, [1, 0, 0], accepted(0), &[]),
+        front(&SECOND_REQUEST, [1, 0, 0], refused, &[]),
+    ];
+    play(&rt, rt.alloc(), "queue = 1\n", &turns)
 }
 
 #[test]
