@@ -2,7 +2,7 @@
 
 use crate::packets::SHORT;
 use crate::shared::{HOME, Kept, NAS, TWO_HOMES};
-use rad_desk::{DeskFault, Gate, Note, Worker};
+use rad_desk::{DeskFault, Gate, Note, Session, Spent, UpReason, Worker};
 use rad_lane::{HearFault, Refusal};
 use rad_packet::read;
 use rad_realms::{Dropped, read_config};
@@ -27,8 +27,8 @@ const NOTES: &str =
 
 /// The lines of the events that are about no datagram that was received.
 const EVENTS: &str = "event=stopped worker=h1 reason=\"ended by itself\"\n\
-    event=down home=h2\n\
-    event=up home=h2\n\
+    event=down home=h2 number=3 client=10.0.0.1 client_port=40000 session=S%201 age=14000\n\
+    event=up home=h2 reason=\"down_wait over\"\n\
     event=cut home=h2 count=3\n\
     event=receive-fault worker=front\n\
     event=went worker=h2 address=127.0.0.1 port=2814 octets=3 reason=\"Unread Short\"\n\
@@ -41,18 +41,17 @@ const ERRORS: &str = "event=stopped worker=h1 reason=\"ended by itself\"\n";
 
 /// Those that are logged at `warn`.
 const WARNINGS: &str = "event=stopped worker=h1 reason=\"ended by itself\"\n\
-    event=down home=h2\n";
+    event=down home=h2 number=3 client=10.0.0.1 client_port=40000 session=S%201 age=14000\n";
 
 /// Those that are logged at `info`.
 const INFOS: &str = "event=stopped worker=h1 reason=\"ended by itself\"\n\
-    event=down home=h2\n\
-    event=up home=h2\n\
-    event=cut home=h2 count=3\n";
+    event=down home=h2 number=3 client=10.0.0.1 client_port=40000 session=S%201 age=14000\n\
+    event=up home=h2 reason=\"down_wait over\"\n";
 
 /// Those that are logged at `debug`.
 const DETAILS: &str = "event=stopped worker=h1 reason=\"ended by itself\"\n\
-    event=down home=h2\n\
-    event=up home=h2\n\
+    event=down home=h2 number=3 client=10.0.0.1 client_port=40000 session=S%201 age=14000\n\
+    event=up home=h2 reason=\"down_wait over\"\n\
     event=cut home=h2 count=3\n\
     event=receive-fault worker=front\n\
     event=send-fault worker=h2 address=127.0.0.1 port=2814\n";
@@ -63,11 +62,23 @@ const ODD: [u8; 39] = [
     b'x', b' ', b'=', b'"', 127, b'.', 44, 7, b'S', b' ', b'1', 255, b'@',
 ];
 
+/// A request whose session has an octet that no value shows as it is.
+fn spent() -> Spent {
+    Spent {
+        number: 3,
+        client: NAS,
+        session: Some(Session::of("S 1".as_bytes())),
+        age: 14_000,
+    }
+}
+
 /// Tells of each event that is about no datagram that was received.
 fn tell_events<L: Log>(telemetry: &Telemetry<'_, L>) {
     telemetry.tell_end(Worker::Lane(0));
     telemetry.note(Worker::Lane(1), Note::WentDown);
+    telemetry.went_down(1, &spent());
     telemetry.note(Worker::Lane(1), Note::WentUp);
+    telemetry.went_up(1, UpReason::DownWaitOver);
     telemetry.note(Worker::Lane(1), Note::Cut(3));
     telemetry.note(Worker::Front, Note::ReceiveFault);
     telemetry.sends(Worker::Lane(1), HOME, &SHORT);

@@ -82,7 +82,13 @@ const TAIL: &str = "# TYPE rad_proxy_send_faults_total counter\n\
     rad_proxy_sent_total{lane=\"1\",home=\"h2\"} 2\n\
     # TYPE rad_proxy_probes_total counter\n\
     rad_proxy_probes_total{lane=\"0\",home=\"h1\"} 1\n\
-    rad_proxy_probes_total{lane=\"1\",home=\"h2\"} 0\n";
+    rad_proxy_probes_total{lane=\"1\",home=\"h2\"} 0\n\
+    # TYPE rad_proxy_cut_total counter\n\
+    rad_proxy_cut_total{lane=\"0\",home=\"h1\"} 0\n\
+    rad_proxy_cut_total{lane=\"1\",home=\"h2\"} 5\n\
+    # TYPE rad_proxy_marked_total counter\n\
+    rad_proxy_marked_total{lane=\"0\",home=\"h1\"} 1\n\
+    rad_proxy_marked_total{lane=\"1\",home=\"h2\"} 0\n";
 
 /// What the counters' file is given, where nothing was counted yet.
 const GIVEN: &str = "some/file some/file.new # TYPE rad_proxy_dropped_total counter\n\
@@ -110,6 +116,9 @@ fn counters_are_written(rt: HostRuntime) -> Result<(), Fail> {
     telemetry.note(Worker::Front, Note::Refused(Refusal::BookFull));
     telemetry.note(Worker::Lane(0), Note::NotHome);
     telemetry.note(Worker::Lane(1), Note::WentDown);
+    telemetry.note(Worker::Lane(1), Note::Cut(2));
+    telemetry.note(Worker::Lane(1), Note::Cut(3));
+    telemetry.came_marked(0, NAS, 4);
     telemetry.sends(Worker::Lane(1), HOME, &[4]);
     telemetry.sends(Worker::Lane(1), HOME, &[4]);
     telemetry.sends(Worker::Lane(0), HOME, &[12]);
