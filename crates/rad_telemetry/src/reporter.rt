@@ -145,7 +145,7 @@ impl<L: Log, F: ReplaceFile> Reporter<'_, L, F> {
 
     /// Writes the counters to their file where there is one, by way of a text that is made anew. It answers whether they are
     /// written; where they were and no longer are, that is logged.
-    fn write_file(&self, text: &mut Vec<u8>, was_written: bool) -> bool {
+    pub fn write_file(&self, text: &mut Vec<u8>, was_written: bool) -> bool {
         let Some(file) = self.file else {
             return true;
         };
@@ -184,12 +184,28 @@ impl<L: Log, F: ReplaceFile> Reporter<'_, L, F> {
     fn write_front<W: Write>(&self, writer: &mut W, metric: Metric) -> io::Result<()> {
         for kind in EVENT_KINDS {
             if kind.metric() == metric {
-                if let Some(labels) = front_labels(metric, kind) {
-                    self.write_counter(writer, Worker::Front, kind, labels)?;
-                }
+                self.write_front_kind(writer, metric, kind)?;
             }
         }
         Ok(())
+    }
+
+    /// Writes the front's counter of a metric and a kind of it, where it has one.
+    fn write_front_kind<W: Write>(
+        &self,
+        writer: &mut W,
+        metric: Metric,
+        kind: EventKind,
+    ) -> io::Result<()> {
+        match metric {
+            Metric::Dropped | Metric::Refused => {
+                self.write_counter(writer, Worker::Front, kind, Labels::Reason(kind))
+            }
+            Metric::SendFault | Metric::ReceiveFault => {
+                self.write_counter(writer, Worker::Front, kind, Labels::Clients)
+            }
+            _ => Ok(()),
+        }
     }
 
     /// Writes a lane's counters of a metric, where it has some.
@@ -202,12 +218,29 @@ impl<L: Log, F: ReplaceFile> Reporter<'_, L, F> {
     ) -> io::Result<()> {
         for kind in EVENT_KINDS {
             if kind.metric() == metric {
-                if let Some(labels) = lane_labels(metric, kind, lane, home) {
-                    self.write_counter(writer, worker_of_lane(lane), kind, labels)?;
-                }
+                self.write_lane_kind(writer, metric, kind, lane, home)?;
             }
         }
         Ok(())
+    }
+
+    /// Writes a lane's counter of a metric and a kind of it, where it has one.
+    fn write_lane_kind<W: Write>(
+        &self,
+        writer: &mut W,
+        metric: Metric,
+        kind: EventKind,
+        lane: usize,
+        home: &str,
+    ) -> io::Result<()> {
+        let worker = worker_of_lane(lane);
+        match metric {
+            Metric::Dropped | Metric::Refused => Ok(()),
+            Metric::Unheard => {
+                self.write_counter(writer, worker, kind, Labels::HomeReason(lane, home, kind))
+            }
+            _ => self.write_counter(writer, worker, kind, Labels::Home(lane, home)),
+        }
     }
 
     /// Writes a counter.
@@ -226,25 +259,6 @@ impl<L: Log, F: ReplaceFile> Reporter<'_, L, F> {
         writeln!(writer, "{line}")
     }
 }
-
-/// The labels of the front's counter of a metric and a kind of it, where it has one.
-fn front_labels(metric: Metric, kind: EventKind) -> Option<Labels<'static>> {
-    match metric {
-        Metric::Dropped | Metric::Refused => Some(Labels::Reason(kind)),
-        Metric::SendFault | Metric::ReceiveFault => Some(Labels::Clients),
-        _ => None,
-    }
-}
-
-/// The labels of a lane's counter of a metric and a kind of it, where it has one.
-fn lane_labels(metric: Metric, kind: EventKind, lane: usize, home: &str) -> Option<Labels<'_>> {
-    match metric {
-        Metric::Dropped | Metric::Refused => None,
-        Metric::Unheard => Some(Labels::HomeReason(lane, home, kind)),
-        _ => Some(Labels::Home(lane, home)),
-    }
-}
-
 
 fn log_dropped<L: Log>(log: &L, kind: EventKind, delta: Delta) {
     let line = ClientDelta::new(kind, delta);

@@ -14,5 +14,6 @@ mod packets;
 mod reporting;
 #[cfg(test)]
 mod shared;
+mod summing;
 #[cfg(test)]
 mod workers;
