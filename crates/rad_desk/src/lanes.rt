@@ -148,13 +148,7 @@ fn step<W: Wire, G: Gate>(
 }
 
 /// Tells that the home server is marked down, and by which request.
-fn tell_down<G: Gate>(
-    rt: &impl Wait,
-    proxy: &Proxy,
-    lane: u16,
-    now: Moment,
-    shift: &Shift<'_, G>,
-)
+fn tell_down<G: Gate>(rt: &impl Wait, proxy: &Proxy, lane: u16, now: Moment, shift: &Shift<'_, G>)
     requires { lane < proxy.now }
 {
     shift.note(Note::WentDown);

@@ -14,6 +14,7 @@ mod packets;
 mod reporting;
 #[cfg(test)]
 mod shared;
+#[cfg(test)]
 mod summing;
 #[cfg(test)]
 mod workers;

@@ -37,7 +37,8 @@ const ODD_REALM: [u8; 28] = [
 ];
 
 /// The sums of drops, each behind what was dropped since the one before.
-const DROPS: &str = "event=dropped reason=\"NoRealm\" count=2 client=10.0.0.1 client_port=40000 realm=example.net\n\
+const DROPS: &str =
+    "event=dropped reason=\"NoRealm\" count=2 client=10.0.0.1 client_port=40000 realm=example.net\n\
     event=dropped reason=\"NoRealm\" count=1 client=10.0.0.1 client_port=40000 realm=%20%22%0a%ff\n\
     event=dropped reason=\"NoRealm\" count=1 client=10.0.0.1 client_port=40000\n\
     event=dropped reason=\"WrongCode\" count=1 client=10.0.0.1 client_port=40000\n";
@@ -46,8 +47,7 @@ const DROPS: &str = "event=dropped reason=\"NoRealm\" count=2 client=10.0.0.1 cl
 const CUTS: &str = "event=cut home=h2 count=8\n";
 
 /// The sums of requests of another proxy, and of a loop.
-const MARKS: &str =
-    "event=marked home=h1 count=2 proxy_states=1 client=10.0.0.2 client_port=1813\n\
+const MARKS: &str = "event=marked home=h1 count=2 proxy_states=1 client=10.0.0.2 client_port=1813\n\
     event=marked home=h1 count=2 proxy_states=7 client=10.0.0.2 client_port=1813\n\
     event=marked home=h1 count=1 proxy_states=2 client=10.0.0.1 client_port=40000\n";
 
