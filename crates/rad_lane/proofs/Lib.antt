@@ -25,3 +25,4 @@ pub mod LawfulAfterWatch
 pub mod LeadsToItsLane
 pub mod UnknownPort
 pub mod Sessions
+pub mod SpentFound
