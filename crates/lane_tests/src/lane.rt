@@ -10,6 +10,7 @@ mod ports;
 mod requests;
 mod running;
 mod script;
+mod spent;
 mod test_lane;
 mod thousands;
 mod waiting;

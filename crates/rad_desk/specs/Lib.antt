@@ -13,3 +13,5 @@ pub mod Continues
 pub mod Sending
 pub mod Turned
 pub mod Printed
+pub mod Spent
+pub mod Marks

@@ -8,12 +8,13 @@ ghost use Rattle.rad_desk.specs.Sending.{SendsUpToOne, IsFrom};
 use crate::gate::{Call, Gate, Note, Worker};
 use crate::handling::{Handled, handle};
 use crate::inlet::Inlet;
+use crate::marks::count_marks;
 use crate::proxy::Proxy;
 use crate::tally::{Shift, Tally};
 use crate::wire::{Received, Wire};
 use rad_lane::Taken;
 use rad_packet::Datagram;
-use rad_realms::{Config, Endpoint, Incoming, check_in};
+use rad_realms::{Config, Dropped, Endpoint, Incoming, check_in};
 use std::alloc::Global;
 use std::sync::Wait;
 
@@ -94,8 +95,26 @@ fn take_in<W: Wire, G: Gate>(
             )
         }
         Err(reason) => {
-            shift.note(Note::Dropped(reason));
+            tell_dropped(shift, reason, &octets[..count]);
             true
+        }
+    }
+}
+
+/// Tells that a datagram is dropped, and of a packet that its realm leads to no lane where that is why.
+fn tell_dropped<G: Gate>(shift: &Shift<'_, G>, reason: Dropped, octets: &[u8]) {
+    if reason == Dropped::NoRealm {
+        shift.gate.no_realm(octets);
+    }
+    shift.note(Note::Dropped(reason));
+}
+
+/// Tells of a request that it has Proxy-States as this proxy adds them, where it has some.
+fn tell_marks<G: Gate>(shift: &Shift<'_, G>, incoming: &Incoming<'_>, from: Endpoint) {
+    if let Incoming::Request(request) = incoming {
+        let marks = count_marks(request.packet());
+        if marks > 0 {
+            shift.gate.came_marked(request.lane(), from, marks);
         }
     }
 }
@@ -119,6 +138,7 @@ fn serve<W: Wire, G: Gate>(
     if is_request && !shift.may(Call::Accept) {
         return false;
     }
+    tell_marks(shift, incoming, from);
     let handled = handle(rt, alloc, proxy, incoming, wire.now(), datagram);
     if is_request {
         shift.made(Call::Accept);

@@ -1,6 +1,6 @@
 //! What a worker asks before each call, and what it tells.
 
-use crate::DeskFault;
+use crate::{DeskFault, Spent};
 use rad_lane::Refusal;
 use rad_realms::{Dropped, Endpoint};
 
@@ -62,6 +62,17 @@ pub enum Note {
     Cut(u64),
 }
 
+/// By which evidence a home server is taken to be up again.
+#[derive(Clone, Copy, Debug, PartialEq, Eq)]
+pub enum UpReason {
+    /// It answered a request.
+    Answered,
+    /// It answered the probe.
+    ProbeAnswered,
+    /// By none: the time is over for which it is taken to be down.
+    DownWaitOver,
+}
+
 /// What a worker asks before each call, and tells. A gate has to answer [`Gate::before`] and [`Gate::after`]; it may leave out
 /// the rest.
 pub trait Gate {
@@ -85,4 +96,19 @@ pub trait Gate {
 
     /// The response of this serial went into a lane's ring, so that the front has something to take.
     fn answered(&self, _lane: u16, _serial: u64) {}
+
+    /// A lane's home server is marked down, as its worker noted right before, since this request has no answer. Where several
+    /// were sent as often as a round allows, it is the one that is due first, and at one due that of the least number.
+    fn went_down(&self, _lane: u16, _spent: &Spent) {}
+
+    /// A lane's home server is marked up, as its worker noted right before, for this reason. That an answer took it up no worker
+    /// can tell: it is known by [`Gate::answered`], from whoever saw that it was down.
+    fn went_up(&self, _lane: u16, _reason: UpReason) {}
+
+    /// The front is about to drop this packet of a client, since its realm leads to no lane. The note of it is its next.
+    fn no_realm(&self, _packet: &[u8]) {}
+
+    /// The front received a request from there that leads to this lane, and that has so many Proxy-States, at least one, as this
+    /// proxy adds them: it, or another one like it, sent the request before.
+    fn came_marked(&self, _lane: u16, _from: Endpoint, _marks: u64) {}
 }

@@ -5,7 +5,7 @@ ghost use Rattle.std.specs.Bool.{OnTrue, OnFalse};
 ghost use Rattle.rad_desk.specs.Sends.{SendsOnly, IsDeparture, GoesHome};
 ghost use Rattle.rad_desk.specs.Sending.{SendsUpToOne};
 
-use crate::gate::{Call, Gate, Note, Worker};
+use crate::gate::{Call, Gate, Note, UpReason, Worker};
 use crate::hearing::Told;
 use crate::proxy::Proxy;
 use crate::tally::{Shift, Tally};
@@ -110,7 +110,7 @@ fn hear<W: Wire, G: Gate>(
     shift.made(Call::Hear);
     match told {
         Ok(Told::Answer(serial)) => shift.gate.answered(lane, serial),
-        Ok(Told::ProbeAnswered) => shift.note(Note::WentUp),
+        Ok(Told::ProbeAnswered) => tell_up(lane, UpReason::ProbeAnswered, shift),
         Err(fault) => shift.note(Note::Unheard(fault)),
     }
     true
@@ -140,11 +140,27 @@ fn step<W: Wire, G: Gate>(
         Action::Sent(_, slot) | Action::Resent(_, slot) | Action::Probed(slot) => {
             send_home(home, slot.port, wire, shift, datagram);
         }
-        Action::WentDown => shift.note(Note::WentDown),
-        Action::WentUp => shift.note(Note::WentUp),
+        Action::WentDown => tell_down(rt, proxy, lane, wire.now(), shift),
+        Action::WentUp => tell_up(lane, UpReason::DownWaitOver, shift),
         Action::Idle(_) => return cut(rt, alloc, proxy, lane, home, wire, shift),
     }
     true
+}
+
+/// Tells that the home server is marked down, and by which request.
+fn tell_down<G: Gate>(rt: &impl Wait, proxy: &Proxy, lane: u16, now: Moment, shift: &Shift<'_, G>)
+    requires { lane < proxy.now }
+{
+    shift.note(Note::WentDown);
+    if let Some(spent) = proxy.spent(rt, lane, now) {
+        shift.gate.went_down(lane, &spent);
+    }
+}
+
+/// Tells that the home server is marked up, and why.
+fn tell_up<G: Gate>(lane: u16, reason: UpReason, shift: &Shift<'_, G>) {
+    shift.note(Note::WentUp);
+    shift.gate.went_up(lane, reason);
 }
 
 /// Sends a datagram to the home server, from the socket of a source port. One of a port that the home server does not

@@ -7,7 +7,8 @@
 //!
 //! The definitions that the contracts cite stand in specs: `Desk` and `Inlet` are what a contract sees of either end
 //! of a ring, `Outlet` is what the ring was given beside the lane's book, `Tells` is hearing the home server, and
-//! `Departures` and `Lawful` are what a call through a lock tells.
+//! `Departures` and `Lawful` are what a call through a lock tells, `Spent` what is told of the request by which a lane went down,
+//! and `Marks` how many Proxy-States of this proxy's form a request has.
 #![tactic(auto)]
 
 mod agreeing;
@@ -21,9 +22,11 @@ mod hearing;
 mod inlet;
 mod lanes;
 pub mod laws;
+mod marks;
 mod numbered;
 mod proxy;
 mod report;
+mod spent;
 mod tally;
 mod turning;
 mod wire;
@@ -32,11 +35,13 @@ mod working;
 pub use closing::CloseFault;
 pub use desk::OpenFault;
 pub use front::front_worker;
-pub use gate::{Call, Gate, Go, Note, Worker};
+pub use gate::{Call, Gate, Go, Note, UpReason, Worker};
 pub use hearing::{DeskFault, Told};
 pub use inlet::Inlet;
 pub use lanes::lane_worker;
+pub use marks::count_marks;
 pub use proxy::{Proxy, open};
 pub use report::{LaneEnd, Report, Rest};
+pub use spent::{Session, Spent};
 pub use tally::Tally;
 pub use wire::{Delivery, Received, Traffic, Wire};

@@ -24,3 +24,5 @@ pub mod NoRepeatOfFresh
 pub mod LawfulAfterWatch
 pub mod LeadsToItsLane
 pub mod UnknownPort
+pub mod Sessions
+pub mod SpentFound

@@ -25,6 +25,17 @@ pub record IsSpentDue (book : Book) (now : ℕ) : Type 0 where
   pub spent : is_spent entry ≡ true
   pub due : entry.due ≤ now
 
+-- No outstanding sending is spent.
+abbrev pub NoneSpent : Book → Type 0
+NoneSpent book = (slot : Slot) (entry : Outstanding) → outstanding_at book slot entry → is_spent entry ≡ true → ⊥
+
+-- Of the outstanding sendings that are spent, this one has the least due and number.
+pub record IsFirstSpent (book : Book) (entry : Outstanding) : Type 0 where
+  pub slot : Slot
+  pub there : outstanding_at book slot entry
+  pub spent : is_spent entry ≡ true
+  pub first : (other : Slot) (e : Outstanding) → outstanding_at book other e → is_spent e ≡ true → NotAfter (due_and_number entry) (due_and_number e)
+
 -- The least due of all outstanding sendings.
 pub record IsLeastOfAll (book : Book) (due : ℕ) : Type 0 where
   pub slot : Slot

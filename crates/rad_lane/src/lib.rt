@@ -11,7 +11,7 @@
 //! holds of it at any time; `Accepts`, `Steps`, `Hears`, `Drains` and `Volumes` are the calls, over `Repeat`,
 //! `Dues` and `Watch`; `Runs` is a sequence of calls, and `LosesNone` what it keeps; `Setup` is what a lane
 //! is set up with, `Counting` what it tells, and `Closes` what is left of it. `Stamp`, `Outstanding` and `Entries`
-//! are what the book holds.
+//! are what the book holds, and `Session` is what a request says of its session.
 #![tactic(auto)]
 
 mod accepting;
@@ -31,6 +31,7 @@ mod reserved_list;
 mod running;
 mod sending;
 mod series;
+mod session;
 mod setup;
 mod stamp;
 mod stepping;
@@ -53,6 +54,7 @@ pub use record::Record;
 pub use running::{Event, Given, GivenAnswer, RunFault, run};
 pub use sending::Sending;
 pub use series::Series;
+pub use session::session_of;
 pub use setup::Setup;
 pub use stamp::Stamp;
 pub use stepping::Action;

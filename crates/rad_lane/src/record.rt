@@ -1,4 +1,5 @@
 use crate::Stamp;
+use crate::session::session_of;
 use rad_auth::{Buffer, Octets, Secret};
 use rad_packet::PacketRef;
 use std::marker::Model;
@@ -30,8 +31,9 @@ impl Model for Record {
 }
 
 impl Record {
-    ghost use Rattle.std.specs.Prelude.{◌≡◌, ◌≤◌, length};
+    ghost use Rattle.std.specs.Prelude.{◌≡◌, ◌≤◌, length, option_copied};
     ghost use Rattle.rad_lane.specs.Stamp.{IsRecord};
+    ghost use Rattle.rad_lane.specs.Session.{session_id};
 
     /// Keeps a request, with a buffer for the octets that go out.
     pub(crate) fn new(stamp: Stamp, text: Octets, client_secret: Secret, spare: Buffer) -> Record
@@ -66,6 +68,13 @@ impl Record {
         ensures { result.now ≡ self.now.recorded.client_secret }
     {
         &self.client_secret
+    }
+
+    /// Its Acct-Session-Id (RFC 2866 section 5.5), where it has one.
+    pub fn session(&self) -> Option<&[u8]>
+        ensures { option_copied result ≡ session_id self.now.recorded.text }
+    {
+        session_of(&self.packet())
     }
 
     /// The request as a packet.

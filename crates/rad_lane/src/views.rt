@@ -1,10 +1,12 @@
 //! What a lane tells of its book.
 
-ghost use Rattle.std.specs.Prelude.{◌≡◌, ◌↔◌, IsTrue, IsSome};
+ghost use Rattle.std.specs.Prelude.{◌≡◌, ◌↔◌, IsTrue, IsSome, MatchOption};
+ghost use Rattle.std.specs.Option.{option_copied};
 ghost use Rattle.rad_lane.specs.Counting.{counts_of, IsDone};
+ghost use Rattle.rad_lane.specs.Dues.{NoneSpent, IsFirstSpent};
 ghost use Rattle.rad_lane.specs.Lawful.{IsLawful};
 
-use crate::{Answered, Counts, Lane, Record, Stamp, Watch};
+use crate::{Answered, Counts, Entry, Lane, Record, Sending, Stamp, Watch};
 use block_queue::Fifo;
 
 impl<Q: Fifo<Record>> Lane<Q> {
@@ -59,5 +61,17 @@ impl<Q: Fifo<Record>> Lane<Q> {
         ensures { result.now ≡ self.now.answered }
     {
         self.answered.as_slice()
+    }
+
+    /// Of the requests that were sent and whose rounds have used all their sendings, the one that is due first, and at one due
+    /// that of the least number: the one by which a lane goes down. It looks at each outstanding sending once.
+    pub fn spent(&self) -> Option<&Sending>
+        ensures { MatchOption (option_copied result) (NoneSpent self.now) (IsFirstSpent self.now) }
+    {
+        let slot = self.slots.least_due(true)?;
+        match self.slots.get(slot) {
+            Some(Entry::Sending(sending)) => Some(sending),
+            Some(Entry::Probe(_)) | None => None,
+        }
     }
 }

@@ -1,7 +1,7 @@
 //! The gate that the workers ask and tell: it stops them, notifies them where there is work, and counts what the front took.
 
 use crate::notifying::Notifiers;
-use rad_desk::{Call, Gate, Go, Note, Worker};
+use rad_desk::{Call, Gate, Go, Note, Spent, UpReason, Worker};
 use rad_realms::Endpoint;
 use std::alloc::{AllocError, Global};
 use std::sync::OnceLock;
@@ -151,12 +151,13 @@ impl<'a, G> Supervisor<'a, G> {
 }
 
 impl<G: Gate> Supervisor<'_, G> {
-    /// A worker's home server is down or up from now on, which is passed on where it is news.
-    fn mark(&self, worker: Worker, is_down: bool) {
+    /// A worker's home server is down or up from now on, which is passed on where it is news. It answers whether it is.
+    fn mark(&self, worker: Worker, is_down: bool) -> bool {
         let Worker::Lane(lane) = worker else {
-            return;
+            return false;
         };
-        if self.lanes.mark(lane, is_down) {
+        let is_news = self.lanes.mark(lane, is_down);
+        if is_news {
             let note = if is_down {
                 Note::WentDown
             } else {
@@ -164,6 +165,7 @@ impl<G: Gate> Supervisor<'_, G> {
             };
             self.outer.note(worker, note);
         }
+        is_news
     }
 
     /// A worker's home server went down or up. Its worker has more to do then: going down is all that a step did, and so
@@ -213,8 +215,26 @@ impl<G: Gate> Gate for Supervisor<'_, G> {
 
     /// An answer takes a home server up without a step.
     fn answered(&self, lane: u16, serial: u64) {
-        self.mark(Worker::Lane(lane), false);
+        if self.mark(Worker::Lane(lane), false) {
+            self.outer.went_up(lane, UpReason::Answered);
+        }
         self.notifiers.notify(Worker::Front);
         self.outer.answered(lane, serial);
+    }
+
+    fn went_down(&self, lane: u16, spent: &Spent) {
+        self.outer.went_down(lane, spent);
+    }
+
+    fn went_up(&self, lane: u16, reason: UpReason) {
+        self.outer.went_up(lane, reason);
+    }
+
+    fn no_realm(&self, packet: &[u8]) {
+        self.outer.no_realm(packet);
+    }
+
+    fn came_marked(&self, lane: u16, from: Endpoint, marks: u64) {
+        self.outer.came_marked(lane, from, marks);
     }
 }

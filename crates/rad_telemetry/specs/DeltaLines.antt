@@ -7,6 +7,8 @@ use Rattle.rad_telemetry.specs.EventKinds.{metric_of, reason_text, event_of}
 use Rattle.rad_telemetry.specs.declared.delta_lines.ClientDelta.{ClientDelta}
 use Rattle.rad_telemetry.specs.declared.delta_lines.HomeDelta.{HomeDelta}
 use Rattle.rad_telemetry.specs.declared.delta_lines.FaultDelta.{FaultDelta}
+use Rattle.rad_telemetry.specs.declared.delta_lines.CutDelta.{CutDelta}
+use Rattle.rad_telemetry.specs.declared.delta_lines.MarkedDelta.{MarkedDelta}
 
 -- The other end of a datagram.
 abbrev pub peer_text : Endpoint → List ℕ
@@ -31,6 +33,16 @@ abbrev pub home_delta : HomeDelta → List ℕ
 home_delta delta =
     (codes "event=" ++ event_of (metric_of delta.kind) ++ codes " home=" ++ delta.home.now)
     ++ (codes " reason=\"" ++ reason_text delta.kind ++ codes "\" count=" ++ decimal delta.count)
+
+-- Requests that left a lane's book.
+abbrev pub cut_delta : CutDelta → List ℕ
+cut_delta delta = codes "event=cut home=" ++ delta.home.now ++ codes " count=" ++ decimal delta.count
+
+-- Requests that came with Proxy-States as this proxy adds them.
+abbrev pub marked_delta : MarkedDelta → List ℕ
+marked_delta delta =
+    (codes "event=marked home=" ++ delta.home.now ++ codes " count=" ++ decimal delta.count)
+    ++ (codes " proxy_states=" ++ decimal delta.most ++ codes " " ++ client_text delta.client)
 
 -- Sends of a worker that failed, or receives.
 abbrev pub fault_delta : FaultDelta → List ℕ

@@ -14,7 +14,7 @@ use Rattle.rad_telemetry.specs.declared.metric.Metric.TheVariants as metric
 use Rattle.rad_lane.specs.Printed.{refusal_text}
 use Rattle.rad_desk.specs.Printed.{desk_fault_text}
 
--- The kind of a note; what goes well is not counted. What is no packet is of one kind, whatever is wrong with it.
+-- The kind of a note; that a response was taken is not counted. What is no packet is of one kind, whatever is wrong with it.
 abbrev pub kind_of : Note → Option EventKind
 kind_of (note.Dropped (dropped.Unread reason)) = Some kind.Unread
 kind_of (note.Dropped reason) = Some (kind.Dropped reason)
@@ -25,7 +25,7 @@ kind_of (note.Unheard reason) = Some (kind.Unheard reason)
 kind_of note.WentDown = Some kind.WentDown
 kind_of note.WentUp = Some kind.WentUp
 kind_of (note.Took lane serial) = None
-kind_of (note.Cut count) = None
+kind_of (note.Cut count) = Some kind.Cut
 kind_of note.ReceiveFault = Some kind.ReceiveFault
 kind_of note.SendFault = Some kind.SendFault
 
@@ -65,6 +65,8 @@ kind_place kind.SendFault = 24
 kind_place kind.ReceiveFault = 25
 kind_place kind.WentDown = 26
 kind_place kind.WentUp = 27
+kind_place kind.Cut = 28
+kind_place kind.Marked = 29
 
 -- The metric of a kind.
 abbrev pub metric_of : EventKind → Metric
@@ -80,6 +82,8 @@ metric_of kind.SendFault = metric.SendFault
 metric_of kind.ReceiveFault = metric.ReceiveFault
 metric_of kind.WentDown = metric.WentDown
 metric_of kind.WentUp = metric.WentUp
+metric_of kind.Cut = metric.Cut
+metric_of kind.Marked = metric.Marked
 
 -- The reason by which a kind differs from the others of its metric.
 abbrev pub reason_text : EventKind → List ℕ
@@ -102,6 +106,8 @@ event_of metric.WentDown = codes "down"
 event_of metric.WentUp = codes "up"
 event_of metric.Sent = codes "sent"
 event_of metric.Probed = codes "probed"
+event_of metric.Cut = codes "cut"
+event_of metric.Marked = codes "marked"
 
 -- The name of a counter, behind `rad_proxy_`.
 abbrev pub metric_name : Metric → List ℕ
@@ -114,3 +120,5 @@ metric_name metric.WentDown = codes "downs_total"
 metric_name metric.WentUp = codes "ups_total"
 metric_name metric.Sent = codes "sent_total"
 metric_name metric.Probed = codes "probes_total"
+metric_name metric.Cut = codes "cut_total"
+metric_name metric.Marked = codes "marked_total"

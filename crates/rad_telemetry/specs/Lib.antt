@@ -1,5 +1,5 @@
 pub mod EventKinds
 pub mod Workers
-pub mod PacketWords
 pub mod DeltaLines
 pub mod MetricLines
+pub mod WatchLines

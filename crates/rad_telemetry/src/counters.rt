@@ -4,6 +4,7 @@ ghost use Rattle.std.specs.Prelude.{◌≡◌, ◌-◌};
 
 use crate::atomic_endpoint::AtomicEndpoint;
 use crate::event_kind::{EVENT_KINDS, EventKind};
+use crate::last_realm::LastRealm;
 use crate::workers::worker_place;
 use rad_desk::{Note, Worker};
 use rad_realms::Endpoint;
@@ -18,6 +19,8 @@ struct Counter {
     given: AtomicU64,
     /// Whom the last one was about.
     last: AtomicEndpoint,
+    /// The most Proxy-States of this proxy's form that one had since the delta before, where those are counted.
+    most_marks: AtomicU64,
 }
 
 /// What is counted of all workers.
@@ -25,6 +28,8 @@ struct Counter {
 pub struct Counters {
     /// Those of the front in the order of the kinds, then those of each lane.
     counters: Vec<Counter>,
+    /// The realm of the last request that was dropped for its realm.
+    realm: LastRealm,
 }
 
 /// What was counted of a kind since the delta before.
@@ -34,6 +39,8 @@ pub struct Delta {
     pub count: u64,
     /// Whom the last one was about.
     pub last: Endpoint,
+    /// The most Proxy-States of this proxy's form that one had, and 0 where those are not counted.
+    pub most_marks: u64,
 }
 
 impl Counters {
@@ -48,7 +55,8 @@ impl Counters {
             push_row(&mut counters)?;
         }
         push_row(&mut counters)?;
-        Ok(Counters { counters })
+        let realm = LastRealm::new();
+        Ok(Counters { counters, realm })
     }
 
     /// The counter of a worker and a kind.
@@ -57,25 +65,47 @@ impl Counters {
         self.counters.get(row.checked_add(kind.place())?)
     }
 
-    /// Counts a worker's note, where its kind is counted, and keeps whom it is about.
+    /// Counts a worker's note, where its kind is counted, and keeps whom it is about. Of a cut it counts the requests.
     pub fn count(&self, worker: Worker, note: Note, peer: Endpoint) {
         if let Some(kind) = EventKind::of(note) {
-            self.add(worker, kind, peer);
+            let times = match note {
+                Note::Cut(requests) => requests,
+                _ => 1,
+            };
+            self.add(worker, kind, times, peer);
         }
+    }
+
+    /// Counts a request that leads to a lane and has so many Proxy-States of this proxy's form, and keeps who sent it.
+    pub(crate) fn count_marked(&self, lane: u16, from: Endpoint, marks: u64) {
+        if let Some(counter) = self.counter(Worker::Lane(lane), EventKind::Marked) {
+            counter.most_marks.fetch_max(marks, Ordering::SeqCst);
+        }
+        self.add(Worker::Lane(lane), EventKind::Marked, 1, from);
+    }
+
+    /// Keeps the realm of a packet that is dropped for its realm.
+    pub(crate) fn keep_realm(&self, packet: &[u8]) {
+        self.realm.keep(packet);
+    }
+
+    /// The realm of the last packet that was dropped for its realm.
+    pub(crate) fn last_realm(&self) -> &LastRealm {
+        &self.realm
     }
 
     /// Counts what a worker sends, where that goes to a home server.
     pub fn count_sent(&self, worker: Worker, to: Endpoint, octets: &[u8]) {
         if let Some(kind) = octets.first().and_then(|code| EventKind::of_code(*code)) {
-            self.add(worker, kind, to);
+            self.add(worker, kind, 1, to);
         }
     }
 
-    /// Counts one more of a kind.
-    fn add(&self, worker: Worker, kind: EventKind, peer: Endpoint) {
+    /// Counts so many more of a kind.
+    fn add(&self, worker: Worker, kind: EventKind, times: u64, peer: Endpoint) {
         if let Some(counter) = self.counter(worker, kind) {
             counter.last.store(peer);
-            counter.count.fetch_add(1, Ordering::SeqCst);
+            counter.count.fetch_add(times, Ordering::SeqCst);
         }
     }
 
@@ -94,7 +124,12 @@ impl Counters {
         let given = counter.given.swap(now, Ordering::SeqCst);
         let count = since(given, now);
         let last = counter.last.load();
-        (count > 0).then_some(Delta { count, last })
+        let most_marks = counter.most_marks.swap(0, Ordering::SeqCst);
+        (count > 0).then_some(Delta {
+            count,
+            last,
+            most_marks,
+        })
     }
 }
 
@@ -105,6 +140,7 @@ fn push_row(counters: &mut Vec<Counter>) -> Result<(), AllocError> {
             count: AtomicU64::new(0),
             given: AtomicU64::new(0),
             last: AtomicEndpoint::new(),
+            most_marks: AtomicU64::new(0),
         })?;
     }
     Ok(())

@@ -34,6 +34,26 @@ pub struct FaultDelta<'a> {
     pub count: u64,
 }
 
+/// So many requests left the book of a lane.
+#[derive(Clone, Copy)]
+pub struct CutDelta<'a> {
+    /// The home server's name.
+    pub home: &'a str,
+    pub count: u64,
+}
+
+/// So many requests that lead to a lane had Proxy-States as this proxy adds them.
+#[derive(Clone, Copy)]
+pub struct MarkedDelta<'a> {
+    /// The home server's name.
+    pub home: &'a str,
+    pub count: u64,
+    /// How many the request with the most of them had.
+    pub most: u64,
+    /// Whence the last one came.
+    pub client: Endpoint,
+}
+
 impl ClientDelta {
     /// What was counted of a kind, the last one of this client.
     pub fn new(kind: EventKind, delta: Delta) -> ClientDelta
@@ -41,7 +61,7 @@ impl ClientDelta {
         ensures count { result.count ≡ delta.count }
         ensures client { result.client ≡ delta.last }
     {
-        let Delta { count, last } = delta;
+        let Delta { count, last, .. } = delta;
         ClientDelta {
             kind,
             count,
@@ -81,6 +101,39 @@ impl fmt::Display for HomeDelta<'_> {
         write!(
             f,
             "event={event} home={home} reason=\"{reason}\" count={count}"
+        )
+    }
+}
+
+impl fmt::Display for CutDelta<'_> {
+    ghost use Rattle.std.specs.Prelude.{Some};
+    ghost use Rattle.rad_telemetry.specs.DeltaLines.{cut_delta};
+
+    ghost output = { λ delta. Some (cut_delta delta) };
+
+    fn fmt<W: fmt::Write>(&self, f: &mut fmt::Formatter<W>) -> fmt::Result {
+        let CutDelta { home, count } = *self;
+        write!(f, "event=cut home={home} count={count}")
+    }
+}
+
+impl fmt::Display for MarkedDelta<'_> {
+    ghost use Rattle.std.specs.Prelude.{Some};
+    ghost use Rattle.rad_telemetry.specs.DeltaLines.{marked_delta};
+
+    ghost output = { λ delta. Some (marked_delta delta) };
+
+    fn fmt<W: fmt::Write>(&self, f: &mut fmt::Formatter<W>) -> fmt::Result {
+        let MarkedDelta {
+            home,
+            count,
+            most,
+            client,
+        } = *self;
+        let client = ClientText(client);
+        write!(
+            f,
+            "event=marked home={home} count={count} proxy_states={most} {client}"
         )
     }
 }

@@ -32,6 +32,10 @@ pub enum EventKind {
     ReceiveFault,
     WentDown,
     WentUp,
+    /// Requests left the book of a lane.
+    Cut,
+    /// A request that leads to a lane has Proxy-States as this proxy adds them.
+    Marked,
 }
 
 /// The reason of a kind, by which it differs from the others of its metric.
@@ -39,7 +43,7 @@ pub enum EventKind {
 pub struct ReasonText(pub EventKind);
 
 /// Each kind, in its place: what is counted most stands first, and the kinds of a metric in the order of their reasons.
-pub const EVENT_KINDS: [EventKind; 28] = [
+pub const EVENT_KINDS: [EventKind; 30] = [
     EventKind::Sent,
     EventKind::Probed,
     EventKind::Dropped(Dropped::UnknownClient),
@@ -68,6 +72,8 @@ pub const EVENT_KINDS: [EventKind; 28] = [
     EventKind::ReceiveFault,
     EventKind::WentDown,
     EventKind::WentUp,
+    EventKind::Cut,
+    EventKind::Marked,
 ];
 
 /// The place of a client's datagram that is no packet.
@@ -77,7 +83,7 @@ const UNREAD: usize = 3;
 const REPLY_UNREAD: usize = 17;
 
 impl EventKind {
-    /// The kind of a note. What goes well is none.
+    /// The kind of a note. That a response was taken is of none.
     pub fn of(note: Note) -> Option<EventKind>
         ensures { result ≡ kind_of note }
     {
@@ -92,7 +98,8 @@ impl EventKind {
             Note::ReceiveFault => Some(EventKind::ReceiveFault),
             Note::WentDown => Some(EventKind::WentDown),
             Note::WentUp => Some(EventKind::WentUp),
-            Note::Took(..) | Note::Cut(_) => None,
+            Note::Cut(_) => Some(EventKind::Cut),
+            Note::Took(..) => None,
         }
     }
 
@@ -124,6 +131,8 @@ impl EventKind {
             EventKind::ReceiveFault => 25,
             EventKind::WentDown => 26,
             EventKind::WentUp => 27,
+            EventKind::Cut => 28,
+            EventKind::Marked => 29,
         }
     }
 
@@ -139,6 +148,8 @@ impl EventKind {
             EventKind::ReceiveFault => Metric::ReceiveFault,
             EventKind::WentDown => Metric::WentDown,
             EventKind::WentUp => Metric::WentUp,
+            EventKind::Cut => Metric::Cut,
+            EventKind::Marked => Metric::Marked,
             EventKind::Sent => Metric::Sent,
             EventKind::Probed => Metric::Probed,
         }
@@ -163,7 +174,9 @@ impl fmt::Display for ReasonText {
             | EventKind::SendFault
             | EventKind::ReceiveFault
             | EventKind::WentDown
-            | EventKind::WentUp => Ok(()),
+            | EventKind::WentUp
+            | EventKind::Cut
+            | EventKind::Marked => Ok(()),
         }
     }
 }

@@ -1,18 +1,20 @@
 //! What the workers note and what passes over their wires, as log lines: an event and what belongs to it, as
 //! `event=down home=h1`.
 
+use crate::delta_lines::CutDelta;
 use crate::last_datagram::LastDatagram;
 use crate::packet_words::DatagramWords;
 use crate::peer_text::{ClientText, PeerText};
+use crate::watch_lines::{DownLine, UpLine};
 use crate::workers::worker_name;
 use log::{Level, Log, debug, error, info, log_enabled, trace, warn};
-use rad_desk::{DeskFault, Note, Worker};
+use rad_desk::{DeskFault, Note, Spent, UpReason, Worker};
 use rad_lane::Refusal;
 use rad_realms::{Config, Dropped, Endpoint};
 use std::alloc::{AllocError, Global};
 
 /// Logs what the workers of a configuration note, and what passes over their wires: at once what happens seldom, and each
-/// drop, refusal and fault where the level is `debug`, each packet where it is `trace`.
+/// drop, refusal, fault and cut where the level is `debug`, each packet where it is `trace`.
 #[derive(Drop)]
 pub struct EventLog<'a, L> {
     log: &'a L,
@@ -51,11 +53,10 @@ impl<'a, L: Log> EventLog<'a, L> {
         error!(self.log; "event=stopped worker={name} reason=\"ended by itself\"");
     }
 
-    /// A worker's note, of which the peer is the one that it is about.
+    /// A worker's note, of which the peer is the one that it is about. Going down and up have calls of their own.
     pub fn note(&self, worker: Worker, note: Note, peer: Endpoint) {
         match note {
-            Note::WentDown => self.went_down(worker),
-            Note::WentUp => self.went_up(worker),
+            Note::WentDown | Note::WentUp => {}
             Note::Cut(count) => self.cut(worker, count),
             Note::ReceiveFault => self.receive_fault(worker),
             Note::SendFault => self.send_fault(worker, peer),
@@ -91,6 +92,20 @@ impl<'a, L: Log> EventLog<'a, L> {
         trace!(self.log; "event=answered home={home} serial={serial}");
     }
 
+    /// A lane's home server went down, by this request.
+    pub fn went_down(&self, lane: u16, spent: &Spent) {
+        let home = self.name(Worker::Lane(lane));
+        let line = DownLine { home, spent };
+        warn!(self.log; "{line}");
+    }
+
+    /// A lane's home server went up, for this reason.
+    pub fn went_up(&self, lane: u16, reason: UpReason) {
+        let home = self.name(Worker::Lane(lane));
+        let line = UpLine { home, reason };
+        info!(self.log; "{line}");
+    }
+
     fn passed(&self, event: &str, worker: Worker, peer: Endpoint, octets: &[u8]) {
         let name = self.name(worker);
         let peer = PeerText(peer);
@@ -103,19 +118,10 @@ impl<'a, L: Log> EventLog<'a, L> {
         trace!(self.log; "event=returned home={home} serial={serial}");
     }
 
-    fn went_down(&self, worker: Worker) {
-        let home = self.name(worker);
-        warn!(self.log; "event=down home={home}");
-    }
-
-    fn went_up(&self, worker: Worker) {
-        let home = self.name(worker);
-        info!(self.log; "event=up home={home}");
-    }
-
     fn cut(&self, worker: Worker, count: u64) {
         let home = self.name(worker);
-        info!(self.log; "event=cut home={home} count={count}");
+        let line = CutDelta { home, count };
+        debug!(self.log; "{line}");
     }
 
     fn receive_fault(&self, worker: Worker) {

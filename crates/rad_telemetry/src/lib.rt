@@ -8,7 +8,7 @@
 //! The layer above uses one contract: [`EventKind::of`] says as what a note is counted. What stands behind a lock or in an
 //! atomic, such as a count, no contract tells, and tests show it. The definitions stand in specs: `EventKinds` has the kinds and
 //! the metrics, `Workers` the names of the workers, `DeltaLines` and `MetricLines` the texts of sums and of counters, and
-//! `PacketWords` what a log line tells of a packet.
+//! `WatchLines` that of a home server that went up.
 //!
 //! It is the one crate that uses `log`, and passes on what the program needs of it.
 #![tactic(auto)]
@@ -22,6 +22,7 @@ mod event_kind;
 mod event_log;
 mod last_datagram;
 mod last_peers;
+mod last_realm;
 mod levels;
 mod metric;
 mod metric_lines;
@@ -29,6 +30,7 @@ mod packet_words;
 mod peer_text;
 mod reporter;
 mod telemetry;
+mod watch_lines;
 mod workers;
 
 pub use counter_file::{CounterFile, ReplaceFile, RuntimeFiles, find_counter_file};

@@ -18,10 +18,14 @@ pub enum Metric {
     WentUp,
     Sent,
     Probed,
+    /// Requests left a book.
+    Cut,
+    /// A request has Proxy-States as this proxy adds them.
+    Marked,
 }
 
 /// The metrics, in the order in which they are written.
-pub const METRICS: [Metric; 9] = [
+pub const METRICS: [Metric; 11] = [
     Metric::Dropped,
     Metric::Refused,
     Metric::Unheard,
@@ -31,6 +35,8 @@ pub const METRICS: [Metric; 9] = [
     Metric::WentUp,
     Metric::Sent,
     Metric::Probed,
+    Metric::Cut,
+    Metric::Marked,
 ];
 
 impl Metric {
@@ -48,6 +54,8 @@ impl Metric {
             Metric::WentUp => "up",
             Metric::Sent => "sent",
             Metric::Probed => "probed",
+            Metric::Cut => "cut",
+            Metric::Marked => "marked",
         }
     }
 
@@ -65,6 +73,8 @@ impl Metric {
             Metric::WentUp => "ups_total",
             Metric::Sent => "sent_total",
             Metric::Probed => "probes_total",
+            Metric::Cut => "cut_total",
+            Metric::Marked => "marked_total",
         }
     }
 }

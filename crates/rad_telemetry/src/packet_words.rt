@@ -3,14 +3,12 @@
 ghost use Rattle.std.specs.Prelude.{◌≡◌, option_copied};
 ghost use Rattle.rad_packet.specs.Packet.{identifier_of};
 ghost use Rattle.rad_realms.specs.Realm.{realm_of_packet as the_realm};
-ghost use Rattle.rad_telemetry.specs.PacketWords.{session_id};
+ghost use Rattle.rad_lane.specs.Session.{session_id};
 
+use rad_lane::session_of;
 use rad_packet::{PacketRef, ReadFault, read};
 use rad_realms::realm_of_packet;
 use std::fmt;
-
-/// The Type of an Acct-Session-Id (RFC 2866 section 5.5).
-const ACCT_SESSION_ID: u8 = 44;
 
 /// A packet's Identifier, and its session and its realm where it has them, each behind a space. The user is left out.
 #[derive(Clone, Copy)]
@@ -23,6 +21,14 @@ pub struct PacketWords<'a> {
 /// A datagram's Code, Length and the words of its packet, or where it is none how many octets it has and why.
 #[derive(Clone, Copy)]
 pub struct DatagramWords<'a>(pub &'a [u8]);
+
+/// An Acct-Session-Id, behind a space.
+#[derive(Clone, Copy)]
+pub struct SessionWord<'a>(pub &'a [u8]);
+
+/// A realm, behind a space.
+#[derive(Clone, Copy)]
+pub struct RealmWord<'a>(pub &'a [u8]);
 
 /// The octets of a text: those that are printed as they are, and the others by two hexadecimal digits behind a `%`.
 #[derive(Clone, Copy)]
@@ -50,14 +56,28 @@ impl fmt::Display for PacketWords<'_> {
         let identifier = self.identifier;
         write!(f, " identifier={identifier}")?;
         if let Some(session) = self.session {
-            let session = Escaped(session);
-            write!(f, " session={session}")?;
+            let session = SessionWord(session);
+            write!(f, "{session}")?;
         }
         if let Some(realm) = self.realm {
-            let realm = Escaped(realm);
-            write!(f, " realm={realm}")?;
+            let realm = RealmWord(realm);
+            write!(f, "{realm}")?;
         }
         Ok(())
+    }
+}
+
+impl fmt::Display for SessionWord<'_> {
+    fn fmt<W: fmt::Write>(&self, f: &mut fmt::Formatter<W>) -> fmt::Result {
+        let session = Escaped(self.0);
+        write!(f, " session={session}")
+    }
+}
+
+impl fmt::Display for RealmWord<'_> {
+    fn fmt<W: fmt::Write>(&self, f: &mut fmt::Formatter<W>) -> fmt::Result {
+        let realm = Escaped(self.0);
+        write!(f, " realm={realm}")
     }
 }
 
@@ -99,16 +119,4 @@ impl fmt::Display for Escaped<'_> {
         }
         Ok(())
     }
-}
-
-/// The Acct-Session-Id of a packet, where it has one.
-fn session_of<'a>(packet: &PacketRef<'a>) -> Option<&'a [u8]>
-    ensures { option_copied result ≡ session_id packet.now }
-{
-    for attribute in packet.attributes() {
-        if attribute.kind == ACCT_SESSION_ID {
-            return Some(attribute.value);
-        }
-    }
-    None
 }

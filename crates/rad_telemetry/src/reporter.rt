@@ -2,14 +2,15 @@
 
 use crate::counter_file::{CounterFile, ReplaceFile, log_fault};
 use crate::counters::{Counters, Delta};
-use crate::delta_lines::{ClientDelta, FaultDelta, HomeDelta};
+use crate::delta_lines::{ClientDelta, CutDelta, FaultDelta, HomeDelta, MarkedDelta};
 use crate::event_kind::{EVENT_KINDS, EventKind};
+use crate::last_realm::LastRealm;
 use crate::metric::{METRICS, Metric};
 use crate::metric_lines::{CounterLine, Labels, TypeLine};
 use crate::workers::{worker_name, worker_of_lane};
 use log::{Log, info, warn};
 use rad_desk::Worker;
-use rad_realms::Config;
+use rad_realms::{Config, Dropped};
 use std::alloc::{AllocError, Global};
 use std::io::{self, Write};
 use std::sync::atomic::{AtomicU64, Ordering};
@@ -111,17 +112,40 @@ impl<L: Log, F: ReplaceFile> Reporter<'_, L, F> {
         }
     }
 
+    /// Logs what was counted of a kind. That a home server went down or up is logged as it happens, and what is sent is not
+    /// logged.
+    fn log_delta(&self, name: &str, kind: EventKind, delta: Delta) {
+        match kind.metric() {
+            Metric::Dropped => self.log_dropped(kind, delta),
+            Metric::Refused => log_refused(self.log, kind, delta),
+            Metric::Unheard => log_unheard(self.log, name, kind, delta),
+            Metric::SendFault | Metric::ReceiveFault => log_faults(self.log, name, kind, delta),
+            Metric::Cut => log_cut(self.log, name, delta),
+            Metric::Marked => log_marked(self.log, name, delta),
+            Metric::WentDown | Metric::WentUp | Metric::Sent | Metric::Probed => {}
+        }
+    }
+
+    /// Logs drops, and the last one's realm where they were for their realms.
+    fn log_dropped(&self, kind: EventKind, delta: Delta) {
+        if kind == EventKind::Dropped(Dropped::NoRealm) {
+            log_no_realm(self.log, kind, delta, self.counters.last_realm());
+        } else {
+            log_dropped(self.log, kind, delta);
+        }
+    }
+
     fn log_deltas_of(&self, worker: Worker) {
         for kind in EVENT_KINDS {
             if let Some(delta) = self.counters.take_delta(worker, kind) {
-                log_delta(self.log, worker_name(self.config, worker), kind, delta);
+                self.log_delta(worker_name(self.config, worker), kind, delta);
             }
         }
     }
 
     /// Writes the counters to their file where there is one, by way of a text that is made anew. It answers whether they are
     /// written; where they were and no longer are, that is logged.
-    fn write_file(&self, text: &mut Vec<u8>, was_written: bool) -> bool {
+    pub fn write_file(&self, text: &mut Vec<u8>, was_written: bool) -> bool {
         let Some(file) = self.file else {
             return true;
         };
@@ -160,12 +184,28 @@ impl<L: Log, F: ReplaceFile> Reporter<'_, L, F> {
     fn write_front<W: Write>(&self, writer: &mut W, metric: Metric) -> io::Result<()> {
         for kind in EVENT_KINDS {
             if kind.metric() == metric {
-                if let Some(labels) = front_labels(metric, kind) {
-                    self.write_counter(writer, Worker::Front, kind, labels)?;
-                }
+                self.write_front_kind(writer, metric, kind)?;
             }
         }
         Ok(())
+    }
+
+    /// Writes the front's counter of a metric and a kind of it, where it has one.
+    fn write_front_kind<W: Write>(
+        &self,
+        writer: &mut W,
+        metric: Metric,
+        kind: EventKind,
+    ) -> io::Result<()> {
+        match metric {
+            Metric::Dropped | Metric::Refused => {
+                self.write_counter(writer, Worker::Front, kind, Labels::Reason(kind))
+            }
+            Metric::SendFault | Metric::ReceiveFault => {
+                self.write_counter(writer, Worker::Front, kind, Labels::Clients)
+            }
+            _ => Ok(()),
+        }
     }
 
     /// Writes a lane's counters of a metric, where it has some.
@@ -178,12 +218,29 @@ impl<L: Log, F: ReplaceFile> Reporter<'_, L, F> {
     ) -> io::Result<()> {
         for kind in EVENT_KINDS {
             if kind.metric() == metric {
-                if let Some(labels) = lane_labels(metric, kind, lane, home) {
-                    self.write_counter(writer, worker_of_lane(lane), kind, labels)?;
-                }
+                self.write_lane_kind(writer, metric, kind, lane, home)?;
             }
         }
         Ok(())
+    }
+
+    /// Writes a lane's counter of a metric and a kind of it, where it has one.
+    fn write_lane_kind<W: Write>(
+        &self,
+        writer: &mut W,
+        metric: Metric,
+        kind: EventKind,
+        lane: usize,
+        home: &str,
+    ) -> io::Result<()> {
+        let worker = worker_of_lane(lane);
+        match metric {
+            Metric::Dropped | Metric::Refused => Ok(()),
+            Metric::Unheard => {
+                self.write_counter(writer, worker, kind, Labels::HomeReason(lane, home, kind))
+            }
+            _ => self.write_counter(writer, worker, kind, Labels::Home(lane, home)),
+        }
     }
 
     /// Writes a counter.
@@ -203,38 +260,14 @@ impl<L: Log, F: ReplaceFile> Reporter<'_, L, F> {
     }
 }
 
-/// The labels of the front's counter of a metric and a kind of it, where it has one.
-fn front_labels(metric: Metric, kind: EventKind) -> Option<Labels<'static>> {
-    match metric {
-        Metric::Dropped | Metric::Refused => Some(Labels::Reason(kind)),
-        Metric::SendFault | Metric::ReceiveFault => Some(Labels::Clients),
-        _ => None,
-    }
-}
-
-/// The labels of a lane's counter of a metric and a kind of it, where it has one.
-fn lane_labels(metric: Metric, kind: EventKind, lane: usize, home: &str) -> Option<Labels<'_>> {
-    match metric {
-        Metric::Dropped | Metric::Refused => None,
-        Metric::Unheard => Some(Labels::HomeReason(lane, home, kind)),
-        _ => Some(Labels::Home(lane, home)),
-    }
-}
-
-/// Logs what was counted of a kind. That a home server went down or up is logged as it happens, and what is sent is not logged.
-fn log_delta<L: Log>(log: &L, name: &str, kind: EventKind, delta: Delta) {
-    match kind.metric() {
-        Metric::Dropped => log_dropped(log, kind, delta),
-        Metric::Refused => log_refused(log, kind, delta),
-        Metric::Unheard => log_unheard(log, name, kind, delta),
-        Metric::SendFault | Metric::ReceiveFault => log_faults(log, name, kind, delta),
-        Metric::WentDown | Metric::WentUp | Metric::Sent | Metric::Probed => {}
-    }
-}
-
 fn log_dropped<L: Log>(log: &L, kind: EventKind, delta: Delta) {
     let line = ClientDelta::new(kind, delta);
     info!(log; "{line}");
+}
+
+fn log_no_realm<L: Log>(log: &L, kind: EventKind, delta: Delta, realm: &LastRealm) {
+    let line = ClientDelta::new(kind, delta);
+    info!(log; "{line}{realm}");
 }
 
 fn log_refused<L: Log>(log: &L, kind: EventKind, delta: Delta) {
@@ -256,4 +289,26 @@ fn log_faults<L: Log>(log: &L, worker: &str, kind: EventKind, delta: Delta) {
         count,
     };
     warn!(log; "{line}");
+}
+
+fn log_cut<L: Log>(log: &L, home: &str, delta: Delta) {
+    let count = delta.count;
+    let line = CutDelta { home, count };
+    info!(log; "{line}");
+}
+
+/// Logs requests that this proxy or one like it sent before. One such Proxy-State each they have behind another one; more of them
+/// tell of a loop.
+fn log_marked<L: Log>(log: &L, home: &str, delta: Delta) {
+    let line = MarkedDelta {
+        home,
+        count: delta.count,
+        most: delta.most_marks,
+        client: delta.last,
+    };
+    if delta.most_marks > 1 {
+        warn!(log; "{line}");
+    } else {
+        info!(log; "{line}");
+    }
 }

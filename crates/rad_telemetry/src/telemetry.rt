@@ -6,14 +6,14 @@ use crate::event_log::EventLog;
 use crate::last_peers::LastPeers;
 use crate::reporter::Reporter;
 use log::Log;
-use rad_desk::{Call, Gate, Go, Note, Worker};
+use rad_desk::{Call, Gate, Go, Note, Spent, UpReason, Worker};
 use rad_realms::{Config, Endpoint};
 use std::alloc::{AllocError, Global};
 
 /// Counts and logs what the workers of a configuration do. As a gate it lets every worker pass, and takes no memory; it waits
 /// for a lock no longer than `ErrorLines` says.
 ///
-/// That a home server went down or up it counts and logs each time that it is told so.
+/// That a home server went down or up it counts each time that a worker notes it, and logs each time that it is told how.
 #[derive(Drop)]
 pub struct Telemetry<'a, L> {
     config: &'a Config,
@@ -100,5 +100,21 @@ impl<L: Log> Gate for Telemetry<'_, L> {
 
     fn answered(&self, lane: u16, serial: u64) {
         self.events.answered(lane, serial);
+    }
+
+    fn went_down(&self, lane: u16, spent: &Spent) {
+        self.events.went_down(lane, spent);
+    }
+
+    fn went_up(&self, lane: u16, reason: UpReason) {
+        self.events.went_up(lane, reason);
+    }
+
+    fn no_realm(&self, packet: &[u8]) {
+        self.counters.keep_realm(packet);
+    }
+
+    fn came_marked(&self, lane: u16, from: Endpoint, marks: u64) {
+        self.counters.count_marked(lane, from, marks);
     }
 }

@@ -15,4 +15,6 @@ mod reporting;
 #[cfg(test)]
 mod shared;
 #[cfg(test)]
+mod summing;
+#[cfg(test)]
 mod workers;

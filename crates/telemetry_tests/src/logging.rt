@@ -1,25 +1,28 @@
 //! What no clause says of the log: the line of each note and its level, and what it tells of the datagram that the note is about.
 
 use crate::packets::SHORT;
-use crate::shared::{HOME, Kept, NAS, TWO_HOMES};
-use rad_desk::{DeskFault, Gate, Note, Worker};
+use crate::shared::{HOME, MemoryLog, NAS, Setup, TWO_HOMES};
+use rad_desk::{DeskFault, Gate, Note, Session, Spent, UpReason, Worker};
 use rad_lane::{HearFault, Refusal};
 use rad_packet::read;
-use rad_realms::{Dropped, read_config};
-use rad_telemetry::{LevelFilter, Log, Logged, PacketWords, Telemetry};
+use rad_realms::Dropped;
+use rad_telemetry::{LevelFilter, PacketWords, Telemetry};
 use std::result::Result;
 use std::test::Fail;
 use test_octets::homes::NAME_ONLY_REPLY;
 use test_octets::nas::{NAME_ONLY_REQUEST, SEVENTH};
 
-/// The lines of what two workers received, and of what they noted then; the worker of `h1` received nothing.
-const NOTES: &str =
+/// The lines of what a lane's worker received, and of what it noted then; the worker of `h1` received nothing.
+const NOTES_OF_LANES: &str =
     "event=came worker=h2 address=127.0.0.1 port=2814 code=5 length=32 identifier=0\n\
     event=unheard home=h2 identifier=0 reason=\"Unknown\"\n\
     event=came worker=h2 address=10.0.0.1 port=40000 code=5 length=32 identifier=0\n\
     event=unheard home=h2 address=10.0.0.1 port=40000 identifier=0 reason=\"NotHome\"\n\
-    event=unheard home=h1 reason=\"RingFull\"\n\
-    event=came worker=front address=10.0.0.1 port=40000 code=4 length=47 identifier=7 session=S1 realm=example.org\n\
+    event=unheard home=h1 reason=\"RingFull\"\n";
+
+/// The lines of what the front received, and of what it noted then.
+const NOTES_OF_THE_FRONT: &str =
+    "event=came worker=front address=10.0.0.1 port=40000 code=4 length=47 identifier=7 session=S1 realm=example.org\n\
     event=accepted home=h1 number=3 identifier=7 session=S1 realm=example.org\n\
     event=refused client=10.0.0.1 client_port=40000 identifier=7 session=S1 realm=example.org reason=\"BookFull\"\n\
     event=came worker=front address=10.0.0.1 port=40000 octets=3 reason=\"Unread Short\"\n\
@@ -27,8 +30,8 @@ const NOTES: &str =
 
 /// The lines of the events that are about no datagram that was received.
 const EVENTS: &str = "event=stopped worker=h1 reason=\"ended by itself\"\n\
-    event=down home=h2\n\
-    event=up home=h2\n\
+    event=down home=h2 number=3 client=10.0.0.1 client_port=40000 session=S%201 age=14000\n\
+    event=up home=h2 reason=\"down_wait over\"\n\
     event=cut home=h2 count=3\n\
     event=receive-fault worker=front\n\
     event=went worker=h2 address=127.0.0.1 port=2814 octets=3 reason=\"Unread Short\"\n\
@@ -41,18 +44,17 @@ const ERRORS: &str = "event=stopped worker=h1 reason=\"ended by itself\"\n";
 
 /// Those that are logged at `warn`.
 const WARNINGS: &str = "event=stopped worker=h1 reason=\"ended by itself\"\n\
-    event=down home=h2\n";
+    event=down home=h2 number=3 client=10.0.0.1 client_port=40000 session=S%201 age=14000\n";
 
 /// Those that are logged at `info`.
 const INFOS: &str = "event=stopped worker=h1 reason=\"ended by itself\"\n\
-    event=down home=h2\n\
-    event=up home=h2\n\
-    event=cut home=h2 count=3\n";
+    event=down home=h2 number=3 client=10.0.0.1 client_port=40000 session=S%201 age=14000\n\
+    event=up home=h2 reason=\"down_wait over\"\n";
 
 /// Those that are logged at `debug`.
 const DETAILS: &str = "event=stopped worker=h1 reason=\"ended by itself\"\n\
-    event=down home=h2\n\
-    event=up home=h2\n\
+    event=down home=h2 number=3 client=10.0.0.1 client_port=40000 session=S%201 age=14000\n\
+    event=up home=h2 reason=\"down_wait over\"\n\
     event=cut home=h2 count=3\n\
     event=receive-fault worker=front\n\
     event=send-fault worker=h2 address=127.0.0.1 port=2814\n";
@@ -63,11 +65,23 @@ const ODD: [u8; 39] = [
     b'x', b' ', b'=', b'"', 127, b'.', 44, 7, b'S', b' ', b'1', 255, b'@',
 ];
 
+/// A request whose session has an octet that no value shows as it is.
+fn spent() -> Spent {
+    Spent {
+        number: 3,
+        client: NAS,
+        session: Some(Session::of("S 1".as_bytes())),
+        age: 14_000,
+    }
+}
+
 /// Tells of each event that is about no datagram that was received.
-fn tell_events<L: Log>(telemetry: &Telemetry<'_, L>) {
+fn tell_events(telemetry: &Telemetry<'_, MemoryLog>) {
     telemetry.tell_end(Worker::Lane(0));
     telemetry.note(Worker::Lane(1), Note::WentDown);
+    telemetry.went_down(1, &spent());
     telemetry.note(Worker::Lane(1), Note::WentUp);
+    telemetry.went_up(1, UpReason::DownWaitOver);
     telemetry.note(Worker::Lane(1), Note::Cut(3));
     telemetry.note(Worker::Front, Note::ReceiveFault);
     telemetry.sends(Worker::Lane(1), HOME, &SHORT);
@@ -76,41 +90,55 @@ fn tell_events<L: Log>(telemetry: &Telemetry<'_, L>) {
     telemetry.note(Worker::Front, Note::Took(1, 5));
 }
 
-#[test]
-fn each_note_tells_of_what_its_worker_received(rt: HostRuntime) -> Result<(), Fail> {
-    let alloc = rt.alloc();
-    let config = read_config(alloc, TWO_HOMES)?;
-    let log = Logged::new((), LevelFilter::Trace, Kept::new(alloc));
-    let telemetry = Telemetry::new(alloc, &config, &log)?;
+/// Tells of what came to the second lane, and of a full ring of the first.
+fn tell_of_lanes(telemetry: &Telemetry<'_, MemoryLog>) {
     let unknown = DeskFault::Lane(HearFault::Unknown);
     telemetry.received(Worker::Lane(1), HOME, &NAME_ONLY_REPLY);
     telemetry.note(Worker::Lane(1), Note::Unheard(unknown));
     telemetry.received(Worker::Lane(1), NAS, &NAME_ONLY_REPLY);
     telemetry.note(Worker::Lane(1), Note::NotHome);
     telemetry.note(Worker::Lane(0), Note::Unheard(DeskFault::RingFull));
+}
+
+#[test]
+fn each_note_tells_of_what_its_lane_received(rt: HostRuntime) -> Result<(), Fail> {
+    let alloc = rt.alloc();
+    let setup = Setup::new(alloc, TWO_HOMES, LevelFilter::Trace)?;
+    tell_of_lanes(&setup.telemetry(alloc)?);
+    assert!(rt; setup.has_logged(NOTES_OF_LANES));
+    Ok(())
+}
+
+/// Tells of what came to the front.
+fn tell_of_the_front(telemetry: &Telemetry<'_, MemoryLog>) {
     telemetry.received(Worker::Front, NAS, &SEVENTH);
     telemetry.accepted(0, 3);
     telemetry.note(Worker::Front, Note::Refused(Refusal::BookFull));
     telemetry.received(Worker::Front, NAS, &SHORT);
     telemetry.sends(Worker::Front, NAS, &NAME_ONLY_REQUEST);
-    assert!(rt; log.sink().is(NOTES));
+}
+
+#[test]
+fn each_note_tells_of_what_the_front_received(rt: HostRuntime) -> Result<(), Fail> {
+    let alloc = rt.alloc();
+    let setup = Setup::new(alloc, TWO_HOMES, LevelFilter::Trace)?;
+    tell_of_the_front(&setup.telemetry(alloc)?);
+    assert!(rt; setup.has_logged(NOTES_OF_THE_FRONT));
     Ok(())
 }
 
 #[test]
 fn each_event_has_its_line(rt: HostRuntime) -> Result<(), Fail> {
     let alloc = rt.alloc();
-    let config = read_config(alloc, TWO_HOMES)?;
-    let log = Logged::new((), LevelFilter::Trace, Kept::new(alloc));
-    tell_events(&Telemetry::new(alloc, &config, &log)?);
-    assert!(rt; log.sink().is(EVENTS));
+    let setup = Setup::new(alloc, TWO_HOMES, LevelFilter::Trace)?;
+    tell_events(&setup.telemetry(alloc)?);
+    assert!(rt; setup.has_logged(EVENTS));
     Ok(())
 }
 
 #[test]
 fn each_event_has_its_level(rt: HostRuntime) -> Result<(), Fail> {
     let alloc = rt.alloc();
-    let config = read_config(alloc, TWO_HOMES)?;
     for (level, expected) in [
         (LevelFilter::Off, ""),
         (LevelFilter::Error, ERRORS),
@@ -118,9 +146,9 @@ fn each_event_has_its_level(rt: HostRuntime) -> Result<(), Fail> {
         (LevelFilter::Info, INFOS),
         (LevelFilter::Debug, DETAILS),
     ] {
-        let log = Logged::new((), level, Kept::new(alloc));
-        tell_events(&Telemetry::new(alloc, &config, &log)?);
-        assert!(rt; log.sink().is(expected), "{level:?}");
+        let setup = Setup::new(alloc, TWO_HOMES, level)?;
+        tell_events(&setup.telemetry(alloc)?);
+        assert!(rt; setup.has_logged(expected), "{level:?}");
     }
     Ok(())
 }
@@ -128,12 +156,11 @@ fn each_event_has_its_level(rt: HostRuntime) -> Result<(), Fail> {
 #[test]
 fn nothing_of_a_datagram_is_kept_above_debug(rt: HostRuntime) -> Result<(), Fail> {
     let alloc = rt.alloc();
-    let config = read_config(alloc, TWO_HOMES)?;
-    let log = Logged::new((), LevelFilter::Info, Kept::new(alloc));
-    let telemetry = Telemetry::new(alloc, &config, &log)?;
+    let setup = Setup::new(alloc, TWO_HOMES, LevelFilter::Info)?;
+    let telemetry = setup.telemetry(alloc)?;
     telemetry.received(Worker::Front, NAS, &SEVENTH);
     telemetry.note(Worker::Front, Note::Dropped(Dropped::NoRealm));
-    assert!(rt; log.sink().is(""));
+    assert!(rt; setup.has_logged(""));
     Ok(())
 }
 

@@ -1,37 +1,27 @@
 //! What no clause says of a report: the text of the counters, how it comes into its file, and the lines of sums.
 
-use crate::shared::{HOME, Kept, NAS, TWO_HOMES};
+use crate::shared::{HOME, MemoryLog, NAS, Setup, TWO_HOMES};
 use rad_desk::{Gate, Note, Worker};
 use rad_lane::Refusal;
-use rad_realms::{Dropped, Endpoint, read_config};
-use rad_telemetry::{
-    CounterFile, Discard, LevelFilter, Logged, ReplaceFile, StopFlag, Telemetry, report,
-};
-use std::alloc::Global;
+use rad_realms::{Dropped, Endpoint};
+use rad_telemetry::{CounterFile, LevelFilter, ReplaceFile, Telemetry};
+use std::alloc::{AllocError, Global};
 use std::result::Result;
 use std::sync::Mutex;
 use std::test::Fail;
 
-/// Replaces no file.
-#[derive(Drop)]
-struct Nowhere;
-
-impl ReplaceFile for Nowhere {
-    fn replace(&self, _path: &str, _new: &str, _text: &[u8]) -> bool {
-        false
-    }
-}
-
-/// Keeps what it was given last: the two paths and the text, one behind the other.
+/// Keeps what it was given last: the two paths and the text, one behind the other; or takes nothing.
 #[derive(Drop)]
 struct Memory {
     given: Mutex<Vec<u8>>,
+    takes: bool,
 }
 
 impl Memory {
-    fn new(alloc: Global) -> Memory {
+    fn new(alloc: Global, takes: bool) -> Memory {
         Memory {
             given: Mutex::new(Vec::new(alloc)),
+            takes,
         }
     }
 
@@ -49,7 +39,8 @@ impl ReplaceFile for Memory {
             return false;
         };
         given.clear();
-        given.extend_from_slice(path.as_bytes()).is_ok()
+        self.takes
+            && given.extend_from_slice(path.as_bytes()).is_ok()
             && given.push(b' ').is_ok()
             && given.extend_from_slice(new.as_bytes()).is_ok()
             && given.push(b' ').is_ok()
@@ -82,7 +73,13 @@ const TAIL: &str = "# TYPE rad_proxy_send_faults_total counter\n\
     rad_proxy_sent_total{lane=\"1\",home=\"h2\"} 2\n\
     # TYPE rad_proxy_probes_total counter\n\
     rad_proxy_probes_total{lane=\"0\",home=\"h1\"} 1\n\
-    rad_proxy_probes_total{lane=\"1\",home=\"h2\"} 0\n";
+    rad_proxy_probes_total{lane=\"1\",home=\"h2\"} 0\n\
+    # TYPE rad_proxy_cut_total counter\n\
+    rad_proxy_cut_total{lane=\"0\",home=\"h1\"} 0\n\
+    rad_proxy_cut_total{lane=\"1\",home=\"h2\"} 5\n\
+    # TYPE rad_proxy_marked_total counter\n\
+    rad_proxy_marked_total{lane=\"0\",home=\"h1\"} 1\n\
+    rad_proxy_marked_total{lane=\"1\",home=\"h2\"} 0\n";
 
 /// What the counters' file is given, where nothing was counted yet.
 const GIVEN: &str = "some/file some/file.new # TYPE rad_proxy_dropped_total counter\n\
@@ -101,60 +98,23 @@ const EARLIER: Endpoint = Endpoint {
     port: 40_001,
 };
 
-#[test]
-fn counters_are_written(rt: HostRuntime) -> Result<(), Fail> {
-    let alloc = rt.alloc();
-    let config = read_config(alloc, TWO_HOMES)?;
-    let telemetry = Telemetry::new(alloc, &config, &Discard)?;
+/// Tells of what is counted in the texts above.
+fn tell_all(telemetry: &Telemetry<'_, MemoryLog>) {
     telemetry.note(Worker::Front, Note::Dropped(Dropped::UnknownClient));
     telemetry.note(Worker::Front, Note::Refused(Refusal::BookFull));
     telemetry.note(Worker::Lane(0), Note::NotHome);
     telemetry.note(Worker::Lane(1), Note::WentDown);
+    telemetry.note(Worker::Lane(1), Note::Cut(2));
+    telemetry.note(Worker::Lane(1), Note::Cut(3));
+    telemetry.came_marked(0, NAS, 4);
     telemetry.sends(Worker::Lane(1), HOME, &[4]);
     telemetry.sends(Worker::Lane(1), HOME, &[4]);
     telemetry.sends(Worker::Lane(0), HOME, &[12]);
     telemetry.sends(Worker::Front, NAS, &[5]);
-    let mut text = Vec::new(alloc);
-    telemetry.reporter(&None, &Nowhere).write(&mut text)?;
-    assert!(rt; text.starts_with(HEAD.as_bytes()));
-    assert!(rt; text.ends_with(TAIL.as_bytes()));
-    Ok(())
 }
 
-#[test]
-fn a_file_is_replaced(rt: HostRuntime) -> Result<(), Fail> {
-    let alloc = rt.alloc();
-    let config = read_config(alloc, TWO_HOMES)?;
-    let telemetry = Telemetry::new(alloc, &config, &Discard)?;
-    let file = Some(CounterFile::new(alloc, String::from_str(alloc, "some/file")?)?);
-    let memory = Memory::new(alloc);
-    let stop = StopFlag::new();
-    stop.set();
-    report(&rt, alloc, telemetry.reporter(&file, &memory), &stop);
-    assert!(rt; memory.begins_with(GIVEN));
-    Ok(())
-}
-
-#[test]
-fn a_file_that_is_not_replaced_is_logged(rt: HostRuntime) -> Result<(), Fail> {
-    let alloc = rt.alloc();
-    let config = read_config(alloc, TWO_HOMES)?;
-    let log = Logged::new((), LevelFilter::Warn, Kept::new(alloc));
-    let telemetry = Telemetry::new(alloc, &config, &log)?;
-    let file = Some(CounterFile::new(alloc, String::from_str(alloc, "some/file")?)?);
-    let stop = StopFlag::new();
-    stop.set();
-    report(&rt, alloc, telemetry.reporter(&file, &Nowhere), &stop);
-    assert!(rt; log.sink().is("event=counters-fault\n"));
-    Ok(())
-}
-
-#[test]
-fn sums_are_logged_once(rt: HostRuntime) -> Result<(), Fail> {
-    let alloc = rt.alloc();
-    let config = read_config(alloc, TWO_HOMES)?;
-    let log = Logged::new((), LevelFilter::Info, Kept::new(alloc));
-    let telemetry = Telemetry::new(alloc, &config, &log)?;
+/// Tells of what is summed up above.
+fn tell_sums(telemetry: &Telemetry<'_, MemoryLog>) {
     for from in [EARLIER, NAS] {
         telemetry.received(Worker::Front, from, &[]);
         telemetry.note(Worker::Front, Note::Dropped(Dropped::NoRealm));
@@ -164,9 +124,82 @@ fn sums_are_logged_once(rt: HostRuntime) -> Result<(), Fail> {
     telemetry.note(Worker::Lane(1), Note::NotHome);
     telemetry.note(Worker::Lane(1), Note::ReceiveFault);
     telemetry.sends(Worker::Lane(1), HOME, &[4]);
-    let reporter = telemetry.reporter(&None, &Nowhere);
-    reporter.log_deltas();
-    reporter.log_deltas();
-    assert!(rt; log.sink().is(SUMS));
+}
+
+/// Whether the text of all counters begins and ends like this.
+fn writes(
+    alloc: Global,
+    telemetry: &Telemetry<'_, MemoryLog>,
+    head: &str,
+    tail: &str,
+) -> Result<bool, Fail> {
+    let memory = Memory::new(alloc, true);
+    let mut text = Vec::new(alloc);
+    telemetry.reporter(&None, &memory).write(&mut text)?;
+    Ok(text.starts_with(head.as_bytes()) && text.ends_with(tail.as_bytes()))
+}
+
+/// Whether the counters' file is written, which takes the text or does not.
+fn is_written(
+    alloc: Global,
+    telemetry: &Telemetry<'_, MemoryLog>,
+    memory: &Memory,
+    was_written: bool,
+) -> Result<bool, AllocError> {
+    let path = String::from_str(alloc, "some/file")?;
+    let file = Some(CounterFile::new(alloc, path)?);
+    let mut text = Vec::new(alloc);
+    Ok(
+        telemetry
+            .reporter(&file, memory)
+            .write_file(&mut text, was_written),
+    )
+}
+
+#[test]
+fn counters_are_written(rt: HostRuntime) -> Result<(), Fail> {
+    let alloc = rt.alloc();
+    let setup = Setup::new(alloc, TWO_HOMES, LevelFilter::Warn)?;
+    let telemetry = setup.telemetry(alloc)?;
+    tell_all(&telemetry);
+    let is_right = writes(alloc, &telemetry, HEAD, TAIL)?;
+    assert!(rt; is_right);
+    Ok(())
+}
+
+#[test]
+fn a_file_is_replaced(rt: HostRuntime) -> Result<(), Fail> {
+    let alloc = rt.alloc();
+    let setup = Setup::new(alloc, TWO_HOMES, LevelFilter::Warn)?;
+    let memory = Memory::new(alloc, true);
+    let is_written = is_written(alloc, &setup.telemetry(alloc)?, &memory, true)?;
+    assert!(rt; is_written && memory.begins_with(GIVEN) && setup.has_logged(""));
+    Ok(())
+}
+
+#[test]
+fn a_file_that_is_not_replaced_is_logged_once(rt: HostRuntime) -> Result<(), Fail> {
+    let alloc = rt.alloc();
+    let setup = Setup::new(alloc, TWO_HOMES, LevelFilter::Warn)?;
+    let memory = Memory::new(alloc, false);
+    for was_written in [true, false] {
+        let is_written = is_written(alloc, &setup.telemetry(alloc)?, &memory, was_written)?;
+        assert!(rt; !is_written);
+        assert!(rt; setup.has_logged("event=counters-fault\n"));
+    }
+    Ok(())
+}
+
+#[test]
+fn sums_are_logged_once(rt: HostRuntime) -> Result<(), Fail> {
+    let alloc = rt.alloc();
+    let setup = Setup::new(alloc, TWO_HOMES, LevelFilter::Info)?;
+    let telemetry = setup.telemetry(alloc)?;
+    tell_sums(&telemetry);
+    let memory = Memory::new(alloc, true);
+    for _ in 0..2 {
+        telemetry.reporter(&None, &memory).log_deltas();
+    }
+    assert!(rt; setup.has_logged(SUMS));
     Ok(())
 }

@@ -1,11 +1,13 @@
 //! What the tests share: a configuration, endpoints and a log in memory.
 
-use rad_realms::Endpoint;
-use rad_telemetry::{Log, Metadata, Record, Source, Spans};
-use std::alloc::Global;
+use rad_realms::{Config, Endpoint, read_config};
+use rad_telemetry::{LevelFilter, Log, Logged, Metadata, Record, Source, Spans, Telemetry};
+use std::alloc::{AllocError, Global};
 use std::fmt::Display;
 use std::io::Write;
+use std::result::Result;
 use std::sync::Mutex;
+use std::test::Fail;
 
 /// One client and two home servers.
 pub const TWO_HOMES: &str = r#"
@@ -41,22 +43,56 @@ pub const HOME: Endpoint = Endpoint {
     port: 2814,
 };
 
+/// A log in memory, up to a level.
+pub type MemoryLog = Logged<(), Kept>;
+
+/// What a telemetry counts and logs for.
+#[derive(Drop)]
+pub struct Setup {
+    config: Config,
+    log: MemoryLog,
+}
+
 /// Keeps the text of each record, in a line. One thread at a time logs.
 #[derive(Drop)]
 pub struct Kept {
     text: Mutex<Vec<u8>>,
 }
 
+impl Setup {
+    /// A configuration, and a log in memory up to a level.
+    pub fn new(alloc: Global, config: &str, level: LevelFilter) -> Result<Setup, Fail> {
+        Ok(Setup {
+            config: read_config(alloc, config)?,
+            log: Logged::new((), level, Kept::new(alloc)),
+        })
+    }
+
+    /// A telemetry over them.
+    pub fn telemetry(&self, alloc: Global) -> Result<Telemetry<'_, MemoryLog>, AllocError> {
+        Telemetry::new(alloc, &self.config, &self.log)
+    }
+
+    /// The configuration.
+    pub fn config(&self) -> &Config {
+        &self.config
+    }
+
+    /// Whether these lines were logged.
+    pub fn has_logged(&self, expected: &str) -> bool {
+        self.log.sink().is(expected)
+    }
+}
+
 impl Kept {
-    /// Keeps none yet.
-    pub fn new(alloc: Global) -> Kept {
+    fn new(alloc: Global) -> Kept {
         Kept {
             text: Mutex::new(Vec::new(alloc)),
         }
     }
 
     /// Whether these are the lines.
-    pub fn is(&self, expected: &str) -> bool {
+    fn is(&self, expected: &str) -> bool {
         match self.text.try_lock() {
             Some(text) => text.as_slice() == expected.as_bytes(),
             None => false,

@@ -1,12 +1,14 @@
 //! What no clause says of the gate beside the workers: that the lines of a drop tell of its datagram.
 
 use crate::packets::SHORT;
-use crate::shared::{Kept, NAS};
+use crate::shared::{MemoryLog, NAS, Setup};
 use rad_desk::{Delivery, Received, Traffic, Wire, front_worker, open};
-use rad_realms::{Endpoint, read_config};
+use rad_realms::{Config, Endpoint};
 use rad_tables::Moment;
-use rad_telemetry::{LevelFilter, Logged, Telemetry};
+use rad_telemetry::{LevelFilter, Telemetry};
+use std::alloc::Global;
 use std::result::Result;
+use std::sync::Wait;
 use std::test::Fail;
 use test_octets::nas::{NAME_ONLY_REQUEST, SEVENTH};
 
@@ -75,13 +77,15 @@ impl Wire for Scripted<'_> {
     }
 }
 
-#[test]
-fn a_drop_tells_of_its_datagram(rt: HostRuntime) -> Result<(), Fail> {
-    let alloc = rt.alloc();
-    let config = read_config(alloc, OTHER_REALMS)?;
-    let log = Logged::new((), LevelFilter::Debug, Kept::new(alloc));
-    let telemetry = Telemetry::new(alloc, &config, &log)?;
-    let Ok((proxy, mut inlets)) = open(alloc, &config) else {
+/// Has the front work for so many turns, over a wire that gives three datagrams.
+fn work(
+    rt: &impl Wait,
+    alloc: Global,
+    config: &Config,
+    telemetry: &Telemetry<'_, MemoryLog>,
+    turns: u64,
+) -> Result<(), Fail> {
+    let Ok((proxy, mut inlets)) = open(alloc, config) else {
         return Err(Fail::from("no memory"));
     };
     let mut wire = Scripted {
@@ -90,15 +94,23 @@ fn a_drop_tells_of_its_datagram(rt: HostRuntime) -> Result<(), Fail> {
         traffic: Traffic::new(),
     };
     front_worker(
-        &rt,
+        rt,
         alloc,
         &proxy,
-        &config,
+        config,
         inlets.as_mut_slice(),
         &mut wire,
-        &telemetry,
-        4,
+        telemetry,
+        turns,
     );
-    assert!(rt; log.sink().is(DROPS));
+    Ok(())
+}
+
+#[test]
+fn a_drop_tells_of_its_datagram(rt: HostRuntime) -> Result<(), Fail> {
+    let alloc = rt.alloc();
+    let setup = Setup::new(alloc, OTHER_REALMS, LevelFilter::Debug)?;
+    work(&rt, alloc, setup.config(), &setup.telemetry(alloc)?, 4)?;
+    assert!(rt; setup.has_logged(DROPS));
     Ok(())
 }

@@ -13,9 +13,7 @@ use std::process::Abort;
 use std::sync::Wait;
 use std::test::Fail;
 use test_octets::homes::{FORWARDED, REPLY, SECOND_FORWARDED, SECOND_PROBE, SECOND_PROBE_ANSWER};
-use test_octets::nas::{
-    OTHER_REQUEST, REQUEST, RESPONSE, SECOND_REQUEST, STATUS, STATUS_ANSWER,
-};
+use test_octets::nas::{OTHER_REQUEST, REQUEST, RESPONSE, SECOND_REQUEST, STATUS, STATUS_ANSWER};
 
 #[test]
 fn each_worker_does_its_part(rt: HostRuntime) -> Result<(), Fail> {

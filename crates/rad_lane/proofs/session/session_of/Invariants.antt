@@ -1,8 +1,8 @@
 use Rattle.std.proofs.Common.{◌≡◌}
 use Rattle.rad_packet.specs.Attribute.{attributes_of}
 use Rattle.rad_realms.proofs.FirstValue.{first_value}
-use Rattle.rad_telemetry.specs.PacketWords.{session_id}
-use Rattle.rad_telemetry.proofs.packet_words.session_of.Given as goal
+use Rattle.rad_lane.specs.Session.{session_id}
+use Rattle.rad_lane.proofs.session.session_of.Given as goal
 
 -- the first session of what is left is the packet's
 abbrev pub invariant-loop-attribute : goal.invariant-loop-attribute

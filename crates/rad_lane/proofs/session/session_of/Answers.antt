@@ -3,8 +3,8 @@ use Rattle.std.proofs.lemmas.Bool.Decides.{nat_tests}
 use Rattle.rad_packet.specs.Attribute.{attributes_of}
 use Rattle.rad_packet.specs.Item.{attribute_at}
 use Rattle.rad_realms.proofs.FirstValue.{first_value, first_here, first_later}
-use Rattle.rad_telemetry.proofs.Sessions.{session_is}
-use Rattle.rad_telemetry.proofs.packet_words.session_of.Goals as goal
+use Rattle.rad_lane.proofs.Sessions.{session_is}
+use Rattle.rad_lane.proofs.session.session_of.Goals as goal
 
 pub loop-attribute-init : goal.loop-attribute-init
 loop-attribute-init c =

@@ -1,0 +1,114 @@
+//! The request by which a home server was taken to be down.
+
+ghost use Rattle.std.specs.Prelude.{◌≡◌, ◌<◌, MatchOption, take, length, ◌≤◌};
+ghost use Rattle.rad_lane.specs.Dues.{NoneSpent};
+ghost use Rattle.rad_desk.specs.Desk.{book};
+ghost use Rattle.rad_desk.specs.Spent.{TellsSpent, spent_of};
+
+use crate::laws::Desk;
+use crate::proxy::Proxy;
+use rad_lane::Sending;
+use rad_realms::Endpoint;
+use rad_tables::Moment;
+use std::marker::Model;
+use std::sync::Wait;
+
+/// The most octets that an attribute's Value has (RFC 2865 section 5).
+const GREATEST_VALUE_LENGTH: usize = 253;
+
+/// A request that was sent as often as a round allows, and is not answered.
+#[derive(Drop)]
+pub struct Spent {
+    /// Its number in its lane.
+    pub number: u64,
+    /// The client that sent it.
+    pub client: Endpoint,
+    /// Its Acct-Session-Id, where it has one.
+    pub session: Option<Session>,
+    /// How many milliseconds ago it was accepted.
+    pub age: u64,
+}
+
+/// The octets of an Acct-Session-Id (RFC 2866 section 5.5), kept in place.
+#[derive(Drop)]
+pub struct Session {
+    /// The octets, and others behind them.
+    octets: [u8; GREATEST_VALUE_LENGTH],
+    /// How many octets it has.
+    count: usize,
+}
+
+impl Model for Session {
+    ghost use Rattle.std.specs.Prelude.{List, ℕ, ◌≤◌, take};
+
+    ghost Value = { List ℕ };
+
+    ghost view = { λ s. take s.count s.octets };
+
+    ghost invariant = { λ s. s.count ≤ 253 };
+}
+
+impl Session {
+    /// The session of these octets: of more than 253, which no attribute has, the first ones.
+    pub fn of(octets: &[u8]) -> Session
+        ensures { result ≡ take 253 octets.now }
+    {
+        let count = octets.len().min(GREATEST_VALUE_LENGTH);
+        let mut filled = [0; GREATEST_VALUE_LENGTH];
+        filled[..count].copy_from_slice(&octets[..count]);
+        Session {
+            octets: filled,
+            count,
+        }
+    }
+
+    /// The octets.
+    pub fn octets(&self) -> &[u8]
+        ensures { result.now ≡ self.now }
+    {
+        &self.octets[..self.count]
+    }
+}
+
+impl Spent {
+    /// What is told of a sending at this moment.
+    pub(crate) fn of(sending: &Sending, moment: Moment) -> Spent
+        ensures { result ≡ spent_of sending.now moment }
+    {
+        let stamp = sending.request().stamp();
+        let session = match sending.request().session() {
+            Some(octets) => Some(Session::of(octets)),
+            None => None,
+        };
+        Spent {
+            number: stamp.number,
+            client: Endpoint {
+                address: stamp.client,
+                port: stamp.port,
+            },
+            session,
+            age: moment.get().saturating_sub(stamp.moment.get()),
+        }
+    }
+}
+
+impl Desk {
+    /// Of the lane's requests that were sent as often as a round allows, the one that is due first, and at one due that of the
+    /// least number: the one by which the lane goes down. It is told as it stands at this moment.
+    pub fn spent(&self, moment: Moment) -> Option<Spent>
+        ensures { MatchOption result (NoneSpent (book self.now)) (TellsSpent (book self.now) moment) }
+    {
+        let sending = self.lane.spent()?;
+        Some(Spent::of(sending, moment))
+    }
+}
+
+impl Proxy {
+    /// The request by which a lane went down, or will: of those that were sent as often as a round allows the one that is due
+    /// first, and at one due that of the least number.
+    pub fn spent(&self, rt: &impl Wait, lane: u16, moment: Moment) -> Option<Spent>
+        requires { lane < self.now }
+    {
+        self.lock(rt, lane).spent(moment)
+    }
+}

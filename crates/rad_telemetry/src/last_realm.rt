@@ -1,0 +1,94 @@
+//! The realm of the last packet that was dropped since its realm leads to no lane.
+
+use crate::packet_words::RealmWord;
+use rad_packet::read;
+use rad_realms::realm_of_packet;
+use std::fmt;
+use std::hint::spin_loop;
+use std::sync::{Mutex, MutexGuard};
+
+/// The most octets that a User-Name has (RFC 2865 section 5), and so a realm.
+const GREATEST_REALM_LENGTH: usize = 253;
+
+/// How often whoever tells the realm waits for the front, which keeps it within some steps.
+const TRIES: u32 = 2000;
+
+/// The realm of the last packet that was dropped since its realm leads to no lane. The front keeps it, and takes no memory for
+/// it; while another thread tells it, the front keeps none rather than wait.
+#[derive(Drop)]
+pub struct LastRealm {
+    realm: Mutex<Realm>,
+}
+
+/// A realm, kept in place.
+#[derive(Drop)]
+struct Realm {
+    octets: [u8; GREATEST_REALM_LENGTH],
+    count: usize,
+    /// Whether the packet had one.
+    is_there: bool,
+}
+
+impl LastRealm {
+    /// Of no packet yet.
+    pub fn new() -> LastRealm {
+        LastRealm {
+            realm: Mutex::new(Realm {
+                octets: [0; GREATEST_REALM_LENGTH],
+                count: 0,
+                is_there: false,
+            }),
+        }
+    }
+
+    /// Keeps the realm of a packet, or that it has none.
+    pub fn keep(&self, packet: &[u8]) {
+        let Ok(packet) = read(packet) else {
+            return;
+        };
+        if let Some(mut kept) = self.realm.try_lock() {
+            kept.set(realm_of_packet(&packet));
+        }
+    }
+
+    /// Holds the realm, where that is to be had soon.
+    fn hold(&self) -> Option<MutexGuard<'_, Realm>> {
+        for _ in 0..TRIES {
+            let realm = self.realm.try_lock();
+            if realm.is_some() {
+                return realm;
+            }
+            spin_loop();
+        }
+        None
+    }
+}
+
+impl Realm {
+    fn set(&mut self, realm: Option<&[u8]>) {
+        self.is_there = realm.is_some();
+        if let Some(realm) = realm {
+            let count = realm.len().min(self.octets.len());
+            self.octets[..count].copy_from_slice(&realm[..count]);
+            self.count = count;
+        }
+    }
+
+    fn octets(&self) -> &[u8] {
+        self.octets.get(..self.count).unwrap_or(&[])
+    }
+}
+
+/// The realm as a log line tells it, behind a space: nothing where the packet had none.
+impl fmt::Display for LastRealm {
+    fn fmt<W: fmt::Write>(&self, f: &mut fmt::Formatter<W>) -> fmt::Result {
+        let Some(realm) = self.hold() else {
+            return Ok(());
+        };
+        if !realm.is_there {
+            return Ok(());
+        }
+        let word = RealmWord(realm.octets());
+        write!(f, "{word}")
+    }
+}

@@ -1,0 +1,64 @@
+//! The log lines of a home server that went down or up.
+
+ghost use Rattle.std.specs.Prelude.{◌≡◌};
+ghost use Rattle.rad_telemetry.specs.WatchLines.{up_reason};
+
+use crate::packet_words::SessionWord;
+use crate::peer_text::ClientText;
+use rad_desk::{Spent, UpReason};
+use std::fmt;
+
+/// A home server went down, by this request.
+#[derive(Clone, Copy)]
+pub struct DownLine<'a> {
+    /// The home server's name.
+    pub home: &'a str,
+    pub spent: &'a Spent,
+}
+
+/// A home server went up, for this reason.
+#[derive(Clone, Copy)]
+pub struct UpLine<'a> {
+    /// The home server's name.
+    pub home: &'a str,
+    pub reason: UpReason,
+}
+
+impl fmt::Display for DownLine<'_> {
+    fn fmt<W: fmt::Write>(&self, f: &mut fmt::Formatter<W>) -> fmt::Result {
+        let home = self.home;
+        let number = self.spent.number;
+        let client = ClientText(self.spent.client);
+        write!(f, "event=down home={home} number={number} {client}")?;
+        if let Some(session) = &self.spent.session {
+            let session = SessionWord(session.octets());
+            write!(f, "{session}")?;
+        }
+        let age = self.spent.age;
+        write!(f, " age={age}")
+    }
+}
+
+impl fmt::Display for UpLine<'_> {
+    ghost use Rattle.std.specs.Prelude.{Some};
+    ghost use Rattle.rad_telemetry.specs.WatchLines.{up_line};
+
+    ghost output = { λ line. Some (up_line line) };
+
+    fn fmt<W: fmt::Write>(&self, f: &mut fmt::Formatter<W>) -> fmt::Result {
+        let home = self.home;
+        let reason = up_reason_text(self.reason);
+        write!(f, "event=up home={home} reason=\"{reason}\"")
+    }
+}
+
+/// Why a home server went up.
+fn up_reason_text(reason: UpReason) -> &'static str
+    ensures { result.now ≡ up_reason reason }
+{
+    match reason {
+        UpReason::Answered => "answered",
+        UpReason::ProbeAnswered => "probe answered",
+        UpReason::DownWaitOver => "down_wait over",
+    }
+}

@@ -1,0 +1,126 @@
+//! What no clause says of sums: which realm a sum of drops names, what the sum of cuts counts, and how many Proxy-States a loop
+//! makes.
+
+use crate::shared::{MemoryLog, NAS, Setup, TWO_HOMES};
+use rad_desk::{Gate, Note, Worker};
+use rad_realms::{Dropped, Endpoint};
+use rad_telemetry::{LevelFilter, ReplaceFile, Telemetry};
+use std::result::Result;
+use std::test::Fail;
+use test_octets::nas::{NAME_ONLY_REQUEST, SEVENTH};
+
+/// Replaces no file.
+#[derive(Drop)]
+struct Nowhere;
+
+impl ReplaceFile for Nowhere {
+    fn replace(&self, _path: &str, _new: &str, _text: &[u8]) -> bool {
+        false
+    }
+}
+
+/// A proxy of this form.
+const OTHER_PROXY: Endpoint = Endpoint {
+    address: [10, 0, 0, 2],
+    port: 1813,
+};
+
+/// A request of the User-Name `bob`, which has no realm.
+const BARE: [u8; 25] = [
+    4, 1, 0, 25, 0, 0, 0, 0, 0, 0, 0, 0, 0, 0, 0, 0, 0, 0, 0, 0, 1, 5, b'b', b'o', b'b',
+];
+
+/// A request whose realm has octets that no value shows as they are.
+const ODD_REALM: [u8; 28] = [
+    4, 1, 0, 28, 0, 0, 0, 0, 0, 0, 0, 0, 0, 0, 0, 0, 0, 0, 0, 0, 1, 8, b'b', b'@', b' ', b'"', 10,
+    255,
+];
+
+/// The sums of drops, each behind what was dropped since the one before.
+const DROPS: &str =
+    "event=dropped reason=\"NoRealm\" count=2 client=10.0.0.1 client_port=40000 realm=example.net\n\
+    event=dropped reason=\"NoRealm\" count=1 client=10.0.0.1 client_port=40000 realm=%20%22%0a%ff\n\
+    event=dropped reason=\"NoRealm\" count=1 client=10.0.0.1 client_port=40000\n\
+    event=dropped reason=\"WrongCode\" count=1 client=10.0.0.1 client_port=40000\n";
+
+/// The sum of two cuts.
+const CUTS: &str = "event=cut home=h2 count=8\n";
+
+/// The sums of requests of another proxy, and of a loop.
+const MARKS: &str = "event=marked home=h1 count=2 proxy_states=1 client=10.0.0.2 client_port=1813\n\
+    event=marked home=h1 count=2 proxy_states=7 client=10.0.0.2 client_port=1813\n\
+    event=marked home=h1 count=1 proxy_states=2 client=10.0.0.1 client_port=40000\n";
+
+/// Those of them that are logged at `warn`.
+const LOOPS: &str = "event=marked home=h1 count=2 proxy_states=7 client=10.0.0.2 client_port=1813\n\
+    event=marked home=h1 count=1 proxy_states=2 client=10.0.0.1 client_port=40000\n";
+
+/// Tells of a packet that was dropped for its realm.
+fn drop_for_its_realm(telemetry: &Telemetry<'_, MemoryLog>, packet: &[u8]) {
+    telemetry.received(Worker::Front, NAS, packet);
+    telemetry.no_realm(packet);
+    telemetry.note(Worker::Front, Note::Dropped(Dropped::NoRealm));
+}
+
+/// Logs what is new.
+fn log_deltas(telemetry: &Telemetry<'_, MemoryLog>) {
+    telemetry.reporter(&None, &Nowhere).log_deltas();
+}
+
+/// Tells of drops, and has them logged one after the other.
+fn tell_drops(telemetry: &Telemetry<'_, MemoryLog>) {
+    drop_for_its_realm(telemetry, &SEVENTH);
+    drop_for_its_realm(telemetry, &NAME_ONLY_REQUEST);
+    log_deltas(telemetry);
+    drop_for_its_realm(telemetry, &ODD_REALM);
+    log_deltas(telemetry);
+    drop_for_its_realm(telemetry, &BARE);
+    log_deltas(telemetry);
+    telemetry.note(Worker::Front, Note::Dropped(Dropped::WrongCode));
+    log_deltas(telemetry);
+}
+
+/// Tells of requests with so many Proxy-States of this proxy's form, and has them logged.
+fn tell_marks(telemetry: &Telemetry<'_, MemoryLog>) {
+    telemetry.came_marked(0, NAS, 1);
+    telemetry.came_marked(0, OTHER_PROXY, 1);
+    log_deltas(telemetry);
+    telemetry.came_marked(0, OTHER_PROXY, 7);
+    telemetry.came_marked(0, OTHER_PROXY, 3);
+    log_deltas(telemetry);
+    telemetry.came_marked(0, NAS, 2);
+    log_deltas(telemetry);
+}
+
+#[test]
+fn the_last_realm_is_named(rt: HostRuntime) -> Result<(), Fail> {
+    let alloc = rt.alloc();
+    let setup = Setup::new(alloc, TWO_HOMES, LevelFilter::Info)?;
+    tell_drops(&setup.telemetry(alloc)?);
+    assert!(rt; setup.has_logged(DROPS));
+    Ok(())
+}
+
+#[test]
+fn cuts_are_summed_up(rt: HostRuntime) -> Result<(), Fail> {
+    let alloc = rt.alloc();
+    let setup = Setup::new(alloc, TWO_HOMES, LevelFilter::Info)?;
+    let telemetry = setup.telemetry(alloc)?;
+    telemetry.note(Worker::Lane(1), Note::Cut(3));
+    telemetry.note(Worker::Lane(1), Note::Cut(5));
+    log_deltas(&telemetry);
+    log_deltas(&telemetry);
+    assert!(rt; setup.has_logged(CUTS));
+    Ok(())
+}
+
+#[test]
+fn marks_are_summed_up(rt: HostRuntime) -> Result<(), Fail> {
+    let alloc = rt.alloc();
+    for (level, expected) in [(LevelFilter::Info, MARKS), (LevelFilter::Warn, LOOPS)] {
+        let setup = Setup::new(alloc, TWO_HOMES, level)?;
+        tell_marks(&setup.telemetry(alloc)?);
+        assert!(rt; setup.has_logged(expected), "{level:?}");
+    }
+    Ok(())
+}
