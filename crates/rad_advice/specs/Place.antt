@@ -1,6 +1,6 @@
 -- Where an octet stands in a text (own): its line and, in characters, its column, both from 1. A line ends with a line
 -- feed. A character begins with each octet that does not continue one in UTF-8 (RFC 3629 section 3).
-use Rattle.std.specs.Prelude.{ℕ, ◌+◌, Bool, not, ◌&&◌, ◌==◌, nat_le, nat_lt, List, [], ◌∷◌, take}
+use Rattle.std.specs.Prelude.{ℕ, ◌+◌, Bool, not, ◌&&◌, ◌==◌, nat_le, nat_lt, if◌then◌else◌, List, [], ◌∷◌, take}
 use Rattle.std.specs.List.{count_by, list_any}
 use Rattle.rad_advice.specs.declared.place.Place.{Place}
 

@@ -1,5 +1,7 @@
 //! Names that come from a file, as they are printed.
 
+ghost use Rattle.std.specs.Prelude.{◌≡◌};
+
 use std::fmt;
 
 /// The most octets of a name that are printed.
@@ -11,6 +13,11 @@ const MOST_OCTETS: usize = 64;
 pub(crate) struct Escaped<'a>(pub &'a str);
 
 impl fmt::Display for Escaped<'_> {
+    ghost use Rattle.std.specs.Prelude.{Some};
+    ghost use Rattle.rad_advice.specs.Printed.{name_text};
+
+    ghost output = { λ name. Some (name_text name.0.now) };
+
     fn fmt<W: fmt::Write>(&self, f: &mut fmt::Formatter<W>) -> fmt::Result {
         let octets = self.0.as_bytes();
         if octets.len() <= MOST_OCTETS {
