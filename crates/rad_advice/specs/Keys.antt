@@ -36,12 +36,14 @@ pub record UnreadEntry : Type 0 where
   pub index : ℕ
   pub name : List ℕ
 
+-- A key that is none of these names.
+abbrev pub unless_read : Part → ℕ → List (List ℕ) → List ℕ → List UnreadEntry
+unless_read p index names name = if is_one_of names name then [] else record { part = p; index = index; name = name } ∷ []
+
 -- The keys of a table that are none of these names.
 abbrev pub unread_in_table : Part → ℕ → List (List ℕ) → Members → List UnreadEntry
 unread_in_table p index names no_members = []
-unread_in_table p index names (member name value rest) =
-    if is_one_of names name then unread_in_table p index names rest
-    else record { part = p; index = index; name = name } ∷ unread_in_table p index names rest
+unread_in_table p index names (member name value rest) = unless_read p index names name ++ unread_in_table p index names rest
 
 -- The same of each value of an array that is a table.
 abbrev pub unread_in_items : Part → ℕ → List (List ℕ) → Items → List UnreadEntry

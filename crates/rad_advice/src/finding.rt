@@ -80,7 +80,7 @@ fn array_name(alloc: Global, part: Part) -> Result<String, AllocError> {
 
 /// Goes over a text until the key is found.
 fn find(alloc: Global, text: &str, wanted: Wanted<'_>) -> Result<Option<usize>, AllocError>
-    ensures { IfOk result (λ found. IfSome found (λ offset. (offset ≤ length text.now) × BeginsAt wanted.name.now offset text.now)) }
+    ensures { IfOk result (λ found. IfSome found (λ offset. (offset ≤ length text.now) × BeginsAt wanted.entry.name.now offset text.now)) }
 {
     let mut passed = Passed {
         section: Section::Top,

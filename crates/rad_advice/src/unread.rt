@@ -4,7 +4,7 @@ ghost use Rattle.std.specs.Prelude.{◌≡◌, ◌≤◌, ◌-◌, ◌++◌, [],
 ghost use Rattle.toml.specs.Data.{no_items, no_members, as_table};
 ghost use Rattle.toml.specs.View.{view, items_view, table_view};
 ghost use Rattle.rad_realms.specs.Spot.{key_name};
-ghost use Rattle.rad_advice.specs.Keys.{unread_in_table, unread_in_items, items_at, unread_in_part, unread_in, unread_in_text, entry_listed, entry_found, StandsIn};
+ghost use Rattle.rad_advice.specs.Keys.{unless_read, unread_in_table, unread_in_items, items_at, unread_in_part, unread_in, unread_in_text, entry_listed, entry_found, StandsIn};
 
 use crate::escaped::Escaped;
 use crate::finding::find_key;
@@ -69,23 +69,55 @@ impl fmt::Display for UnreadKey {
     ghost output = { λ key. Some (unread_text key) };
 
     fn fmt<W: fmt::Write>(&self, f: &mut fmt::Formatter<W>) -> fmt::Result {
-        write_table(f, self.part, self.index)?;
+        let table = TableText {
+            part: self.part,
+            index: self.index,
+        };
         let name = Escaped(self.name.as_str());
-        write!(f, "{name}")?;
-        match self.place {
-            Some(place) => write!(f, " at {place}"),
-            None => Ok(()),
+        let at = AtText(self.place);
+        write!(f, "{table}{name}{at}")
+    }
+}
+
+/// Which table a key stands in, and a space.
+#[derive(Clone, Copy)]
+struct TableText {
+    part: Part,
+    index: usize,
+}
+
+/// Where a key stands, behind ` at `, where that is known.
+#[derive(Clone, Copy)]
+struct AtText(Option<Place>);
+
+impl fmt::Display for TableText {
+    ghost use Rattle.std.specs.Prelude.{Some};
+    ghost use Rattle.rad_advice.specs.Printed.{table_text};
+
+    ghost output = { λ table. Some (table_text table.part table.index) };
+
+    fn fmt<W: fmt::Write>(&self, f: &mut fmt::Formatter<W>) -> fmt::Result {
+        let index = self.index;
+        match self.part {
+            Part::Top => write!(f, "top "),
+            Part::Client => write!(f, "client {index} "),
+            Part::Home => write!(f, "home {index} "),
+            Part::Realm => write!(f, "realm {index} "),
         }
     }
 }
 
-/// Writes which table a key stands in.
-fn write_table<W: fmt::Write>(f: &mut fmt::Formatter<W>, part: Part, index: usize) -> fmt::Result {
-    match part {
-        Part::Top => f.write_str("top "),
-        Part::Client => write!(f, "client {index} "),
-        Part::Home => write!(f, "home {index} "),
-        Part::Realm => write!(f, "realm {index} "),
+impl fmt::Display for AtText {
+    ghost use Rattle.std.specs.Prelude.{Some};
+    ghost use Rattle.rad_advice.specs.Printed.{at_text};
+
+    ghost output = { λ at. Some (at_text at.0) };
+
+    fn fmt<W: fmt::Write>(&self, f: &mut fmt::Formatter<W>) -> fmt::Result {
+        match self.0 {
+            Some(place) => write!(f, " at {place}"),
+            None => Ok(()),
+        }
     }
 }
 
@@ -189,7 +221,7 @@ fn list(alloc: Global, text: &str, unread: &[Unread<'_>]) -> Result<UnreadKeys, 
 
 /// A key with its place in the text.
 fn place_key(alloc: Global, text: &str, key: Unread<'_>) -> Result<UnreadKey, AllocError>
-    ensures entry { IfOk result (λ listed. entry_listed listed ≡ entry_found key) }
+    ensures entry { IfOk result (λ listed. entry_listed listed ≡ entry_found key.entry) }
     ensures place { IfOk result (λ listed. StandsIn text.now listed) }
 {
     let Unread { part, index, name } = key;
@@ -234,8 +266,27 @@ fn add_of_part<'t>(
 {
     let array = name_of(alloc, key)?;
     let names = names_of(alloc, part)?;
-    for (index, value) in values_at(array.as_str(), document).iter().enumerate() {
-        add_of_value(found, part, index, names.as_slice(), value)?;
+    add_of_values(
+        found,
+        part,
+        names.as_slice(),
+        values_at(array.as_str(), document),
+    )
+}
+
+/// Adds the keys of these values that nobody reads, of each that is a table.
+fn add_of_values<'t>(
+    found: &mut Vec<Unread<'t>>,
+    part: Part,
+    names: &[String],
+    values: &'t [Value],
+) -> Result<(), AllocError>
+    ensures { OnOk result (map entry_found found.new.items ≡ map entry_found found.old.items ++ unread_in_items part 0 (map string_bytes names.now) (items_view values.now)) }
+{
+    let mut index = 0;
+    for value in values {
+        add_of_value(found, part, index, names, value)?;
+        index += 1;
     }
     Ok(())
 }
@@ -276,11 +327,25 @@ fn add_of_table<'t>(
 ) -> Result<(), AllocError>
     ensures { OnOk result (map entry_found found.new.items ≡ map entry_found found.old.items ++ unread_in_table part index (map string_bytes names.now) (table_view table.now)) }
 {
-    for key in table.keys() {
-        let name = key.as_str();
-        if !is_among(names, name) {
-            found.push(Unread { part, index, name })?;
-        }
+    'keys: for (key, _value) in table.iter() {
+        add_unless_read(found, part, index, names, key.as_str())?;
     }
+    Ok(())
+}
+
+/// Adds a key, unless it is one of these names.
+fn add_unless_read<'t>(
+    found: &mut Vec<Unread<'t>>,
+    part: Part,
+    index: usize,
+    names: &[String],
+    name: &'t str,
+) -> Result<(), AllocError>
+    ensures { OnOk result (map entry_found found.new.items ≡ map entry_found found.old.items ++ unless_read part index (map string_bytes names.now) name.now) }
+{
+    if is_among(names, name) {
+        return Ok(());
+    }
+    found.push(Unread { part, index, name })?;
     Ok(())
 }
