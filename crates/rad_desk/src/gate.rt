@@ -3,6 +3,7 @@
 use crate::DeskFault;
 use rad_lane::Refusal;
 use rad_realms::{Dropped, Endpoint};
+use std::io::Error;
 
 /// Who works.
 #[derive(Clone, Copy, Debug, PartialEq, Eq)]
@@ -85,4 +86,14 @@ pub trait Gate {
 
     /// The response of this serial went into a lane's ring, so that the front has something to take.
     fn answered(&self, _lane: u16, _serial: u64) {}
+
+    /// No socket can be had at this address and port, for this reason of the system's. The service ends.
+    fn unbound(&self, _at: Endpoint, _error: &Error) {}
+
+    /// The addresses of this machine can't be read. A response leaves from whichever of them the system picks.
+    fn addresses_unread(&self, _error: &Error) {}
+
+    /// This machine has this address, and no socket is bound to it alone: what is asked there is answered from whichever address
+    /// the system picks.
+    fn address_unbound(&self, _address: [u8; 4]) {}
 }
