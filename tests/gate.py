@@ -33,6 +33,8 @@ SCRIPTS = {
     "examples": ("examples.py", "PROGRAM"),
     "growths": ("hostile/growths.py", "PROGRAM"),
     "mutations": ("hostile/mutations.py", "PROGRAM"),
+    "addresses": ("hostile/addresses.py", "PROGRAM"),
+    "flood": ("hostile/flood.py", "PROGRAM"),
     "unreachable": ("hostile/unreachable.py", "PROGRAM"),
     "telling": ("hostile/telling.py", "PROGRAM"),
     "service": ("service/run.py", "PROGRAM"),

@@ -3,6 +3,7 @@
 use crate::{DeskFault, Spent};
 use rad_lane::Refusal;
 use rad_realms::{Dropped, Endpoint};
+use std::io::Error;
 
 /// Who works.
 #[derive(Clone, Copy, Debug, PartialEq, Eq)]
@@ -111,4 +112,14 @@ pub trait Gate {
     /// The front received a request from there that leads to this lane, and that has so many Proxy-States, at least one, as this
     /// proxy adds them: it, or another one like it, sent the request before.
     fn came_marked(&self, _lane: u16, _from: Endpoint, _marks: u64) {}
+
+    /// No socket can be had at this address and port, for this reason of the system's. The service ends.
+    fn unbound(&self, _at: Endpoint, _error: &Error) {}
+
+    /// The addresses of this machine can't be read. A response leaves from whichever of them the system picks.
+    fn addresses_unread(&self, _error: &Error) {}
+
+    /// This machine has this address, and no socket is bound to it alone: what is asked there is answered from whichever address
+    /// the system picks.
+    fn address_unbound(&self, _address: [u8; 4]) {}
 }

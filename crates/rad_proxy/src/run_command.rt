@@ -16,7 +16,7 @@ use std::alloc::{AllocError, AllocGlobal, Global};
 use std::io::{self, Read, Write};
 use std::net::Net;
 use std::random::RandomSource;
-use std::rt::Runtime;
+use std::rt::{Files, Runtime};
 use std::sync::Wait;
 use std::thread::{self, Scope, Threads};
 use std::time::Clock;
@@ -77,7 +77,8 @@ fn serve<R, L, F, I, O>(
     writer: O,
 ) -> Result<EndLine, ServeFault>
 where
-    R: Clock + Net + RandomSource + Threads + Wait + Sync,
+    R: Clock + Files + Net + RandomSource + Threads + Wait + Sync,
+    R::File: Drop,
     L: Log + Sync,
     F: ReplaceFile + Sync,
     I: Read + Drop,
@@ -130,7 +131,8 @@ fn serve_and_tell<R, L, F, I, O>(
     writer: O,
 ) -> Result<EndLine, ServeFault>
 where
-    R: Clock + Net + RandomSource + Threads + Wait + Sync,
+    R: Clock + Files + Net + RandomSource + Threads + Wait + Sync,
+    R::File: Drop,
     L: Log + Sync,
     I: Read + Drop,
     O: Write + Drop,

@@ -6,12 +6,20 @@
 //! of `rad_desk`. What is received, sent and noted only the gate is told: this crate knows no log and no counters.
 #![tactic(auto)]
 
+mod address_watch;
+mod answering;
 mod attending;
+mod client_sockets;
 mod faults;
+mod fib_trie;
 mod interrupting;
+mod known_addresses;
 mod lingering;
+mod local_addresses;
 mod notifying;
+mod origins;
 mod polling;
+mod raw_sockets;
 mod ready_socket;
 mod serving;
 mod sockets;
@@ -19,10 +27,12 @@ mod supervising;
 mod threads;
 mod wires;
 mod wiring;
+mod worker_sockets;
 mod working;
 
 pub use faults::ServeFault;
 pub use interrupting::Interruptible;
+pub use local_addresses::read_local_addresses;
 pub use notifying::{Notifier, Notifiers};
 pub use serving::{run, serve};
 pub use wiring::Wires;

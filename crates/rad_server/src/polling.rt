@@ -14,8 +14,12 @@ use std::time::Duration;
 /// The longest sleep, in milliseconds.
 const SLEEP: u64 = 20;
 
-/// How many events a sleep gives at once: those of a lane's sockets and of its notifier.
+/// How many events a sleep gives at once: those of a lane's sockets and of its notifier. What more there are the next sleep
+/// gives, which ends at once then.
 const EVENTS: usize = 8;
+
+/// How many receives there may be without a sleep, for each socket, before each is looked at again.
+const RECEIVES: usize = 16;
 
 /// What a worker sleeps over.
 #[derive(Drop)]
@@ -51,13 +55,18 @@ impl Sleeper {
 }
 
 /// The sockets of a worker, and how it sleeps where none of them has a datagram.
+///
+/// A sleep tells which sockets have datagrams. A worker that doesn't sleep, since one socket has datagrams all the time or
+/// since there is always something to send, looks at each socket again after some receives.
 #[derive(Drop)]
 pub(crate) struct PolledSockets {
-    /// In the order of the source ports; the front has one.
+    /// In the order of a lane's source ports; the front's first one is that of `listen`.
     sockets: Vec<ReadySocket>,
     /// The socket that is received from next.
     turn: u16,
     sleeper: Sleeper,
+    /// How many receives there were since the worker slept or looked at each socket again.
+    receives: usize,
     /// Whether a datagram went out since the last receive.
     has_sent: bool,
 }
@@ -79,6 +88,7 @@ impl PolledSockets {
             sockets,
             turn: 0,
             sleeper,
+            receives: 0,
             has_sent: false,
         })
     }
@@ -96,10 +106,27 @@ impl PolledSockets {
     pub(crate) fn receive(&mut self, room: &mut [u8; 4096]) -> Received
         ensures { FitsRoom result }
     {
+        self.count_receive();
         let received = self.wait(room);
         self.sleeper.notifier.set_awake();
         self.has_sent = false;
         received
+    }
+
+    /// Counts a receive, and has each socket looked at again where there were so many without a sleep.
+    fn count_receive(&mut self) {
+        self.receives = self.receives.saturating_add(1);
+        if self.receives > self.sockets.len().saturating_mul(RECEIVES) {
+            self.set_each_waiting();
+        }
+    }
+
+    /// Each socket may have datagrams.
+    fn set_each_waiting(&mut self) {
+        self.receives = 0;
+        for socket in &mut self.sockets {
+            socket.set_waiting();
+        }
     }
 
     /// Receives a datagram, and waits for one where there is nothing else to do.
@@ -148,10 +175,9 @@ impl PolledSockets {
     /// ended the sleep, each socket is looked at again.
     fn sleep(&mut self) {
         self.sleeper.sleep();
+        self.receives = 0;
         if self.sleeper.events.is_empty() {
-            for socket in &mut self.sockets {
-                socket.set_waiting();
-            }
+            self.set_each_waiting();
         }
         for event in self.sleeper.events.iter() {
             let Token(index) = event.token();

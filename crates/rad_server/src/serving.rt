@@ -19,6 +19,7 @@ use std::io::{BufWriter, Read, Write};
 use std::net::Net;
 use std::os::fd::RawFd;
 use std::random::RandomSource;
+use std::rt::Files;
 use std::sync::Wait;
 use std::thread::Threads;
 use std::time::Clock;
@@ -39,7 +40,8 @@ pub fn run<R, G, I, O>(
     writer: O,
 ) -> Result<EndLine, ServeFault>
 where
-    R: Clock + Net + RandomSource + Threads + Wait + Sync,
+    R: Clock + Files + Net + RandomSource + Threads + Wait + Sync,
+    R::File: Drop,
     G: Gate + Sync,
     I: Read + Drop,
     O: Write + Drop,
@@ -49,8 +51,8 @@ where
         return Err(ServeFault::Memory);
     };
     let listen = config.listen();
-    let sockets = BoundSockets::bind(rt, alloc, config)?;
-    let wires = make_wires(rt, alloc, listen, sockets)?;
+    let sockets = BoundSockets::bind(rt, alloc, config, gate)?;
+    let wires = make_wires(rt, alloc, config, gate, sockets)?;
     let reader = make_reader(rt, alloc, reader, descriptor)?;
     let Ok(notifiers) = notifiers_of(alloc, &wires, &reader) else {
         return Err(ServeFault::Memory);

@@ -1,15 +1,14 @@
 //! The sockets of a worker as the wire that it works over.
 
 use crate::notifying::Notifier;
-use crate::polling::PolledSockets;
-use rad_desk::{Delivery, Received, Traffic, Wire};
+use crate::worker_sockets::WorkerSockets;
+use rad_desk::{Delivery, Gate, Received, Traffic, Wire};
+use rad_realms::Endpoint;
 use rad_tables::Moment;
+use rand::Rng;
 use rand::rngs::StdRng;
-use rand::{Rng, make_rng};
-use std::alloc::{AllocError, Global};
-use std::io;
-use std::net::{Ipv4Addr, Net, SocketAddr, SocketAddrV4, UdpSocket};
-use std::random::RandomSource;
+use std::alloc::AllocError;
+use std::rt::Files;
 use std::time::{Clock, Instant};
 
 /// The sockets of a worker, its clock and its random octets.
@@ -17,39 +16,32 @@ use std::time::{Clock, Instant};
 /// A receive waits at most 20 milliseconds, and not at all in the turn after a send, when there may be more to send.
 /// Whoever has work for the worker notifies it and so ends the wait.
 #[derive(Drop)]
-pub(crate) struct UdpWire<'a, R> {
+pub(crate) struct UdpWire<'a, R, G> {
     clock: &'a R,
     start: Instant,
     /// The moment that was told last.
     moment: Moment,
     random: StdRng,
-    sockets: PolledSockets,
+    sockets: WorkerSockets<'a, R, G>,
     traffic: Traffic,
 }
 
-impl<'a, R: Clock> UdpWire<'a, R> {
-    /// A wire over these sockets, which do not wait. Its moments count from the start.
-    ///
-    /// # Errors
-    ///
-    /// The system's, and `OutOfMemory`.
+impl<'a, R, G> UdpWire<'a, R, G> {
+    /// A wire over these sockets, whose moments count from the start.
     pub(crate) fn new(
-        alloc: Global,
         clock: &'a R,
         start: Instant,
-        sockets: Vec<UdpSocket>,
-    ) -> io::Result<UdpWire<'a, R>>
-    where
-        R: Net + RandomSource,
-    {
-        Ok(UdpWire {
+        random: StdRng,
+        sockets: WorkerSockets<'a, R, G>,
+    ) -> UdpWire<'a, R, G> {
+        UdpWire {
             clock,
             start,
             moment: Moment::new(0).unwrap(),
-            random: make_rng(clock)?,
-            sockets: PolledSockets::new(clock, alloc, sockets)?,
+            random,
+            sockets,
             traffic: Traffic::new(),
-        })
+        }
     }
 
     /// What ends a wait.
@@ -62,7 +54,10 @@ impl<'a, R: Clock> UdpWire<'a, R> {
     }
 }
 
-impl<R: Clock> Wire for UdpWire<'_, R> {
+impl<R: Clock + Files, G: Gate> Wire for UdpWire<'_, R, G>
+where
+    R::File: Drop,
+{
     ghost log = { λ w. w.traffic.passed };
 
     fn now(&mut self) -> Moment {
@@ -81,7 +76,7 @@ impl<R: Clock> Wire for UdpWire<'_, R> {
     }
 
     fn receive(&mut self, datagram: &mut [u8; 4096]) -> Received {
-        match self.sockets.receive(datagram) {
+        match self.sockets.receive(self.moment, datagram) {
             Received::Got {
                 address,
                 port,
@@ -103,7 +98,6 @@ impl<R: Clock> Wire for UdpWire<'_, R> {
 
     fn send(&mut self, socket: u16, address: [u8; 4], port: u16, octets: &[u8]) -> Delivery {
         self.traffic.went(socket, address, port, octets);
-        let to = SocketAddr::V4(SocketAddrV4::new(Ipv4Addr::from(address), port));
-        self.sockets.send(socket, to, octets)
+        self.sockets.send(socket, Endpoint { address, port }, octets)
     }
 }

@@ -1,13 +1,22 @@
 //! The wires over a configuration's sockets, and what notifies those who wait there.
 
+use crate::address_watch::AddressWatch;
+use crate::answering::Answering;
+use crate::client_sockets::ClientSockets;
 use crate::faults::ServeFault;
 use crate::interrupting::Interruptible;
+use crate::known_addresses::KnownAddresses;
 use crate::notifying::{Notifier, Notifiers};
+use crate::origins::Origins;
+use crate::polling::PolledSockets;
 use crate::sockets::BoundSockets;
 use crate::wires::UdpWire;
-use rad_realms::Endpoint;
+use crate::worker_sockets::WorkerSockets;
+use rad_realms::{Client, Config};
+use rand::rngs::StdRng;
+use rand::{Rng, make_rng};
 use std::alloc::{AllocError, Global};
-use std::io::Read;
+use std::io::{self, Read};
 use std::net::{Net, UdpSocket};
 use std::os::fd::RawFd;
 use std::random::RandomSource;
@@ -23,36 +32,88 @@ pub struct Wires<W: Drop> {
 
 /// Makes wires whose moments count from the same start.
 #[derive(Drop)]
-struct WireMaker<'a, R> {
+struct WireMaker<'a, R, G> {
     rt: &'a R,
     alloc: Global,
     start: Instant,
+    gate: &'a G,
 }
 
-impl<'a, R: Clock + Net + RandomSource> WireMaker<'a, R> {
+impl<'a, R: Clock + Net + RandomSource, G> WireMaker<'a, R, G> {
+    /// The wire of the front over these sockets, which are one to these clients.
+    ///
+    /// # Errors
+    ///
+    /// The system's, and `OutOfMemory`.
+    fn make_front(
+        &self,
+        sockets: ClientSockets,
+        clients: &[Client],
+    ) -> io::Result<UdpWire<'a, R, G>> {
+        let ClientSockets { sockets, known } = sockets;
+        let mut random: StdRng = make_rng(self.rt)?;
+        let answering = match known {
+            Some(known) => Some(self.answer(clients, known, random.next_u64())?),
+            None => None,
+        };
+        self.make(random, sockets, answering)
+    }
+
+    /// What has each of the front's sockets answer what came to it.
+    ///
+    /// # Errors
+    ///
+    /// Where memory is refused.
+    fn answer(
+        &self,
+        clients: &[Client],
+        known: KnownAddresses,
+        random: u64,
+    ) -> Result<Answering<'a, R, G>, AllocError> {
+        let origins = Origins::new(self.alloc, clients, random)?;
+        let watch = AddressWatch::new(self.rt, self.alloc, self.gate, known);
+        Ok(Answering::new(origins, watch))
+    }
+
     /// A wire over these sockets.
     ///
     /// # Errors
     ///
-    /// `Memory` where a growth was refused, else this fault.
+    /// The system's, and `OutOfMemory`.
     fn make(
         &self,
+        random: StdRng,
         sockets: Vec<UdpSocket>,
-        fault: ServeFault,
-    ) -> Result<UdpWire<'a, R>, ServeFault> {
-        match UdpWire::new(self.alloc, self.rt, self.start, sockets) {
-            Ok(wire) => Ok(wire),
-            Err(error) => Err(fault.or_memory(&error)),
-        }
+        answering: Option<Answering<'a, R, G>>,
+    ) -> io::Result<UdpWire<'a, R, G>> {
+        let polled = PolledSockets::new(self.rt, self.alloc, sockets)?;
+        let sockets = WorkerSockets::new(polled, answering);
+        Ok(UdpWire::new(self.rt, self.start, random, sockets))
+    }
+
+    /// The wire of a lane over these sockets.
+    ///
+    /// # Errors
+    ///
+    /// The system's, and `OutOfMemory`.
+    fn make_lane(&self, sockets: Vec<UdpSocket>) -> io::Result<UdpWire<'a, R, G>> {
+        self.make(make_rng(self.rt)?, sockets, None)
     }
 
     /// The wires of the lanes over these sockets, in order.
-    fn make_lanes(&self, lanes: Vec<Vec<UdpSocket>>) -> Result<Vec<UdpWire<'a, R>>, ServeFault> {
+    ///
+    /// # Errors
+    ///
+    /// `LaneSocket` of the first one that can't be made, `Memory` where a growth was refused.
+    fn make_lanes(&self, lanes: Vec<Vec<UdpSocket>>) -> Result<Vec<UdpWire<'a, R, G>>, ServeFault> {
         let Ok(mut wires) = Vec::with_capacity(self.alloc, lanes.len()) else {
             return Err(ServeFault::Memory);
         };
         for (lane, sockets) in lanes.into_iter().enumerate() {
-            let wire = self.make(sockets, ServeFault::LaneSocket(lane))?;
+            let wire = match self.make_lane(sockets) {
+                Ok(wire) => wire,
+                Err(error) => return Err(ServeFault::LaneSocket(lane).or_memory(&error)),
+            };
             if wires.push(wire).is_err() {
                 return Err(ServeFault::Memory);
             }
@@ -61,19 +122,33 @@ impl<'a, R: Clock + Net + RandomSource> WireMaker<'a, R> {
     }
 }
 
-/// The wires over these sockets, the front's of which is bound to this address and port. Their moments count from now.
-pub(crate) fn make_wires<'a, R: Clock + Net + RandomSource>(
+/// The wires over these sockets of a configuration. Their moments count from now. The gate is told of an address that this
+/// machine has later.
+///
+/// # Errors
+///
+/// `Listen` or `LaneSocket` where the system refuses one, `Memory` where a growth was refused, `Input` where the clock fails.
+pub(crate) fn make_wires<'a, R: Clock + Net + RandomSource, G>(
     rt: &'a R,
     alloc: Global,
-    listen: Endpoint,
+    config: &Config,
+    gate: &'a G,
     sockets: BoundSockets,
-) -> Result<Wires<UdpWire<'a, R>>, ServeFault> {
+) -> Result<Wires<UdpWire<'a, R, G>>, ServeFault> {
     let Ok(start) = Instant::now(rt) else {
         return Err(ServeFault::Input);
     };
-    let maker = WireMaker { rt, alloc, start };
+    let maker = WireMaker {
+        rt,
+        alloc,
+        start,
+        gate,
+    };
     let BoundSockets { front, lanes } = sockets;
-    let front = maker.make(front, ServeFault::Listen(listen))?;
+    let front = match maker.make_front(front, config.clients()) {
+        Ok(wire) => wire,
+        Err(error) => return Err(ServeFault::Listen(config.listen()).or_memory(&error)),
+    };
     let lanes = maker.make_lanes(lanes)?;
     Ok(Wires { front, lanes })
 }
@@ -83,9 +158,9 @@ pub(crate) fn make_wires<'a, R: Clock + Net + RandomSource>(
 /// # Errors
 ///
 /// Where memory is refused.
-pub(crate) fn notifiers_of<R: Clock, I: Read + Drop>(
+pub(crate) fn notifiers_of<R, G, I: Read + Drop>(
     alloc: Global,
-    wires: &Wires<UdpWire<'_, R>>,
+    wires: &Wires<UdpWire<'_, R, G>>,
     reader: &Interruptible<I>,
 ) -> Result<Notifiers, AllocError> {
     let lanes = notifiers_of_lanes(alloc, wires.lanes.as_slice())?;
@@ -103,9 +178,9 @@ pub(crate) fn notifiers_of<R: Clock, I: Read + Drop>(
 /// # Errors
 ///
 /// Where memory is refused.
-fn notifiers_of_lanes<R: Clock>(
+fn notifiers_of_lanes<R, G>(
     alloc: Global,
-    wires: &[UdpWire<'_, R>],
+    wires: &[UdpWire<'_, R, G>],
 ) -> Result<Vec<Notifier>, AllocError> {
     let mut notifiers = Vec::with_capacity(alloc, wires.len())?;
     for wire in wires {

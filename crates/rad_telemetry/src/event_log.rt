@@ -12,6 +12,8 @@ use rad_desk::{DeskFault, Note, Spent, UpReason, Worker};
 use rad_lane::Refusal;
 use rad_realms::{Config, Dropped, Endpoint};
 use std::alloc::{AllocError, Global};
+use std::io::Error;
+use std::net::Ipv4Addr;
 
 /// Logs what the workers of a configuration note, and what passes over their wires: at once what happens seldom, and each
 /// drop, refusal, fault and cut where the level is `debug`, each packet where it is `trace`.
@@ -104,6 +106,22 @@ impl<'a, L: Log> EventLog<'a, L> {
         let home = self.name(Worker::Lane(lane));
         let line = UpLine { home, reason };
         info!(self.log; "{line}");
+    }
+
+    /// No socket can be had at this address and port.
+    pub fn unbound(&self, at: Endpoint, error: &Error) {
+        error!(self.log; "event=unbound socket={at} reason=\"{error}\"");
+    }
+
+    /// The addresses of this machine can't be read.
+    pub fn addresses_unread(&self, error: &Error) {
+        warn!(self.log; "event=addresses-unread reason=\"{error}\"");
+    }
+
+    /// No socket is bound to this address of this machine alone.
+    pub fn address_unbound(&self, address: [u8; 4]) {
+        let address = Ipv4Addr::from(address);
+        warn!(self.log; "event=address-unbound address={address}");
     }
 
     fn passed(&self, event: &str, worker: Worker, peer: Endpoint, octets: &[u8]) {

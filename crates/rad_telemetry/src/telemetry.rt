@@ -9,6 +9,7 @@ use log::Log;
 use rad_desk::{Call, Gate, Go, Note, Spent, UpReason, Worker};
 use rad_realms::{Config, Endpoint};
 use std::alloc::{AllocError, Global};
+use std::io::Error;
 
 /// Counts and logs what the workers of a configuration do. As a gate it lets every worker pass, and takes no memory; it waits
 /// for a lock no longer than `ErrorLines` says.
@@ -116,5 +117,17 @@ impl<L: Log> Gate for Telemetry<'_, L> {
 
     fn came_marked(&self, lane: u16, from: Endpoint, marks: u64) {
         self.counters.count_marked(lane, from, marks);
+    }
+
+    fn unbound(&self, at: Endpoint, error: &Error) {
+        self.events.unbound(at, error);
+    }
+
+    fn addresses_unread(&self, error: &Error) {
+        self.events.addresses_unread(error);
+    }
+
+    fn address_unbound(&self, address: [u8; 4]) {
+        self.events.address_unbound(address);
     }
 }

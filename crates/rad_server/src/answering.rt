@@ -1,0 +1,70 @@
+//! The front's sockets as one: what is asked at one of them is answered from it.
+
+ghost use Rattle.rad_server.specs.Wires.{FitsRoom};
+
+use crate::address_watch::AddressWatch;
+use crate::origins::Origins;
+use rad_desk::{Gate, Received};
+use rad_realms::Endpoint;
+use rad_tables::Moment;
+use std::rt::Files;
+
+/// Shows the front's sockets as one, and keeps which of them each client asked.
+#[derive(Drop)]
+pub(crate) struct Answering<'a, R, G> {
+    origins: Origins,
+    watch: AddressWatch<'a, R, G>,
+}
+
+impl<'a, R, G> Answering<'a, R, G> {
+    /// Nothing came yet.
+    pub(crate) fn new(origins: Origins, watch: AddressWatch<'a, R, G>) -> Answering<'a, R, G> {
+        Answering { origins, watch }
+    }
+
+    /// The socket from which this peer is answered.
+    pub(crate) fn socket_of(&self, peer: Endpoint) -> u16 {
+        self.origins.socket_of(peer)
+    }
+
+    /// A datagram came from there to this socket. The first one is that of all addresses.
+    fn note(&mut self, peer: Endpoint, socket: u16) {
+        self.origins.note(peer, socket);
+        if socket == 0 {
+            self.watch.set_come();
+        }
+    }
+}
+
+impl<R: Files, G: Gate> Answering<'_, R, G>
+where
+    R::File: Drop,
+{
+    /// The same receive, as if there were one socket. Where nothing came, there is time to look for new addresses.
+    pub(crate) fn received(&mut self, received: Received, moment: Moment) -> Received
+        requires { FitsRoom received }
+        ensures { FitsRoom result }
+    {
+        match received {
+            Received::Got {
+                address,
+                port,
+                socket,
+                count,
+            } => {
+                self.note(Endpoint { address, port }, socket);
+                Received::Got {
+                    address,
+                    port,
+                    socket: 0,
+                    count,
+                }
+            }
+            Received::Nothing => {
+                self.watch.look_if_due(moment);
+                Received::Nothing
+            }
+            Received::Fault => Received::Fault,
+        }
+    }
+}

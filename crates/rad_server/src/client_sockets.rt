@@ -1,0 +1,140 @@
+//! The sockets for the clients: one at `listen`, and where that is all addresses of this machine, one for each beside it.
+
+use crate::faults::ServeFault;
+use crate::known_addresses::KnownAddresses;
+use crate::local_addresses::read_local_addresses;
+use crate::raw_sockets::{bind_beside, set_shared, widen};
+use crate::sockets::{RECEIVE_BUFFER, bind};
+use rad_desk::Gate;
+use rad_realms::Endpoint;
+use std::alloc::Global;
+use std::io::{Error, ErrorKind};
+use std::net::{Net, UdpSocket};
+use std::rt::Files;
+
+/// All addresses of this machine.
+const ALL: [u8; 4] = [0, 0, 0, 0];
+
+/// The most addresses that have a socket of their own.
+const MOST: usize = 256;
+
+/// The sockets for the clients. None of them waits.
+#[derive(Drop)]
+pub(crate) struct ClientSockets {
+    /// The one at `listen`, and behind it those of single addresses.
+    pub(crate) sockets: Vec<UdpSocket>,
+    /// The addresses that are known, where all of this machine are served.
+    pub(crate) known: Option<KnownAddresses>,
+}
+
+impl ClientSockets {
+    /// Binds them. The gate is told of each address of this machine that has none, and of one that can't be had.
+    ///
+    /// # Errors
+    ///
+    /// `Listen` where one can't be had, `Memory` where a growth was refused.
+    pub(crate) fn bind<R: Files + Net, G: Gate>(
+        rt: &R,
+        alloc: Global,
+        listen: Endpoint,
+        gate: &G,
+    ) -> Result<ClientSockets, ServeFault>
+    where
+        R::File: Drop,
+    {
+        let first = match bind(rt, listen) {
+            Ok(socket) => socket,
+            Err(error) => return Err(fault_at(listen, listen, &error, gate)),
+        };
+        let mut sockets = Vec::new(alloc);
+        if sockets.push(first).is_err() {
+            return Err(ServeFault::Memory);
+        }
+        if listen.address != ALL {
+            return Ok(ClientSockets { sockets, known: None });
+        }
+        match read_local_addresses(rt, alloc) {
+            Ok(addresses) => bind_each(alloc, sockets, listen, addresses.as_slice(), gate),
+            Err(error) => {
+                gate.addresses_unread(&error);
+                Ok(ClientSockets { sockets, known: None })
+            }
+        }
+    }
+}
+
+/// These sockets, of which the first is at `listen`, and one for each of these addresses beside them.
+fn bind_each<G: Gate>(
+    alloc: Global,
+    mut sockets: Vec<UdpSocket>,
+    listen: Endpoint,
+    addresses: &[[u8; 4]],
+    gate: &G,
+) -> Result<ClientSockets, ServeFault> {
+    let Ok(mut known) = KnownAddresses::new(alloc) else {
+        return Err(ServeFault::Memory);
+    };
+    share_each(&sockets, true, listen, gate)?;
+    for address in addresses {
+        if known.learn(*address) {
+            bind_next(&mut sockets, listen, *address, gate)?;
+        }
+    }
+    share_each(&sockets, false, listen, gate)?;
+    Ok(ClientSockets {
+        sockets,
+        known: Some(known),
+    })
+}
+
+/// One socket more, for this address. There is none where so many have one, or where the machine has the address no more.
+fn bind_next<G: Gate>(
+    sockets: &mut Vec<UdpSocket>,
+    listen: Endpoint,
+    address: [u8; 4],
+    gate: &G,
+) -> Result<(), ServeFault> {
+    if sockets.len() > MOST {
+        gate.address_unbound(address);
+        return Ok(());
+    }
+    let at = Endpoint { address, ..listen };
+    match bind_beside(at) {
+        Ok(socket) => add(sockets, socket),
+        Err(error) if error.kind() == ErrorKind::AddrNotAvailable => {
+            gate.address_unbound(address);
+            Ok(())
+        }
+        Err(error) => Err(fault_at(listen, at, &error, gate)),
+    }
+}
+
+/// One socket more.
+fn add(sockets: &mut Vec<UdpSocket>, socket: UdpSocket) -> Result<(), ServeFault> {
+    widen(&socket, RECEIVE_BUFFER);
+    match sockets.push(socket) {
+        Ok(()) => Ok(()),
+        Err(_) => Err(ServeFault::Memory),
+    }
+}
+
+/// Whether others may be bound beside these sockets from now on.
+fn share_each<G: Gate>(
+    sockets: &[UdpSocket],
+    is_shared: bool,
+    listen: Endpoint,
+    gate: &G,
+) -> Result<(), ServeFault> {
+    for socket in sockets {
+        if let Err(error) = set_shared(socket, is_shared) {
+            return Err(fault_at(listen, listen, &error, gate));
+        }
+    }
+    Ok(())
+}
+
+/// That a socket can't be had, of which the gate is told.
+fn fault_at<G: Gate>(listen: Endpoint, at: Endpoint, error: &Error, gate: &G) -> ServeFault {
+    gate.unbound(at, error);
+    ServeFault::Listen(listen).or_memory(error)
+}

@@ -1,0 +1,367 @@
+#!/usr/bin/env python3
+"""Serves all addresses of a machine that has several, in a network namespace of its own, and sees from where it is answered.
+
+usage: addresses.py PROGRAM [NAME ..]
+
+Each test is a function below, and its first line tells what holds. Names choose tests. It wants root, `unshare` and `ip`, and
+tells where it leaves a test out for want of them. The last line is `N passed, M failed`.
+"""
+import contextlib
+import os
+import pathlib
+import re
+import shutil
+import signal
+import socket
+import subprocess
+import sys
+import tempfile
+import time
+
+sys.dont_write_bytecode = True
+sys.path.insert(0, str(pathlib.Path(__file__).resolve().parent.parent))
+
+from model import read
+from vectors import PROXY_STATE, ZEROS, answer, attribute, request, user_name
+
+PORT, HOME_PORT = 1813, 2813
+SERVED = ["127.0.0.1", "127.0.0.5", "10.77.0.1", "10.77.0.2"]
+NASES = ["10.77.1.1", "10.77.1.2", "10.77.1.3", "10.77.1.4"]
+NAS_SECRET, HOME_SECRET = b"nas-secret", b"home-secret"
+PATIENCE = 30
+SOCKETS, KNOWN = 256, 512
+CLOSE_ON_EXEC = 0o2000000
+WITHOUT_PROC = "mount -t tmpfs none /proc && exec \"$@\""
+
+
+def hope(text, found, wanted):
+    if found != wanted:
+        raise AssertionError(f"{text}: {found!r}, and not {wanted!r}")
+
+
+def until(text, test):
+    """Waits until a test answers something, and answers that."""
+    last = time.monotonic() + PATIENCE
+    while time.monotonic() < last:
+        found = test()
+        if found:
+            return found
+        time.sleep(0.02)
+    raise AssertionError(f"never: {text}")
+
+
+def bound(address, port=0, patience=PATIENCE):
+    made = socket.socket(socket.AF_INET, socket.SOCK_DGRAM)
+    made.bind((address, port))
+    made.settimeout(patience)
+    return made
+
+
+def ip(*words):
+    subprocess.run(["ip", *words], check=True)
+
+
+def add(*addresses):
+    for address in addresses:
+        ip("address", "add", f"{address}/32", "dev", "lo")
+
+
+class Service:
+    """The program at all addresses, with one home server, which this script is, and NASes."""
+
+    def __init__(self, program, folder, before=()):
+        self.home = bound("127.0.0.1", HOME_PORT)
+        clients = "".join(f'[[client]]\naddress = "{nas}"\nsecret = "nas-secret"\n' for nas in NASES)
+        home = f'[[home]]\nname = "h"\naddress = "127.0.0.1:{HOME_PORT}"\nsecret = "home-secret"\nfirst_wait = 60000\n'
+        self.file, self.log = pathlib.Path(folder, "proxy.toml"), pathlib.Path(folder, "log")
+        self.file.write_text(f'listen = "0.0.0.0:{PORT}"\ndefault_home = "h"\nlinger = 0\n{clients}{home}', "utf-8")
+        self.asked = 0
+        with self.log.open("wb") as log:
+            pipes = {"stdin": subprocess.PIPE, "stdout": subprocess.PIPE, "stderr": log}
+            self.ran = subprocess.Popen([*before, program, "run", str(self.file)], **pipes)
+        hope("the first line", self.ran.stdout.readline(), f"listening 0.0.0.0:{PORT}\n".encode())
+
+    def __enter__(self):
+        return self
+
+    def __exit__(self, *_):
+        self.home.close()
+        self.ran.kill()
+        self.ran.communicate()
+
+    def send(self, nas, address):
+        """A new request of a NAS to this address."""
+        self.asked += 1
+        octets = request(self.asked % 256, user_name(f"bob{self.asked}".encode()), NAS_SECRET)
+        nas.sendto(octets, (address, PORT))
+        return octets
+
+    def forwarded(self):
+        """What the home server receives next, and from where."""
+        return self.home.recvfrom(4096)
+
+    def reply(self, forwarded):
+        octets, sender = forwarded
+        came = read(octets)
+        states = b"".join(attribute(PROXY_STATE, value) for value, _ in came.of_type(PROXY_STATE))
+        self.home.sendto(answer(octets, came.identifier, states, HOME_SECRET), sender)
+
+    def answered_from(self, nas, asked):
+        """The address that the response to a request came from."""
+        octets, (address, port) = nas.recvfrom(4096)
+        hope("the response", octets, answer(asked, asked[1], b"", NAS_SECRET))
+        hope("its port", port, PORT)
+        return address
+
+    def ask(self, nas, address):
+        """The address that a new request to this address is answered from."""
+        asked = self.send(nas, address)
+        self.reply(self.forwarded())
+        return self.answered_from(nas, asked)
+
+    def told(self, event):
+        """The log's lines of an event."""
+        return [line for line in self.log.read_text("utf-8").splitlines() if f"event={event} " in line]
+
+
+def test_each_address_answers(program, folder):
+    """A request is answered from the address that it came to."""
+    with Service(program, folder) as service, bound(NASES[0]) as nas:
+        for address in SERVED * 2:
+            hope(f"asked {address}", service.ask(nas, address), address)
+        hope("told of an address", service.told("address-unbound"), [])
+
+
+def test_ports_of_a_client(program, folder):
+    """Each port of a client is answered from the address that it asked last, also where the answers come later and in another order."""
+    with Service(program, folder) as service, contextlib.ExitStack() as stack:
+        nases = [stack.enter_context(bound(address)) for address in NASES for _ in SERVED]
+        asked = []
+        for number, nas in enumerate(nases):
+            address = SERVED[(number + number // len(SERVED)) % len(SERVED)]
+            asked.append((nas, address, service.send(nas, address), service.forwarded()))
+        for nas, address, octets, forwarded in reversed(asked):
+            service.reply(forwarded)
+            hope(f"asked {address}", service.answered_from(nas, octets), address)
+
+
+def test_last_datagram(program, folder):
+    """Of several datagrams from one port it is the last one that counts."""
+    with Service(program, folder) as service, bound(NASES[0]) as nas:
+        first = service.send(nas, SERVED[1])
+        forwarded = service.forwarded()
+        second = service.send(nas, SERVED[2])
+        later = service.forwarded()
+        service.reply(forwarded)
+        hope("the first one", service.answered_from(nas, first), SERVED[2])
+        service.reply(later)
+        hope("the second one", service.answered_from(nas, second), SERVED[2])
+
+
+def test_beyond_the_bound(program, folder):
+    """A port that is not kept any more is answered from the address that its client asked last; one that asked lately is kept."""
+    with Service(program, folder) as service, bound(NASES[0]) as early, bound(NASES[0]) as late:
+        asked = service.send(early, SERVED[1])
+        forwarded = service.forwarded()
+        for nas in NASES:
+            for port in range(1024, 65536):
+                with contextlib.suppress(OSError), bound(nas, port) as one:
+                    one.sendto(b"", (SERVED[2], PORT))
+        recent = service.send(late, SERVED[3])
+        other = service.forwarded()
+        with bound(NASES[0]) as last:
+            hope("the last one", service.ask(last, SERVED[2]), SERVED[2])
+        service.reply(other)
+        hope("one that asked lately", service.answered_from(late, recent), SERVED[3])
+        service.reply(forwarded)
+        hope("one that is not kept", service.answered_from(early, asked), SERVED[2])
+
+
+def test_strangers_change_nothing(program, folder):
+    """Datagrams of strangers, however many, take no client's place."""
+    with Service(program, folder) as service, bound(NASES[0]) as nas:
+        asked = service.send(nas, SERVED[1])
+        forwarded = service.forwarded()
+        with bound(SERVED[0]) as stranger:
+            for _ in range(1000):
+                stranger.sendto(b"", (SERVED[2], PORT))
+        service.reply(forwarded)
+        hope("a client", service.answered_from(nas, asked), SERVED[1])
+
+
+def test_other_addresses(program, folder):
+    """A request to an address that is local by its network alone is answered too."""
+    with Service(program, folder) as service, bound(NASES[0]) as nas:
+        service.ask(nas, "127.0.0.77")
+        hope("asked a single one after it", service.ask(nas, SERVED[1]), SERVED[1])
+
+
+def test_later_address(program, folder):
+    """An address that comes later is told once, when a request comes to it, and that is answered."""
+    with Service(program, folder) as service, bound(NASES[0]) as nas:
+        service.ask(nas, "127.0.0.77")
+        add("10.77.0.8")
+        try:
+            service.ask(nas, "10.77.0.8")
+            (line,) = until("the address is told", lambda: service.told("address-unbound"))
+            if "level=warn" not in line or not line.endswith("event=address-unbound address=10.77.0.8"):
+                raise AssertionError(line)
+            time.sleep(1)
+            service.ask(nas, "10.77.0.8")
+            hope("how often it is told", len(service.told("address-unbound")), 1)
+        finally:
+            ip("address", "del", "10.77.0.8/32", "dev", "lo")
+
+
+def test_port_is_taken(program, folder):
+    """A second program finds the port taken, and so does one that would share a single address. The line names `listen`."""
+    with Service(program, folder) as service:
+        ran = subprocess.run([program, "run", str(service.file)], input=b"", capture_output=True)
+        hope("the status", ran.returncode, 4)
+        *before, last = ran.stderr.decode().splitlines()
+        hope("the last line", last, f"socket: 0.0.0.0:{PORT}")
+        if not any(f"event=unbound socket=0.0.0.0:{PORT} reason=" in line for line in before):
+            raise AssertionError(before)
+        for address in SERVED:
+            with socket.socket(socket.AF_INET, socket.SOCK_DGRAM) as other:
+                other.setsockopt(socket.SOL_SOCKET, socket.SO_REUSEADDR, 1)
+                try:
+                    other.bind((address, PORT))
+                except OSError:
+                    continue
+                raise AssertionError(f"{address} can be shared")
+
+
+def test_address_is_taken(program, folder):
+    """Where another program has the port at one of the addresses, the program does not start."""
+    with bound(SERVED[1], PORT) as other, contextlib.suppress(subprocess.TimeoutExpired):
+        other.setsockopt(socket.SOL_SOCKET, socket.SO_REUSEADDR, 1)
+        try:
+            with Service(program, folder):
+                raise AssertionError("it serves")
+        except AssertionError as error:
+            if "the first line" not in str(error):
+                raise
+    log = pathlib.Path(folder, "log").read_text("utf-8").splitlines()
+    hope("the last line", log[-1], f"socket: 0.0.0.0:{PORT}")
+
+
+def test_descriptors(program, folder):
+    """Every descriptor that the program opened is closed in a program that it would start."""
+    with Service(program, folder) as service:
+        infos = pathlib.Path(f"/proc/{service.ran.pid}/fdinfo")
+        opened = [info for info in infos.iterdir() if int(info.name) > 2]
+        hope("how many sockets there are at least", len(opened) > len(SERVED + NASES), True)
+        for info in opened:
+            (flags,) = re.findall(r"^flags:\s+(\d+)", info.read_text(), re.MULTILINE)
+            hope(f"descriptor {info.name}", int(flags, 8) & CLOSE_ON_EXEC, CLOSE_ON_EXEC)
+
+
+def test_addresses_unread(program, folder):
+    """Where the addresses can't be read, one socket serves, and the log says so."""
+    before = ("unshare", "--mount", "sh", "-c", WITHOUT_PROC, "sh")
+    with Service(program, folder, before) as service, bound(NASES[0]) as nas:
+        service.ask(nas, SERVED[1])
+        hope("how often it is told", len(service.told("addresses-unread")), 1)
+        hope("its level", "level=warn" in service.told("addresses-unread")[0], True)
+
+
+def test_too_many_routes(program, folder):
+    """Where Linux's text of its routes is too long to be read, one socket serves, and the log says so."""
+    routes = [f"blackhole 11.{a}.{b}.0/28" for a in range(240) for b in range(250)]
+    change = lambda word: subprocess.run(["ip", "-batch", "-"], input="".join(f"route {word} {r}\n" for r in routes), text=True)
+    change("add")
+    try:
+        with Service(program, folder) as service, bound(NASES[0]) as nas:
+            service.ask(nas, SERVED[1])
+            hope("how often it is told", len(service.told("addresses-unread")), 1)
+    finally:
+        change("del")
+
+
+def test_many_addresses(program, folder):
+    """So many addresses have a socket of their own, and of the others each is told, as many as are known."""
+    more = [f"10.78.{number // 200}.{number % 200}" for number in range(1, 600)]
+    change = lambda word: subprocess.run(["ip", "-batch", "-"], text=True, check=True, input="".join(
+        f"address {word} {address}/32 dev lo\n" for address in more))
+    change("add")
+    try:
+        with Service(program, folder) as service, bound(NASES[0]) as nas:
+            told = {line.rpartition("=")[2] for line in service.told("address-unbound")}
+            hope("how many are told", len(told), KNOWN - SOCKETS)
+            for address in [a for a in more if a not in told][:5] + SERVED:
+                if address not in told:
+                    hope(f"asked {address}", service.ask(nas, address), address)
+    finally:
+        change("del")
+
+
+def flood(addresses):
+    """A process that sends to these addresses without end."""
+    child = os.fork()
+    if child:
+        return child
+    with contextlib.suppress(BaseException), bound(SERVED[0]) as stranger:
+        while True:
+            for address in addresses:
+                with contextlib.suppress(OSError):
+                    stranger.sendto(bytes(20), (address, PORT))
+    os._exit(0)
+
+
+def test_flood_at_one_address(program, folder):
+    """Where one address is flooded, those who ask another one are answered."""
+    with Service(program, folder) as service, bound(NASES[0]) as nas:
+        service.ask(nas, SERVED[1])
+        children = [flood([SERVED[2]]) for _ in range(3)]
+        try:
+            for _ in range(200):
+                hope("a request to another address", service.ask(nas, SERVED[1]), SERVED[1])
+        finally:
+            for child in children:
+                os.kill(child, signal.SIGKILL)
+                os.waitpid(child, 0)
+
+
+TESTS = {name[5:]: made for name, made in list(globals().items()) if name.startswith("test_")}
+
+
+def try_one(name, program):
+    """Tries one test, and answers whether it passed."""
+    with tempfile.TemporaryDirectory() as folder:
+        try:
+            TESTS[name](program, folder)
+        except Exception as error:
+            log = pathlib.Path(folder, "log")
+            print(f"{name}: {TESTS[name].__doc__} {type(error).__name__}: {error}", flush=True)
+            if log.exists():
+                print(log.read_text("utf-8", "replace")[-1000:], flush=True)
+            return False
+    return True
+
+
+def inside(program, names):
+    """The tests, in the namespace."""
+    ip("link", "set", "lo", "up")
+    add(*SERVED[1:], *NASES)
+    passed = [try_one(name, program) for name in names or TESTS]
+    print(f"{sum(passed)} passed, {len(passed) - sum(passed)} failed")
+    return not all(passed)
+
+
+def main():
+    if len(sys.argv) < 2:
+        sys.exit(__doc__)
+    if sys.argv[1] == "--inside":
+        sys.exit(inside(sys.argv[2], sys.argv[3:]))
+    program, names = str(pathlib.Path(sys.argv[1]).resolve()), sys.argv[2:]
+    if os.geteuid() or not shutil.which("ip") or subprocess.run(["unshare", "--net", "--mount", "true"]).returncode:
+        print("left out: it wants root, `ip` and `unshare`")
+        print("0 passed, 0 failed")
+        return
+    words = ["unshare", "--net", sys.executable, __file__, "--inside", program, *names]
+    sys.exit(subprocess.run(words).returncode)
+
+
+if __name__ == "__main__":
+    main()
