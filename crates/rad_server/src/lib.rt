@@ -7,16 +7,19 @@
 #![tactic(auto)]
 
 mod attending;
+mod beginning;
 mod faults;
 mod interrupting;
 mod lingering;
 mod notifying;
 mod polling;
+mod printing;
 mod ready_socket;
 mod serving;
 mod sockets;
 mod supervising;
 mod threads;
+mod watching;
 mod wires;
 mod wiring;
 mod working;
@@ -25,4 +28,5 @@ pub use faults::ServeFault;
 pub use interrupting::Interruptible;
 pub use notifying::{Notifier, Notifiers};
 pub use serving::{run, serve};
+pub use watching::Descriptors;
 pub use wiring::Wires;
