@@ -171,8 +171,9 @@ impl<O: Write + Drop> Output<O> {
 
     /// Writes the next line, or as much of it as the output takes.
     fn write(&mut self) -> Result<(), ServeFault> {
-        let rest = self.text.as_slice().get(self.gone..).unwrap_or_default();
-        match self.writer.write(first_line(rest, self.watch.most())) {
+        let at = self.gone.min(self.text.len());
+        let part = first_line(&self.text.as_slice()[at..], self.watch.most());
+        match self.writer.write(part) {
             Ok(0) => Err(ServeFault::Output),
             Ok(count) => {
                 self.gone = self.gone.saturating_add(count);
@@ -187,10 +188,15 @@ impl<O: Write + Drop> Output<O> {
 
 /// The first line of a text with its line feed, or so many octets of it where it is longer.
 fn first_line(text: &[u8], most: usize) -> &[u8] {
-    let most = text.len().min(most);
-    let count = match text.iter().position(|octet| *octet == b'\n') {
-        Some(place) => most.min(place.saturating_add(1)),
-        None => most,
+    let line = match find_feed(text) {
+        Some(place) => place.saturating_add(1),
+        None => text.len(),
     };
+    let count = line.min(most).min(text.len());
     &text[..count]
+}
+
+/// Where the first line feed of a text stands.
+fn find_feed(text: &[u8]) -> Option<usize> {
+    text.iter().position(|octet| *octet == b'\n')
 }

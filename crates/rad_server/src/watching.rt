@@ -104,14 +104,17 @@ impl Watch {
 /// Waits a short while until the output takes something or the input has ended, and answers whether each is so. An input has
 /// ended once nobody writes there any more, also while there is something to be read yet.
 fn look_at(output: RawFd, input: RawFd) -> (bool, bool) {
-    let mut ends = [(output, POLLOUT), (input, POLLRDHUP)].map(|(fd, events)| pollfd {
+    let mut ends = [polled(output, POLLOUT), polled(input, POLLRDHUP)];
+    let has_failed = poll(&mut ends, LOOK) < 0;
+    let [of_output, of_input] = ends;
+    (has_failed || of_output.revents != 0, of_input.revents != 0)
+}
+
+/// A descriptor that is to be polled for these events.
+fn polled(fd: RawFd, events: i16) -> pollfd {
+    pollfd {
         fd,
         events,
         revents: 0,
-    });
-    let has_failed = poll(&mut ends, LOOK) < 0;
-    (
-        has_failed || ends[0].revents != 0,
-        ends[1].revents != 0,
-    )
+    }
 }
