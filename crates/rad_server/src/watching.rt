@@ -1,5 +1,7 @@
 //! Whether the output takes something, and whether the input has ended.
 
+ghost use Rattle.std.specs.Prelude.{◌≡◌, None};
+
 use libc::net::{POLLOUT, POLLRDHUP, poll};
 use libc::types::pollfd;
 use libc::{SEEK_CUR, isatty, lseek};
@@ -28,7 +30,9 @@ pub struct Descriptors {
 
 impl Descriptors {
     /// Neither the reader nor the writer ever waits.
-    pub fn none() -> Descriptors {
+    pub fn none() -> Descriptors
+        ensures { (result.input ≡ None) × (result.output ≡ None) }
+    {
         Descriptors {
             input: None,
             output: None,
