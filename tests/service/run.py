@@ -297,6 +297,29 @@ def nobody_reads_its_output(service):
     hope("status", process.wait(PATIENCE), 0)
 
 
+def its_output_is_full(service):
+    """Where standard output is full and nobody reads it, from the first line on, askers are answered and the stop ends."""
+    reading, writing = os.pipe()
+    os.set_blocking(writing, False)
+    try:
+        while True:
+            os.write(writing, bytes(4096))
+    except BlockingIOError:
+        os.set_blocking(writing, True)
+    process = service.start(wait=False, stdout=writing)
+    os.close(writing)
+    until("it answers", lambda: (service.run / "lines").exists() and service.ask("state").stdout == LINE)
+    subprocess.run(["sh", "-c", "echo nonsense 1<>commands"], cwd=service.run, check=True)
+    service.send(request())
+    octets, proxy = service.home.recvfrom(4096)
+    process.terminate()
+    time.sleep(0.3)
+    service.home.sendto(answered(octets), proxy)
+    hope("code", service.nas.recv(4096)[0], 5)
+    hope("status", process.wait(PATIENCE), 0)
+    os.close(reading)
+
+
 def what_is_left_over_is_a_warning(service):
     """Status 3 comes with a line of the log at warn, and without it at error."""
     for level, lines in (("warn", ["level=warn event=left-over queued=0 outstanding=1 untaken=0"]), ("error", [])):
@@ -437,8 +460,8 @@ TESTS = [
     drains_where_its_group_gets_the_signal, drains_where_its_terminal_is_closed, a_second_leaves_the_first_alone,
     the_lock_outlives_a_serve_that_was_killed, refuses_a_folder_that_others_write_in, whatever_the_umask,
     a_stopped_asker_keeps_nobody_out, an_asker_without_an_answer_gives_up, many_ask_at_once,
-    a_hand_over_that_dies_is_started_anew, nobody_reads_its_output, what_is_left_over_is_a_warning, counters_elsewhere_are_told,
-    sent_again_is_never_less_than_nothing, memory_is_refused_and_nothing_ends, relative_paths_hold,
+    a_hand_over_that_dies_is_started_anew, nobody_reads_its_output, its_output_is_full, what_is_left_over_is_a_warning,
+    counters_elsewhere_are_told, sent_again_is_never_less_than_nothing, memory_is_refused_and_nothing_ends, relative_paths_hold,
     root_asks_as_the_owner, root_serves_nobody_elses_folder,
 ]
 

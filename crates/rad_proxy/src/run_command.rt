@@ -4,10 +4,10 @@ ghost use denote.Param.Send.{IsSync};
 
 use crate::faults::Fault;
 use crate::loading::load;
-use libc::STDIN_FILENO;
+use libc::{STDIN_FILENO, STDOUT_FILENO};
 use rad_console::EndLine;
 use rad_realms::Config;
-use rad_server::{ServeFault, run};
+use rad_server::{Descriptors, ServeFault, run};
 use rad_telemetry::{
     CounterFile, Log, ReplaceFile, Reporter, StopFlag, Telemetry, find_counter_file, open_log,
     report,
@@ -144,8 +144,11 @@ where
         telemetry,
         ..
     } = service;
-    let input = Some(STDIN_FILENO);
-    let end = run(rt, alloc, config, telemetry, reader, input, writer);
+    let descriptors = Descriptors {
+        input: Some(STDIN_FILENO),
+        output: Some(STDOUT_FILENO),
+    };
+    let end = run(rt, alloc, config, telemetry, reader, writer, descriptors);
     if let Err(ServeFault::Ended(worker)) = end {
         telemetry.tell_end(worker);
     }

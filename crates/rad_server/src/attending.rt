@@ -2,41 +2,59 @@
 
 use crate::faults::ServeFault;
 use crate::lingering::linger;
+use crate::printing::{Output, Progress};
 use crate::working::Service;
 use rad_console::{Command, Commands, obey};
 use rad_desk::Gate;
 use std::io::{ErrorKind, Read, Write};
 use std::sync::{Wait, WaitMethods};
-use std::time::Clock;
+use std::time::{Clock, Instant};
 
-/// Obeys the commands of a reader to its end, then drains the lanes and waits until they are done or have lingered.
+/// Once all workers have begun has what stands in the output go out, and obeys the commands of a reader to its end. Then drains
+/// the lanes and waits until they are done or have lingered.
 ///
 /// # Errors
 ///
-/// `Ended` where a worker ended by itself, `Input` and `Output` where the reader or the writer failed.
-pub(crate) fn attend<R: Clock + Wait, G: Gate, I: Read + Drop, O: Write>(
+/// `Ended` where a worker ended by itself, `Input` where the reader or the clock failed, and as [`Output::advance`].
+pub(crate) fn attend<R: Clock + Wait, G: Gate, I: Read + Drop, O: Write + Drop>(
     service: Service<'_, R, G>,
     reader: I,
-    writer: &mut O,
+    output: &mut Output<O>,
 ) -> Result<(), ServeFault> {
-    obey_each(service, reader, writer)?;
+    service.supervisor.wait_for_all(service.rt);
+    send(service, output)?;
+    obey_each(service, reader, output)?;
     drain_each(service);
-    linger(service);
+    linger(service, end_of_input(service.rt, output)?);
     check_workers(service)
 }
 
+/// When the input ended: when that was seen while the output was waited for, and else now.
+fn end_of_input<O: Write + Drop>(
+    clock: &impl Clock,
+    output: &Output<O>,
+) -> Result<Instant, ServeFault> {
+    if let Some(seen) = output.waited_from() {
+        return Ok(seen);
+    }
+    match Instant::now(clock) {
+        Ok(now) => Ok(now),
+        Err(_) => Err(ServeFault::Input),
+    }
+}
+
 /// Obeys the commands of a reader to its end. One that is interrupted is read again, where all workers go on.
-fn obey_each<R: Wait, G, I: Read + Drop, O: Write>(
+fn obey_each<R: Clock + Wait, G, I: Read + Drop, O: Write + Drop>(
     service: Service<'_, R, G>,
     reader: I,
-    writer: &mut O,
+    output: &mut Output<O>,
 ) -> Result<(), ServeFault> {
     let mut commands = Commands::new(reader);
     for _ in service.rt.forever() {
         let command = commands.next();
         check_workers(service)?;
         match command {
-            Ok(Some(command)) => answer(service, command, writer)?,
+            Ok(Some(command)) => answer(service, command, output)?,
             Ok(None) => return Ok(()),
             Err(error) if error.kind() == ErrorKind::Interrupted => {}
             Err(_) => return Err(ServeFault::Input),
@@ -45,11 +63,11 @@ fn obey_each<R: Wait, G, I: Read + Drop, O: Write>(
     unreachable!()
 }
 
-/// Obeys a command. What it answers goes out at once.
-fn answer<R: Wait, G, O: Write>(
+/// Obeys a command. What it answers goes out before the next one is read.
+fn answer<R: Clock + Wait, G, O: Write + Drop>(
     service: Service<'_, R, G>,
     command: Command,
-    writer: &mut O,
+    output: &mut Output<O>,
 ) -> Result<(), ServeFault> {
     let Service {
         rt,
@@ -57,10 +75,33 @@ fn answer<R: Wait, G, O: Write>(
         proxy,
         ..
     } = service;
-    if obey(rt, config, proxy, command, writer).is_err() || writer.flush().is_err() {
-        return Err(ServeFault::Output);
+    if obey(rt, config, proxy, command, output.text()).is_err() {
+        return Err(ServeFault::Memory);
     }
-    Ok(())
+    send(service, output)
+}
+
+/// Has all that stands in the output go out. Where that has to wait, and the input ends meanwhile, each lane is drained.
+fn send<R: Clock + Wait, G, O: Write + Drop>(
+    service: Service<'_, R, G>,
+    output: &mut Output<O>,
+) -> Result<(), ServeFault> {
+    for _ in service.rt.forever() {
+        match output.advance(service.rt)? {
+            Progress::Done => return Ok(()),
+            Progress::Went => {}
+            Progress::Waits => mind(service, output.has_input_ended())?,
+        }
+    }
+    unreachable!()
+}
+
+/// Looks after the workers and the lanes while the output is waited for.
+fn mind<R: Wait, G>(service: Service<'_, R, G>, has_input_ended: bool) -> Result<(), ServeFault> {
+    if has_input_ended {
+        drain_each(service);
+    }
+    check_workers(service)
 }
 
 /// Drains each lane.

@@ -4,7 +4,7 @@ use rad_desk::Worker;
 use rad_realms::Endpoint;
 use std::io::{Error, ErrorKind};
 
-/// Why a service ends before its reader does. The workers have ended then, and the lanes were not drained.
+/// Why a service ends early. The workers have ended then, and the lanes were not drained but where that is said.
 #[derive(Clone, Copy, Debug, PartialEq, Eq)]
 pub enum ServeFault {
     /// The socket for the clients can't be had at this address and port.
@@ -17,7 +17,8 @@ pub enum ServeFault {
     Ended(Worker),
     /// The reader failed, or the clock.
     Input,
-    /// The writer takes nothing more.
+    /// The writer failed, or took nothing for as long as it was waited for after the end of the input; the lanes were drained
+    /// then.
     Output,
     /// A growth was refused.
     Memory,

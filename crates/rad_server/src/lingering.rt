@@ -2,6 +2,7 @@
 
 use crate::working::Service;
 use rad_lane::Counts;
+use rad_realms::Config;
 use std::sync::{Wait, WaitMethods};
 use std::thread;
 use std::time::{Clock, Duration, Instant};
@@ -9,15 +10,17 @@ use std::time::{Clock, Duration, Instant};
 /// How long it is from one look at whether the lanes are done to the next, in milliseconds.
 const LOOK: u64 = 1;
 
+/// How long lanes linger.
+pub(crate) fn linger_of(config: &Config) -> Duration {
+    Duration::from_millis(u64::from(config.linger()))
+}
+
 /// Waits until all lanes are done and the front took all their responses, or until the configuration's time has
-/// passed, or until the workers are stopped.
-pub(crate) fn linger<R: Clock + Wait, G>(service: Service<'_, R, G>) {
-    let Ok(start) = Instant::now(service.rt) else {
-        return;
-    };
-    let most = Duration::from_millis(u64::from(service.config.linger()));
+/// passed since they were drained, or until the workers are stopped.
+pub(crate) fn linger<R: Clock + Wait, G>(service: Service<'_, R, G>, drained: Instant) {
+    let most = linger_of(service.config);
     for _ in service.rt.forever() {
-        if has_passed(service.rt, start, most)
+        if has_passed(service.rt, drained, most)
             || service.supervisor.is_stopped()
             || are_done(service)
         {
@@ -28,7 +31,7 @@ pub(crate) fn linger<R: Clock + Wait, G>(service: Service<'_, R, G>) {
 }
 
 /// Whether so much time has passed since the start. It has where the clock fails.
-fn has_passed(clock: &impl Clock, start: Instant, most: Duration) -> bool {
+pub(crate) fn has_passed(clock: &impl Clock, start: Instant, most: Duration) -> bool {
     match start.elapsed(clock) {
         Ok(passed) => passed >= most,
         Err(_) => true,

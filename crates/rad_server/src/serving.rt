@@ -4,28 +4,31 @@ ghost use Rattle.std.specs.Prelude.{length, IfOk};
 ghost use Rattle.rad_console.specs.Closing.{IsEndOf};
 
 use crate::faults::ServeFault;
+use crate::lingering::linger_of;
 use crate::notifying::Notifiers;
+use crate::printing::Output;
 use crate::sockets::BoundSockets;
 use crate::supervising::Supervisor;
 use crate::threads::work;
+use crate::watching::Descriptors;
 use crate::wiring::{Wires, make_reader, make_wires, notifiers_of};
 use crate::working::Service;
 use rad_console::{EndLine, ListeningLine, close};
-use rad_desk::{Gate, Inlet, OpenFault, Proxy, Wire, open};
+use rad_desk::{Gate, OpenFault, Wire, open};
 use rad_realms::Config;
 use std::alloc::Global;
-use std::fmt::Display;
-use std::io::{BufWriter, Read, Write};
+use std::io::{Read, Write};
 use std::net::Net;
-use std::os::fd::RawFd;
 use std::random::RandomSource;
 use std::rt::Files;
 use std::sync::Wait;
 use std::thread::Threads;
 use std::time::Clock;
 
-/// Serves a configuration until the reader ends: binds its sockets, says where it listens, and serves. Where the reader
-/// reads from a descriptor and so may wait, a worker that ends ends its wait.
+/// Serves a configuration until the reader ends: binds its sockets, serves, and says where it listens once all workers have
+/// begun. Where the reader reads from a descriptor and so may wait, a worker that ends ends its wait. Where the writer writes
+/// to one and so may wait, the input is watched meanwhile: from its end on the lanes are drained, and the writer is waited for
+/// no longer than they linger.
 ///
 /// # Errors
 ///
@@ -36,8 +39,8 @@ pub fn run<R, G, I, O>(
     config: &Config,
     gate: &G,
     reader: I,
-    descriptor: Option<RawFd>,
     writer: O,
+    descriptors: Descriptors,
 ) -> Result<EndLine, ServeFault>
 where
     R: Clock + Files + Net + RandomSource + Threads + Wait + Sync,
@@ -47,18 +50,16 @@ where
     O: Write + Drop,
     ensures { IfOk result (IsEndOf (length config.now.homes)) }
 {
-    let Ok(mut writer) = BufWriter::new(alloc, writer) else {
-        return Err(ServeFault::Memory);
-    };
     let listen = config.listen();
+    let mut output = open_output(alloc, config, writer, descriptors)?;
+    output.add(&ListeningLine { endpoint: listen })?;
     let sockets = BoundSockets::bind(rt, alloc, config, gate)?;
     let wires = make_wires(rt, alloc, config, gate, sockets)?;
-    let reader = make_reader(rt, alloc, reader, descriptor)?;
+    let reader = make_reader(rt, alloc, reader, descriptors.input)?;
     let Ok(notifiers) = notifiers_of(alloc, &wires, &reader) else {
         return Err(ServeFault::Memory);
     };
-    print(&mut writer, &ListeningLine { endpoint: listen })?;
-    serve(rt, alloc, config, wires, &notifiers, gate, reader, writer)
+    serve_over(rt, alloc, config, wires, &notifiers, gate, reader, output)
 }
 
 /// Serves a configuration over these wires until the reader ends, then drains the lanes, waits until they are done or
@@ -67,9 +68,9 @@ where
 ///
 /// # Errors
 ///
-/// `Input` and `Output` where the reader or the writer fails, `Threads` where a worker can't be started, `Ended` where one
-/// ends by itself, `Memory` where a growth was refused. The workers have ended then, and the lanes were not drained.
-/// A reader that is `Interrupted` is read again, where all workers go on.
+/// `Input` where the reader or the clock fails, `Output` where the writer does, `Threads` where a worker can't be started,
+/// `Ended` where one ends by itself, `Memory` where a growth was refused. The workers have ended then, and the lanes were not
+/// drained. A reader that is `Interrupted` is read again, where all workers go on.
 pub fn serve<R, W, G, I, O>(
     rt: &R,
     alloc: Global,
@@ -78,7 +79,41 @@ pub fn serve<R, W, G, I, O>(
     notifiers: &Notifiers,
     gate: &G,
     reader: I,
-    mut writer: O,
+    writer: O,
+) -> Result<EndLine, ServeFault>
+where
+    R: Clock + Threads + Wait + Sync,
+    W: Wire + Send + Drop,
+    G: Gate + Sync,
+    I: Read + Drop,
+    O: Write + Drop,
+    ensures { IfOk result (IsEndOf (length config.now.homes)) }
+{
+    let output = open_output(alloc, config, writer, Descriptors::none())?;
+    serve_over(rt, alloc, config, wires, notifiers, gate, reader, output)
+}
+
+/// What is printed by this writer. It has room for what a command answers.
+fn open_output<O: Write + Drop>(
+    alloc: Global,
+    config: &Config,
+    writer: O,
+    descriptors: Descriptors,
+) -> Result<Output<O>, ServeFault> {
+    let lines = config.homes().len();
+    Output::new(alloc, writer, descriptors, lines, linger_of(config))
+}
+
+/// Serves as `serve` does. What stands in the output goes out once all workers have begun.
+fn serve_over<R, W, G, I, O>(
+    rt: &R,
+    alloc: Global,
+    config: &Config,
+    wires: Wires<W>,
+    notifiers: &Notifiers,
+    gate: &G,
+    reader: I,
+    mut output: Output<O>,
 ) -> Result<EndLine, ServeFault>
 where
     R: Clock + Threads + Wait + Sync,
@@ -102,18 +137,11 @@ where
         proxy: &proxy,
         supervisor: &supervisor,
     };
-    let inlets = work(service, wires, inlets, reader, &mut writer)?;
+    let inlets = work(service, wires, inlets, reader, &mut output)?;
     let Ok(end) = close(alloc, proxy, inlets) else {
         return Err(ServeFault::Memory);
     };
-    print(&mut writer, &end)?;
+    output.add(&end)?;
+    output.finish(rt)?;
     Ok(end)
-}
-
-/// Writes a line, and has it go out at once.
-fn print<O: Write, D: Display>(writer: &mut O, line: &D) -> Result<(), ServeFault> {
-    if writeln!(writer, "{line}").is_err() || writer.flush().is_err() {
-        return Err(ServeFault::Output);
-    }
-    Ok(())
 }

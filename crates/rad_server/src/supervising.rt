@@ -1,11 +1,12 @@
 //! The gate that the workers ask and tell: it stops them, notifies them where there is work, and counts what the front took.
 
+use crate::beginning::Beginnings;
 use crate::notifying::Notifiers;
 use rad_desk::{Call, Gate, Go, Note, Spent, UpReason, Worker};
 use rad_realms::Endpoint;
 use std::alloc::{AllocError, Global};
-use std::sync::OnceLock;
 use std::sync::atomic::{AtomicBool, AtomicU64, Ordering};
+use std::sync::{OnceLock, Wait};
 
 /// What is known of a lane from what the workers told.
 #[derive(Drop)]
@@ -92,6 +93,7 @@ pub(crate) struct Supervisor<'a, G> {
     outer: &'a G,
     notifiers: &'a Notifiers,
     lanes: LaneStates,
+    beginnings: Beginnings,
     stopping: Stopping,
 }
 
@@ -111,11 +113,23 @@ impl<'a, G> Supervisor<'a, G> {
             outer,
             notifiers,
             lanes: LaneStates::new(alloc, lanes)?,
+            beginnings: Beginnings::new(),
             stopping: Stopping {
                 is_stopped: AtomicBool::new(false),
                 ended: OnceLock::new(),
             },
         })
+    }
+
+    /// A worker has begun, in its thread.
+    pub(crate) fn begin<R: Wait>(&self, rt: &R) {
+        self.beginnings.add(rt);
+    }
+
+    /// Waits until all workers have begun: that of the front, and one for each lane.
+    pub(crate) fn wait_for_all<R: Wait>(&self, rt: &R) {
+        self.beginnings
+            .wait_for(rt, self.lanes.0.len().saturating_add(1));
     }
 
     /// Has all workers stop before their next call.

@@ -4,6 +4,7 @@ ghost use denote.Param.Send.{IsSend, IsSync};
 
 use crate::attending::attend;
 use crate::faults::ServeFault;
+use crate::printing::Output;
 use crate::wiring::Wires;
 use crate::working::Service;
 use rad_desk::{Gate, Inlet, Wire};
@@ -12,28 +13,28 @@ use std::sync::Wait;
 use std::thread::{self, JoinHandle, Scope, Threads};
 use std::time::Clock;
 
-/// Has a thread work for each wire while the commands of the reader are obeyed, and gives back the inlets. All threads have
-/// ended when it returns.
+/// Has a thread work for each wire, and once all do has what stands in the output go out and obeys the commands of the reader.
+/// Gives back the inlets. All threads have ended when it returns.
 pub(crate) fn work<R, W, G, I, O>(
     service: Service<'_, R, G>,
     wires: Wires<W>,
     inlets: Vec<Inlet>,
     reader: I,
-    writer: &mut O,
+    output: &mut Output<O>,
 ) -> Result<Vec<Inlet>, ServeFault>
 where
     R: Clock + Threads + Wait + Sync,
     W: Wire + Send + Drop,
     G: Gate + Sync,
     I: Read + Drop,
-    O: Write,
+    O: Write + Drop,
 {
     thread::scope(
         thread::scope_env(),
         service.rt,
         move |scope| -> Result<Vec<Inlet>, ServeFault>
             requires { IsSync R.row × IsSend W.row × IsSync G.row }
-        { work_in(scope, service, wires, inlets, reader, writer) },
+        { work_in(scope, service, wires, inlets, reader, output) },
     )
 }
 
@@ -44,19 +45,19 @@ fn work_in<'s, E, R, W, G, I, O>(
     wires: Wires<W>,
     inlets: Vec<Inlet>,
     reader: I,
-    writer: &mut O,
+    output: &mut Output<O>,
 ) -> Result<Vec<Inlet>, ServeFault>
 where
     R: Clock + Threads + Wait + Sync + 's,
     W: Wire + Send + Drop + 's,
     G: Gate + Sync + 's,
     I: Read + Drop,
-    O: Write,
+    O: Write + Drop,
 {
     let Wires { front, lanes } = wires;
     let front = start_front(scope, service, inlets, front)?;
     let outcome = if start_lanes(scope, service, lanes) {
-        attend(service, reader, writer)
+        attend(service, reader, output)
     } else {
         Err(ServeFault::Threads)
     };

@@ -30,6 +30,7 @@ impl<R: Wait, G: Gate> Service<'_, R, G> {
         mut inlets: Vec<Inlet>,
         mut wire: W,
     ) -> Vec<Inlet> {
+        self.supervisor.begin(self.rt);
         let _ = front_worker(
             self.rt,
             self.alloc,
@@ -46,6 +47,7 @@ impl<R: Wait, G: Gate> Service<'_, R, G> {
 
     /// Works for a lane until the worker is stopped.
     pub(crate) fn work_on_lane<W: Wire + Drop>(self, lane: u16, mut wire: W) {
+        self.supervisor.begin(self.rt);
         if let Some(home) = self.config.homes().get(usize::from(lane)) {
             self.work_for(lane, home, &mut wire);
         }

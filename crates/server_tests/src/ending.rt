@@ -5,7 +5,7 @@ use crate::streams::Narrow;
 use crate::wires::{LOOKS, TWO_HOMES, pause, quiet};
 use rad_desk::Worker;
 use rad_realms::read_config;
-use rad_server::{Notifiers, ServeFault, Wires, run, serve};
+use rad_server::{Descriptors, Notifiers, ServeFault, Wires, run, serve};
 use std::io::{self, Error, ErrorKind, Read};
 use std::os::fd::AsRawFd;
 use std::os::unix::net::UnixStream;
@@ -87,7 +87,10 @@ fn a_worker_that_ends_ends_the_wait_for_input(rt: HostRuntime) -> Result<(), Fai
     let alloc = rt.alloc();
     let config = read_config(alloc, ONE_HOME)?;
     let (reader, _silent) = UnixStream::pair(&rt)?;
-    let input = Some(reader.as_raw_fd());
+    let descriptors = Descriptors {
+        input: Some(reader.as_raw_fd()),
+        output: None,
+    };
     for worker in [Worker::Front, Worker::Lane(0)] {
         let mut taken = Vec::new(alloc);
         let writer = Narrow {
@@ -95,7 +98,7 @@ fn a_worker_that_ends_ends_the_wait_for_input(rt: HostRuntime) -> Result<(), Fai
             room: 1000,
         };
         let gate = Ending(worker);
-        let ran = run(&rt, alloc, &config, &gate, &reader, input, writer);
+        let ran = run(&rt, alloc, &config, &gate, &reader, writer, descriptors);
         let is_told = matches!(ran, Err(ServeFault::Ended(ended)) if ended == worker);
         assert!(rt; is_told, "{worker:?}");
         assert_eq!(rt; taken.as_slice(), b"listening 127.0.0.1:1816\n".as_slice());

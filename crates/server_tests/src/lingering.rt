@@ -4,7 +4,7 @@ use crate::gates::Open;
 use crate::serving::NO_LINGER;
 use crate::wires::{LOOKS, pause};
 use rad_realms::read_config;
-use rad_server::run;
+use rad_server::{Descriptors, run};
 use std::cell::Cell;
 use std::io::{self, Read, Write};
 use std::net::{Ipv4Addr, SocketAddr, UdpSocket};
@@ -76,7 +76,7 @@ fn what_lingers_is_left_over(rt: HostRuntime) -> Result<(), Fail> {
     let writer = Looking {
         is_accepted: &is_accepted,
     };
-    let end = run(&rt, alloc, &config, &Open, reader, None, writer)?;
+    let end = run(&rt, alloc, &config, &Open, reader, writer, Descriptors::none())?;
     assert!(rt; is_accepted.get());
     assert_eq!(rt; end.queued.saturating_add(end.outstanding), 1);
     assert!(rt; !end.is_clean());

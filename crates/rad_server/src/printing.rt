@@ -1,0 +1,202 @@
+//! What is printed: it goes out as far as the output takes it, and once the input has ended the output is waited for no longer
+//! than the lanes linger.
+
+use crate::faults::ServeFault;
+use crate::lingering::has_passed;
+use crate::watching::{Descriptors, Watch};
+use std::alloc::Global;
+use std::fmt::Display;
+use std::io::{ErrorKind, Write};
+use std::sync::{Wait, WaitMethods};
+use std::time::{Clock, Duration, Instant};
+
+/// How many octets a line has room for. The longest, of `state`, has 237 with its line feed.
+const LINE: usize = 256;
+
+/// How far what is printed has come.
+#[derive(Clone, Copy, PartialEq, Eq)]
+pub(crate) enum Progress {
+    /// All went out.
+    Done,
+    /// Some went out.
+    Went,
+    /// Nothing went out in a short while.
+    Waits,
+}
+
+/// How long the output is waited for once the input has ended.
+#[derive(Clone, Copy)]
+struct Patience {
+    most: Duration,
+    /// When the output was first waited for after the end of the input.
+    first: Option<Instant>,
+    /// Since when it takes nothing.
+    since: Option<Instant>,
+}
+
+impl Patience {
+    /// The output takes something.
+    fn renew(&mut self) {
+        self.since = None;
+    }
+
+    /// Whether the output was waited for as long as it may be. So it is where the clock fails.
+    fn is_over(&mut self, clock: &impl Clock) -> bool {
+        if let Some(since) = self.since {
+            return has_passed(clock, since, self.most);
+        }
+        let Ok(now) = Instant::now(clock) else {
+            return true;
+        };
+        self.since = Some(now);
+        if self.first.is_none() {
+            self.first = Some(now);
+        }
+        false
+    }
+}
+
+/// What is printed, and did not go out yet.
+#[derive(Drop)]
+pub(crate) struct Output<O: Drop> {
+    writer: O,
+    watch: Watch,
+    patience: Patience,
+    /// The lines that were printed since all had gone out.
+    text: Vec<u8>,
+    /// How many of these octets went out.
+    gone: usize,
+}
+
+impl<O: Write + Drop> Output<O> {
+    /// Prints by this writer. There is room for so many lines, and once the input has ended they are waited for so long,
+    /// anew with each octet that goes out.
+    ///
+    /// # Errors
+    ///
+    /// `Memory` where that is refused.
+    pub(crate) fn new(
+        alloc: Global,
+        writer: O,
+        descriptors: Descriptors,
+        lines: usize,
+        most: Duration,
+    ) -> Result<Output<O>, ServeFault> {
+        let Ok(text) = Vec::with_capacity(alloc, lines.saturating_mul(LINE)) else {
+            return Err(ServeFault::Memory);
+        };
+        Ok(Output {
+            writer,
+            watch: Watch::new(descriptors),
+            patience: Patience {
+                most,
+                first: None,
+                since: None,
+            },
+            text,
+            gone: 0,
+        })
+    }
+
+    /// Where lines are written that are to go out.
+    pub(crate) fn text(&mut self) -> &mut Vec<u8> {
+        &mut self.text
+    }
+
+    /// Has a line be the next to go out.
+    ///
+    /// # Errors
+    ///
+    /// `Memory` where that is refused.
+    pub(crate) fn add<D: Display>(&mut self, line: &D) -> Result<(), ServeFault> {
+        match writeln!(self.text, "{line}") {
+            Ok(()) => Ok(()),
+            Err(_) => Err(ServeFault::Memory),
+        }
+    }
+
+    /// Whether the input was seen to have ended while the output was waited for.
+    pub(crate) fn has_input_ended(&self) -> bool {
+        self.watch.has_ended()
+    }
+
+    /// When the output was first waited for after the end of the input, where it was.
+    pub(crate) fn waited_from(&self) -> Option<Instant> {
+        self.patience.first
+    }
+
+    /// Has all go out, after the input was read to its end.
+    ///
+    /// # Errors
+    ///
+    /// As [`Output::advance`].
+    pub(crate) fn finish<R: Clock + Wait>(&mut self, rt: &R) -> Result<(), ServeFault> {
+        self.watch.end();
+        for _ in rt.forever() {
+            if self.advance(rt)? == Progress::Done {
+                return Ok(());
+            }
+        }
+        unreachable!()
+    }
+
+    /// Writes the next line, or as much of it as the output takes. Waits for that a short while only.
+    ///
+    /// # Errors
+    ///
+    /// `Output` where the writer fails, or where it was waited for as long as it may be.
+    pub(crate) fn advance(&mut self, clock: &impl Clock) -> Result<Progress, ServeFault> {
+        if self.gone >= self.text.len() {
+            return self.clear();
+        }
+        if self.watch.look() {
+            self.write()?;
+            return Ok(Progress::Went);
+        }
+        if self.watch.has_ended() && self.patience.is_over(clock) {
+            return Err(ServeFault::Output);
+        }
+        Ok(Progress::Waits)
+    }
+
+    /// All went out.
+    fn clear(&mut self) -> Result<Progress, ServeFault> {
+        self.text.clear();
+        self.gone = 0;
+        match self.writer.flush() {
+            Ok(()) => Ok(Progress::Done),
+            Err(_) => Err(ServeFault::Output),
+        }
+    }
+
+    /// Writes the next line, or as much of it as the output takes.
+    fn write(&mut self) -> Result<(), ServeFault> {
+        let at = self.gone.min(self.text.len());
+        let part = first_line(&self.text.as_slice()[at..], self.watch.most());
+        match self.writer.write(part) {
+            Ok(0) => Err(ServeFault::Output),
+            Ok(count) => {
+                self.gone = self.gone.saturating_add(count);
+                self.patience.renew();
+                Ok(())
+            }
+            Err(error) if error.kind() == ErrorKind::Interrupted => Ok(()),
+            Err(_) => Err(ServeFault::Output),
+        }
+    }
+}
+
+/// The first line of a text with its line feed, or so many octets of it where it is longer.
+fn first_line(text: &[u8], most: usize) -> &[u8] {
+    let line = match find_feed(text) {
+        Some(place) => place.saturating_add(1),
+        None => text.len(),
+    };
+    let count = line.min(most).min(text.len());
+    &text[..count]
+}
+
+/// Where the first line feed of a text stands.
+fn find_feed(text: &[u8]) -> Option<usize> {
+    text.iter().position(|octet| *octet == b'\n')
+}

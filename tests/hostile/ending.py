@@ -1,0 +1,439 @@
+#!/usr/bin/env python3
+"""Tries how `run` begins and ends: that it says `listening` once all its threads run, and that it ends in time where nobody
+reads what it prints.
+
+usage: ending.py PROGRAM [NAME ..]
+
+Each test is a function below, and its first line tells what holds. Names choose tests. The last line is `N passed, M failed`.
+"""
+import contextlib
+import fcntl
+import hashlib
+import os
+import pathlib
+import pty
+import signal
+import socket
+import struct
+import subprocess
+import sys
+import tempfile
+import time
+
+HERE = pathlib.Path(__file__).resolve().parent
+PATIENCE = 60
+# How much later than it should the end may come, on a machine that has much else to do.
+MARGIN = 15
+LINGER = 2000
+COUNT = 5000
+NAS_SECRET, HOME_SECRET = b"nas-secret", b"home-secret"
+STATE = "lane {} h{} up {} accepted {} queued 0 outstanding {} answered {} opening 0"
+NOTHING_LEFT = "end: queued 0 outstanding 0 untaken 0"
+
+
+def hope(text, found, wanted):
+    if found != wanted:
+        raise AssertionError(f"{text}: {found!r}, and not {wanted!r}")
+
+
+def until(text, test, patience=PATIENCE):
+    """Waits until a test answers something, and answers that."""
+    last = time.monotonic() + patience
+    while time.monotonic() < last:
+        found = test()
+        if found:
+            return found
+        time.sleep(0.02)
+    raise AssertionError(f"never: {text}")
+
+
+def bound():
+    made = socket.socket(socket.AF_INET, socket.SOCK_DGRAM)
+    made.bind(("127.0.0.1", 0))
+    made.settimeout(PATIENCE)
+    return made
+
+
+def request(identifier=1):
+    attributes = b"\x01\x11bob@example.org" + b"\x28\x06\x00\x00\x00\x01"
+    head = struct.pack("!BBH", 4, identifier, 20 + len(attributes))
+    return head + hashlib.md5(head + bytes(16) + attributes + NAS_SECRET).digest() + attributes
+
+
+def answered(octets):
+    """The response of a home server, with the Proxy-State that stands last."""
+    attributes = octets[-12:]
+    head = struct.pack("!BBH", 5, octets[1], 20 + len(attributes))
+    return head + hashlib.md5(head + octets[4:20] + attributes + HOME_SECRET).digest() + attributes
+
+
+class Proxy:
+    """A program that serves one client and two home servers, the first of which is this test's."""
+
+    def __init__(self, program, room):
+        self.program, self.room = program, room
+        self.home, self.nas = bound(), bound()
+        with bound() as free:
+            self.port = free.getsockname()[1]
+        self.file, self.log = room / "two.toml", room / "log"
+        self.configure(LINGER)
+        self.environment = os.environ | {"RAD_PROXY_COUNTERS": str(room / "counters")}
+        self.process = None
+        self.open = []
+
+    def configure(self, linger):
+        text = f'listen = "127.0.0.1:{self.port}"\nlinger = {linger}\n[[client]]\naddress = "127.0.0.1"\nsecret = "nas-secret"\n'
+        for name, port in (("h1", self.home.getsockname()[1]), ("h2", 9)):
+            text += f'[[home]]\nname = "{name}"\naddress = "127.0.0.1:{port}"\nsecret = "home-secret"\n'
+        self.file.write_text(text + '[[realm]]\nname = "example.org"\nhome = "h1"\n')
+
+    def start(self, given, taken, **more):
+        """Starts the program over these ends of its standard input and output, which are closed here then."""
+        with open(self.log, "wb") as log:
+            environment = self.environment | more
+            self.process = subprocess.Popen([self.program, "run", self.file], stdin=given, stdout=taken, stderr=log,
+                                            env=environment)
+        for descriptor in {given, taken}:
+            os.close(descriptor)
+        return self.process
+
+    def kept(self, descriptors):
+        """These descriptors, which are closed at the end."""
+        self.open += descriptors
+        return descriptors
+
+    def take_request(self, identifier=1):
+        """Sends a request, and answers what came to the home server, and from where."""
+        self.nas.sendto(request(identifier), ("127.0.0.1", self.port))
+        return self.home.recvfrom(4096)
+
+    def waits_for_output(self):
+        """Waits until the program waits in the system, and no longer works off what it was given."""
+        ticks = None
+        while ticks != (ticks := self.ticks()):
+            time.sleep(0.5)
+
+    def ticks(self):
+        """The processor time that the program's first thread took."""
+        fields = pathlib.Path(f"/proc/{self.process.pid}/task/{self.process.pid}/stat").read_text().rsplit(")", 1)[1].split()
+        return (int(fields[11]) + int(fields[12])) // 10
+
+    def last_error(self):
+        lines = [line for line in self.log.read_text().splitlines() if not line.startswith("level=")]
+        return lines[-1] if lines else ""
+
+    def end(self):
+        for descriptor in self.open:
+            with contextlib.suppress(OSError):
+                os.close(descriptor)
+        if self.process:
+            with contextlib.suppress(ProcessLookupError):
+                self.process.kill()
+            self.process.wait()
+
+
+def close(proxy, descriptor):
+    os.close(descriptor)
+    proxy.open.remove(descriptor)
+
+
+def built(proxy, name):
+    """A library of a file in C beside this one."""
+    library = proxy.room / f"{name}.so"
+    compiler = os.environ.get("CC", "cc").split()
+    subprocess.run([*compiler, "-O2", "-shared", "-fPIC", "-o", library, HERE / f"{name}.c"], check=True)
+    return str(library)
+
+
+def read_all(descriptor):
+    text = b""
+    while part := os.read(descriptor, 65536):
+        text += part
+    return text.decode()
+
+
+def give(descriptor, octets):
+    while octets:
+        octets = octets[os.write(descriptor, octets):]
+
+
+def fill(descriptor):
+    """Fills a pipe by another description of it, since the program shares this one."""
+    full = os.open(f"/proc/self/fd/{descriptor}", os.O_WRONLY | os.O_NONBLOCK)
+    with contextlib.suppress(BlockingIOError):
+        while True:
+            os.write(full, bytes(4096))
+    with contextlib.suppress(BlockingIOError):
+        while True:
+            os.write(full, b"\0")
+    os.close(full)
+
+
+def says_nothing_without_a_thread(proxy):
+    """Each thread refused in turn: nothing is printed on standard output, and the end is `threads: failed` and status 4."""
+    library = built(proxy, "refuse")
+    for thread in (1, 2, 3, 4):
+        given, ours = os.pipe()
+        reading, taken = os.pipe()
+        proxy.kept([ours, reading])
+        process = proxy.start(given, taken, LD_PRELOAD=library, REFUSE_THREAD=str(thread))
+        hope(f"thread {thread}: output", read_all(reading), "")
+        hope(f"thread {thread}: status", process.wait(PATIENCE), 4)
+        hope(f"thread {thread}: last line", proxy.last_error(), "threads: failed")
+
+
+def listens_once_all_threads_run(proxy):
+    """Where each thread begins late, `listening` comes later still; it is the first line, though commands were there before."""
+    library = built(proxy, "delay")
+    given, ours = os.pipe()
+    reading, taken = os.pipe()
+    proxy.kept([reading])
+    began = time.monotonic()
+    process = proxy.start(given, taken, LD_PRELOAD=library, DELAY_MILLISECONDS="2000")
+    give(ours, b"unknown\n")
+    first = os.read(reading, 4096)
+    hope("seconds", time.monotonic() - began >= 2, True)
+    os.close(ours)
+    told = (first.decode() + read_all(reading)).splitlines()
+    hope("lines", told, [f"listening 127.0.0.1:{proxy.port}", "unknown", NOTHING_LEFT])
+    hope("status", process.wait(PATIENCE), 0)
+
+
+def ends_unread(proxy, process, printed, count=COUNT):
+    """The input has just ended and nobody reads the output: a request that waits is answered, and no new one is taken. Ends
+    in time with status 4, and `printed`, which reads what was printed then, finds no last line."""
+    began = time.monotonic()
+    octets, home = proxy.taken
+    time.sleep(LINGER / 4000)
+    proxy.nas.sendto(request(2), ("127.0.0.1", proxy.port))
+    proxy.home.sendto(answered(octets), home)
+    hope("code", proxy.nas.recv(4096)[0], 5)
+    hope("status", process.wait(LINGER / 1000 + MARGIN), 4)
+    hope("it lingered", time.monotonic() - began > LINGER / 2000, True)
+    proxy.home.setblocking(False)
+    with contextlib.suppress(BlockingIOError):
+        raise AssertionError(f"taken after the end: {proxy.home.recv(4096)!r}")
+    text = printed()
+    hope("last line", "end:" in text, False)
+    hope("less than all", text.count("lane 0 ") < count, True)
+
+
+def tried_unread(proxy, given, end_input, taken, printed):
+    """The same from the start, with what gives the commands and ends the input."""
+    process = proxy.start(given, taken)
+    proxy.taken = proxy.take_request()
+    end_input()
+    proxy.waits_for_output()
+    ends_unread(proxy, process, printed)
+
+
+def commands_then_end(proxy, ours):
+    """What gives all commands to this end as far as it takes them, and then closes it."""
+    def end_input():
+        flags = fcntl.fcntl(ours, fcntl.F_GETFL)
+        fcntl.fcntl(ours, fcntl.F_SETFL, flags | os.O_NONBLOCK)
+        rest, last = b"state\n" * COUNT, time.monotonic() + PATIENCE
+        while rest and time.monotonic() < last:
+            try:
+                rest = rest[os.write(ours, rest):]
+            except BlockingIOError:
+                time.sleep(0.05)
+        hope("commands left", len(rest), 0)
+        proxy.waits_for_output()
+        close(proxy, ours)
+    return end_input
+
+
+def ends_unread_by_pipes(proxy):
+    """5,000 commands come by a pipe, and nobody reads the pipe that is printed to."""
+    given, ours = os.pipe()
+    reading, taken = os.pipe()
+    proxy.kept([ours, reading])
+    tried_unread(proxy, given, commands_then_end(proxy, ours), taken, lambda: read_all(reading))
+
+
+def ends_unread_by_sockets(proxy):
+    """The same by sockets."""
+    given, ours = (made.detach() for made in socket.socketpair())
+    reading, taken = (made.detach() for made in socket.socketpair())
+    fcntl.fcntl(given, fcntl.F_SETFL, fcntl.fcntl(given, fcntl.F_GETFL))
+    proxy.kept([ours, reading])
+    tried_unread(proxy, given, commands_then_end(proxy, ours), taken, lambda: read_all(reading))
+
+
+def ends_unread_by_half_a_socket(proxy):
+    """The input is a socket whose other end sends no more, and still is open."""
+    theirs, ours = socket.socketpair()
+    reading, taken = os.pipe()
+    given = theirs.detach()
+    proxy.kept([reading])
+
+    def end_input():
+        ours.sendall(b"state\n" * COUNT)
+        proxy.waits_for_output()
+        ours.shutdown(socket.SHUT_WR)
+
+    ours.setsockopt(socket.SOL_SOCKET, socket.SO_SNDBUF, 1 << 20)
+    tried_unread(proxy, given, end_input, taken, lambda: read_all(reading))
+    ours.close()
+
+
+def ends_unread_by_a_file(proxy):
+    """The commands are a regular file, whose end is there from the start."""
+    path = proxy.room / "commands"
+    path.write_bytes(b"state\n" * COUNT)
+    reading, taken = os.pipe()
+    proxy.kept([reading])
+    process = proxy.start(os.open(path, os.O_RDONLY), taken)
+    hope("status", process.wait(LINGER / 1000 + PATIENCE), 4)
+    text = read_all(reading)
+    hope("first line", text.startswith("listening "), True)
+    hope("last line", "end:" in text, False)
+
+
+def ends_unread_by_a_terminal(proxy):
+    """What is printed goes to a terminal that nobody reads."""
+    given, ours = os.pipe()
+    reading, taken = pty.openpty()
+    proxy.kept([ours, reading])
+    tried_unread(proxy, given, commands_then_end(proxy, ours), taken, lambda: "")
+
+
+def ends_before_it_listens(proxy):
+    """The output is full from the start, and the null device is the input: not even `listening` goes out."""
+    reading, taken = os.pipe()
+    fill(taken)
+    proxy.kept([reading])
+    process = proxy.start(os.open(os.devnull, os.O_RDONLY), taken)
+    hope("status", process.wait(LINGER / 1000 + PATIENCE), 4)
+    hope("output", read_all(reading).strip("\0"), "")
+
+
+def serves_while_its_output_waits(proxy):
+    """The output is full from the start, and the input is open: requests are answered, and once somebody reads all is told."""
+    given, ours = os.pipe()
+    reading, taken = os.pipe()
+    fill(taken)
+    proxy.kept([ours, reading])
+    process = proxy.start(given, taken)
+    give(ours, b"unknown\n")
+    for identifier in (1, 2):
+        octets, home = proxy.take_request(identifier)
+        time.sleep(1)
+        proxy.home.sendto(answered(octets), home)
+        hope("code", proxy.nas.recv(4096)[0], 5)
+    close(proxy, ours)
+    told = read_all(reading).strip("\0").splitlines()
+    hope("lines", told, [f"listening 127.0.0.1:{proxy.port}", "unknown", NOTHING_LEFT])
+    hope("status", process.wait(PATIENCE), 0)
+
+
+def ends_without_room_for_its_last_line(proxy):
+    """The output gets full while nothing is printed: the last line is waited for no longer than `linger`."""
+    given, ours = os.pipe()
+    reading, taken = os.pipe()
+    kept = os.dup(taken)
+    proxy.kept([ours, reading, kept])
+    process = proxy.start(given, taken)
+    hope("first line", os.read(reading, 4096).startswith(b"listening"), True)
+    fill(kept)
+    close(proxy, kept)
+    close(proxy, ours)
+    hope("status", process.wait(LINGER / 1000 + MARGIN), 4)
+    hope("output", read_all(reading).strip("\0"), "")
+
+
+def a_slow_reader_gets_all(proxy):
+    """A reader that takes longer than `linger` in all, and never as long at once, gets every line."""
+    proxy.configure(1000)
+    given, ours = os.pipe()
+    reading, taken = os.pipe()
+    proxy.kept([ours, reading])
+    process = proxy.start(given, taken)
+    give(ours, b"state\n" * 1500)
+    close(proxy, ours)
+    text = b""
+    while part := os.read(reading, 4096):
+        text += part
+        time.sleep(0.05)
+    told = text.decode().splitlines()
+    hope("lines", len(told), 1 + 1500 * 2 + 1)
+    hope("first", told[0], f"listening 127.0.0.1:{proxy.port}")
+    for lane in (0, 1):
+        wanted = {STATE.format(lane, lane + 1, mode, 0, 0, 0) for mode in ("open", "done")}
+        hope(f"lane {lane}", set(told[1 + lane:-1:2]) <= wanted, True)
+    hope("last", told[-1], NOTHING_LEFT)
+    hope("status", process.wait(PATIENCE), 0)
+
+
+def a_closed_output_ends_it_undrained(proxy):
+    """Where the reader of the output is gone, the program ends at once with status 4, and waits for no home server."""
+    proxy.configure(600_000)
+    given, ours = os.pipe()
+    reading, taken = os.pipe()
+    proxy.kept([ours])
+    process = proxy.start(given, taken)
+    hope("first line", os.read(reading, 4096).startswith(b"listening"), True)
+    octets, home = proxy.take_request()
+    os.close(reading)
+    give(ours, b"state\n")
+    hope("status", process.wait(PATIENCE), 4)
+    proxy.home.sendto(answered(octets), home)
+    proxy.nas.settimeout(1)
+    with contextlib.suppress(TimeoutError):
+        raise AssertionError(f"answered: {proxy.nas.recv(4096)!r}")
+
+
+def a_reader_that_goes_ends_it_undrained(proxy):
+    """The same where it goes while an answer waits for it."""
+    proxy.configure(600_000)
+    given, ours = os.pipe()
+    reading, taken = os.pipe()
+    fill(taken)
+    proxy.kept([ours])
+    process = proxy.start(given, taken)
+    proxy.take_request()
+    os.close(reading)
+    hope("status", process.wait(PATIENCE), 4)
+
+
+TESTS = [
+    says_nothing_without_a_thread, listens_once_all_threads_run, ends_unread_by_pipes, ends_unread_by_sockets,
+    ends_unread_by_half_a_socket, ends_unread_by_a_file, ends_unread_by_a_terminal, ends_before_it_listens,
+    serves_while_its_output_waits, ends_without_room_for_its_last_line, a_slow_reader_gets_all,
+    a_closed_output_ends_it_undrained, a_reader_that_goes_ends_it_undrained,
+]
+
+
+def tried(program, test):
+    """What became of a test: a word, and what there is to say."""
+    with tempfile.TemporaryDirectory() as room:
+        proxy = Proxy(program, pathlib.Path(room))
+        try:
+            test(proxy)
+        except (AssertionError, OSError, subprocess.SubprocessError) as fault:
+            return "failed", f"{fault or type(fault).__name__}"
+        finally:
+            proxy.end()
+    return "passed", ""
+
+
+def main():
+    if len(sys.argv) < 2:
+        sys.exit(__doc__.splitlines()[3])
+    program, names = pathlib.Path(sys.argv[1]).resolve(), sys.argv[2:]
+    signal.signal(signal.SIGPIPE, signal.SIG_IGN)
+    words = []
+    for test in TESTS:
+        if names and test.__name__ not in names:
+            continue
+        word, text = tried(program, test)
+        words.append(word)
+        if word != "passed":
+            print(f"{word}: {test.__name__}: {text}", flush=True)
+    print(f"{words.count('passed')} passed, {words.count('failed')} failed")
+    sys.exit(1 if "failed" in words else 0)
+
+
+if __name__ == "__main__":
+    main()
