@@ -1,0 +1,5 @@
+pub mod Homes
+pub mod Keys
+pub mod Place
+pub mod Printed
+pub mod Syntax

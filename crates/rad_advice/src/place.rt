@@ -1,0 +1,96 @@
+//! Where an octet of a text stands, as an editor counts.
+
+ghost use Rattle.std.specs.Prelude.{◌≡◌, ◌≤◌, length};
+ghost use Rattle.std.specs.List.{count_by};
+ghost use Rattle.rad_advice.specs.Place.{is_line_feed, begins_character, last_line, line_after, column_after, place_at};
+
+use std::fmt;
+
+/// A place in a text. It is printed as `line 3, column 10`.
+#[derive(Clone, Copy, Debug, PartialEq, Eq)]
+pub struct Place {
+    /// The line, counted from 1.
+    pub line: usize,
+    /// The column in that line, counted from 1 in characters.
+    pub column: usize,
+}
+
+impl fmt::Display for Place {
+    ghost use Rattle.std.specs.Prelude.{Some};
+    ghost use Rattle.rad_advice.specs.Printed.{place_text};
+
+    ghost output = { λ place. Some (place_text place) };
+
+    fn fmt<W: fmt::Write>(&self, f: &mut fmt::Formatter<W>) -> fmt::Result {
+        let line = self.line;
+        let column = self.column;
+        write!(f, "line {line}, column {column}")
+    }
+}
+
+/// The place of the octet at an offset of a text; at the text's end, of what would follow.
+pub fn place_of(text: &[u8], offset: usize) -> Place
+    requires { offset ≤ length text.now }
+    ensures { result ≡ place_at offset text.now }
+{
+    let before = &text[..offset];
+    let line = line_of(before);
+    let column = column_of(before);
+    Place { line, column }
+}
+
+/// The line of what follows these octets.
+fn line_of(before: &[u8]) -> usize
+    ensures { result ≡ line_after before.now }
+{
+    count_line_feeds(before) + 1
+}
+
+/// How many of these octets are line feeds.
+fn count_line_feeds(octets: &[u8]) -> usize
+    ensures number { result ≡ count_by is_line_feed octets.now }
+    ensures most { result ≤ length octets.now }
+{
+    let mut count = 0;
+    for octet in octets {
+        if *octet == b'\n' {
+            count += 1;
+        }
+    }
+    count
+}
+
+/// The column of what follows these octets.
+fn column_of(before: &[u8]) -> usize
+    ensures { result ≡ column_after before.now }
+{
+    count_characters(behind_line_feed(before)) + 1
+}
+
+/// How many characters begin in these octets.
+fn count_characters(octets: &[u8]) -> usize
+    ensures number { result ≡ count_by begins_character octets.now }
+    ensures most { result ≤ length octets.now }
+{
+    let mut count = 0;
+    for octet in octets {
+        if !(0x80..0xc0).contains(octet) {
+            count += 1;
+        }
+    }
+    count
+}
+
+/// What follows the last line feed of these octets, or all of them where there is none.
+fn behind_line_feed(octets: &[u8]) -> &[u8]
+    ensures { result.now ≡ last_line octets.now }
+{
+    let mut place = octets.len();
+    while place > 0 {
+        if octets[place - 1] == b'\n' {
+            break;
+        }
+        place -= 1;
+    }
+    &octets[place..]
+}

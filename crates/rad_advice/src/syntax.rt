@@ -1,0 +1,60 @@
+//! Where a text stops being TOML, and what was expected there.
+
+use crate::place::{Place, place_of};
+use std::alloc::{AllocError, Global};
+use std::fmt;
+
+/// Why a text is no TOML, and the place where that shows. It is printed as `line 3, column 10: invalid string`.
+#[derive(Debug, Drop)]
+pub struct SyntaxError {
+    /// Where it shows.
+    place: Place,
+    /// What is wrong there, or what was expected.
+    message: String,
+}
+
+impl SyntaxError {
+    /// Where the text stops being TOML. Where it is no text, the place of the first octet that is not UTF-8.
+    pub fn place(&self) -> Place {
+        self.place
+    }
+
+    /// What is wrong there, or what was expected: one line without quotation marks, in the words of TOML's reader.
+    pub fn message(&self) -> &str {
+        self.message.as_str()
+    }
+}
+
+impl fmt::Display for SyntaxError {
+    fn fmt<W: fmt::Write>(&self, f: &mut fmt::Formatter<W>) -> fmt::Result {
+        let place = self.place;
+        let message = self.message.as_str();
+        write!(f, "{place}: {message}")
+    }
+}
+
+/// Why a text is no TOML, or `None` where it is TOML. It takes the memory of reading it.
+pub fn syntax_error(alloc: Global, text: &[u8]) -> Result<Option<SyntaxError>, AllocError> {
+    match std::str::from_utf8(text) {
+        Ok(words) => toml_error(alloc, words),
+        Err(fault) => {
+            let place = place_of(text, fault.valid_up_to());
+            let message = String::from_str(alloc, "no UTF-8")?;
+            Ok(Some(SyntaxError { place, message }))
+        }
+    }
+}
+
+/// Why a text is no TOML, where it is none.
+fn toml_error(alloc: Global, text: &str) -> Result<Option<SyntaxError>, AllocError> {
+    let fault = match toml::table_from_str(alloc, text) {
+        Ok(_) => return Ok(None),
+        Err(fault) => fault,
+    };
+    let Some(span) = fault.span() else {
+        return Err(AllocError);
+    };
+    let place = place_of(text.as_bytes(), span.start);
+    let message = String::from_str(alloc, fault.message())?;
+    Ok(Some(SyntaxError { place, message }))
+}
