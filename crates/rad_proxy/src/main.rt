@@ -4,6 +4,7 @@
 #![tactic(auto)]
 
 mod check_command;
+mod descriptors;
 mod faults;
 mod loading;
 mod run_command;
@@ -12,6 +13,7 @@ mod tests;
 mod words;
 
 use check_command::check_file;
+use descriptors::open_standard;
 use faults::Fault;
 use rad_console::EndLine;
 use rad_replay::replay;
@@ -21,6 +23,7 @@ use std::alloc::{AllocGlobal, Global};
 use std::env::{self, Env};
 use std::io::{self, ErrorKind, Print, Read, Write};
 use std::net::Net;
+use std::os::fd::IntoRawFd;
 use std::process::ExitCode;
 use std::random::RandomSource;
 use std::rt::{Files, Runtime};
@@ -49,9 +52,10 @@ fn main(rt: HostRuntime) -> ExitCode {
 fn obey_words<R, F>(rt: &R, files: &F) -> Result<u8, Fault>
 where
     R: Runtime + AllocGlobal + Net + RandomSource + Threads + Wait + Sync,
-    R::File: Drop,
+    R::File: Drop + IntoRawFd,
     F: ReplaceFile + Sync,
 {
+    open_standard(rt)?;
     let alloc = rt.alloc();
     match read_task(rt, alloc)? {
         Task::Replay => status_of_replay(rt, alloc, rt.reader(), io::writer(rt)),
