@@ -33,12 +33,14 @@ SCRIPTS = {
     "examples": ("examples.py", "PROGRAM"),
     "growths": ("hostile/growths.py", "PROGRAM"),
     "mutations": ("hostile/mutations.py", "PROGRAM"),
+    "descriptors": ("hostile/descriptors.py", "PROGRAM"),
     "addresses": ("hostile/addresses.py", "PROGRAM"),
     "flood": ("hostile/flood.py", "PROGRAM"),
     "unreachable": ("hostile/unreachable.py", "PROGRAM"),
     "telling": ("hostile/telling.py", "PROGRAM"),
     "ending": ("hostile/ending.py", "PROGRAM"),
     "service": ("service/run.py", "PROGRAM"),
+    "memory": ("hostile/memory.py", "PROGRAM"),
     "soak": ("hostile/soak.py", "PROGRAM"),
 }
 COUNTS = re.compile(r"(\d+) passed, (\d+) failed")
