@@ -2,7 +2,7 @@
 """The whole gate: what `rt ci` proves, refuses and runs; then that each wrong body can be applied, and the octets that the
 tests expect, as another implementation makes them; and then the program that `rt ci` built: over the rows and the examples,
 with growths refused in turn, with spoiled datagrams, with home servers that are killed or not there, by the scripts of the
-service, and over UDP and a network that loses.
+service, over UDP and a network that loses, and by what memory it has after a load and after the same load again.
 
 usage: gate.py PROGRAM
 
@@ -36,6 +36,7 @@ SCRIPTS = {
     "unreachable": ("hostile/unreachable.py", "PROGRAM"),
     "service": ("service/run.py", "PROGRAM"),
     "soak": ("hostile/soak.py", "PROGRAM"),
+    "memory": ("hostile/memory.py", "PROGRAM"),
 }
 COUNTS = re.compile(r"(\d+) passed, (\d+) failed")
 
