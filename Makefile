@@ -41,7 +41,8 @@ run:
 
 # The whole gate: all proofs from nothing, the edits of must-fail/, the tests, the stored run; then that each wrong body can be
 # applied, and the octets that the tests expect; and the program that was built: the rows, the examples, growths refused in
-# turn, spoiled datagrams, home servers that are killed, and UDP over a network that loses. The last line counts it all.
+# turn, spoiled datagrams, home servers that are killed, UDP over a network that loses, and memory over two equal loads. The
+# last line counts it all.
 test:
 	@python3 tests/gate.py $(PROGRAM)
 
@@ -57,9 +58,13 @@ growths:
 spoiled:
 	@python3 tests/hostile/mutations.py $(PROGRAM) $(DATAGRAMS) $(SEED)
 
-# The program over UDP and a network that loses, for SECONDS; the gate has short runs of a fixed count of requests.
+# The program over UDP and a network that loses, for SECONDS, and then, for as long, whether its memory grows under a load
+# that does not; the gate has short runs of a fixed count of requests.
 soak:
-	@python3 tests/hostile/soak.py $(PROGRAM) --seconds $(SECONDS) $(SEED)
+	@status=0; \
+	python3 tests/hostile/soak.py $(PROGRAM) --seconds $(SECONDS) $(SEED) || status=1; \
+	python3 tests/hostile/memory.py $(PROGRAM) --seconds $(SECONDS) || status=1; \
+	exit $$status
 
 # Measures the program that was built, and radsecproxy and FreeRADIUS where they are installed; docs/performance.md says how.
 bench: ROUNDS = 5

@@ -37,9 +37,9 @@ from readings import resident_kilobytes  # noqa: E402
 
 MOST = 1_000_000
 REQUESTS = 10_000
-PATIENCE, LONGEST, TOOK_NO_ANSWER = 120, 3600, 1000
+PATIENCE, LONGEST, GIVEN_UP = 120, 3600, 20_000
 OUT_OF_A_SOCKET = 200
-STATE = re.compile(r"lane 0 h0 up open accepted (\d+) queued (\d+) outstanding (\d+) answered (\d+) opening (\d+)")
+STATE = re.compile(r"lane 0 h0 (?:up|down) open accepted (\d+) queued (\d+) outstanding (\d+) answered (\d+) opening (\d+)")
 NOTHING_LEFT = "end: queued 0 outstanding 0 untaken 0"
 
 
@@ -144,7 +144,7 @@ class Nas:
     def ask(self, out, count, seconds):
         """Sends so many requests, as far as there is time, with so many out at once, and gives how many it sent."""
         options = {"port": self.port, "secret": CLIENT_SECRET, "window": out, "count": count, "seconds": seconds}
-        options |= {"timeout": TOOK_NO_ANSWER, "sockets": math.ceil(out / OUT_OF_A_SOCKET), "series": next(self.series)}
+        options |= {"timeout": GIVEN_UP, "sockets": math.ceil(out / OUT_OF_A_SOCKET), "series": next(self.series)}
         words = [self.work / "generator", *(word for name, value in options.items() for word in (f"--{name}", str(value)))]
         with started(words, stdout=subprocess.PIPE, text=True) as process:
             told = json.loads(process.stdout.readlines()[-1])
@@ -190,7 +190,7 @@ def tried(program, work, load, library, count, seconds):
 def main():
     words = sys.argv[1:]
     if len(words) == 1:
-        count, seconds = REQUESTS, LONGEST
+        count, seconds = REQUESTS, PATIENCE
     elif len(words) == 3 and words[1] == "--seconds":
         parts = 2 * sum(len(load.out) for load in LOADS)
         count, seconds = 2**32 - 1, max(1, round(int(words[2]) / parts))
