@@ -103,9 +103,13 @@ class Proxy:
         return descriptors
 
     def take_request(self, identifier=1):
-        """Sends a request, and answers what came to the home server, and from where."""
-        self.nas.sendto(request(identifier), ("127.0.0.1", self.port))
-        return self.home.recvfrom(4096)
+        """Sends a request until it comes to the home server, and answers what came, and from where."""
+        def came():
+            self.nas.sendto(request(identifier), ("127.0.0.1", self.port))
+            with contextlib.suppress(TimeoutError):
+                return self.home.recvfrom(4096)
+        self.home.settimeout(0.5)
+        return until("the home server is asked", came)
 
     def waits_for_output(self):
         """Waits until the program waits in the system, and no longer works off what it was given."""
@@ -212,7 +216,8 @@ def ends_unread(proxy, process, printed, count=COUNT):
     hope("it lingered", time.monotonic() - began > LINGER / 2000, True)
     proxy.home.setblocking(False)
     with contextlib.suppress(BlockingIOError):
-        raise AssertionError(f"taken after the end: {proxy.home.recv(4096)!r}")
+        while True:
+            hope("Proxy-State of what came since", proxy.home.recv(4096)[-12:], octets[-12:])
     text = printed()
     hope("last line", "end:" in text, False)
     hope("less than all", text.count("lane 0 ") < count, True)
