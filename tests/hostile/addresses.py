@@ -13,6 +13,7 @@ import re
 import shutil
 import signal
 import socket
+import struct
 import subprocess
 import sys
 import tempfile
@@ -29,6 +30,7 @@ SERVED = ["127.0.0.1", "127.0.0.5", "10.77.0.1", "10.77.0.2"]
 NASES = ["10.77.1.1", "10.77.1.2", "10.77.1.3", "10.77.1.4"]
 NAS_SECRET, HOME_SECRET = b"nas-secret", b"home-secret"
 PATIENCE = 30
+BURST = 128
 SOCKETS, KNOWN = 256, 512
 CLOSE_ON_EXEC = 0o2000000
 WITHOUT_PROC = "mount -t tmpfs none /proc && exec \"$@\""
@@ -164,9 +166,7 @@ def test_beyond_the_bound(program, folder):
         asked = service.send(early, SERVED[1])
         forwarded = service.forwarded()
         for nas in NASES:
-            for port in range(1024, 65536):
-                with contextlib.suppress(OSError), bound(nas, port) as one:
-                    one.sendto(b"", (SERVED[2], PORT))
+            send_from_each_port(nas, SERVED[2])
         recent = service.send(late, SERVED[3])
         other = service.forwarded()
         with bound(NASES[0]) as last:
@@ -175,6 +175,16 @@ def test_beyond_the_bound(program, folder):
         hope("one that asked lately", service.answered_from(late, recent), SERVED[3])
         service.reply(forwarded)
         hope("one that is not kept", service.answered_from(early, asked), SERVED[2])
+
+
+def send_from_each_port(nas, address):
+    """An empty datagram of a NAS from each of its ports, no faster than it is received."""
+    with socket.socket(socket.AF_INET, socket.SOCK_RAW, socket.IPPROTO_UDP) as raw:
+        raw.bind((nas, 0))
+        for port in range(1, 65536):
+            raw.sendto(struct.pack("!HHHH", port, PORT, 8, 0), (address, 0))
+            if port % BURST == 0:
+                time.sleep(0.002)
 
 
 def test_strangers_change_nothing(program, folder):
@@ -289,9 +299,8 @@ def test_many_addresses(program, folder):
         with Service(program, folder) as service, bound(NASES[0]) as nas:
             told = {line.rpartition("=")[2] for line in service.told("address-unbound")}
             hope("how many are told", len(told), KNOWN - SOCKETS)
-            for address in [a for a in more if a not in told][:5] + SERVED:
-                if address not in told:
-                    hope(f"asked {address}", service.ask(nas, address), address)
+            for address in more[:5]:
+                hope(f"asked {address}", service.ask(nas, address), address)
     finally:
         change("del")
 

@@ -1,1 +1,2 @@
+pub mod FibTrie
 pub mod Wires

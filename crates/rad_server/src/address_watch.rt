@@ -3,12 +3,12 @@
 use crate::known_addresses::KnownAddresses;
 use crate::local_addresses::read_local_addresses;
 use rad_desk::Gate;
-use rad_tables::Moment;
 use std::alloc::Global;
 use std::rt::Files;
+use std::time::{Clock, Duration, Instant};
 
-/// How long it is at least from one look to the next, in milliseconds.
-const LOOK: u64 = 10_000;
+/// How long it is at least from one look to the next, in seconds.
+const LOOK: u64 = 10;
 
 /// Tells the gate of an address that this machine has later than the start.
 ///
@@ -16,31 +16,31 @@ const LOOK: u64 = 10_000;
 /// anew only after a datagram came there, where the front has nothing else to receive, and once in ten seconds at most.
 #[derive(Drop)]
 pub(crate) struct AddressWatch<'a, R, G> {
-    files: &'a R,
+    rt: &'a R,
     alloc: Global,
     gate: &'a G,
     known: KnownAddresses,
     /// Whether a datagram came to the socket of all addresses since the last look.
     has_come: bool,
-    /// When the next look may be, in milliseconds.
-    next: u64,
+    /// When the last look was, if there was one.
+    looked: Option<Instant>,
 }
 
 impl<'a, R, G> AddressWatch<'a, R, G> {
     /// These addresses are known, and no datagram came yet.
     pub(crate) fn new(
-        files: &'a R,
+        rt: &'a R,
         alloc: Global,
         gate: &'a G,
         known: KnownAddresses,
     ) -> AddressWatch<'a, R, G> {
         AddressWatch {
-            files,
+            rt,
             alloc,
             gate,
             known,
             has_come: false,
-            next: 0,
+            looked: None,
         }
     }
 
@@ -50,23 +50,33 @@ impl<'a, R, G> AddressWatch<'a, R, G> {
     }
 }
 
-impl<R: Files, G: Gate> AddressWatch<'_, R, G>
+impl<R: Clock + Files, G: Gate> AddressWatch<'_, R, G>
 where
     R::File: Drop,
 {
-    /// Looks for new addresses, where it is time.
-    pub(crate) fn look_if_due(&mut self, moment: Moment) {
-        let now = moment.get();
-        if self.has_come && now >= self.next {
+    /// Looks for new addresses, where it is time. The clock is read only where a datagram came to the socket of all addresses.
+    pub(crate) fn look_if_due(&mut self) {
+        if self.has_come && self.is_due() {
             self.has_come = false;
-            self.next = now.saturating_add(LOOK);
             self.look();
+        }
+    }
+
+    /// Whether there was no look for some time. There was none then where the clock fails.
+    fn is_due(&self) -> bool {
+        match &self.looked {
+            Some(last) => match last.elapsed(self.rt) {
+                Ok(passed) => passed >= Duration::from_secs(LOOK),
+                Err(_) => true,
+            },
+            None => true,
         }
     }
 
     /// Tells the gate of each address that is new.
     fn look(&mut self) {
-        let Ok(addresses) = read_local_addresses(self.files, self.alloc) else {
+        self.looked = Instant::now(self.rt).ok();
+        let Ok(addresses) = read_local_addresses(self.rt, self.alloc) else {
             return;
         };
         for address in &addresses {

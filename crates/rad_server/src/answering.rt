@@ -6,8 +6,8 @@ use crate::address_watch::AddressWatch;
 use crate::origins::Origins;
 use rad_desk::{Gate, Received};
 use rad_realms::Endpoint;
-use rad_tables::Moment;
 use std::rt::Files;
+use std::time::Clock;
 
 /// Shows the front's sockets as one, and keeps which of them each client asked.
 #[derive(Drop)]
@@ -36,12 +36,12 @@ impl<'a, R, G> Answering<'a, R, G> {
     }
 }
 
-impl<R: Files, G: Gate> Answering<'_, R, G>
+impl<R: Clock + Files, G: Gate> Answering<'_, R, G>
 where
     R::File: Drop,
 {
     /// The same receive, as if there were one socket. Where nothing came, there is time to look for new addresses.
-    pub(crate) fn received(&mut self, received: Received, moment: Moment) -> Received
+    pub(crate) fn received(&mut self, received: Received) -> Received
         requires { FitsRoom received }
         ensures { FitsRoom result }
     {
@@ -61,7 +61,7 @@ where
                 }
             }
             Received::Nothing => {
-                self.watch.look_if_due(moment);
+                self.watch.look_if_due();
                 Received::Nothing
             }
             Received::Fault => Received::Fault,

@@ -1,42 +1,73 @@
 //! The addresses of this machine, as Linux lists them.
 
-ghost use Rattle.std.specs.Prelude.{◌≡◌, IfOk};
-ghost use Rattle.rad_server.specs.FibTrie.{local_addresses};
+ghost use Rattle.std.specs.Prelude.{◌≡◌, ◌<◌, ◌++◌, IfOk, option_map, option_copied};
+ghost use Rattle.rad_realms.specs.Address.{around_first};
+ghost use Rattle.rad_server.specs.FibTrie.{named_in, is_local, local_by, local_addresses};
 
+use rad_realms::read_address;
 use std::alloc::{AllocError, Global};
-use std::net::Ipv4Addr;
-
-/// Begins the line of an address.
-const ADDRESS: &str = "|-- ";
-
-/// Begins a line below that of an address, where it is one of this machine.
-const LOCAL: &str = "/32 host LOCAL";
 
 /// The single addresses of this machine that a text of /proc/net/fib_trie lists, in its order. It may list one twice.
 ///
 /// # Errors
 ///
 /// Where memory is refused.
-pub(crate) fn list_local(alloc: Global, text: &str) -> Result<Vec<[u8; 4]>, AllocError> {
+pub(crate) fn list_local(alloc: Global, text: &str) -> Result<Vec<[u8; 4]>, AllocError>
+    ensures { IfOk result (λ addresses. addresses.items ≡ local_addresses text.now) }
+{
     let mut listed = Vec::new(alloc);
-    let mut last = None;
+    let mut named = None;
     for line in text.lines() {
         let line = line.trim_start();
-        if let Some(address) = line.strip_prefix(ADDRESS) {
-            last = parse_address(address);
-        } else if let Some(address) = last
-            && line.starts_with(LOCAL)
-        {
-            listed.push(address)?;
+        match name_in(line) {
+            Some(address) => named = read_address(address),
+            None => add_if_local(&mut listed, named, line)?,
         }
     }
     Ok(listed)
 }
 
-/// The octets of an address in a text.
-fn parse_address(text: &str) -> Option<[u8; 4]> {
-    match text.parse::<Ipv4Addr>() {
-        Ok(address) => Some(address.octets()),
-        Err(_) => None,
+/// The text of the address that a line names, if it names one.
+#[tactic(auto, unfolding(crate::specs::FibTrie::named_in))]
+fn name_in(line: &str) -> Option<&str>
+    ensures { option_copied result ≡ named_in line.now }
+{
+    let (sign, address) = split_around(line, ' ')?;
+    if sign == "|--" { Some(address) } else { None }
+}
+
+/// Splits a text around the first delimiter, an ASCII character.
+#[tactic(auto, unfolding(rad_realms::specs::Address::around_first))]
+fn split_around(text: &str, delimiter: char) -> Option<(&str, &str)>
+    requires { delimiter < 128 }
+    ensures { option_map (λ parts. (parts.0.now, parts.1.now)) result ≡ around_first delimiter text.now }
+{
+    text.split_once(delimiter)
+}
+
+/// Adds the address that was named last, where a line says that it is local.
+///
+/// # Errors
+///
+/// Where memory is refused.
+fn add_if_local(
+    listed: &mut Vec<[u8; 4]>,
+    named: Option<[u8; 4]>,
+    line: &str,
+) -> Result<(), AllocError>
+    ensures { IfOk result (λ _. listed.new.items ≡ listed.old.items ++ local_by named (is_local line.now)) }
+{
+    let told = tells_local(line);
+    match named {
+        Some(address) if told => Ok(listed.push(address)?),
+        _ => Ok(()),
     }
+}
+
+/// Whether a line says that the address above it is local.
+#[tactic(auto, unfolding(crate::specs::FibTrie::is_local))]
+fn tells_local(line: &str) -> bool
+    ensures { result ≡ is_local line.now }
+{
+    line.as_bytes().starts_with(b"/32 host LOCAL")
 }

@@ -47,7 +47,9 @@ pub(crate) fn bind_beside(endpoint: Endpoint) -> Result<UdpSocket> {
 fn new_socket() -> Result<UdpSocket> {
     let kind = SOCK_DGRAM | SOCK_NONBLOCK | SOCK_CLOEXEC;
     let descriptor = unsafe { socket(AF_INET, kind, 0) };
-    check(descriptor)?;
+    if descriptor < 0 {
+        return Err(last_error());
+    }
     Ok(unsafe { UdpSocket::from_raw_fd(descriptor) })
 }
 
@@ -74,7 +76,12 @@ fn option_value(number: i32) -> [u8; 16] {
 /// The system's error where a call answered less than nothing.
 fn check(answer: i32) -> Result<()> {
     if answer < 0 {
-        return Err(Error::from_raw_os_error(os::errno()));
+        return Err(last_error());
     }
     Ok(())
+}
+
+/// Why the last call of the system failed.
+fn last_error() -> Error {
+    Error::from_raw_os_error(os::errno())
 }

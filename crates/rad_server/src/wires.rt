@@ -76,7 +76,7 @@ where
     }
 
     fn receive(&mut self, datagram: &mut [u8; 4096]) -> Received {
-        match self.sockets.receive(self.moment, datagram) {
+        match self.sockets.receive(datagram) {
             Received::Got {
                 address,
                 port,

@@ -7,10 +7,10 @@ use crate::notifying::Notifier;
 use crate::polling::PolledSockets;
 use rad_desk::{Delivery, Gate, Received};
 use rad_realms::Endpoint;
-use rad_tables::Moment;
 use std::alloc::AllocError;
 use std::net::{Ipv4Addr, SocketAddr, SocketAddrV4};
 use std::rt::Files;
+use std::time::Clock;
 
 /// The sockets of a worker. Those of a lane have the numbers of its source ports. The front's are all 0, where there are
 /// several: each answers what came to it.
@@ -51,17 +51,17 @@ impl<'a, R, G> WorkerSockets<'a, R, G> {
     }
 }
 
-impl<R: Files, G: Gate> WorkerSockets<'_, R, G>
+impl<R: Clock + Files, G: Gate> WorkerSockets<'_, R, G>
 where
     R::File: Drop,
 {
-    /// Receives a datagram, and waits for one where there is nothing else to do. It is this moment.
-    pub(crate) fn receive(&mut self, moment: Moment, room: &mut [u8; 4096]) -> Received
+    /// Receives a datagram, and waits for one where there is nothing else to do.
+    pub(crate) fn receive(&mut self, room: &mut [u8; 4096]) -> Received
         ensures { FitsRoom result }
     {
         let received = self.polled.receive(room);
         match &mut self.answering {
-            Some(answering) => answering.received(received, moment),
+            Some(answering) => answering.received(received),
             None => received,
         }
     }
