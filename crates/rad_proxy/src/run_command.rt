@@ -4,6 +4,8 @@ ghost use denote.Param.Send.{IsSync};
 
 use crate::faults::Fault;
 use crate::loading::load;
+use crate::reasons::tell_reason;
+use crate::told_streams::ToldStream;
 use libc::STDIN_FILENO;
 use rad_console::EndLine;
 use rad_realms::Config;
@@ -32,8 +34,8 @@ where
     R::File: Drop,
     F: ReplaceFile + Sync,
 {
-    let config = load(rt, alloc, path)?;
     let log = open_log(rt, rt);
+    let config = load(rt, alloc, &log, path)?;
     let Ok(file) = find_counter_file(rt, alloc, &log) else {
         return Err(Fault::Memory);
     };
@@ -47,10 +49,24 @@ where
         telemetry: &telemetry,
         reporter: telemetry.reporter(&file, files),
     };
-    match serve(service, rt.reader(), io::writer(rt)) {
+    let reader = ToldStream::new(rt.reader(), "input-fault", &log);
+    let writer = ToldStream::new(io::writer(rt), "output-fault", &log);
+    match serve(service, reader, writer) {
         Ok(end) => Ok(end),
-        Err(fault) => Err(Fault::from(fault)),
+        Err(fault) => Err(fault_told(&log, fault)),
     }
+}
+
+/// What ends a service ends the program. The log is told of a thread that can't be had; the other reasons were told as they came.
+fn fault_told<L: Log>(log: &L, fault: ServeFault) -> Fault {
+    if let ServeFault::Threads = fault {
+        tell_reason(
+            log,
+            "thread-fault",
+            &"the system has no thread more, or no memory for one",
+        );
+    }
+    Fault::from(fault)
 }
 
 /// A configuration that is served, and what tells how that goes.

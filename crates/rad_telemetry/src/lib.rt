@@ -29,6 +29,7 @@ mod packet_words;
 mod peer_text;
 mod reporter;
 mod telemetry;
+mod telling;
 mod workers;
 
 pub use counter_file::{CounterFile, ReplaceFile, RuntimeFiles, find_counter_file};
@@ -41,7 +42,8 @@ pub use log::sink::Discard;
 pub use log::span::Spans;
 pub use log::{LevelFilter, Log, Logged, Metadata, Record};
 pub use metric::Metric;
-pub use packet_words::PacketWords;
+pub use packet_words::{Escaped, PacketWords};
 pub use reporter::{Reporter, StopFlag, report};
 pub use telemetry::Telemetry;
+pub use telling::{open_log_if_asked, tell_error, tell_warning};
 pub use workers::{worker_name, worker_of_lane, worker_place};
