@@ -34,6 +34,8 @@ SCRIPTS = {
     "growths": ("hostile/growths.py", "PROGRAM"),
     "mutations": ("hostile/mutations.py", "PROGRAM"),
     "unreachable": ("hostile/unreachable.py", "PROGRAM"),
+    "descriptors": ("hostile/descriptors.py", "PROGRAM"),
+    "reasons": ("hostile/reasons.py", "PROGRAM"),
     "service": ("service/run.py", "PROGRAM"),
     "soak": ("hostile/soak.py", "PROGRAM"),
 }

@@ -1,7 +1,6 @@
 //! The configuration in a file.
 
-ghost use Rattle.std.specs.Prelude.{IfOk, None, Ok};
-ghost use Rattle.rad_console.specs.Configurations.{ReadsOctets};
+ghost use Rattle.std.specs.Prelude.{IfOk, None};
 ghost use Rattle.rad_proxy.specs.Configurations.{IsLoaded};
 
 use crate::faults::Fault;
@@ -48,15 +47,8 @@ pub fn load_text<R: Read + Drop, L: Log>(
         Ok(text) => text,
         Err(error) => return Err(file_fault(alloc, log, path, &error)),
     };
-    read_told(alloc, log, text.as_slice())
-}
-
-/// Reads the configuration of a text, of which the log is told.
-fn read_told<L: Log>(alloc: Global, log: &L, text: &[u8]) -> Result<Config, Fault>
-    ensures { IfOk result (λ config. ReadsOctets text.now (Ok config)) }
-{
-    tell_text(alloc, log, text);
-    match read_configuration(alloc, text) {
+    tell_text(alloc, log, &text);
+    match read_configuration(alloc, text.as_slice()) {
         Ok(config) => {
             tell_homes(alloc, log, &config);
             Ok(config)
