@@ -12,7 +12,6 @@ mod reasons;
 mod run_command;
 #[cfg(test)]
 mod tests;
-mod told_streams;
 mod words;
 
 use check_command::check_file;
@@ -20,8 +19,7 @@ use descriptors::open_standard;
 use faults::Fault;
 use rad_console::EndLine;
 use rad_replay::replay;
-use rad_telemetry::{Log, ReplaceFile, RuntimeFiles, open_log_if_asked};
-use reasons::tell_reason;
+use rad_telemetry::{Log, ReplaceFile, RuntimeFiles, open_log_if_asked, tell_reason};
 use run_command::serve_file;
 use std::alloc::{AllocGlobal, Global};
 use std::env::{self, Env};

@@ -5,7 +5,7 @@ ghost use Rattle.std.specs.Prelude.{◌≡◌};
 use crate::loading::MOST_FILE_OCTETS;
 use rad_advice::{UnreadKeys, advise_homes, syntax_error, unread_keys};
 use rad_realms::Config;
-use rad_telemetry::{Escaped, Log, tell_error, tell_warning};
+use rad_telemetry::{Escaped, Log, tell_error, tell_reason, tell_warning, warn_of_reason};
 use std::alloc::Global;
 use std::fmt::{self, Display};
 use std::io::{Error, ErrorKind};
@@ -65,29 +65,6 @@ fn write_file_reason<W: fmt::Write>(f: &mut fmt::Formatter<W>, error: &Error) ->
     }
 }
 
-/// A log line of an event that has nothing but a reason.
-struct ReasonLine<'a, D> {
-    event: &'a str,
-    reason: &'a D,
-}
-
-impl<D> Drop for ReasonLine<'_, D> {
-    fn drop(self) {
-        let ReasonLine {
-            event: _,
-            reason: _,
-        } = self;
-    }
-}
-
-impl<D: Display> Display for ReasonLine<'_, D> {
-    fn fmt<W: fmt::Write>(&self, f: &mut fmt::Formatter<W>) -> fmt::Result {
-        let event = self.event;
-        let reason = self.reason;
-        write!(f, "event={event} reason=\"{reason}\"")
-    }
-}
-
 /// The log line of so many keys that are unread and not told one by one.
 #[derive(Clone, Copy)]
 struct MoreKeysLine(usize);
@@ -97,11 +74,6 @@ impl Display for MoreKeysLine {
         let count = self.0;
         write!(f, "event=unread-keys count={count}")
     }
-}
-
-/// Tells why the program ends, or will end: an event of this name, for this reason.
-pub fn tell_reason<L: Log, D: Display>(log: &L, event: &str, reason: &D) {
-    tell_error(log, &ReasonLine { event, reason });
 }
 
 /// Tells why the file of this path can't be read.
@@ -122,9 +94,8 @@ pub fn tell_text<L: Log>(alloc: Global, log: &L, text: &[u8]) {
 
 /// Tells of keys that nobody reads.
 fn tell_keys<L: Log>(log: &L, keys: &UnreadKeys) {
-    let event = "unread-key";
-    for reason in keys.listed() {
-        tell_warning(log, &ReasonLine { event, reason });
+    for key in keys.listed() {
+        warn_of_reason(log, "unread-key", key);
     }
     if keys.more() > 0 {
         tell_warning(log, &MoreKeysLine(keys.more()));
@@ -134,10 +105,9 @@ fn tell_keys<L: Log>(log: &L, keys: &UnreadKeys) {
 /// Tells of home servers that send the proxy its own requests, or that nothing can be sent to. Where memory is refused it tells
 /// nothing.
 pub fn tell_homes<L: Log>(alloc: Global, log: &L, config: &Config) {
-    let event = "home-address";
     if let Ok(advice) = advise_homes(alloc, config, &[]) {
-        for reason in advice.as_slice() {
-            tell_warning(log, &ReasonLine { event, reason });
+        for home in advice.as_slice() {
+            warn_of_reason(log, "home-address", home);
         }
     }
 }

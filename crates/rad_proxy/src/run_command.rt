@@ -4,15 +4,13 @@ ghost use denote.Param.Send.{IsSync};
 
 use crate::faults::Fault;
 use crate::loading::load;
-use crate::reasons::tell_reason;
-use crate::told_streams::ToldStream;
 use libc::STDIN_FILENO;
 use rad_console::EndLine;
 use rad_realms::Config;
 use rad_server::{ServeFault, run};
 use rad_telemetry::{
-    CounterFile, Log, ReplaceFile, Reporter, StopFlag, Telemetry, find_counter_file, open_log,
-    report,
+    CounterFile, Log, ReplaceFile, Reporter, StopFlag, Telemetry, ToldStream, find_counter_file,
+    open_log, report, tell_reason,
 };
 use std::alloc::{AllocError, AllocGlobal, Global};
 use std::io::{self, Read, Write};

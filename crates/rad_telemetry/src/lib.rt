@@ -30,6 +30,7 @@ mod peer_text;
 mod reporter;
 mod telemetry;
 mod telling;
+mod told_stream;
 mod workers;
 
 pub use counter_file::{CounterFile, ReplaceFile, RuntimeFiles, find_counter_file};
@@ -45,5 +46,6 @@ pub use metric::Metric;
 pub use packet_words::{Escaped, PacketWords};
 pub use reporter::{Reporter, StopFlag, report};
 pub use telemetry::Telemetry;
-pub use telling::{open_log_if_asked, tell_error, tell_warning};
+pub use telling::{open_log_if_asked, tell_error, tell_reason, tell_warning, warn_of_reason};
+pub use told_stream::ToldStream;
 pub use workers::{worker_name, worker_of_lane, worker_place};

@@ -1,7 +1,7 @@
 //! Streams whose failures are told.
 
-use crate::reasons::tell_reason;
-use rad_telemetry::Log;
+use crate::telling::tell_reason;
+use log::Log;
 use std::io::{self, ErrorKind, Read, Write};
 
 /// A reader or a writer. Its first failure is logged as it comes, but for one that an interrupt made.
