@@ -40,6 +40,7 @@ SCRIPTS = {
     "unreachable": ("hostile/unreachable.py", "PROGRAM"),
     "telling": ("hostile/telling.py", "PROGRAM"),
     "ending": ("hostile/ending.py", "PROGRAM"),
+    "advice": ("hostile/advice.py", "PROGRAM"),
     "reasons": ("hostile/reasons.py", "PROGRAM"),
     "service": ("service/run.py", "PROGRAM"),
     "soak": ("hostile/soak.py", "PROGRAM"),

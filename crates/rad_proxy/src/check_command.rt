@@ -8,6 +8,7 @@ use crate::faults::Fault;
 use crate::loading::{MOST_FILE_OCTETS, load, load_text};
 use rad_console::CountLine;
 use rad_realms::Config;
+use rad_telemetry::Log;
 use std::alloc::Global;
 use std::io::Read;
 use std::rt::Files;
@@ -17,20 +18,30 @@ use std::rt::Files;
 /// # Errors
 ///
 /// As `load`.
-pub fn check_file<R: Files>(rt: &R, alloc: Global, path: &str) -> Result<CountLine, Fault>
+pub fn check_file<R: Files, L: Log>(
+    rt: &R,
+    alloc: Global,
+    log: &L,
+    path: &str,
+) -> Result<CountLine, Fault>
 where
     R::File: Drop,
     ensures { IfOk result (λ line. IsCounted None MOST_FILE_OCTETS line) }
 {
-    let config = load(rt, alloc, path)?;
+    let config = load(rt, alloc, log, path)?;
     Ok(count_of(&config))
 }
 
 /// The same of the text that a reader gives, which is the file of this path.
-pub fn check_text<R: Read + Drop>(alloc: Global, path: &str, file: R) -> Result<CountLine, Fault>
+pub fn check_text<R: Read + Drop, L: Log>(
+    alloc: Global,
+    log: &L,
+    path: &str,
+    file: R,
+) -> Result<CountLine, Fault>
     ensures { IfOk result (λ line. IsCounted (R.remaining file) MOST_FILE_OCTETS line) }
 {
-    let config = load_text(alloc, path, file)?;
+    let config = load_text(alloc, log, path, file)?;
     Ok(count_of(&config))
 }
 

@@ -1,5 +1,6 @@
 //! The faults that end the program.
 
+use crate::file_name::FileName;
 use rad_realms::{ConfigFault, Endpoint};
 use rad_replay::ReplayFault;
 use rad_server::ServeFault;
@@ -14,7 +15,7 @@ pub enum Fault {
     Input,
     /// The file can't be read, or is too long.
     #[error("file: {0}")]
-    File(String),
+    File(FileName),
     #[error("configuration: {0}")]
     Configuration(ConfigFault),
     /// The socket for the clients can't be had.

@@ -6,7 +6,9 @@
 mod check_command;
 mod descriptors;
 mod faults;
+mod file_name;
 mod loading;
+mod reasons;
 mod run_command;
 #[cfg(test)]
 mod tests;
@@ -17,7 +19,7 @@ use descriptors::open_standard;
 use faults::Fault;
 use rad_console::EndLine;
 use rad_replay::replay;
-use rad_telemetry::{ReplaceFile, RuntimeFiles};
+use rad_telemetry::{Log, ReplaceFile, RuntimeFiles, open_log_if_asked, tell_reason};
 use run_command::serve_file;
 use std::alloc::{AllocGlobal, Global};
 use std::env::{self, Env};
@@ -59,7 +61,10 @@ where
     let alloc = rt.alloc();
     match read_task(rt, alloc)? {
         Task::Replay => status_of_replay(rt, alloc, rt.reader(), io::writer(rt)),
-        Task::Check(file) => print_counts(rt, alloc, file.as_str()),
+        Task::Check(file) => {
+            let log = open_log_if_asked(rt, rt);
+            print_counts(rt, alloc, &log, file.as_str())
+        }
         Task::Run(file) => {
             let end = serve_file(rt, files, alloc, file.as_str())?;
             Ok(status_at(&end))
@@ -87,14 +92,22 @@ fn status_of_replay<R: Wait, I: Read + Drop, O: Write + Drop>(
 }
 
 /// Prints how much the configuration in a file has, and gives the status.
-fn print_counts<R: Files + Print>(rt: &R, alloc: Global, file: &str) -> Result<u8, Fault>
+fn print_counts<R: Files + Print, L: Log>(
+    rt: &R,
+    alloc: Global,
+    log: &L,
+    file: &str,
+) -> Result<u8, Fault>
 where
     R::File: Drop,
 {
-    let counts = check_file(rt, alloc, file)?;
+    let counts = check_file(rt, alloc, log, file)?;
     match println!(rt; "{counts}") {
         Ok(()) => Ok(0),
-        Err(_) => Err(Fault::Output),
+        Err(error) => {
+            tell_reason(log, "output-fault", &error);
+            Err(Fault::Output)
+        }
     }
 }
 

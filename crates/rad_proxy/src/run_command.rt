@@ -9,8 +9,8 @@ use rad_console::EndLine;
 use rad_realms::Config;
 use rad_server::{Descriptors, ServeFault, run};
 use rad_telemetry::{
-    CounterFile, Log, ReplaceFile, Reporter, StopFlag, Telemetry, find_counter_file, open_log,
-    report,
+    CounterFile, Log, ReplaceFile, Reporter, StopFlag, Telemetry, ToldStream, find_counter_file,
+    open_log, report, tell_reason,
 };
 use std::alloc::{AllocError, AllocGlobal, Global};
 use std::io::{self, Read, Write};
@@ -32,8 +32,8 @@ where
     R::File: Drop,
     F: ReplaceFile + Sync,
 {
-    let config = load(rt, alloc, path)?;
     let log = open_log(rt, rt);
+    let config = load(rt, alloc, &log, path)?;
     let Ok(file) = find_counter_file(rt, alloc, &log) else {
         return Err(Fault::Memory);
     };
@@ -47,10 +47,24 @@ where
         telemetry: &telemetry,
         reporter: telemetry.reporter(&file, files),
     };
-    match serve(service, rt.reader(), io::writer(rt)) {
+    let reader = ToldStream::new(rt.reader(), "input-fault", &log);
+    let writer = ToldStream::new(io::writer(rt), "output-fault", &log);
+    match serve(service, reader, writer) {
         Ok(end) => Ok(end),
-        Err(fault) => Err(Fault::from(fault)),
+        Err(fault) => Err(fault_told(&log, fault)),
     }
+}
+
+/// What ends a service ends the program. The log is told of a thread that can't be had; the other reasons were told as they came.
+fn fault_told<L: Log>(log: &L, fault: ServeFault) -> Fault {
+    if let ServeFault::Threads = fault {
+        tell_reason(
+            log,
+            "thread-fault",
+            &"the system has no thread more, or no memory for one",
+        );
+    }
+    Fault::from(fault)
 }
 
 /// A configuration that is served, and what tells how that goes.

@@ -5,6 +5,7 @@ use crate::faults::Fault;
 use crate::words::{Task, read_words};
 use rad_desk::Worker;
 use rad_server::ServeFault;
+use rad_telemetry::Discard;
 use std::alloc::Global;
 use std::io::{self, Error, ErrorKind, Read};
 use std::test::Fail;
@@ -50,7 +51,7 @@ fn configuration() -> &'static str {
 
 #[test]
 fn refused_memory_ends_a_check(rt: HostRuntime) -> Result<(), Fail> {
-    let checked = check_text(rt.alloc(), "a file", Starved);
+    let checked = check_text(rt.alloc(), &Discard, "a file", Starved);
     assert!(rt; matches!(checked, Err(Fault::Memory)));
     Ok(())
 }
@@ -64,7 +65,7 @@ fn the_longest_file_is_checked(rt: HostRuntime) -> Result<(), Fail> {
             text: text.as_bytes(),
             count,
         };
-        match check_text(alloc, "a file", padded) {
+        match check_text(alloc, &Discard, "a file", padded) {
             Ok(counts) => {
                 assert!(rt; is_read, "{count} octets");
                 assert_eq!(rt; counts.clients, 1);

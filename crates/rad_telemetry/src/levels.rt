@@ -23,6 +23,12 @@ pub fn level_of(word: &str) -> Option<LevelFilter>
     }
 }
 
+/// Whether the environment has the variable that names the level.
+pub fn names_level(env: &impl Env) -> bool {
+    let mut room = [0; ROOM];
+    !matches!(env.var(LEVEL, &mut room), Err(FillError::NotPresent))
+}
+
 /// The level that the environment names, and `Info` where it names none. It is none where the variable is no level. It
 /// takes no memory.
 pub fn read_level(env: &impl Env) -> Option<LevelFilter> {

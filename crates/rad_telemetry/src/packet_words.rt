@@ -30,9 +30,10 @@ pub struct SessionWord<'a>(pub &'a [u8]);
 #[derive(Clone, Copy)]
 pub struct RealmWord<'a>(pub &'a [u8]);
 
-/// The octets of a text: those that are printed as they are, and the others by two hexadecimal digits behind a `%`.
+/// The octets of a text as a log line has them: those of ASCII text as they are, but for spaces, `%`, `"` and `=`, and all others
+/// by two hexadecimal digits behind a `%`.
 #[derive(Clone, Copy)]
-struct Escaped<'a>(&'a [u8]);
+pub struct Escaped<'a>(pub &'a [u8]);
 
 impl<'a> PacketWords<'a> {
     /// The words of a packet.

@@ -1,0 +1,47 @@
+//! A file's name as it is printed.
+
+use std::alloc::{AllocError, Global};
+use std::fmt;
+
+/// The name of a file. Where it is printed, its control characters, line ends among them, stand octet by octet as `%` and two
+/// hexadecimal digits, so that it is one line; all else is printed as it is.
+#[derive(Debug, Drop)]
+pub struct FileName(String);
+
+impl FileName {
+    /// The file of this path.
+    ///
+    /// # Errors
+    ///
+    /// Where memory is refused.
+    pub fn new(alloc: Global, path: &str) -> Result<FileName, AllocError> {
+        Ok(FileName(String::from_str(alloc, path)?))
+    }
+
+    /// The path, as it was given.
+    pub fn as_str(&self) -> &str {
+        self.0.as_str()
+    }
+}
+
+impl fmt::Display for FileName {
+    fn fmt<W: fmt::Write>(&self, f: &mut fmt::Formatter<W>) -> fmt::Result {
+        for character in self.0.chars() {
+            if character.is_control() {
+                write_octets(f, character)?;
+            } else {
+                f.write_char(character)?;
+            }
+        }
+        Ok(())
+    }
+}
+
+/// Writes the octets of a character by two hexadecimal digits each.
+fn write_octets<W: fmt::Write>(f: &mut fmt::Formatter<W>, character: char) -> fmt::Result {
+    let mut room = [0; 4];
+    for octet in character.encode_utf8(&mut room).as_bytes() {
+        write!(f, "%{:x}{:x}", octet / 16, octet % 16)?;
+    }
+    Ok(())
+}

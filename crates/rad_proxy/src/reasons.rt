@@ -1,0 +1,113 @@
+//! Why the program ends, and what an operator should know of a configuration: log lines before the line of a fault.
+
+ghost use Rattle.std.specs.Prelude.{◌≡◌};
+
+use crate::loading::MOST_FILE_OCTETS;
+use rad_advice::{UnreadKeys, advise_homes, syntax_error, unread_keys};
+use rad_realms::Config;
+use rad_telemetry::{Escaped, Log, tell_error, tell_reason, tell_warning, warn_of_reason};
+use std::alloc::Global;
+use std::fmt::{self, Display};
+use std::io::{Error, ErrorKind};
+
+/// Why a file can't be read.
+#[derive(Clone, Copy, Debug, PartialEq, Eq)]
+pub enum FileReason {
+    /// There is no file of this name.
+    Absent,
+    Folder,
+    /// It is longer than [`MOST_FILE_OCTETS`].
+    TooLong,
+    /// The system's own reason says it.
+    System,
+}
+
+impl FileReason {
+    /// The reason that an error of this kind tells.
+    pub fn of(kind: ErrorKind) -> FileReason
+        ensures absent { kind ≡ ErrorKind.NotFound → result ≡ FileReason.Absent }
+        ensures folder { kind ≡ ErrorKind.IsADirectory → result ≡ FileReason.Folder }
+        ensures long { kind ≡ ErrorKind.FileTooLarge → result ≡ FileReason.TooLong }
+        ensures other { kind ≡ ErrorKind.PermissionDenied → result ≡ FileReason.System }
+    {
+        match kind {
+            ErrorKind::NotFound => FileReason::Absent,
+            ErrorKind::IsADirectory => FileReason::Folder,
+            ErrorKind::FileTooLarge => FileReason::TooLong,
+            _ => FileReason::System,
+        }
+    }
+}
+
+/// The log line of a file that can't be read.
+#[derive(Clone, Copy)]
+struct FileLine<'a> {
+    path: &'a str,
+    error: &'a Error,
+}
+
+impl Display for FileLine<'_> {
+    fn fmt<W: fmt::Write>(&self, f: &mut fmt::Formatter<W>) -> fmt::Result {
+        let path = Escaped(self.path.as_bytes());
+        write!(f, "event=file-fault file={path} reason=\"")?;
+        write_file_reason(f, self.error)?;
+        f.write_str("\"")
+    }
+}
+
+/// Writes why a file can't be read, in words.
+fn write_file_reason<W: fmt::Write>(f: &mut fmt::Formatter<W>, error: &Error) -> fmt::Result {
+    match FileReason::of(error.kind()) {
+        FileReason::Absent => f.write_str("there is no such file"),
+        FileReason::Folder => f.write_str("it is a folder"),
+        FileReason::TooLong => write!(f, "it is longer than {MOST_FILE_OCTETS} octets"),
+        FileReason::System => write!(f, "{error}"),
+    }
+}
+
+/// The log line of so many keys that are unread and not told one by one.
+#[derive(Clone, Copy)]
+struct MoreKeysLine(usize);
+
+impl Display for MoreKeysLine {
+    fn fmt<W: fmt::Write>(&self, f: &mut fmt::Formatter<W>) -> fmt::Result {
+        let count = self.0;
+        write!(f, "event=unread-keys count={count}")
+    }
+}
+
+/// Tells why the file of this path can't be read.
+pub fn tell_file<L: Log>(log: &L, path: &str, error: &Error) {
+    tell_error(log, &FileLine { path, error });
+}
+
+/// Tells where a text stops being TOML, and which of its keys nobody reads. Where memory is refused it tells nothing.
+pub fn tell_text<L: Log>(alloc: Global, log: &L, text: &[u8]) {
+    if let Ok(Some(error)) = syntax_error(alloc, text) {
+        tell_reason(log, "no-toml", &error);
+        return;
+    }
+    if let Ok(keys) = unread_keys(alloc, text) {
+        tell_keys(log, &keys);
+    }
+}
+
+/// Tells of keys that nobody reads.
+fn tell_keys<L: Log>(log: &L, keys: &UnreadKeys) {
+    for key in keys.listed() {
+        warn_of_reason(log, "unread-key", key);
+    }
+    if keys.more() > 0 {
+        tell_warning(log, &MoreKeysLine(keys.more()));
+    }
+}
+
+/// Tells of home servers that send the proxy its own requests, or that nothing can be sent to. Where memory is refused it tells
+/// nothing.
+pub fn tell_homes<L: Log>(alloc: Global, log: &L, config: &Config) {
+    if let Ok(advice) = advise_homes(alloc, config, &[]) {
+        for home in advice.as_slice() {
+            warn_of_reason(log, "home-address", home);
+        }
+    }
+}

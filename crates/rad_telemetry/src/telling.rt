@@ -1,0 +1,61 @@
+//! What the program itself logs: why it ends, and what an operator should know of the configuration.
+
+use crate::error_lines::{ErrorLines, open_log};
+use crate::levels::names_level;
+use libc::{STDERR_FILENO, isatty};
+use log::{LevelFilter, Log, Logged, error, warn};
+use std::env::Env;
+use std::fmt::{self, Display};
+use std::io::Eprint;
+
+/// Logs a text at `error`.
+pub fn tell_error<L: Log, D: Display>(log: &L, text: &D) {
+    error!(log; "{text}");
+}
+
+/// Logs a text at `warn`.
+pub fn tell_warning<L: Log, D: Display>(log: &L, text: &D) {
+    warn!(log; "{text}");
+}
+
+/// The log as [`open_log`] opens it, where standard error is a terminal or the environment has `RAD_PROXY_LOG`; else one that
+/// takes nothing, so that whoever compares what is printed finds the line of a fault alone.
+pub fn open_log_if_asked<E: Env, R: Eprint>(env: &E, rt: R) -> Logged<(), ErrorLines<R>> {
+    if isatty(STDERR_FILENO) == 1 || names_level(env) {
+        return open_log(env, rt);
+    }
+    Logged::new((), LevelFilter::Off, ErrorLines::new(rt))
+}
+
+/// Logs an event of this name at `error`, which has nothing but a reason.
+pub fn tell_reason<L: Log, D: Display>(log: &L, event: &str, reason: &D) {
+    tell_error(log, &ReasonLine { event, reason });
+}
+
+/// The same at `warn`.
+pub fn warn_of_reason<L: Log, D: Display>(log: &L, event: &str, reason: &D) {
+    tell_warning(log, &ReasonLine { event, reason });
+}
+
+/// A log line of an event that has nothing but a reason.
+struct ReasonLine<'a, D> {
+    event: &'a str,
+    reason: &'a D,
+}
+
+impl<D> Drop for ReasonLine<'_, D> {
+    fn drop(self) {
+        let ReasonLine {
+            event: _,
+            reason: _,
+        } = self;
+    }
+}
+
+impl<D: Display> Display for ReasonLine<'_, D> {
+    fn fmt<W: fmt::Write>(&self, f: &mut fmt::Formatter<W>) -> fmt::Result {
+        let event = self.event;
+        let reason = self.reason;
+        write!(f, "event={event} reason=\"{reason}\"")
+    }
+}

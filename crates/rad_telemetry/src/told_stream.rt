@@ -1,0 +1,61 @@
+//! Streams whose failures are told.
+
+use crate::telling::tell_reason;
+use log::Log;
+use std::io::{self, ErrorKind, Read, Write};
+
+/// A reader or a writer. Its first failure is logged as it comes, but for one that an interrupt made.
+#[derive(Drop)]
+pub struct ToldStream<'a, S: Drop, L> {
+    stream: S,
+    /// The event that a failure is told as.
+    event: &'a str,
+    log: &'a L,
+    is_told: bool,
+}
+
+impl<'a, S: Drop, L: Log> ToldStream<'a, S, L> {
+    /// Has the first failure of a stream told as an event of this name.
+    pub fn new(stream: S, event: &'a str, log: &'a L) -> ToldStream<'a, S, L> {
+        ToldStream {
+            stream,
+            event,
+            log,
+            is_told: false,
+        }
+    }
+
+    /// Tells of a failure, where it is the first.
+    fn tell(&mut self, error: &io::Error) {
+        if !self.is_told && error.kind() != ErrorKind::Interrupted {
+            self.is_told = true;
+            tell_reason(self.log, self.event, error);
+        }
+    }
+}
+
+impl<S: Read + Drop, L: Log> Read for ToldStream<'_, S, L> {
+    ghost remaining = { λ s. S.remaining s.stream };
+
+    fn read(&mut self, buf: &mut [u8]) -> io::Result<usize> {
+        let got = self.stream.read(buf);
+        if let Err(error) = &got {
+            self.tell(error);
+        }
+        got
+    }
+}
+
+impl<S: Write + Drop, L: Log> Write for ToldStream<'_, S, L> {
+    fn write(&mut self, buf: &[u8]) -> io::Result<usize> {
+        let put = self.stream.write(buf);
+        if let Err(error) = &put {
+            self.tell(error);
+        }
+        put
+    }
+
+    fn flush(&mut self) -> io::Result<()> {
+        self.stream.flush()
+    }
+}
