@@ -11,3 +11,4 @@ pub mod Sends
 pub mod Responses
 pub mod Returning
 pub mod OutletAfterTurn
+pub mod MarksCounted

@@ -1,6 +1,6 @@
 //! The request by which a home server was taken to be down.
 
-ghost use Rattle.std.specs.Prelude.{◌≡◌, ◌<◌, MatchOption, take, length, ◌≤◌};
+ghost use Rattle.std.specs.Prelude.{◌≡◌, ◌<◌, ◌≤◌, ◌++◌, length, take, drop, MatchOption};
 ghost use Rattle.rad_lane.specs.Dues.{NoneSpent};
 ghost use Rattle.rad_desk.specs.Desk.{book};
 ghost use Rattle.rad_desk.specs.Spent.{TellsSpent, spent_of};
@@ -55,7 +55,7 @@ impl Session {
     {
         let count = octets.len().min(GREATEST_VALUE_LENGTH);
         let mut filled = [0; GREATEST_VALUE_LENGTH];
-        filled[..count].copy_from_slice(&octets[..count]);
+        put(&mut filled, &octets[..count]);
         Session {
             octets: filled,
             count,
@@ -70,22 +70,29 @@ impl Session {
     }
 }
 
+/// Copies octets to the front of a buffer.
+fn put(buffer: &mut [u8], octets: &[u8])
+    requires { length octets.now ≤ length buffer.old }
+    ensures { buffer.new ≡ octets.now ++ drop (length octets.now) buffer.old }
+{
+    buffer[..octets.len()].copy_from_slice(octets);
+}
+
 impl Spent {
     /// What is told of a sending at this moment.
     pub(crate) fn of(sending: &Sending, moment: Moment) -> Spent
         ensures { result ≡ spent_of sending.now moment }
     {
         let stamp = sending.request().stamp();
+        let address = stamp.client;
+        let port = stamp.port;
         let session = match sending.request().session() {
             Some(octets) => Some(Session::of(octets)),
             None => None,
         };
         Spent {
             number: stamp.number,
-            client: Endpoint {
-                address: stamp.client,
-                port: stamp.port,
-            },
+            client: Endpoint { address, port },
             session,
             age: moment.get().saturating_sub(stamp.moment.get()),
         }
