@@ -1,8 +1,8 @@
 #!/usr/bin/env python3
 """The whole gate: what `rt ci` proves, refuses and runs; then that each wrong body can be applied, and the octets that the
 tests expect, as another implementation makes them; and then the program that `rt ci` built: over the rows and the examples,
-with growths refused in turn, with spoiled datagrams, with home servers that are killed or not there, by the scripts of the
-service, and over UDP and a network that loses.
+with growths refused in turn, with spoiled datagrams, with home servers that are killed or not there, with files that are none,
+slow or full, by the scripts of the service, and over UDP and a network that loses.
 
 usage: gate.py PROGRAM
 
@@ -34,6 +34,7 @@ SCRIPTS = {
     "growths": ("hostile/growths.py", "PROGRAM"),
     "mutations": ("hostile/mutations.py", "PROGRAM"),
     "unreachable": ("hostile/unreachable.py", "PROGRAM"),
+    "files": ("hostile/files.py", "PROGRAM"),
     "service": ("service/run.py", "PROGRAM"),
     "soak": ("hostile/soak.py", "PROGRAM"),
 }

@@ -32,8 +32,8 @@ use words::{Task, read_words};
 const LEFT_OVER: u8 = 3;
 
 fn main(rt: HostRuntime) -> ExitCode {
-    let files = RuntimeFiles::new(&rt);
-    let status = match obey_words(&rt, &files) {
+    let files = RuntimeFiles::new(rt);
+    let status = match obey_words(&rt, files) {
         Ok(status) => status,
         Err(fault) => {
             if !matches!(fault, Fault::Output) {
@@ -46,11 +46,11 @@ fn main(rt: HostRuntime) -> ExitCode {
 }
 
 /// Does what the words ask for, and gives the status.
-fn obey_words<R, F>(rt: &R, files: &F) -> Result<u8, Fault>
+fn obey_words<R, F>(rt: &R, files: F) -> Result<u8, Fault>
 where
-    R: Runtime + AllocGlobal + Net + RandomSource + Threads + Wait + Sync,
+    R: Runtime + AllocGlobal + Net + RandomSource + Threads + Wait + Sync + Copy + Send + 'static,
     R::File: Drop,
-    F: ReplaceFile + Sync,
+    F: ReplaceFile + Drop + Send + 'static,
 {
     let alloc = rt.alloc();
     match read_task(rt, alloc)? {

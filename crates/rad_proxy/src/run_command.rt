@@ -9,32 +9,40 @@ use rad_console::EndLine;
 use rad_realms::Config;
 use rad_server::{ServeFault, run};
 use rad_telemetry::{
-    CounterFile, Log, ReplaceFile, Reporter, StopFlag, Telemetry, find_counter_file, open_log,
-    report,
+    CounterFile, CounterTexts, ErrorLines, Log, Logged, ReplaceFile, Reporter, StopFlag, Telemetry,
+    find_counter_file, log_fault, open_log, report, start_texts,
 };
 use std::alloc::{AllocError, AllocGlobal, Global};
 use std::io::{self, Read, Write};
 use std::net::Net;
 use std::random::RandomSource;
 use std::rt::Runtime;
-use std::sync::Wait;
+use std::sync::{Arc, Wait};
 use std::thread::{self, Scope, Threads};
-use std::time::Clock;
+use std::time::{Clock, Duration, Instant};
+
+/// How long the program waits at its end for what still has to be written, in milliseconds.
+const LAST_WRITES: u64 = 1000;
 
 /// Serves the configuration in a file until standard input ends.
 ///
 /// # Errors
 ///
-/// As [`load`], and as [`run`]; `Threads` where the thread that reports can't be started.
-pub fn serve_file<R, F>(rt: &R, files: &F, alloc: Global, path: &str) -> Result<EndLine, Fault>
+/// As [`load`], and as [`run`]; `Threads` where a thread that reports or writes can't be started.
+pub fn serve_file<R, F>(rt: &R, files: F, alloc: Global, path: &str) -> Result<EndLine, Fault>
 where
-    R: Runtime + AllocGlobal + Net + RandomSource + Threads + Wait + Sync,
+    R: Runtime + AllocGlobal + Net + RandomSource + Threads + Wait + Sync + Copy + Send + 'static,
     R::File: Drop,
-    F: ReplaceFile + Sync,
+    F: ReplaceFile + Drop + Send + 'static,
 {
     let config = load(rt, alloc, path)?;
-    let log = open_log(rt, rt);
-    let Ok(file) = find_counter_file(rt, alloc, &log) else {
+    let Ok(log) = open_log(rt, alloc) else {
+        return Err(Fault::Memory);
+    };
+    let Ok(file) = find_counter_file(rt, &log) else {
+        return Err(Fault::Memory);
+    };
+    let Ok(texts) = Arc::new(alloc, CounterTexts::new(alloc)) else {
         return Err(Fault::Memory);
     };
     let Ok(telemetry) = Telemetry::new(alloc, &config, &log) else {
@@ -45,41 +53,80 @@ where
         alloc,
         config: &config,
         telemetry: &telemetry,
-        reporter: telemetry.reporter(&file, files),
+        reporter: telemetry.reporter(file.is_some().then_some(&*texts)),
     };
-    match serve(service, rt.reader(), io::writer(rt)) {
+    if !start_writers(rt, alloc, &log, &texts, file, files) {
+        return Err(Fault::from(ServeFault::Threads));
+    }
+    let end = serve(service, rt.reader(), io::writer(rt));
+    end_writers(rt, &log, &texts);
+    match end {
         Ok(end) => Ok(end),
         Err(fault) => Err(Fault::from(fault)),
     }
 }
 
+/// Starts the threads that write the log and the file of the counters, if there is one, and answers whether it could.
+fn start_writers<R, F>(
+    rt: &R,
+    alloc: Global,
+    log: &Logged<(), ErrorLines>,
+    texts: &Arc<CounterTexts>,
+    file: Option<CounterFile>,
+    files: F,
+) -> bool
+where
+    R: Threads + Wait + Copy + Send + 'static,
+    F: ReplaceFile + Drop + Send + 'static,
+{
+    if let Some(file) = file {
+        if !start_texts(rt, alloc, texts, file, files) {
+            return false;
+        }
+    }
+    log.sink().start(rt)
+}
+
+/// Has what is left written, and waits a second for it at most: a thread that writes longer ends with the program.
+fn end_writers<R: Clock + Wait>(rt: &R, log: &Logged<(), ErrorLines>, texts: &CounterTexts) {
+    let Ok(start) = Instant::now(rt) else {
+        return;
+    };
+    let longest = Duration::from_millis(LAST_WRITES);
+    texts.end();
+    texts.wait(rt, start, longest);
+    if let Some(fault) = texts.take_fault(rt) {
+        log_fault(log, fault);
+    }
+    log.sink().end(rt, start, longest);
+}
+
 /// A configuration that is served, and what tells how that goes.
-struct Service<'a, R, L, F> {
+struct Service<'a, R, L> {
     rt: &'a R,
     alloc: Global,
     config: &'a Config,
     telemetry: &'a Telemetry<'a, L>,
-    reporter: Reporter<'a, L, F>,
+    reporter: Reporter<'a, L>,
 }
 
-impl<R, L, F> Clone for Service<'_, R, L, F> {
+impl<R, L> Clone for Service<'_, R, L> {
     fn clone(&self) -> Result<Self, AllocError> {
         Ok(*self)
     }
 }
 
-impl<R, L, F> Copy for Service<'_, R, L, F> {}
+impl<R, L> Copy for Service<'_, R, L> {}
 
 /// Serves a configuration, while a thread of its own reports what is counted.
-fn serve<R, L, F, I, O>(
-    service: Service<'_, R, L, F>,
+fn serve<R, L, I, O>(
+    service: Service<'_, R, L>,
     reader: I,
     writer: O,
 ) -> Result<EndLine, ServeFault>
 where
     R: Clock + Net + RandomSource + Threads + Wait + Sync,
     L: Log + Sync,
-    F: ReplaceFile + Sync,
     I: Read + Drop,
     O: Write + Drop,
 {
@@ -89,7 +136,7 @@ where
         thread::scope_env(),
         service.rt,
         move |scope| -> Result<EndLine, ServeFault>
-            requires { IsSync R.row × IsSync L.row × IsSync F.row }
+            requires { IsSync R.row × IsSync L.row }
         {
             if !start_reporter(scope, service, stop) {
                 return Err(ServeFault::Threads);
@@ -102,15 +149,14 @@ where
 }
 
 /// Starts the thread that reports until the flag is set, and answers whether it could.
-fn start_reporter<'s, E, R, L, F>(
+fn start_reporter<'s, E, R, L>(
     scope: &Scope<'s, E>,
-    service: Service<'s, R, L, F>,
+    service: Service<'s, R, L>,
     stop: &'s StopFlag,
 ) -> bool
 where
     R: Clock + Wait + Sync + 's,
     L: Log + Sync + 's,
-    F: ReplaceFile + Sync + 's,
 {
     let Service {
         rt,
@@ -124,8 +170,8 @@ where
 }
 
 /// Serves a configuration. That a worker ended by itself is logged.
-fn serve_and_tell<R, L, F, I, O>(
-    service: Service<'_, R, L, F>,
+fn serve_and_tell<R, L, I, O>(
+    service: Service<'_, R, L>,
     reader: I,
     writer: O,
 ) -> Result<EndLine, ServeFault>

@@ -16,3 +16,5 @@ mod reporting;
 mod shared;
 #[cfg(test)]
 mod workers;
+#[cfg(test)]
+mod writing;
