@@ -21,8 +21,11 @@ use std::sync::{Arc, Wait};
 use std::thread::{self, Scope, Threads};
 use std::time::{Clock, Duration, Instant};
 
-/// How long the program waits at its end for what still has to be written, in milliseconds.
-const LAST_WRITES: u64 = 1000;
+/// How long the program waits at its end for the last text of the counters, in milliseconds.
+const LAST_TEXT: u64 = 500;
+
+/// How long it waits for that and for the log.
+const LAST_LINES: u64 = 1000;
 
 /// Serves the configuration in a file until standard input ends.
 ///
@@ -92,13 +95,12 @@ fn end_writers<R: Clock + Wait>(rt: &R, log: &Logged<(), ErrorLines>, texts: &Co
     let Ok(start) = Instant::now(rt) else {
         return;
     };
-    let longest = Duration::from_millis(LAST_WRITES);
     texts.end();
-    texts.wait(rt, start, longest);
+    texts.wait(rt, start, Duration::from_millis(LAST_TEXT));
     if let Some(fault) = texts.take_fault(rt) {
         log_fault(log, fault);
     }
-    log.sink().end(rt, start, longest);
+    log.sink().end(rt, start, Duration::from_millis(LAST_LINES));
 }
 
 /// A configuration that is served, and what tells how that goes.

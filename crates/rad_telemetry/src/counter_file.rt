@@ -134,13 +134,18 @@ impl CounterFile {
 }
 
 impl Display for FileFault {
+    ghost use Rattle.std.specs.Prelude.{Some};
+    ghost use Rattle.rad_telemetry.specs.FileFaults.{fault_words};
+
+    ghost output = { λ fault. Some (fault_words fault) };
+
     fn fmt<W: fmt::Write>(&self, f: &mut fmt::Formatter<W>) -> fmt::Result {
-        f.write_str(match self {
-            FileFault::NotRegular => "no regular file",
-            FileFault::NotWritten => "not written",
-            FileFault::Late => "takes longer than a second",
-            FileFault::NoText => "RAD_PROXY_COUNTERS is no text",
-        })
+        match *self {
+            FileFault::NotRegular => f.write_str("no regular file"),
+            FileFault::NotWritten => f.write_str("not written"),
+            FileFault::Late => f.write_str("takes longer than a second"),
+            FileFault::NoText => f.write_str("RAD_PROXY_COUNTERS is no text"),
+        }
     }
 }
 

@@ -80,7 +80,7 @@ impl CounterTexts {
         self.state.end();
     }
 
-    /// Waits until the thread has written the last text, until so long after a start at most.
+    /// Waits until the thread has written the last text, if there is one, until so long after a start at most.
     pub fn wait<R: Clock + Wait>(&self, rt: &R, start: Instant, longest: Duration) {
         self.state.wait(rt, start, longest);
     }
@@ -108,6 +108,7 @@ where
         return false;
     };
     let own = *rt;
+    texts.state.start();
     thread::spawn(rt, move || texts.write_all(&own, alloc, &file, &files)).is_ok()
 }
 

@@ -28,8 +28,7 @@ pub struct LineQueue<O> {
     /// How many lines did not come into the room, since others held it for too long.
     missed: AtomicU64,
     outlet: Mutex<Outlet<O>>,
-    /// 1 where a thread writes the lines.
-    is_threaded: AtomicU64,
+    /// That of the thread that writes the lines, once there is one.
     state: WriterState,
 }
 
@@ -56,7 +55,6 @@ impl<O: LineOutput + Drop> LineQueue<O> {
             room: Mutex::new(LineRoom::new(alloc, ROOM)?),
             missed: AtomicU64::new(0),
             outlet: Mutex::new(outlet),
-            is_threaded: AtomicU64::new(0),
             state: WriterState::new(),
         })
     }
@@ -69,10 +67,10 @@ impl<O: LineOutput + Drop> LineQueue<O> {
         let count = LONGEST.saturating_sub(free.len());
         let text = octets.get(..count).unwrap_or(&[]);
         self.put_text(text, is_whole);
-        if self.is_threaded.load(Ordering::SeqCst) == 0 {
-            self.write_now();
-        } else {
+        if self.state.is_started() {
             self.state.notify();
+        } else {
+            self.write_now();
         }
     }
 
@@ -111,7 +109,7 @@ impl<O: LineOutput + Drop> LineQueue<O> {
 
     /// From now on a thread calls `write_all`, and lines wait for it.
     pub fn leave_to_thread(&self) {
-        self.is_threaded.store(1, Ordering::SeqCst);
+        self.state.start();
     }
 
     /// Writes the lines as they come until the queue is ended. It is the whole life of a thread.
@@ -137,10 +135,8 @@ impl<O: LineOutput + Drop> LineQueue<O> {
 
     /// Has the thread write what waits and end, where there is one, and waits for it until so long after a start at most.
     pub fn end<R: Clock + Wait>(&self, rt: &R, start: Instant, longest: Duration) {
-        if self.is_threaded.load(Ordering::SeqCst) != 0 {
-            self.state.end();
-            self.state.wait(rt, start, longest);
-        }
+        self.state.end();
+        self.state.wait(rt, start, longest);
     }
 }
 

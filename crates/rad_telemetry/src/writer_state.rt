@@ -7,6 +7,8 @@ use std::time::{Clock, Duration, Instant};
 /// What a thread that writes shares with those that have something for it.
 #[derive(Drop)]
 pub struct WriterState {
+    /// 1 where there is such a thread.
+    started: AtomicU64,
     /// 1 where there may be something to write.
     pending: AtomicU64,
     /// 1 where nothing more comes.
@@ -16,13 +18,24 @@ pub struct WriterState {
 }
 
 impl WriterState {
-    /// There is nothing to write.
+    /// There is no thread and nothing to write.
     pub fn new() -> WriterState {
         WriterState {
+            started: AtomicU64::new(0),
             pending: AtomicU64::new(0),
             ended: AtomicU64::new(0),
             finished: AtomicU64::new(0),
         }
+    }
+
+    /// The thread is started.
+    pub fn start(&self) {
+        self.started.store(1, Ordering::SeqCst);
+    }
+
+    /// Whether there is a thread.
+    pub fn is_started(&self) -> bool {
+        self.started.load(Ordering::SeqCst) != 0
     }
 
     /// Wakes the thread, as there is something to write. Nobody waits for it.
@@ -38,11 +51,11 @@ impl WriterState {
         self.notify();
     }
 
-    /// Begins a round of the thread's, and answers whether it is the last one: then nothing more comes.
+    /// Begins a round of the thread's, and answers whether it is the last one: then nothing more comes. What comes once
+    /// `pending` is cleared wakes it again, so nothing is lost between the two.
     pub fn begin_round(&self) -> bool {
-        let is_last = self.ended.load(Ordering::SeqCst) != 0;
         self.pending.store(0, Ordering::SeqCst);
-        is_last
+        self.ended.load(Ordering::SeqCst) != 0
     }
 
     /// The thread sleeps until there is something to write.
@@ -58,10 +71,10 @@ impl WriterState {
         self.finished.wake_all();
     }
 
-    /// Waits until the thread has written all, for so long at most since a start.
+    /// Waits until the thread has written all, if there is one, for so long at most since a start.
     pub fn wait<R: Clock + Wait>(&self, rt: &R, start: Instant, longest: Duration) {
         for _ in rt.forever() {
-            if self.finished.load(Ordering::SeqCst) != 0 {
+            if !self.is_started() || self.finished.load(Ordering::SeqCst) != 0 {
                 return;
             }
             let Ok(passed) = start.elapsed(rt) else {
