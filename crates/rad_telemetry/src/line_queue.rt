@@ -102,7 +102,9 @@ impl<O: LineOutput + Drop> LineQueue<O> {
             if let Some(mut room) = self.hold() {
                 outlet.take(&mut room);
             }
-            outlet.batch.drop_more(self.missed.swap(0, Ordering::SeqCst));
+            outlet
+                .batch
+                .drop_more(self.missed.swap(0, Ordering::SeqCst));
             outlet.write(false);
         }
     }
@@ -129,7 +131,9 @@ impl<O: LineOutput + Drop> LineQueue<O> {
     fn write_batch<R: Wait>(&self, rt: &R) {
         let mut outlet = self.outlet.lock(rt);
         outlet.take(&mut self.room.lock(rt));
-        outlet.batch.drop_more(self.missed.swap(0, Ordering::SeqCst));
+        outlet
+            .batch
+            .drop_more(self.missed.swap(0, Ordering::SeqCst));
         outlet.write(true);
     }
 

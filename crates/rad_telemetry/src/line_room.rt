@@ -84,8 +84,6 @@ impl LineRoom {
     fn has_room(&self, count: usize) -> bool
         ensures { IsTrue result ↔ ((self.now.dropped ≡ 0) × (length self.now.text.items + count ≤ self.now.size)) }
     {
-        self.dropped == 0
-            && self.text.len() <= self.size
-            && count <= self.size - self.text.len()
+        self.dropped == 0 && self.text.len() <= self.size && count <= self.size - self.text.len()
     }
 }

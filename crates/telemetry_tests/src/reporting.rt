@@ -168,9 +168,17 @@ fn a_file_is_replaced(rt: HostRuntime) -> Result<(), Fail> {
     let setup = Setup::new(alloc, TWO_HOMES, LevelFilter::Warn)?;
     let telemetry = setup.telemetry(alloc)?;
     let (texts, memory) = (CounterTexts::new(alloc), Memory::new(alloc, None));
-    write_last(&rt, alloc, telemetry.reporter(Some(&texts)), &texts, &memory)?;
+    write_last(
+        &rt,
+        alloc,
+        telemetry.reporter(Some(&texts)),
+        &texts,
+        &memory,
+    )?;
     assert!(rt; memory.begins_with(GIVEN));
-    telemetry.reporter(Some(&texts)).leave_text(&rt, &mut Vec::new(alloc));
+    telemetry
+        .reporter(Some(&texts))
+        .leave_text(&rt, &mut Vec::new(alloc));
     assert!(rt; setup.has_logged(""));
     Ok(())
 }
@@ -183,7 +191,13 @@ fn a_file_that_is_not_replaced_is_logged_once(rt: HostRuntime) -> Result<(), Fai
     let texts = CounterTexts::new(alloc);
     let memory = Memory::new(alloc, Some(FileFault::NotRegular));
     for _ in 0..3 {
-        write_last(&rt, alloc, telemetry.reporter(Some(&texts)), &texts, &memory)?;
+        write_last(
+            &rt,
+            alloc,
+            telemetry.reporter(Some(&texts)),
+            &texts,
+            &memory,
+        )?;
     }
     assert!(rt; setup.has_logged("event=counters-fault reason=\"no regular file\"\n"));
     Ok(())

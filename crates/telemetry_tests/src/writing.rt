@@ -70,7 +70,8 @@ fn lines_that_find_no_room_are_counted(rt: HostRuntime) -> Result<(), Fail> {
 #[test]
 fn lines_are_written_in_order(rt: HostRuntime) -> Result<(), Fail> {
     let whole = "one\ntwo\none\ntwo\none\ntwo\n";
-    let is_right = has_written(rt.alloc(), &[], whole)? && has_written(rt.alloc(), &[1, 2, 3], whole)?;
+    let is_right = has_written(rt.alloc(), &[], whole)?
+        && has_written(rt.alloc(), &[1, 2, 3], whole)?;
     assert!(rt; is_right);
     Ok(())
 }
