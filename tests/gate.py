@@ -42,6 +42,7 @@ SCRIPTS = {
     "ending": ("hostile/ending.py", "PROGRAM"),
     "advice": ("hostile/advice.py", "PROGRAM"),
     "reasons": ("hostile/reasons.py", "PROGRAM"),
+    "files": ("hostile/files.py", "PROGRAM"),
     "service": ("service/run.py", "PROGRAM"),
     "soak": ("hostile/soak.py", "PROGRAM"),
     "memory": ("hostile/memory.py", "PROGRAM"),

@@ -37,8 +37,8 @@ use words::{Task, read_words};
 const LEFT_OVER: u8 = 3;
 
 fn main(rt: HostRuntime) -> ExitCode {
-    let files = RuntimeFiles::new(&rt);
-    let status = match obey_words(&rt, &files) {
+    let files = RuntimeFiles::new(rt);
+    let status = match obey_words(&rt, files) {
         Ok(status) => status,
         Err(fault) => {
             if !matches!(fault, Fault::Output) {
@@ -51,18 +51,20 @@ fn main(rt: HostRuntime) -> ExitCode {
 }
 
 /// Does what the words ask for, and gives the status.
-fn obey_words<R, F>(rt: &R, files: &F) -> Result<u8, Fault>
+fn obey_words<R, F>(rt: &R, files: F) -> Result<u8, Fault>
 where
-    R: Runtime + AllocGlobal + Net + RandomSource + Threads + Wait + Sync,
+    R: Runtime + AllocGlobal + Net + RandomSource + Threads + Wait + Sync + Copy + Send + 'static,
     R::File: Drop + IntoRawFd,
-    F: ReplaceFile + Sync,
+    F: ReplaceFile + Drop + Send + 'static,
 {
     open_standard(rt)?;
     let alloc = rt.alloc();
     match read_task(rt, alloc)? {
         Task::Replay => status_of_replay(rt, alloc, rt.reader(), io::writer(rt)),
         Task::Check(file) => {
-            let log = open_log_if_asked(rt, rt);
+            let Ok(log) = open_log_if_asked(rt, alloc) else {
+                return Err(Fault::Memory);
+            };
             print_counts(rt, alloc, &log, file.as_str())
         }
         Task::Run(file) => {

@@ -9,32 +9,43 @@ use rad_console::EndLine;
 use rad_realms::Config;
 use rad_server::{Descriptors, ServeFault, run};
 use rad_telemetry::{
-    CounterFile, Log, ReplaceFile, Reporter, StopFlag, Telemetry, ToldStream, find_counter_file,
-    open_log, report, tell_reason,
+    CounterFile, CounterTexts, ErrorLines, Log, Logged, ReplaceFile, Reporter, StopFlag, Telemetry,
+    ToldStream, find_counter_file, log_fault, open_log, report, start_texts, tell_reason,
 };
 use std::alloc::{AllocError, AllocGlobal, Global};
 use std::io::{self, Read, Write};
 use std::net::Net;
 use std::random::RandomSource;
 use std::rt::{Files, Runtime};
-use std::sync::Wait;
+use std::sync::{Arc, Wait};
 use std::thread::{self, Scope, Threads};
-use std::time::Clock;
+use std::time::{Clock, Duration, Instant};
+
+/// How long the program waits at its end for the last text of the counters, in milliseconds.
+const LAST_TEXT: u64 = 500;
+
+/// How long it waits for that and for the log.
+const LAST_LINES: u64 = 1000;
 
 /// Serves the configuration in a file until standard input ends.
 ///
 /// # Errors
 ///
-/// As [`load`], and as [`run`]; `Threads` where the thread that reports can't be started.
-pub fn serve_file<R, F>(rt: &R, files: &F, alloc: Global, path: &str) -> Result<EndLine, Fault>
+/// As [`load`], and as [`run`]; `Threads` where a thread that reports or writes can't be started.
+pub fn serve_file<R, F>(rt: &R, files: F, alloc: Global, path: &str) -> Result<EndLine, Fault>
 where
-    R: Runtime + AllocGlobal + Net + RandomSource + Threads + Wait + Sync,
+    R: Runtime + AllocGlobal + Net + RandomSource + Threads + Wait + Sync + Copy + Send + 'static,
     R::File: Drop,
-    F: ReplaceFile + Sync,
+    F: ReplaceFile + Drop + Send + 'static,
 {
-    let log = open_log(rt, rt);
+    let Ok(log) = open_log(rt, alloc) else {
+        return Err(Fault::Memory);
+    };
     let config = load(rt, alloc, &log, path)?;
-    let Ok(file) = find_counter_file(rt, alloc, &log) else {
+    let Ok(file) = find_counter_file(rt, &log) else {
+        return Err(Fault::Memory);
+    };
+    let Ok(texts) = Arc::new(alloc, CounterTexts::new(alloc)) else {
         return Err(Fault::Memory);
     };
     let Ok(telemetry) = Telemetry::new(alloc, &config, &log) else {
@@ -45,14 +56,19 @@ where
         alloc,
         config: &config,
         telemetry: &telemetry,
-        reporter: telemetry.reporter(&file, files),
+        reporter: telemetry.reporter(file.is_some().then_some(&*texts)),
     };
+    if !start_writers(rt, alloc, &log, &texts, file, files) {
+        return Err(fault_told(&log, ServeFault::Threads));
+    }
     let reader = ToldStream::new(rt.reader(), "input-fault", &log);
     let writer = ToldStream::new(io::writer(rt), "output-fault", &log);
-    match serve(service, reader, writer) {
+    let outcome = match serve(service, reader, writer) {
         Ok(end) => Ok(end),
         Err(fault) => Err(fault_told(&log, fault)),
-    }
+    };
+    end_writers(rt, &log, &texts);
+    outcome
 }
 
 /// What ends a service ends the program. The log is told of a thread that can't be had; the other reasons were told as they came.
@@ -67,26 +83,60 @@ fn fault_told<L: Log>(log: &L, fault: ServeFault) -> Fault {
     Fault::from(fault)
 }
 
+/// Starts the threads that write the log and the file of the counters, if there is one, and answers whether it could.
+fn start_writers<R, F>(
+    rt: &R,
+    alloc: Global,
+    log: &Logged<(), ErrorLines>,
+    texts: &Arc<CounterTexts>,
+    file: Option<CounterFile>,
+    files: F,
+) -> bool
+where
+    R: Threads + Wait + Copy + Send + 'static,
+    F: ReplaceFile + Drop + Send + 'static,
+{
+    if let Some(file) = file {
+        if !start_texts(rt, alloc, texts, file, files) {
+            return false;
+        }
+    }
+    log.sink().start(rt)
+}
+
+/// Has what is left written, and waits a second for it at most: a thread that writes longer ends with the program.
+fn end_writers<R: Clock + Wait>(rt: &R, log: &Logged<(), ErrorLines>, texts: &CounterTexts) {
+    let Ok(start) = Instant::now(rt) else {
+        return;
+    };
+    texts.end();
+    texts.wait(rt, start, Duration::from_millis(LAST_TEXT));
+    if let Some(fault) = texts.take_fault(rt) {
+        log_fault(log, fault);
+    }
+    log.sink().end(rt, start, Duration::from_millis(LAST_LINES));
+}
+
 /// A configuration that is served, and what tells how that goes.
-struct Service<'a, R, L, F> {
+struct Service<'a, R, L> {
     rt: &'a R,
     alloc: Global,
     config: &'a Config,
     telemetry: &'a Telemetry<'a, L>,
-    reporter: Reporter<'a, L, F>,
+    reporter: Reporter<'a, L>,
 }
 
-impl<R, L, F> Clone for Service<'_, R, L, F> {
+impl<R, L> Clone for Service<'_, R, L> {
     fn clone(&self) -> Result<Self, AllocError> {
         Ok(*self)
     }
 }
 
-impl<R, L, F> Copy for Service<'_, R, L, F> {}
+impl<R, L> Copy for Service<'_, R, L> {}
 
 /// Serves a configuration, while a thread of its own reports what is counted.
-fn serve<R, L, F, I, O>(
-    service: Service<'_, R, L, F>,
+fn serve<R, L, I, O>(
+    service: Service<'_, R, L>,
     reader: I,
     writer: O,
 ) -> Result<EndLine, ServeFault>
@@ -94,7 +144,6 @@ where
     R: Clock + Files + Net + RandomSource + Threads + Wait + Sync,
     R::File: Drop,
     L: Log + Sync,
-    F: ReplaceFile + Sync,
     I: Read + Drop,
     O: Write + Drop,
 {
@@ -104,7 +153,7 @@ where
         thread::scope_env(),
         service.rt,
         move |scope| -> Result<EndLine, ServeFault>
-            requires { IsSync R.row × IsSync L.row × IsSync F.row }
+            requires { IsSync R.row × IsSync L.row }
         {
             if !start_reporter(scope, service, stop) {
                 return Err(ServeFault::Threads);
@@ -117,15 +166,14 @@ where
 }
 
 /// Starts the thread that reports until the flag is set, and answers whether it could.
-fn start_reporter<'s, E, R, L, F>(
+fn start_reporter<'s, E, R, L>(
     scope: &Scope<'s, E>,
-    service: Service<'s, R, L, F>,
+    service: Service<'s, R, L>,
     stop: &'s StopFlag,
 ) -> bool
 where
     R: Clock + Wait + Sync + 's,
     L: Log + Sync + 's,
-    F: ReplaceFile + Sync + 's,
 {
     let Service {
         rt,
@@ -139,8 +187,8 @@ where
 }
 
 /// Serves a configuration. That a worker ended by itself is logged.
-fn serve_and_tell<R, L, F, I, O>(
-    service: Service<'_, R, L, F>,
+fn serve_and_tell<R, L, I, O>(
+    service: Service<'_, R, L>,
     reader: I,
     writer: O,
 ) -> Result<EndLine, ServeFault>

@@ -3,3 +3,4 @@ pub mod Workers
 pub mod DeltaLines
 pub mod MetricLines
 pub mod WatchLines
+pub mod FileFaults

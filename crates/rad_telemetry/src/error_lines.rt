@@ -1,72 +1,60 @@
-//! Log lines on standard error, for which no worker waits.
+//! Log lines on standard error, which one thread writes: nobody else waits for it.
 
 use crate::levels::read_level;
-use libc::STDERR_FILENO;
-use libc::net::{POLLOUT, poll};
-use libc::types::pollfd;
+use crate::line_queue::LineQueue;
+use crate::line_writer::StandardError;
 use log::kv::Source;
 use log::span::Spans;
 use log::{Level, LevelFilter, Log, Logged, Metadata, Record, warn};
+use std::alloc::{AllocError, Global};
 use std::env::Env;
 use std::fmt::{self, Display};
-use std::hint::spin_loop;
-use std::io::Eprint;
-use std::sync::atomic::{AtomicU64, Ordering};
-use std::sync::{Mutex, MutexGuard};
+use std::sync::{Arc, Wait};
+use std::thread::{self, Threads};
+use std::time::{Clock, Duration, Instant};
 
-/// How often a line waits for the one that another thread writes.
-const TRIES: u32 = 2000;
-
-/// Writes records to standard error, a line each. Where standard error takes nothing at once, as where nobody reads
-/// from it, a record is dropped; how many were dropped is told before the next line.
+/// Writes records to standard error, a line each. Once [`ErrorLines::start`] has started a thread for it, whoever logs only
+/// leaves the line in a room of fixed size; before that each line is written where it is logged, if standard error takes it at
+/// once. A line that finds no room, or that standard error does not take, is dropped; how many were is told before the next
+/// one.
 #[derive(Drop)]
-pub struct ErrorLines<R> {
-    rt: R,
-    /// Held by whoever writes.
-    turn: Mutex<()>,
-    dropped: AtomicU64,
+pub struct ErrorLines {
+    queue: Arc<LineQueue<StandardError>>,
 }
 
-impl<R: Eprint> ErrorLines<R> {
+impl ErrorLines {
     /// Writes nothing yet.
-    pub fn new(rt: R) -> ErrorLines<R> {
-        ErrorLines {
-            rt,
-            turn: Mutex::new(()),
-            dropped: AtomicU64::new(0),
-        }
+    ///
+    /// # Errors
+    ///
+    /// Where memory is refused.
+    pub fn new(alloc: Global) -> Result<ErrorLines, AllocError> {
+        let queue = LineQueue::new(alloc, StandardError)?;
+        Ok(ErrorLines {
+            queue: Arc::new(alloc, queue)?,
+        })
     }
 
-    /// Writes a line, after the number of those that were dropped. It answers whether it did.
-    fn write<D: Display + Drop>(&self, line: D) -> bool {
-        let Some(_turn) = self.hold() else {
+    /// Starts the thread that writes the lines, and answers whether it could. Nobody joins it: it ends with the program.
+    pub fn start<R: Threads + Wait + Copy + Send + 'static>(&self, rt: &R) -> bool {
+        let Ok(queue) = Arc::try_clone(&self.queue) else {
             return false;
         };
-        let dropped = self.dropped.load(Ordering::SeqCst);
-        if dropped > 0 {
-            if !takes_more() {
-                return false;
-            }
-            let _ = eprintln!(self.rt; "level=warn event=lines-dropped count={dropped}");
-            self.dropped.fetch_sub(dropped, Ordering::SeqCst);
+        let own = *rt;
+        let is_started = thread::spawn(rt, move || queue.write_all(&own)).is_ok();
+        if is_started {
+            self.queue.leave_to_thread();
         }
-        takes_more() && self.rt.eprintln(line).is_ok()
+        is_started
     }
 
-    /// Holds the turn to write, where it is to be had soon.
-    fn hold(&self) -> Option<MutexGuard<'_, ()>> {
-        for _ in 0..TRIES {
-            let turn = self.turn.try_lock();
-            if turn.is_some() {
-                return turn;
-            }
-            spin_loop();
-        }
-        None
+    /// Has the thread write what is left, and waits for it until so long after a start at most.
+    pub fn end<R: Clock + Wait>(&self, rt: &R, start: Instant, longest: Duration) {
+        self.queue.end(rt, start, longest);
     }
 }
 
-impl<R: Eprint> Log for ErrorLines<R> {
+impl Log for ErrorLines {
     ghost use Rattle.std.specs.Prelude.{Some, true, []};
 
     ghost enables = { λ _ _ _. Some true };
@@ -82,9 +70,7 @@ impl<R: Eprint> Log for ErrorLines<R> {
             level: record.level(),
             text: record.args(),
         };
-        if !self.write(line) {
-            self.dropped.fetch_add(1, Ordering::SeqCst);
-        }
+        self.queue.put(&line);
     }
 
     fn flush(&self) {}
@@ -116,13 +102,18 @@ impl<D: Display> Display for LevelLine<'_, D> {
 
 /// The log on standard error, up to the level that `RAD_PROXY_LOG` names in the environment: `info` where it names none. That it
 /// is no level is logged.
-pub fn open_log<E: Env, R: Eprint>(env: &E, rt: R) -> Logged<(), ErrorLines<R>> {
+///
+/// # Errors
+///
+/// Where memory is refused.
+pub fn open_log<E: Env>(env: &E, alloc: Global) -> Result<Logged<(), ErrorLines>, AllocError> {
     let level = read_level(env);
-    let log = Logged::new((), level.unwrap_or(LevelFilter::Info), ErrorLines::new(rt));
+    let lines = ErrorLines::new(alloc)?;
+    let log = Logged::new((), level.unwrap_or(LevelFilter::Info), lines);
     if level.is_none() {
         warn!(log; "event=no-such-level reason=\"RAD_PROXY_LOG is none of off, error, warn, info, debug, trace\"");
     }
-    log
+    Ok(log)
 }
 
 /// The name of a level in lower case.
@@ -134,14 +125,4 @@ fn level_name(level: Level) -> &'static str {
         Level::Debug => "debug",
         Level::Trace => "trace",
     }
-}
-
-/// Whether standard error takes a line at once.
-fn takes_more() -> bool {
-    let mut ends = [pollfd {
-        fd: STDERR_FILENO,
-        events: POLLOUT,
-        revents: 0,
-    }];
-    poll(&mut ends, 0) == 1 && ends[0].revents & POLLOUT != 0
 }

@@ -15,6 +15,7 @@
 
 mod atomic_endpoint;
 mod counter_file;
+mod counter_texts;
 mod counters;
 mod delta_lines;
 mod error_lines;
@@ -24,6 +25,9 @@ mod last_datagram;
 mod last_peers;
 mod last_realm;
 mod levels;
+mod line_queue;
+mod line_room;
+mod line_writer;
 mod metric;
 mod metric_lines;
 mod packet_words;
@@ -34,12 +38,18 @@ mod watch_lines;
 mod telling;
 mod told_stream;
 mod workers;
+mod writer_state;
 
-pub use counter_file::{CounterFile, ReplaceFile, RuntimeFiles, find_counter_file};
+pub use counter_file::{
+    CounterFile, FileFault, ReplaceFile, RuntimeFiles, find_counter_file, log_fault,
+};
+pub use counter_texts::{CounterTexts, start_texts};
 pub use counters::{Counters, Delta};
 pub use error_lines::{ErrorLines, open_log};
 pub use event_kind::{EVENT_KINDS, EventKind};
 pub use levels::{level_of, read_level};
+pub use line_room::LineRoom;
+pub use line_writer::{LineOutput, LineWriter};
 pub use log::kv::Source;
 pub use log::sink::Discard;
 pub use log::span::Spans;

@@ -1,6 +1,7 @@
 //! Once a second, by a thread of its own: what was counted since as log lines, and all counters into a file.
 
-use crate::counter_file::{CounterFile, ReplaceFile, log_fault};
+use crate::counter_file::log_fault;
+use crate::counter_texts::CounterTexts;
 use crate::counters::{Counters, Delta};
 use crate::delta_lines::{ClientDelta, CutDelta, FaultDelta, HomeDelta, MarkedDelta};
 use crate::event_kind::{EVENT_KINDS, EventKind};
@@ -64,38 +65,34 @@ impl StopFlag {
 }
 
 /// What a reporter reports, and where to.
-pub struct Reporter<'a, L, F> {
+pub struct Reporter<'a, L> {
     pub(crate) config: &'a Config,
     pub(crate) counters: &'a Counters,
     pub(crate) log: &'a L,
-    /// Where the counters are written to, if anywhere.
-    pub(crate) file: &'a Option<CounterFile>,
-    /// What replaces that file.
-    pub(crate) files: &'a F,
+    /// What takes the texts of the counters, where they go to a file.
+    pub(crate) texts: Option<&'a CounterTexts>,
 }
 
-impl<L, F> Clone for Reporter<'_, L, F> {
+impl<L> Clone for Reporter<'_, L> {
     fn clone(&self) -> Result<Self, AllocError> {
         Ok(*self)
     }
 }
 
-impl<L, F> Copy for Reporter<'_, L, F> {}
+impl<L> Copy for Reporter<'_, L> {}
 
 /// Reports once a second until the flag is set, and then once more. A text of all counters is made anew each time, in the
-/// memory of the one before.
-pub fn report<R, L, F>(rt: &R, alloc: Global, reporter: Reporter<'_, L, F>, stop: &StopFlag)
+/// memory of an earlier one.
+pub fn report<R, L>(rt: &R, alloc: Global, reporter: Reporter<'_, L>, stop: &StopFlag)
 where
     R: Clock + Wait,
     L: Log,
-    F: ReplaceFile,
 {
     let mut text = Vec::new(alloc);
-    let mut is_written = true;
     for _ in rt.forever() {
         let is_last = stop.is_set();
         reporter.log_deltas();
-        is_written = reporter.write_file(&mut text, is_written);
+        reporter.leave_text(rt, &mut text);
         if is_last {
             return;
         }
@@ -103,7 +100,7 @@ where
     }
 }
 
-impl<L: Log, F: ReplaceFile> Reporter<'_, L, F> {
+impl<L: Log> Reporter<'_, L> {
     /// Logs what was counted since the last time, a line for each worker and kind of which there was any.
     pub fn log_deltas(&self) {
         self.log_deltas_of(Worker::Front);
@@ -143,18 +140,24 @@ impl<L: Log, F: ReplaceFile> Reporter<'_, L, F> {
         }
     }
 
-    /// Writes the counters to their file where there is one, by way of a text that is made anew. It answers whether they are
-    /// written; where they were and no longer are, that is logged.
-    pub fn write_file(&self, text: &mut Vec<u8>, was_written: bool) -> bool {
-        let Some(file) = self.file else {
-            return true;
+    /// Leaves a text of the counters to whoever writes it to their file, where there is one; and logs what speaks against one
+    /// that was left before, once.
+    pub fn leave_text<R: Wait>(&self, rt: &R, text: &mut Vec<u8>) {
+        let Some(texts) = self.texts else {
+            return;
         };
+        self.log_fault(rt, texts);
         text.clear();
-        let is_written = self.write(text).is_ok() && file.replace(self.files, text.as_slice());
-        if was_written && !is_written {
-            log_fault(self.log);
+        if self.write(text).is_ok() {
+            texts.leave(rt, text);
         }
-        is_written
+    }
+
+    /// Logs what speaks against the last text that was written, once.
+    fn log_fault<R: Wait>(&self, rt: &R, texts: &CounterTexts) {
+        if let Some(fault) = texts.take_fault(rt) {
+            log_fault(self.log, fault);
+        }
     }
 
     /// Writes all counters, a metric after the other.

@@ -1,6 +1,6 @@
 //! The gate that is told of all that the workers do, and what it has counted and logged.
 
-use crate::counter_file::CounterFile;
+use crate::counter_texts::CounterTexts;
 use crate::counters::Counters;
 use crate::event_log::EventLog;
 use crate::last_peers::LastPeers;
@@ -12,7 +12,7 @@ use std::alloc::{AllocError, Global};
 use std::io::Error;
 
 /// Counts and logs what the workers of a configuration do. As a gate it lets every worker pass, and takes no memory; it waits
-/// for a lock no longer than `ErrorLines` says.
+/// for a lock no longer than `LineQueue` says.
 ///
 /// That a home server went down or up it counts each time that a worker notes it, and logs each time that it is told how.
 #[derive(Drop)]
@@ -55,18 +55,13 @@ impl<'a, L: Log> Telemetry<'a, L> {
         self.events.ended(worker);
     }
 
-    /// A reporter of what is counted, which has the counters' file replaced where there is one.
-    pub fn reporter<'b, F>(
-        &'b self,
-        file: &'b Option<CounterFile>,
-        files: &'b F,
-    ) -> Reporter<'b, L, F> {
+    /// A reporter of what is counted, which leaves the texts of the counters to what takes them, if anything.
+    pub fn reporter<'b>(&'b self, texts: Option<&'b CounterTexts>) -> Reporter<'b, L> {
         Reporter {
             config: self.config,
             counters: &self.counters,
             log: self.log,
-            file,
-            files,
+            texts,
         }
     }
 }

@@ -4,9 +4,9 @@ use crate::error_lines::{ErrorLines, open_log};
 use crate::levels::names_level;
 use libc::{STDERR_FILENO, isatty};
 use log::{LevelFilter, Log, Logged, error, warn};
+use std::alloc::{AllocError, Global};
 use std::env::Env;
 use std::fmt::{self, Display};
-use std::io::Eprint;
 
 /// Logs a text at `error`.
 pub fn tell_error<L: Log, D: Display>(log: &L, text: &D) {
@@ -20,11 +20,18 @@ pub fn tell_warning<L: Log, D: Display>(log: &L, text: &D) {
 
 /// The log as [`open_log`] opens it, where standard error is a terminal or the environment has `RAD_PROXY_LOG`; else one that
 /// takes nothing, so that whoever compares what is printed finds the line of a fault alone.
-pub fn open_log_if_asked<E: Env, R: Eprint>(env: &E, rt: R) -> Logged<(), ErrorLines<R>> {
+///
+/// # Errors
+///
+/// Where memory is refused.
+pub fn open_log_if_asked<E: Env>(
+    env: &E,
+    alloc: Global,
+) -> Result<Logged<(), ErrorLines>, AllocError> {
     if isatty(STDERR_FILENO) == 1 || names_level(env) {
-        return open_log(env, rt);
+        return open_log(env, alloc);
     }
-    Logged::new((), LevelFilter::Off, ErrorLines::new(rt))
+    Ok(Logged::new((), LevelFilter::Off, ErrorLines::new(alloc)?))
 }
 
 /// Logs an event of this name at `error`, which has nothing but a reason.

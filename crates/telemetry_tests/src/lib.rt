@@ -18,3 +18,5 @@ mod shared;
 mod summing;
 #[cfg(test)]
 mod workers;
+#[cfg(test)]
+mod writing;

@@ -4,24 +4,26 @@ use crate::shared::{HOME, MemoryLog, NAS, Setup, TWO_HOMES};
 use rad_desk::{Gate, Note, Worker};
 use rad_lane::Refusal;
 use rad_realms::{Dropped, Endpoint};
-use rad_telemetry::{CounterFile, LevelFilter, ReplaceFile, Telemetry};
+use rad_telemetry::{
+    CounterFile, CounterTexts, FileFault, LevelFilter, ReplaceFile, Reporter, Telemetry,
+};
 use std::alloc::{AllocError, Global};
 use std::result::Result;
-use std::sync::Mutex;
+use std::sync::{Mutex, Wait};
 use std::test::Fail;
 
-/// Keeps what it was given last: the two paths and the text, one behind the other; or takes nothing.
+/// Keeps what it was given last, the path and the text, one behind the other; or refuses.
 #[derive(Drop)]
 struct Memory {
     given: Mutex<Vec<u8>>,
-    takes: bool,
+    fault: Option<FileFault>,
 }
 
 impl Memory {
-    fn new(alloc: Global, takes: bool) -> Memory {
+    fn new(alloc: Global, fault: Option<FileFault>) -> Memory {
         Memory {
             given: Mutex::new(Vec::new(alloc)),
-            takes,
+            fault,
         }
     }
 
@@ -31,20 +33,25 @@ impl Memory {
             None => false,
         }
     }
-}
 
-impl ReplaceFile for Memory {
-    fn replace(&self, path: &str, new: &str, text: &[u8]) -> bool {
+    fn keep(&self, path: &str, text: &[u8]) -> bool {
         let Some(mut given) = self.given.try_lock() else {
             return false;
         };
         given.clear();
-        self.takes
-            && given.extend_from_slice(path.as_bytes()).is_ok()
-            && given.push(b' ').is_ok()
-            && given.extend_from_slice(new.as_bytes()).is_ok()
+        given.extend_from_slice(path.as_bytes()).is_ok()
             && given.push(b' ').is_ok()
             && given.extend_from_slice(text).is_ok()
+    }
+}
+
+impl ReplaceFile for Memory {
+    fn replace(&self, path: &str, text: &[u8]) -> Result<(), FileFault> {
+        match self.fault {
+            Some(fault) => Err(fault),
+            None if self.keep(path, text) => Ok(()),
+            None => Err(FileFault::NotWritten),
+        }
     }
 }
 
@@ -82,7 +89,7 @@ const TAIL: &str = "# TYPE rad_proxy_send_faults_total counter\n\
     rad_proxy_marked_total{lane=\"1\",home=\"h2\"} 0\n";
 
 /// What the counters' file is given, where nothing was counted yet.
-const GIVEN: &str = "some/file some/file.new # TYPE rad_proxy_dropped_total counter\n\
+const GIVEN: &str = "some/file # TYPE rad_proxy_dropped_total counter\n\
     rad_proxy_dropped_total{reason=\"UnknownClient\"} 0\n";
 
 /// The sums of what each worker had.
@@ -133,27 +140,24 @@ fn writes(
     head: &str,
     tail: &str,
 ) -> Result<bool, Fail> {
-    let memory = Memory::new(alloc, true);
     let mut text = Vec::new(alloc);
-    telemetry.reporter(&None, &memory).write(&mut text)?;
+    telemetry.reporter(None).write(&mut text)?;
     Ok(text.starts_with(head.as_bytes()) && text.ends_with(tail.as_bytes()))
 }
 
-/// Whether the counters' file is written, which takes the text or does not.
-fn is_written(
+/// Leaves a text of the counters, and has it written as the last one.
+fn write_last(
+    rt: &impl Wait,
     alloc: Global,
-    telemetry: &Telemetry<'_, MemoryLog>,
+    reporter: Reporter<'_, MemoryLog>,
+    texts: &CounterTexts,
     memory: &Memory,
-    was_written: bool,
-) -> Result<bool, AllocError> {
-    let path = String::from_str(alloc, "some/file")?;
-    let file = Some(CounterFile::new(alloc, path)?);
-    let mut text = Vec::new(alloc);
-    Ok(
-        telemetry
-            .reporter(&file, memory)
-            .write_file(&mut text, was_written),
-    )
+) -> Result<(), AllocError> {
+    let file = CounterFile::new(String::from_str(alloc, "some/file")?);
+    reporter.leave_text(rt, &mut Vec::new(alloc));
+    texts.end();
+    texts.write_all(rt, alloc, &file, memory);
+    Ok(())
 }
 
 #[test]
@@ -171,9 +175,20 @@ fn counters_are_written(rt: HostRuntime) -> Result<(), Fail> {
 fn a_file_is_replaced(rt: HostRuntime) -> Result<(), Fail> {
     let alloc = rt.alloc();
     let setup = Setup::new(alloc, TWO_HOMES, LevelFilter::Warn)?;
-    let memory = Memory::new(alloc, true);
-    let is_written = is_written(alloc, &setup.telemetry(alloc)?, &memory, true)?;
-    assert!(rt; is_written && memory.begins_with(GIVEN) && setup.has_logged(""));
+    let telemetry = setup.telemetry(alloc)?;
+    let (texts, memory) = (CounterTexts::new(alloc), Memory::new(alloc, None));
+    write_last(
+        &rt,
+        alloc,
+        telemetry.reporter(Some(&texts)),
+        &texts,
+        &memory,
+    )?;
+    assert!(rt; memory.begins_with(GIVEN));
+    telemetry
+        .reporter(Some(&texts))
+        .leave_text(&rt, &mut Vec::new(alloc));
+    assert!(rt; setup.has_logged(""));
     Ok(())
 }
 
@@ -181,12 +196,33 @@ fn a_file_is_replaced(rt: HostRuntime) -> Result<(), Fail> {
 fn a_file_that_is_not_replaced_is_logged_once(rt: HostRuntime) -> Result<(), Fail> {
     let alloc = rt.alloc();
     let setup = Setup::new(alloc, TWO_HOMES, LevelFilter::Warn)?;
-    let memory = Memory::new(alloc, false);
-    for was_written in [true, false] {
-        let is_written = is_written(alloc, &setup.telemetry(alloc)?, &memory, was_written)?;
-        assert!(rt; !is_written);
-        assert!(rt; setup.has_logged("event=counters-fault\n"));
+    let telemetry = setup.telemetry(alloc)?;
+    let texts = CounterTexts::new(alloc);
+    let memory = Memory::new(alloc, Some(FileFault::NotRegular));
+    for _ in 0..3 {
+        write_last(
+            &rt,
+            alloc,
+            telemetry.reporter(Some(&texts)),
+            &texts,
+            &memory,
+        )?;
     }
+    assert!(rt; setup.has_logged("event=counters-fault reason=\"no regular file\"\n"));
+    Ok(())
+}
+
+#[test]
+fn a_text_that_is_not_taken_is_logged(rt: HostRuntime) -> Result<(), Fail> {
+    let alloc = rt.alloc();
+    let setup = Setup::new(alloc, TWO_HOMES, LevelFilter::Warn)?;
+    let telemetry = setup.telemetry(alloc)?;
+    let texts = CounterTexts::new(alloc);
+    let mut text = Vec::new(alloc);
+    for _ in 0..4 {
+        telemetry.reporter(Some(&texts)).leave_text(&rt, &mut text);
+    }
+    assert!(rt; setup.has_logged("event=counters-fault reason=\"takes longer than a second\"\n"));
     Ok(())
 }
 
@@ -196,9 +232,8 @@ fn sums_are_logged_once(rt: HostRuntime) -> Result<(), Fail> {
     let setup = Setup::new(alloc, TWO_HOMES, LevelFilter::Info)?;
     let telemetry = setup.telemetry(alloc)?;
     tell_sums(&telemetry);
-    let memory = Memory::new(alloc, true);
     for _ in 0..2 {
-        telemetry.reporter(&None, &memory).log_deltas();
+        telemetry.reporter(None).log_deltas();
     }
     assert!(rt; setup.has_logged(SUMS));
     Ok(())

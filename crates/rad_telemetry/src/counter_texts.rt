@@ -1,0 +1,147 @@
+//! The text of the counters on its way from the thread that makes it to the one that writes it to their file.
+
+use crate::counter_file::{CounterFile, FileFault, ReplaceFile};
+use crate::writer_state::WriterState;
+use std::alloc::{AllocError, Global};
+use std::mem;
+use std::sync::{Arc, Mutex, Wait};
+use std::thread::{self, Threads};
+use std::time::{Clock, Duration, Instant};
+
+/// Texts for a file, which a thread of its own replaces, so that nobody else waits for a file system. Where the thread can't
+/// keep up it writes the newest text alone.
+#[derive(Drop)]
+pub struct CounterTexts {
+    next: Mutex<NextText>,
+    state: WriterState,
+}
+
+/// What is to be written, and what came of what was written last.
+#[derive(Drop)]
+struct NextText {
+    text: Vec<u8>,
+    is_new: bool,
+    fault: Option<FileFault>,
+    /// Whether that fault was told.
+    is_told: bool,
+}
+
+impl CounterTexts {
+    /// There is no text yet.
+    pub fn new(alloc: Global) -> CounterTexts {
+        CounterTexts {
+            next: Mutex::new(NextText {
+                text: Vec::new(alloc),
+                is_new: false,
+                fault: None,
+                is_told: false,
+            }),
+            state: WriterState::new(),
+        }
+    }
+
+    /// Leaves a text to the thread, in place of one that it has not taken, which then is a fault. It takes the memory of an
+    /// earlier text in its place.
+    pub fn leave<R: Wait>(&self, rt: &R, text: &mut Vec<u8>) {
+        self.next.lock(rt).set(text);
+        self.state.notify();
+    }
+
+    /// What speaks against the last text that was written, if anything, where that was not told before.
+    pub fn take_fault<R: Wait>(&self, rt: &R) -> Option<FileFault> {
+        self.next.lock(rt).take_fault()
+    }
+
+    /// Writes the texts to a file as they come until the last one is written. It is the whole life of the thread.
+    pub fn write_all<R: Wait, F: ReplaceFile>(
+        &self,
+        rt: &R,
+        alloc: Global,
+        file: &CounterFile,
+        files: &F,
+    ) {
+        let mut text = Vec::new(alloc);
+        for _ in rt.forever() {
+            let is_last = self.state.begin_round();
+            if self.take(rt, &mut text) {
+                let outcome = file.replace(files, text.as_slice());
+                self.next.lock(rt).set_fault(outcome.err());
+            }
+            if is_last {
+                self.state.finish();
+                return;
+            }
+            self.state.sleep(rt);
+        }
+    }
+
+    /// Has the thread write the last text and end.
+    pub fn end(&self) {
+        self.state.end();
+    }
+
+    /// Waits until the thread has written the last text, if there is one, until so long after a start at most.
+    pub fn wait<R: Clock + Wait>(&self, rt: &R, start: Instant, longest: Duration) {
+        self.state.wait(rt, start, longest);
+    }
+
+    /// Takes the next text, and answers whether there was one.
+    fn take<R: Wait>(&self, rt: &R, text: &mut Vec<u8>) -> bool {
+        let mut next = self.next.lock(rt);
+        next.take(text)
+    }
+}
+
+/// Starts a thread that writes the texts to a file, and answers whether it could. Nobody joins it: it ends with the program.
+pub fn start_texts<R, F>(
+    rt: &R,
+    alloc: Global,
+    texts: &Arc<CounterTexts>,
+    file: CounterFile,
+    files: F,
+) -> bool
+where
+    R: Threads + Wait + Copy + Send + 'static,
+    F: ReplaceFile + Drop + Send + 'static,
+{
+    let Ok(texts) = Arc::try_clone(texts) else {
+        return false;
+    };
+    let own = *rt;
+    texts.state.start();
+    thread::spawn(rt, move || texts.write_all(&own, alloc, &file, &files)).is_ok()
+}
+
+impl NextText {
+    fn set(&mut self, text: &mut Vec<u8>) {
+        if self.is_new {
+            self.set_fault(Some(FileFault::Late));
+        }
+        mem::swap(&mut self.text, text);
+        self.is_new = true;
+    }
+
+    fn take(&mut self, text: &mut Vec<u8>) -> bool {
+        let is_new = self.is_new;
+        if is_new {
+            mem::swap(&mut self.text, text);
+            self.is_new = false;
+        }
+        is_new
+    }
+
+    fn set_fault(&mut self, fault: Option<FileFault>) {
+        if self.fault != fault {
+            self.fault = fault;
+            self.is_told = false;
+        }
+    }
+
+    fn take_fault(&mut self) -> Option<FileFault> {
+        if self.is_told {
+            return None;
+        }
+        self.is_told = true;
+        self.fault
+    }
+}

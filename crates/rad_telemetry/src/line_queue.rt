@@ -1,0 +1,159 @@
+//! Log lines on their way from those that log to the one thread that writes them.
+
+use crate::line_room::LineRoom;
+use crate::line_writer::{LineOutput, LineWriter};
+use crate::writer_state::WriterState;
+use std::alloc::{AllocError, Global};
+use std::fmt::Display;
+use std::hint::spin_loop;
+use std::io::Write;
+use std::mem;
+use std::sync::atomic::{AtomicU64, Ordering};
+use std::sync::{Mutex, MutexGuard, Wait};
+use std::time::{Clock, Duration, Instant};
+
+/// How many octets of lines may wait.
+const ROOM: usize = 65_536;
+
+/// The longest line, in octets, with its line end.
+const LONGEST: usize = 4096;
+
+/// How often a line waits for those that hold the room, each for as long as a line is copied.
+const TRIES: u32 = 2000;
+
+/// Lines that wait, in the order in which they came. Until a thread writes them each is written by whoever logs it.
+#[derive(Drop)]
+pub struct LineQueue<O> {
+    room: Mutex<LineRoom>,
+    /// How many lines did not come into the room, since others held it for too long.
+    missed: AtomicU64,
+    outlet: Mutex<Outlet<O>>,
+    /// That of the thread that writes the lines, once there is one.
+    state: WriterState,
+}
+
+/// Held by whoever writes.
+#[derive(Drop)]
+struct Outlet<O> {
+    writer: LineWriter<O>,
+    /// The lines that are being written.
+    batch: LineRoom,
+}
+
+impl<O: LineOutput + Drop> LineQueue<O> {
+    /// An empty queue. It takes no more memory later.
+    ///
+    /// # Errors
+    ///
+    /// Where memory is refused.
+    pub fn new(alloc: Global, output: O) -> Result<LineQueue<O>, AllocError> {
+        let outlet = Outlet {
+            writer: LineWriter::new(output),
+            batch: LineRoom::new(alloc, ROOM)?,
+        };
+        Ok(LineQueue {
+            room: Mutex::new(LineRoom::new(alloc, ROOM)?),
+            missed: AtomicU64::new(0),
+            outlet: Mutex::new(outlet),
+            state: WriterState::new(),
+        })
+    }
+
+    /// Adds a line, or counts it as dropped where it finds no room.
+    pub fn put<D: Display>(&self, line: &D) {
+        let mut octets = [0; LONGEST];
+        let mut free = octets.as_mut_slice();
+        let is_whole = writeln!(free, "{line}").is_ok();
+        let count = LONGEST.saturating_sub(free.len());
+        let text = octets.get(..count).unwrap_or(&[]);
+        self.put_text(text, is_whole);
+        if self.state.is_started() {
+            self.state.notify();
+        } else {
+            self.write_now();
+        }
+    }
+
+    /// Adds a line that is made, if it is whole.
+    fn put_text(&self, text: &[u8], is_whole: bool) {
+        match self.hold() {
+            Some(mut room) if is_whole => room.put(text),
+            _ => {
+                self.missed.fetch_add(1, Ordering::SeqCst);
+            }
+        }
+    }
+
+    /// Holds the room, where it is to be had soon.
+    fn hold(&self) -> Option<MutexGuard<'_, LineRoom>> {
+        for _ in 0..TRIES {
+            let room = self.room.try_lock();
+            if room.is_some() {
+                return room;
+            }
+            spin_loop();
+        }
+        None
+    }
+
+    /// Writes what there is, if the output takes it at once.
+    fn write_now(&self) {
+        if let Some(mut outlet) = self.outlet.try_lock() {
+            if let Some(mut room) = self.hold() {
+                outlet.take(&mut room);
+            }
+            outlet
+                .batch
+                .drop_more(self.missed.swap(0, Ordering::SeqCst));
+            outlet.write(false);
+        }
+    }
+
+    /// From now on a thread calls `write_all`, and lines wait for it.
+    pub fn leave_to_thread(&self) {
+        self.state.start();
+    }
+
+    /// Writes the lines as they come until the queue is ended. It is the whole life of a thread.
+    pub fn write_all<R: Wait>(&self, rt: &R) {
+        for _ in rt.forever() {
+            let is_last = self.state.begin_round();
+            self.write_batch(rt);
+            if is_last {
+                self.state.finish();
+                return;
+            }
+            self.state.sleep(rt);
+        }
+    }
+
+    /// Writes the lines that wait.
+    fn write_batch<R: Wait>(&self, rt: &R) {
+        let mut outlet = self.outlet.lock(rt);
+        outlet.take(&mut self.room.lock(rt));
+        outlet
+            .batch
+            .drop_more(self.missed.swap(0, Ordering::SeqCst));
+        outlet.write(true);
+    }
+
+    /// Has the thread write what waits and end, where there is one, and waits for it until so long after a start at most.
+    pub fn end<R: Clock + Wait>(&self, rt: &R, start: Instant, longest: Duration) {
+        self.state.end();
+        self.state.wait(rt, start, longest);
+    }
+}
+
+impl<O: LineOutput> Outlet<O> {
+    /// Takes the lines of a room, which is empty then.
+    fn take(&mut self, room: &mut LineRoom) {
+        self.batch.clear();
+        mem::swap(&mut self.batch, room);
+    }
+
+    /// Writes the lines that were taken.
+    fn write(&mut self, is_patient: bool) {
+        let Outlet { writer, batch } = self;
+        writer.write(batch, is_patient);
+    }
+}

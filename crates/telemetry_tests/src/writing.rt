@@ -1,0 +1,109 @@
+//! What no clause says of the log's lines on their way: which find room, and what comes after a write that was cut short.
+
+use rad_telemetry::{LineOutput, LineRoom, LineWriter};
+use std::alloc::{AllocError, Global};
+use std::result::Result;
+use std::sync::Mutex;
+use std::test::Fail;
+
+/// Takes so many octets in each write, and keeps them; where it takes none the write fails.
+#[derive(Drop)]
+struct Disk<'a> {
+    takes: &'a [usize],
+    text: &'a Mutex<Vec<u8>>,
+}
+
+impl LineOutput for Disk<'_> {
+    fn is_ready(&mut self, _is_patient: bool) -> bool {
+        true
+    }
+
+    fn take(&mut self, octets: &[u8]) -> usize {
+        let (count, rest) = match self.takes.split_first() {
+            Some((first, rest)) => (octets.len().min(*first), rest),
+            None => (octets.len(), self.takes),
+        };
+        self.takes = rest;
+        if let Some(mut text) = self.text.try_lock() {
+            let _ = text.extend_from_slice(octets.get(..count).unwrap_or(&[]));
+        }
+        count
+    }
+}
+
+/// A room with these lines.
+fn room_of(alloc: Global, size: usize, lines: &[&str]) -> Result<LineRoom, AllocError> {
+    let mut room = LineRoom::new(alloc, size)?;
+    for line in lines {
+        room.put(line.as_bytes());
+    }
+    Ok(room)
+}
+
+/// Whether a disk that takes so much in each write has this text, once the lines were written three times.
+fn has_written(alloc: Global, takes: &[usize], expected: &str) -> Result<bool, AllocError> {
+    let text = Mutex::new(Vec::new(alloc));
+    let room = room_of(alloc, 100, &["one\n", "two\n"])?;
+    let mut writer = LineWriter::new(Disk { takes, text: &text });
+    for _ in 0..3 {
+        writer.write(&room, true);
+    }
+    match text.try_lock() {
+        Some(text) => Ok(text.as_slice() == expected.as_bytes()),
+        None => Ok(false),
+    }
+}
+
+#[test]
+fn lines_that_find_no_room_are_counted(rt: HostRuntime) -> Result<(), Fail> {
+    let alloc = rt.alloc();
+    let mut room = room_of(alloc, 8, &["one\n", "four\n", "two\n"])?;
+    assert!(rt; room.lines() == b"one\n" && room.dropped() == 2);
+    room.clear();
+    assert!(rt; room.lines().is_empty() && room.dropped() == 0);
+    room.put(b"one\n");
+    room.put(b"two\n");
+    assert!(rt; room.lines() == b"one\ntwo\n" && room.dropped() == 0);
+    Ok(())
+}
+
+#[test]
+fn lines_are_written_in_order(rt: HostRuntime) -> Result<(), Fail> {
+    let whole = "one\ntwo\none\ntwo\none\ntwo\n";
+    let is_right = has_written(rt.alloc(), &[], whole)?
+        && has_written(rt.alloc(), &[1, 2, 3], whole)?;
+    assert!(rt; is_right);
+    Ok(())
+}
+
+#[test]
+fn a_part_of_a_line_stands_alone(rt: HostRuntime) -> Result<(), Fail> {
+    let expected = "one\ntw\nlevel=warn event=lines-dropped count=1\none\ntwo\none\ntwo\n";
+    let is_right = has_written(rt.alloc(), &[6, 0], expected)?;
+    assert!(rt; is_right);
+    Ok(())
+}
+
+#[test]
+fn behind_a_whole_line_comes_no_line_end(rt: HostRuntime) -> Result<(), Fail> {
+    let expected = "one\nlevel=warn event=lines-dropped count=1\none\ntwo\none\ntwo\n";
+    let is_right = has_written(rt.alloc(), &[4, 0], expected)?;
+    assert!(rt; is_right);
+    Ok(())
+}
+
+#[test]
+fn lines_are_counted_until_that_is_told(rt: HostRuntime) -> Result<(), Fail> {
+    let expected = "level=warn event=lines-dropped count=4\none\ntwo\n";
+    let is_right = has_written(rt.alloc(), &[0, 0, 0], expected)?;
+    assert!(rt; is_right);
+    Ok(())
+}
+
+#[test]
+fn what_is_told_of_them_may_be_cut_too(rt: HostRuntime) -> Result<(), Fail> {
+    let expected = "level\nlevel=warn event=lines-dropped count=2\none\ntwo\none\ntwo\n";
+    let is_right = has_written(rt.alloc(), &[0, 5, 0], expected)?;
+    assert!(rt; is_right);
+    Ok(())
+}

@@ -1,0 +1,368 @@
+#!/usr/bin/env python3
+"""Gives the program files that are none, or that are slow or full, and sees what it leaves alone and when it ends.
+
+usage: files.py PROGRAM [NAME ..]
+
+Each test is a function below, and its first line tells what holds. Names choose tests. It uses loopback alone; a device is
+tried where root runs this, and else told as left out. What is slow is so by slow.c, and what is full by a limit on the size of
+files. The last line is `N passed, M failed`.
+"""
+import os
+import pathlib
+import re
+import resource
+import signal
+import socket
+import stat
+import subprocess
+import sys
+import tempfile
+import time
+
+sys.dont_write_bytecode = True
+
+import model  # noqa: F401  (it has the folder of `vectors` looked in)
+from vectors import ACCOUNTING_RESPONSE, answer, request, user_name
+
+HERE = pathlib.Path(__file__).resolve().parent
+PATIENCE, APART = 30, 0.02
+NAS_SECRET, HOME_SECRET = b"nas-secret", b"home-secret"
+NOTHING_LEFT = "end: queued 0 outstanding 0 untaken 0"
+FAULT = 'level=warn event=counters-fault reason="{}"'
+LINE = re.compile(r"level=(error|warn|info|debug|trace) event=[a-z-]+( [a-z_]+=(\"[^\"]*\"|[^ \"=]+))*")
+SOON, LATEST = 3.0, 6.0
+UNSET = ("RAD_PROXY_COUNTERS", "RAD_PROXY_LOG", "LD_PRELOAD")
+
+
+class LeftOut(Exception):
+    """The test wants what is not here."""
+
+
+def hope(text, found, wanted):
+    if found != wanted:
+        raise AssertionError(f"{text}: {found!r}, and not {wanted!r}")
+
+
+def until(text, test):
+    """Waits until a test answers something, and answers that."""
+    last = time.monotonic() + PATIENCE
+    while time.monotonic() < last:
+        found = test()
+        if found:
+            return found
+        time.sleep(APART)
+    raise AssertionError(f"never: {text}")
+
+
+def bound():
+    made = socket.socket(socket.AF_INET, socket.SOCK_DGRAM)
+    made.bind(("127.0.0.1", 0))
+    made.settimeout(PATIENCE)
+    return made
+
+
+class Trial:
+    """A program with one client and one home server, in a folder of its own."""
+
+    def __init__(self, program, room):
+        self.program, self.room = program, room
+        self.folder = room / "folder"
+        self.folder.mkdir()
+        self.counters, self.log, self.printed = self.folder / "counters", room / "log", room / "printed"
+        self.home, self.nas, self.process = bound(), bound(), None
+        with bound() as free:
+            self.port = free.getsockname()[1]
+        self.file = room / "one.toml"
+        self.file.write_text(
+            f'listen = "127.0.0.1:{self.port}"\nlinger = 1000\n[[client]]\naddress = "127.0.0.1"\nsecret = "nas-secret"\n'
+            f'[[home]]\nname = "h1"\naddress = "127.0.0.1:{self.home.getsockname()[1]}"\nsecret = "home-secret"\n'
+            '[[realm]]\nname = "example.org"\nhome = "h1"\n')
+
+    def slowed(self, **numbers):
+        """The environment in which files are slow."""
+        library = self.room / "slow.so"
+        compiler = os.environ.get("CC", "cc").split()
+        subprocess.run([*compiler, "-O2", "-shared", "-fPIC", "-o", library, HERE / "slow.c"], check=True)
+        return {"LD_PRELOAD": str(library)} | {name: str(value) for name, value in numbers.items()}
+
+    def start(self, before=None, **variables):
+        """Starts the program, and waits until it listens."""
+        environment = {name: value for name, value in os.environ.items() if name not in UNSET}
+        with open(self.printed, "wb") as out, open(self.log, "ab") as err:
+            self.process = subprocess.Popen([self.program, "run", self.file], stdin=subprocess.PIPE, stdout=out, stderr=err,
+                                            env=environment | variables, preexec_fn=before)
+        until("it listens", lambda: "listening" in self.printed.read_text())
+
+    def count(self):
+        """Starts it so that it writes its counters."""
+        self.start(RAD_PROXY_COUNTERS=str(self.counters))
+
+    def end(self):
+        """Closes its input: the `end:` line has to come soon, and its end a second later at most."""
+        began = time.monotonic()
+        self.process.stdin.close()
+        until("its last line", lambda: NOTHING_LEFT in self.printed.read_text())
+        told = time.monotonic() - began
+        hope("status", self.process.wait(PATIENCE), 0)
+        ended = time.monotonic() - began
+        if told > SOON or ended > LATEST:
+            raise AssertionError(f"its last line came after {told:.1f} s, its end after {ended:.1f} s")
+
+    def lines(self):
+        return self.log.read_text().splitlines()
+
+    def lines_with(self, word):
+        return [line for line in self.lines() if word in line]
+
+    def is_drained(self):
+        """Whether nothing was logged for a second."""
+        size = self.log.stat().st_size
+        time.sleep(1.5)
+        return self.log.stat().st_size == size
+
+    def told(self, reason):
+        """The fault is told once, before and after the end."""
+        until("it tells the fault", lambda: FAULT.format(reason) in self.lines())
+        time.sleep(2.5)
+        self.end()
+        hope("what it tells", self.lines(), [FAULT.format(reason)])
+
+    def send_bad(self, count):
+        """Sends datagrams that are no packets."""
+        for _ in range(count):
+            self.nas.sendto(b"no packet", ("127.0.0.1", self.port))
+            time.sleep(0.001)
+
+    def is_answered(self, seconds):
+        """Whether a request is answered within so many seconds."""
+        octets = request(1, user_name(b"bob@example.org"), NAS_SECRET)
+        self.nas.sendto(octets, ("127.0.0.1", self.port))
+        self.nas.settimeout(seconds)
+        self.home.settimeout(seconds)
+        try:
+            sent, proxy = self.home.recvfrom(4096)
+            self.home.sendto(answer(sent, sent[1], sent[-12:], HOME_SECRET), proxy)
+            return self.nas.recv(4096)[0] == ACCOUNTING_RESPONSE
+        except socket.timeout:
+            return False
+
+    def clean(self):
+        if self.process is not None:
+            self.process.kill()
+            self.process.wait()
+
+
+def writes_its_counters(trial):
+    """The file is there within a second and again at the end, and nothing beside it is left."""
+    trial.count()
+    first = until("the counters", lambda: trial.counters.exists() and trial.counters.stat())
+    until("they are written anew", lambda: trial.counters.stat().st_ino != first.st_ino)
+    trial.send_bad(3)
+    trial.end()
+    hope("the folder", [path.name for path in trial.folder.iterdir()], ["counters"])
+    is_counted = 'rad_proxy_dropped_total{reason="Unread"} 3' in trial.counters.read_text()
+    hope("the last text", is_counted, True)
+    hope("the log's faults", [line for line in trial.lines() if "fault" in line], [])
+
+
+def leaves_a_device_alone(trial):
+    """A device at the path stays what it is."""
+    if os.getuid() != 0:
+        raise LeftOut("it wants root")
+    os.mknod(trial.counters, stat.S_IFCHR | 0o666, os.makedev(1, 3))
+    trial.count()
+    trial.told("no regular file")
+    hope("it is a device", stat.S_ISCHR(os.lstat(trial.counters).st_mode), True)
+
+
+def leaves_a_link_alone(trial):
+    """A link at the path stays, and so does what it leads to."""
+    other = trial.room / "other"
+    other.write_text("mine")
+    trial.counters.symlink_to(other)
+    trial.count()
+    trial.told("no regular file")
+    hope("the link and the file", (trial.counters.is_symlink(), other.read_text()), (True, "mine"))
+
+
+def leaves_a_pipe_alone(trial):
+    """A pipe that nobody reads stays, and nothing waits for it."""
+    os.mkfifo(trial.counters)
+    trial.count()
+    trial.told("no regular file")
+    hope("it is a pipe", stat.S_ISFIFO(os.lstat(trial.counters).st_mode), True)
+
+
+def leaves_a_folder_alone(trial):
+    """A folder at the path stays."""
+    trial.counters.mkdir()
+    trial.count()
+    trial.told("no regular file")
+    hope("the folder", list(trial.counters.iterdir()), [])
+
+
+def leaves_a_socket_alone(trial):
+    """A socket at the path stays."""
+    with socket.socket(socket.AF_UNIX, socket.SOCK_DGRAM) as made:
+        made.bind(str(trial.counters))
+        trial.count()
+        trial.told("no regular file")
+    hope("it is a socket", stat.S_ISSOCK(os.lstat(trial.counters).st_mode), True)
+
+
+def follows_no_link_of_a_new_file(trial):
+    """A link that was planted where the new file might be made overwrites nothing."""
+    other, planted = trial.room / "other", trial.folder / "counters.new"
+    other.write_text("mine")
+    planted.symlink_to(other)
+    trial.count()
+    until("the counters", trial.counters.exists)
+    trial.end()
+    hope("the other file", other.read_text(), "mine")
+    hope("it is a file", stat.S_ISREG(os.lstat(trial.counters).st_mode), True)
+
+
+def is_not_blocked_by_what_is_left(trial):
+    """What an earlier run left beside the file blocks nothing, be it a file, a pipe or a folder."""
+    for make in (pathlib.Path.touch, os.mkfifo, pathlib.Path.mkdir):
+        planted = trial.folder / "counters.new"
+        make(planted)
+        trial.count()
+        until("the counters", trial.counters.exists)
+        trial.end()
+        planted.rmdir() if planted.is_dir() else planted.unlink()
+        trial.counters.unlink()
+
+
+def tells_what_it_cannot_write(trial):
+    """A folder that is not there is told once; once it is there the counters come, and its going is told again."""
+    trial.folder.rmdir()
+    trial.count()
+    until("it tells the fault", lambda: trial.lines() == [FAULT.format("not written")])
+    trial.folder.mkdir()
+    until("the counters", trial.counters.exists)
+    trial.end()
+    hope("what it tells", trial.lines(), [FAULT.format("not written")])
+
+
+def a_hung_file_system_delays_no_end(trial):
+    """Where the counters' folder hangs, the last line comes at once and the end a second later; requests are answered."""
+    slow = trial.slowed(SLOW_PATH=str(trial.folder), SLOW_OPEN=60_000)
+    trial.start(RAD_PROXY_COUNTERS=str(trial.counters), **slow)
+    until("it tells the fault", lambda: FAULT.format("takes longer than a second") in trial.lines())
+    hope("it answers", trial.is_answered(5), True)
+    trial.end()
+    hope("what it tells", trial.lines(), [FAULT.format("takes longer than a second")])
+
+
+def a_slow_log_holds_no_worker(trial):
+    """Where each write of the log takes half a second a request is answered, also behind datagrams that are logged."""
+    trial.start(RAD_PROXY_LOG="debug", **trial.slowed(SLOW_LOG=500))
+    trial.send_bad(20)
+    hope("it answers", trial.is_answered(5), True)
+    until("the lines", lambda: len(trial.lines_with("level=debug")) == 20)
+    trial.end()
+
+
+def a_hung_log_delays_no_end(trial):
+    """Where a write of the log hangs, requests are answered, the last line comes at once, and the end a second later."""
+    trial.start(RAD_PROXY_LOG="debug", **trial.slowed(SLOW_LOG=60_000))
+    trial.send_bad(3)
+    hope("it answers", trial.is_answered(5), True)
+    trial.end()
+
+
+def its_last_lines_are_written(trial):
+    """What is logged right before the end is in the log, in order, though a write takes 100 milliseconds."""
+    trial.start(RAD_PROXY_LOG="trace", **trial.slowed(SLOW_LOG=100))
+    hope("it answers", trial.is_answered(5), True)
+    trial.end()
+    events = [re.search("event=([a-z-]+)", line)[1] for line in trial.lines()]
+    of_front = [event for event in events if event in ("accepted", "returned")]
+    hope("what the front tells", of_front, ["accepted", "returned"])
+    hope("what the lane tells", "answered" in events, True)
+
+
+def each_line_is_there_or_counted(trial):
+    """Of more lines than find room each is in the log or in a count of those that were dropped, where they were."""
+    sent = 4000
+    trial.start(RAD_PROXY_LOG="debug", RAD_PROXY_COUNTERS=str(trial.counters), **trial.slowed(SLOW_LOG=200))
+    trial.send_bad(sent)
+    until("all came", lambda: f'total{{reason="Unread"}} {sent}' in trial.counters.read_text())
+    until("all is written", trial.is_drained)
+    trial.end()
+    hope("lines of another form", [line for line in trial.lines() if not LINE.fullmatch(line)], [])
+    single, sums = (len(trial.lines_with(f"level={level} event=dropped")) for level in ("debug", "info"))
+    counts = [int(line.rpartition("=")[2]) for line in trial.lines_with("event=lines-dropped")]
+    most = sent + PATIENCE - sums
+    is_right = counts != [] and single < sent and sent <= single + sum(counts) <= most
+    hope(f"{single} lines, {sums} sums and {counts} dropped are right", is_right, True)
+
+
+def starts_a_line_after_a_part_of_one(trial):
+    """Where the disk gets full in the middle of a line, the next line that is written stands alone, as all others do."""
+    size = 1000
+
+    def limit():
+        signal.signal(signal.SIGXFSZ, signal.SIG_IGN)
+        resource.setrlimit(resource.RLIMIT_FSIZE, (size, resource.RLIM_INFINITY))
+
+    trial.start(before=limit, RAD_PROXY_LOG="debug")
+    trial.send_bad(20)
+    until("the disk is full", lambda: trial.log.stat().st_size == size)
+    trial.send_bad(20)
+    time.sleep(1.5)
+    hope("the log's size", trial.log.stat().st_size, size)
+    resource.prlimit(trial.process.pid, resource.RLIMIT_FSIZE, (resource.RLIM_INFINITY, resource.RLIM_INFINITY))
+    trial.send_bad(3)
+    until("more lines", lambda: trial.log.stat().st_size > size + 1)
+    trial.end()
+    whole, _, cut = trial.log.read_text()[:size].rpartition("\n")
+    hope("what comes behind the part of a line", trial.log.read_text()[size:size + 1] if cut else "\n", "\n")
+    others = [line for line in trial.lines()[:whole.count("\n") + 1] + trial.log.read_text()[size:].split("\n")
+              if line and not LINE.fullmatch(line)]
+    hope("lines of another form", others, [])
+    hope("that lines were dropped is told", trial.lines_with("event=lines-dropped") != [], True)
+
+
+TESTS = [
+    writes_its_counters, leaves_a_device_alone, leaves_a_link_alone, leaves_a_pipe_alone, leaves_a_folder_alone,
+    leaves_a_socket_alone, follows_no_link_of_a_new_file, is_not_blocked_by_what_is_left, tells_what_it_cannot_write,
+    a_hung_file_system_delays_no_end, a_slow_log_holds_no_worker, a_hung_log_delays_no_end, its_last_lines_are_written,
+    each_line_is_there_or_counted, starts_a_line_after_a_part_of_one,
+]
+
+
+def tried(program, test):
+    """What became of a test: a word, and what there is to say."""
+    with tempfile.TemporaryDirectory() as room:
+        trial = Trial(program, pathlib.Path(room))
+        try:
+            test(trial)
+        except LeftOut as reason:
+            return "left out", str(reason)
+        except (AssertionError, OSError, subprocess.SubprocessError) as fault:
+            return "failed", f"{fault or type(fault).__name__}"
+        finally:
+            trial.clean()
+    return "passed", ""
+
+
+def main():
+    if len(sys.argv) < 2:
+        sys.exit(__doc__.splitlines()[2])
+    program, names = pathlib.Path(sys.argv[1]).resolve(), sys.argv[2:]
+    words = []
+    for test in TESTS:
+        if names and test.__name__ not in names:
+            continue
+        word, text = tried(program, test)
+        words.append(word)
+        if word != "passed":
+            print(f"{word}: {test.__name__}: {text}", flush=True)
+    print(f"{words.count('passed')} passed, {words.count('failed')} failed")
+    sys.exit(1 if "failed" in words else 0)
+
+
+if __name__ == "__main__":
+    main()
