@@ -34,9 +34,9 @@ mod packet_words;
 mod peer_text;
 mod reporter;
 mod telemetry;
-mod watch_lines;
 mod telling;
 mod told_stream;
+mod watch_lines;
 mod workers;
 mod writer_state;
 
