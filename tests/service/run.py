@@ -321,6 +321,17 @@ def counters_elsewhere_are_told(service):
     hope("lanes", 'rad_proxy_home_up{lane="0",home="h1"} 1' in done.stdout, True)
 
 
+def counters_that_are_not_written_are_told(service):
+    """Where the program writes its counters no more, `metrics` prints the lanes, says so, and ends with 4."""
+    service.environment["RAD_PROXY_COUNTERS"] = str(service.room / "elsewhere")
+    service.start()
+    (service.run / "counters").write_text("old\n")
+    done = service.ask("metrics")
+    hope("status", (done.returncode, done.stderr), (4, f"rad_proxyctl: the counters in {service.run} are not written any more\n"))
+    hope("lanes", 'rad_proxy_home_up{lane="0",home="h1"} 1' in done.stdout, True)
+    hope("old counters", "old" in done.stdout, False)
+
+
 def sent_again_is_never_less_than_nothing(service):
     """While requests come, what `metrics` tells as sent is never less than what it tells as accepted and not queued."""
     service.start()
@@ -504,6 +515,7 @@ TESTS = [
     the_lock_outlives_a_serve_that_was_killed, refuses_a_folder_that_others_write_in, whatever_the_umask,
     a_stopped_asker_keeps_nobody_out, an_asker_without_an_answer_gives_up, many_ask_at_once,
     a_hand_over_that_dies_is_started_anew, nobody_reads_its_output, what_is_left_over_is_a_warning, counters_elsewhere_are_told,
+    counters_that_are_not_written_are_told,
     sent_again_is_never_less_than_nothing, memory_is_refused_and_nothing_ends, relative_paths_hold,
     an_answer_that_cannot_be_written_is_told, whoever_keeps_the_pipe_is_not_waited_for, the_unit_takes_no_core_dump,
     root_asks_as_the_owner, the_owner_gets_nothing_of_roots, root_serves_nobody_elses_folder,
