@@ -325,11 +325,11 @@ def counters_that_are_not_written_are_told(service):
     """Where the program writes its counters no more, `metrics` prints the lanes, says so, and ends with 4."""
     service.environment["RAD_PROXY_COUNTERS"] = str(service.room / "elsewhere")
     service.start()
-    (service.run / "counters").write_text("old\n")
+    (service.run / "counters").write_text("of yesterday\n")
     done = service.ask("metrics")
     hope("status", (done.returncode, done.stderr), (4, f"rad_proxyctl: the counters in {service.run} are not written any more\n"))
     hope("lanes", 'rad_proxy_home_up{lane="0",home="h1"} 1' in done.stdout, True)
-    hope("old counters", "old" in done.stdout, False)
+    hope("old counters", "of yesterday" in done.stdout, False)
 
 
 def sent_again_is_never_less_than_nothing(service):
