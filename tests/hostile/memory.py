@@ -6,12 +6,12 @@ usage: memory.py PROGRAM                 each load of LOADS, with some ten thous
 
 The requests are those of bench/generator.c, for a home server of bench/home.c, which answers at once. So many are out at one
 moment, whatever the machine does meanwhile; by that, by `book` and by `span` it is settled how much of the book is cut off
-each time. Memory is looked at when all is answered and cut. Neither what is resident nor what refuse.c counts as live may be
-more than MOST octets higher after the second load than after the first one. The last line is `N passed, M failed`.
+each time. A load is given once so many requests were accepted, however long that takes. Memory is looked at when all is
+answered and cut. Neither what is resident nor what refuse.c counts as live may be more than MOST octets higher after the
+second load than after the first one. The last line is `N passed, M failed`.
 """
 import contextlib
 import itertools
-import json
 import math
 import os
 import pathlib
@@ -36,10 +36,10 @@ from proxies import CLIENT_SECRET, HOME_SECRET, end, end_with_parent  # noqa: E4
 from readings import resident_kilobytes  # noqa: E402
 
 MOST = 1_000_000
-REQUESTS = 10_000
-PATIENCE, LONGEST, GIVEN_UP = 120, 3600, 20_000
+REQUESTS, MOST_REQUESTS = 10_000, 2**32 - 1
+PATIENCE, GIVEN_UP = 120, 300
 OUT_OF_A_SOCKET = 200
-STATE = re.compile(r"lane 0 h0 (?:up|down) open accepted (\d+) queued (\d+) outstanding (\d+) answered (\d+) opening (\d+)")
+STATE = re.compile(r"lane 0 h0 (?:up|down) open accepted (\d+) queued (\d+) outstanding (\d+) answered \d+ opening (\d+)")
 NOTHING_LEFT = "end: queued 0 outstanding 0 untaken 0"
 
 
@@ -54,10 +54,10 @@ class Load:
 
 
 LOADS = [
-    Load("a cut takes more than stays", 320, 0, [8, 8, 8, 8]),
-    Load("a cut takes as much as stays", 320, 0, [160, 160, 160, 160]),
-    Load("a cut takes less than stays", 320, 0, [240, 240, 240, 240]),
-    Load("a cut takes now more and now less", 320, 5, [8, 240, 160, 40]),
+    Load("a cut takes more than stays", 400, 0, [8, 8, 8, 8]),
+    Load("a cut takes as much as stays", 400, 0, [200, 200, 200, 200]),
+    Load("a cut takes less than stays", 400, 0, [220, 220, 220, 220]),
+    Load("a cut takes now more and now less", 400, 5, [8, 220, 200, 40]),
 ]
 
 
@@ -101,14 +101,21 @@ class Proxy:
             raise Failed("the program says nothing")
         return self.ran.stdout.readline().decode("utf-8", "replace").strip()
 
-    def is_at_rest(self):
-        """Whether all is answered, and the book is cut as far as it ever is."""
+    def counts(self):
+        """How many requests it has accepted, how many wait, how many are out, and how many are cut off."""
         self.ran.stdin.write(b"state\n")
         line = self.line()
         found = STATE.fullmatch(line)
         if not found:
             raise Failed(f"the program says {line!r}")
-        accepted, queued, outstanding, _, opening = map(int, found.groups())
+        return map(int, found.groups())
+
+    def accepted(self):
+        return next(self.counts())
+
+    def is_at_rest(self):
+        """Whether all is answered, and the book is cut as far as it ever is."""
+        accepted, queued, outstanding, opening = self.counts()
         return queued == outstanding == 0 and 2 * (accepted - opening) < self.load.book
 
     def octets(self):
@@ -136,25 +143,36 @@ def started(words, **pipes):
 
 
 class Nas:
-    """Gives the load, each time under other sessions."""
+    """Gives loads to the proxy, each time under other sessions."""
 
-    def __init__(self, work, port):
-        self.work, self.port, self.series = work, port, itertools.count()
+    def __init__(self, work, proxy):
+        self.work, self.proxy, self.series = work, proxy, itertools.count()
 
     def ask(self, out, count, seconds):
-        """Sends so many requests, as far as there is time, with so many out at once, and gives how many it sent."""
-        options = {"port": self.port, "secret": CLIENT_SECRET, "window": out, "count": count, "seconds": seconds}
+        """Sends so many requests, as far as there is time, with so many out at once, and gives how many were accepted."""
+        before = self.proxy.accepted()
+        options = {"port": self.proxy.port, "secret": CLIENT_SECRET, "window": out, "count": count, "seconds": seconds}
         options |= {"timeout": GIVEN_UP, "sockets": math.ceil(out / OUT_OF_A_SOCKET), "series": next(self.series)}
         words = [self.work / "generator", *(word for name, value in options.items() for word in (f"--{name}", str(value)))]
-        with started(words, stdout=subprocess.PIPE, text=True) as process:
-            told = json.loads(process.stdout.readlines()[-1])
-        if 2 * told["answered"] < told["sent"]:
-            raise Failed(f"of {told['sent']} requests {told['answered']} were answered")
-        return told["sent"]
+        with started(words, stdout=subprocess.DEVNULL) as process:
+            if process.wait() != 0:
+                raise Failed(f"the generator ended with status {process.returncode}")
+        return self.proxy.accepted() - before
+
+    def ask_until(self, out, wanted):
+        """Sends requests until so many were accepted, and gives how many were."""
+        accepted = 0
+        while accepted < wanted:
+            more = self.ask(out, wanted - accepted, PATIENCE)
+            if more == 0:
+                raise Failed(f"no request was accepted, in {PATIENCE} seconds")
+            accepted += more
+        return accepted
 
 
-def grown(program, work, load, library, count, seconds):
-    """How many octets more there are of each kind after the second load than after the first one."""
+def grown(program, work, load, library, seconds):
+    """How many octets more there are of each kind after the second load than after the first one. That one takes so many
+    seconds for each of its parts, or where there are none REQUESTS each."""
     with tempfile.TemporaryDirectory(dir=work) as folder, contextlib.ExitStack() as stack:
         home = free_port()
         stack.enter_context(started([work / "home", str(home), HOME_SECRET, "86400"], stdout=subprocess.DEVNULL))
@@ -163,23 +181,25 @@ def grown(program, work, load, library, count, seconds):
         stack.callback(proxy.ran.kill)
         if not proxy.line().startswith("listening "):
             raise Failed("the program does not listen")
-        nas = Nas(work, proxy.port)
-        sent = [nas.ask(out, count, seconds) for out in load.out]
+        nas, began = Nas(work, proxy), time.monotonic()
+        parts = (nas.ask(out, MOST_REQUESTS, seconds) if seconds else nas.ask_until(out, REQUESTS) for out in load.out)
+        accepted = list(parts)
         before = proxy.octets()
-        for out, again in zip(load.out, sent):
-            nas.ask(out, again, LONGEST)
+        for out, again in zip(load.out, accepted):
+            nas.ask_until(out, again)
         after = proxy.octets()
         proxy.end()
     told = ", ".join(f"{name} {before[name]:,} and then {after[name]:,}" for name in before)
-    print(f"{load.name}, {sum(sent):,} requests and as many again: octets {told}", flush=True)
+    took = f"in {time.monotonic() - began:.0f} seconds"
+    print(f"{load.name}, {sum(accepted):,} requests and as many again {took}: octets {told}", flush=True)
     return {name: after[name] - before[name] for name in before}
 
 
-def tried(program, work, load, library, count, seconds):
+def tried(program, work, load, library, seconds):
     """How many of the two kinds of octets did not rise under a load, and how many did."""
     try:
-        risen = [name for name, more in grown(program, work, load, library, count, seconds).items() if more > MOST]
-    except (Failed, OSError, ValueError, IndexError) as failed:
+        risen = [name for name, more in grown(program, work, load, library, seconds).items() if more > MOST]
+    except (Failed, OSError, subprocess.SubprocessError) as failed:
         print(f"{load.name}: {failed}")
         return 0, 2
     for name in risen:
@@ -190,10 +210,10 @@ def tried(program, work, load, library, count, seconds):
 def main():
     words = sys.argv[1:]
     if len(words) == 1:
-        count, seconds = REQUESTS, PATIENCE
+        seconds = None
     elif len(words) == 3 and words[1] == "--seconds":
         parts = 2 * sum(len(load.out) for load in LOADS)
-        count, seconds = 2**32 - 1, max(1, round(int(words[2]) / parts))
+        seconds = max(1, round(int(words[2]) / parts))
     else:
         sys.exit(__doc__)
     signal.signal(signal.SIGTERM, lambda *_: sys.exit("stopped"))
@@ -202,7 +222,7 @@ def main():
         work = pathlib.Path(folder)
         compile_all(work, ["generator", "home"])
         library = Refuser(work).library
-        passed, failed = map(sum, zip(*(tried(program, work, load, library, count, seconds) for load in LOADS)))
+        passed, failed = map(sum, zip(*(tried(program, work, load, library, seconds) for load in LOADS)))
     print(f"{passed} passed, {failed} failed")
     sys.exit(1 if failed else 0)
 

@@ -344,6 +344,17 @@ def counters_elsewhere_are_told(service):
     hope("lanes", 'rad_proxy_home_up{lane="0",home="h1"} 1' in done.stdout, True)
 
 
+def counters_that_are_not_written_are_told(service):
+    """Where the program writes its counters no more, `metrics` prints the lanes, says so, and ends with 4."""
+    service.environment["RAD_PROXY_COUNTERS"] = str(service.room / "elsewhere")
+    service.start()
+    (service.run / "counters").write_text("of yesterday\n")
+    done = service.ask("metrics")
+    hope("status", (done.returncode, done.stderr), (4, f"rad_proxyctl: the counters in {service.run} are not written any more\n"))
+    hope("lanes", 'rad_proxy_home_up{lane="0",home="h1"} 1' in done.stdout, True)
+    hope("old counters", "of yesterday" in done.stdout, False)
+
+
 def sent_again_is_never_less_than_nothing(service):
     """While requests come, what `metrics` tells as sent is never less than what it tells as accepted and not queued."""
     service.start()
@@ -399,6 +410,72 @@ def memory_is_refused_and_nothing_ends(service):
     until("requests are refused", refused)
     done = service.ask("state")
     hope("it answers", (done.returncode, process.poll()), (0, None))
+
+
+def an_answer_that_cannot_be_written_is_told(service):
+    """Where standard output is a full disk or closed, rad_proxyctl says so and ends with 4."""
+    service.start()
+    until("counters", (service.run / "counters").exists)
+    for words in ("state >/dev/full", "metrics >/dev/full", "drain >/dev/full", "state >&-", "metrics >&-"):
+        done = subprocess.run(["sh", "-c", f'"$0" {words}', service.ctl], env=service.environment, capture_output=True,
+                              text=True, timeout=PATIENCE)
+        hope(words, (done.returncode, done.stderr), (4, "rad_proxyctl: cannot write the answer\n"))
+
+
+def whoever_keeps_the_pipe_is_not_waited_for(service):
+    """A process that was left behind while asked, and still has the pipe of the answer, does not keep rad_proxyctl."""
+    service.start()
+    script = service.ctl.read_text()
+    hope("how long it reads", "\nREAD_SECONDS=30\n" in script, True)
+    service.ctl.write_text(script.replace("\nREAD_SECONDS=30\n", "\nREAD_SECONDS=4\n"))
+    folder = service.room / "tools"
+    folder.mkdir()
+    (folder / "mkfifo").write_text(f'#!/bin/sh\nsetsid sleep {PATIENCE} &\nexec {shutil.which("mkfifo")} "$@"\n')
+    (folder / "mkfifo").chmod(0o755)
+    more = {"PATH": f"{folder}:{os.environ['PATH']}"}
+    done = service.ask("state", env=service.environment | more, timeout=PATIENCE / 2)
+    hope("status", done.returncode in (0, 4), True)
+
+
+def the_owner_gets_nothing_of_roots(service):
+    """Where root asks, the process of the folder's owner has none of the files that root's shell has open."""
+    if os.getuid() != 0:
+        raise LeftOut("it wants root")
+    secret = service.room / "secret"
+    secret.write_text("root's own\n")
+    service.room.chmod(0o755)
+    service.run.mkdir(0o700)
+    os.chown(service.run, STRANGER, STRANGER)
+    service.file.chmod(0o644)
+    process = service.start(user=STRANGER, group=STRANGER, extra_groups=[])
+    program = until("program", lambda: [pid for pid, name in service.children(process) if name == "rad_proxy"])[0]
+    os.kill(program, signal.SIGSTOP)
+    words = ["sh", "-c", '"$0" state 3<"$1" 5<"$1" 9<"$1"', service.ctl, secret]
+    asker = subprocess.Popen(words, env=service.environment, stdout=subprocess.DEVNULL, stderr=subprocess.DEVNULL)
+
+    def open_files():
+        """What those that ask as the owner have open, once there is one."""
+        files = [path for path in pathlib.Path("/proc").glob("[0-9]*/cmdline") if is_of_a_stranger_who_asks(path)]
+        return [os.readlink(link) for path in files for link in path.parent.glob("fd/*")]
+
+    hope("root's file is among them", str(secret) in until("somebody asks", open_files), False)
+    os.kill(program, signal.SIGCONT)
+    asker.wait(PATIENCE)
+    process.kill()
+
+
+def is_of_a_stranger_who_asks(path):
+    """Whether this command line in /proc is that of a process of STRANGER's that asks."""
+    with contextlib.suppress(OSError):
+        return path.stat().st_uid == STRANGER and b"--ask" in path.read_bytes()
+    return False
+
+
+def the_unit_takes_no_core_dump(service):
+    """The units have the limit that keeps secrets out of core dumps."""
+    for name in ("rad_proxy.service", "rad_proxy@.service"):
+        lines = (service.room / "usr/lib/systemd/system" / name).read_text().splitlines()
+        hope(name, [line for line in lines if line.startswith("LimitCORE")], ["LimitCORE=0"])
 
 
 def relative_paths_hold(service):
@@ -461,8 +538,10 @@ TESTS = [
     the_lock_outlives_a_serve_that_was_killed, refuses_a_folder_that_others_write_in, whatever_the_umask,
     a_stopped_asker_keeps_nobody_out, an_asker_without_an_answer_gives_up, many_ask_at_once,
     a_hand_over_that_dies_is_started_anew, nobody_reads_its_output, its_output_is_full, what_is_left_over_is_a_warning,
-    counters_elsewhere_are_told, sent_again_is_never_less_than_nothing, memory_is_refused_and_nothing_ends, relative_paths_hold,
-    root_asks_as_the_owner, root_serves_nobody_elses_folder,
+    counters_elsewhere_are_told, counters_that_are_not_written_are_told, sent_again_is_never_less_than_nothing,
+    memory_is_refused_and_nothing_ends, relative_paths_hold, an_answer_that_cannot_be_written_is_told,
+    whoever_keeps_the_pipe_is_not_waited_for, the_unit_takes_no_core_dump, root_asks_as_the_owner,
+    the_owner_gets_nothing_of_roots, root_serves_nobody_elses_folder,
 ]
 
 
