@@ -7,4 +7,4 @@ abbrev pub invariant-keys : goal.invariant-keys
 invariant-keys l =
     (goal.iterator-keys).can_next l.key-iterator × (goal.iterator-keys).is_finite l.key-iterator
     × (map entry_found l.found.items ++ unread_in_table l.part l.index (map string_bytes l.names) (members_view l.key-iterator)
-      ≡ map entry_found l.fn.found.items ++ unread_in_table l.part l.index (map string_bytes l.names) (members_view l.table.entries))
+    ≡ map entry_found l.fn.found.items ++ unread_in_table l.part l.index (map string_bytes l.names) (members_view l.table.entries))

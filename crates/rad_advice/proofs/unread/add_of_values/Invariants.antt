@@ -7,4 +7,4 @@ abbrev pub invariant-loop-value : goal.invariant-loop-value
 invariant-loop-value l =
     (l.index ≡ l.value-index)
     × (map entry_found l.found.items ++ unread_in_items l.part l.value-index (map string_bytes l.names) (items_view (drop l.value-index l.values))
-      ≡ map entry_found l.fn.found.items ++ unread_in_items l.part 0 (map string_bytes l.names) (items_view l.values))
+    ≡ map entry_found l.fn.found.items ++ unread_in_items l.part 0 (map string_bytes l.names) (items_view l.values))
