@@ -1,5 +1,5 @@
 -- What loops over lists keep.
-use Rattle.std.proofs.Common.{◌≡◌, ℕ, ◌+◌, ◌<◌, List, [], ◌∷◌, ◌++◌, length, get_or, drop, Option, Some, None, refl, sym, ap, ◌∙◌, append_assoc}
+use Rattle.std.proofs.Common.{◌≡◌, ℕ, zero, suc, ◌+◌, ◌<◌, map, take, List, [], ◌∷◌, ◌++◌, length, get_or, drop, Option, Some, None, refl, sym, ap, ◌∙◌, append_assoc}
 use Rattle.std.proofs.lemmas.List.{drop_more}
 use Rattle.std.specs.List.{filter_map, cons_option}
 use Rattle.std.specs.Option.{option_to_list}
@@ -16,3 +16,13 @@ filter_map_onward f xs i x told all lt at e =
     ∙ ap (λ ys. told ++ ys) (sym (cons_is_append (f x) (filter_map f (drop (i + 1) xs))))
     ∙ ap (λ ys. told ++ ys) (sym (ap (filter_map f) (drop_more xs i x lt ∙ ap (λ y. y ∷ drop (i + 1) xs) at)))
     ∙ e
+
+take_of_map : {X Y : Type 0} (f : X → Y) (n : ℕ) (xs : List X) → map f (take n xs) ≡ take n (map f xs)
+take_of_map f zero [] = refl
+take_of_map f zero (x ∷ xs) = refl
+take_of_map f (suc n) [] = refl
+take_of_map f (suc n) (x ∷ xs) = ap (λ ys. f x ∷ ys) (take_of_map f n xs)
+
+-- the first ones, however many there are
+pub first_ones : {X Y : Type 0} (f : X → Y) (n : ℕ) (xs front : List X) (told : List Y) → take n xs ≡ front → told ≡ map f front → told ≡ take n (map f xs)
+first_ones f n xs front told e same = same ∙ ap (map f) (sym e) ∙ take_of_map f n xs

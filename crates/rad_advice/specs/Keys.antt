@@ -13,6 +13,7 @@ use Rattle.rad_realms.specs.declared.reading.faults.Key.TheVariants.{Listen, Def
 use Rattle.rad_realms.specs.Spot.{key_name}
 use Rattle.rad_advice.specs.declared.unread.Unread.{Unread}
 use Rattle.rad_advice.specs.declared.unread.UnreadKey.{UnreadKey}
+use Rattle.rad_advice.specs.declared.place.Place.{Place}
 use Rattle.rad_advice.specs.Place.{place_at}
 
 -- The keys that are read in the tables of a part.
@@ -88,7 +89,10 @@ first_part (first ∷ path, last) = first
 abbrev pub BeginsAt : List ℕ → ℕ → List ℕ → Type 0
 BeginsAt name offset text = option_map (λ k. first_part k.0) (key (drop offset text)) ≡ Some name
 
+-- The place is one at which such a key begins.
+abbrev pub BeginsAtPlace : List ℕ → List ℕ → Place → Type 0
+BeginsAtPlace text name place = (offset : ℕ) × (offset ≤ length text) × BeginsAt name offset text × (place ≡ place_at offset text)
+
 -- A key stands where it is told to stand.
 abbrev pub StandsIn : List ℕ → UnreadKey → Type 0
-StandsIn text k =
-    IfSome k.place (λ place. (offset : ℕ) × (offset ≤ length text) × BeginsAt (string_bytes k.name) offset text × (place ≡ place_at offset text))
+StandsIn text k = IfSome k.place (BeginsAtPlace text (string_bytes k.name))

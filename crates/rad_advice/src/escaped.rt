@@ -1,6 +1,6 @@
 //! Names that come from a file, as they are printed.
 
-ghost use Rattle.std.specs.Prelude.{◌≡◌};
+ghost use Rattle.std.specs.Prelude.{◌≡◌, ◌≤◌, length, take};
 ghost use Rattle.rad_advice.specs.Printed.{is_plain};
 
 use std::fmt;
@@ -33,7 +33,7 @@ impl fmt::Display for Escaped<'_> {
             let whole = EscapedOctets(octets);
             return write!(f, "{whole}");
         }
-        let front = EscapedOctets(&octets[..MOST_OCTETS]);
+        let front = EscapedOctets(front_of(octets));
         write!(f, "{front}..")
     }
 }
@@ -68,6 +68,14 @@ impl fmt::Display for EscapedOctet {
         }
         write!(f, "%{:x}{:x}", octet / 16, octet % 16)
     }
+}
+
+/// The octets of a long name that are printed.
+fn front_of(octets: &[u8]) -> &[u8]
+    requires { 64 ≤ length octets.now }
+    ensures { result.now ≡ take 64 octets.now }
+{
+    &octets[..MOST_OCTETS]
 }
 
 /// Whether an octet is printed as it is: a visible one of ASCII, but for `%`, `"` and `=`.

@@ -3,7 +3,7 @@
 //! A document doesn't tell where its keys stand, so the text is gone over, a header or a pair of a key and a value at a
 //! time. What is found so is read once more as a key and compared before it is answered.
 
-ghost use Rattle.std.specs.Prelude.{◌≡◌, ◌≤◌, Some, length, option_map, IfOk, IfSome, IsTrue, string_bytes};
+ghost use Rattle.std.specs.Prelude.{◌≡◌, ◌≤◌, Some, length, option_copied, option_map, IfOk, IfSome, IsTrue, string_bytes};
 ghost use Rattle.std.specs.List.{slice_get};
 ghost use Rattle.rad_advice.specs.Keys.{BeginsAt};
 
@@ -128,10 +128,17 @@ fn stands_at(alloc: Global, text: &str, offset: usize, name: &str) -> Result<boo
 fn is_part(parts: &[String], place: usize, name: &str) -> bool
     ensures { IsTrue result → option_map string_bytes (slice_get parts.now place) ≡ Some name.now }
 {
-    match parts.get(place) {
+    match part_at(parts, place) {
         Some(part) => part.as_str() == name,
         None => false,
     }
+}
+
+/// The part at this place.
+fn part_at(parts: &[String], place: usize) -> Option<&String>
+    ensures { option_copied result ≡ slice_get parts.now place }
+{
+    parts.get(place)
 }
 
 /// Looks for the key in the header or the pair at the front: what begins with the key, where it is there.

@@ -1,6 +1,9 @@
 //! Home servers that can't be sent to, and those that the proxy is itself.
 
-ghost use Rattle.std.specs.Prelude.{◌≡◌, map, option_map, IfOk};
+ghost use Rattle.std.specs.Prelude.{◌≡◌, ◌++◌, map, option_map, IfOk, OnOk};
+ghost use Rattle.std.specs.List.{list_any};
+ghost use Rattle.std.specs.Option.{option_to_list};
+ghost use Rattle.std.specs.Str.{bytes_eq};
 ghost use Rattle.rad_advice.specs.Homes.{Advice, advice_told, is_local as belongs_here, is_served as comes_to, address_fault as fault_at, advice_of, advice_of_all};
 
 use rad_realms::{Config, Endpoint, Home};
@@ -76,11 +79,23 @@ pub fn advise_homes<'c>(
     let mut advice = Vec::new(alloc);
     let listen = config.listen();
     for home in config.homes() {
-        if let Some(one) = advise_home(listen, local, home) {
-            advice.push(one)?;
-        }
+        let one = advise_home(listen, local, home);
+        add_advice(&mut advice, one)?;
     }
     Ok(advice)
+}
+
+/// Adds what is told of a home server, where something is.
+fn add_advice<'c>(
+    advice: &mut Vec<HomeAdvice<'c>>,
+    one: Option<HomeAdvice<'c>>,
+) -> Result<(), AllocError>
+    ensures { OnOk result (map advice_told advice.new.items ≡ map advice_told advice.old.items ++ option_to_list (option_map advice_told one.entry)) }
+{
+    if let Some(one) = one {
+        advice.push(one)?;
+    }
+    Ok(())
 }
 
 /// What speaks against a home server, where `listen` serves the clients.
@@ -123,7 +138,21 @@ fn is_served(listen: Endpoint, local: &[[u8; 4]], to: Endpoint) -> bool
 fn is_local(local: &[[u8; 4]], address: [u8; 4]) -> bool
     ensures { result ≡ belongs_here local.now address }
 {
-    address[0] == 127 || local.iter().any(|own| *own == address)
+    address[0] == 127 || has_address(local, address)
+}
+
+/// Whether one of these is the address.
+fn has_address(local: &[[u8; 4]], address: [u8; 4]) -> bool
+    ensures { result ≡ list_any (λ own. bytes_eq own address) local.now }
+{
+    local.iter().any(|own| is_same(*own, address))
+}
+
+/// Whether two addresses are the same.
+fn is_same(one: [u8; 4], other: [u8; 4]) -> bool
+    ensures { result ≡ bytes_eq one other }
+{
+    one == other
 }
 
 /// What speaks against an address, whatever the port.

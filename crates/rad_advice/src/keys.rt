@@ -1,6 +1,8 @@
 //! The keys that are read of a configuration, by the part that they stand in.
 
 ghost use Rattle.std.specs.Prelude.{◌≡◌, map, IfOk, string_bytes};
+ghost use Rattle.std.specs.List.{list_any};
+ghost use Rattle.std.specs.Str.{bytes_eq};
 ghost use Rattle.rad_realms.specs.Spot.{key_name};
 ghost use Rattle.rad_advice.specs.Keys.{read_keys, read_names, is_one_of};
 
@@ -73,6 +75,13 @@ pub(crate) fn name_of(alloc: Global, key: Key) -> Result<String, AllocError>
 /// Whether one of these is the name.
 pub(crate) fn is_among(names: &[String], name: &str) -> bool
     ensures { result ≡ is_one_of (map string_bytes names.now) name.now }
+{
+    has_name(names, name)
+}
+
+/// Whether one of these texts is the name.
+fn has_name(names: &[String], name: &str) -> bool
+    ensures { result ≡ list_any (λ read. bytes_eq (string_bytes read) name.now) names.now }
 {
     names.iter().any(|read| read.as_str() == name)
 }

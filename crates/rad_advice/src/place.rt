@@ -29,6 +29,7 @@ impl fmt::Display for Place {
 }
 
 /// The place of the octet at an offset of a text; at the text's end, of what would follow.
+#[tactic(auto, unfolding(crate::specs::Place::place_at))]
 pub fn place_of(text: &[u8], offset: usize) -> Place
     requires { offset ≤ length text.now }
     ensures { result ≡ place_at offset text.now }

@@ -1,8 +1,8 @@
 //! Steps over a text that is TOML, from the front, as far as a key is looked for.
 
-ghost use Rattle.std.specs.Prelude.{◌≡◌, option_map, IfOk, IfSome, string_bytes};
+ghost use Rattle.std.specs.Prelude.{◌≡◌, true, option_map, IfOk, IfSome, string_bytes};
 ghost use Rattle.std.specs.List.{slice_get};
-ghost use Rattle.toml_parser.specs.Strings.{key as key_at};
+ghost use Rattle.toml_parser.specs.Strings.{key as key_at, starts_string as begins_string};
 ghost use Rattle.rad_advice.specs.Keys.{first_part};
 
 use std::alloc::{AllocError, Global};
@@ -73,7 +73,9 @@ fn skip_bare(text: &str) -> &str {
 }
 
 /// Steps over a string.
-fn skip_string(alloc: Global, text: &str) -> Result<Option<&str>, AllocError> {
+fn skip_string(alloc: Global, text: &str) -> Result<Option<&str>, AllocError>
+    requires { begins_string text.now ≡ true }
+{
     match quoted(alloc, text) {
         Ok((_, rest)) => Ok(Some(rest)),
         Err(ParseError::OutOfMemory) => Err(AllocError),

@@ -1,10 +1,10 @@
 //! The keys of a configuration that nobody reads.
 
 ghost use Rattle.std.specs.Prelude.{◌≡◌, ◌≤◌, ◌-◌, ◌++◌, [], All, List, length, map, take, option_map, option_and_then, unwrap_or, IfOk, IfSome, OnOk, IsUtf8, string_bytes};
-ghost use Rattle.toml.specs.Data.{no_items, no_members, as_table};
+ghost use Rattle.toml.specs.Data.{no_items, no_members, as_array, as_table, get_member};
 ghost use Rattle.toml.specs.View.{view, items_view, table_view};
 ghost use Rattle.rad_realms.specs.Spot.{key_name};
-ghost use Rattle.rad_advice.specs.Keys.{unless_read, unread_in_table, unread_in_items, items_at, unread_in_part, unread_in, unread_in_text, entry_listed, entry_found, StandsIn};
+ghost use Rattle.rad_advice.specs.Keys.{unless_read, unread_in_table, unread_in_items, items_at, unread_in_part, unread_in, unread_in_text, entry_listed, entry_found, BeginsAtPlace, StandsIn};
 
 use crate::escaped::Escaped;
 use crate::finding::find_key;
@@ -225,11 +225,7 @@ fn place_key(alloc: Global, text: &str, key: Unread<'_>) -> Result<UnreadKey, Al
     ensures place { IfOk result (λ listed. StandsIn text.now listed) }
 {
     let Unread { part, index, name } = key;
-    let offset = find_key(alloc, text, part, index, name)?;
-    let place = match offset {
-        Some(offset) => Some(place_of(text.as_bytes(), offset)),
-        None => None,
-    };
+    let place = find_place(alloc, text, part, index, name)?;
     let name = String::from_str(alloc, name)?;
     Ok(UnreadKey {
         part,
@@ -237,6 +233,22 @@ fn place_key(alloc: Global, text: &str, key: Unread<'_>) -> Result<UnreadKey, Al
         name,
         place,
     })
+}
+
+/// Where a key stands in the text, where that is found.
+fn find_place(
+    alloc: Global,
+    text: &str,
+    part: Part,
+    index: usize,
+    name: &str,
+) -> Result<Option<Place>, AllocError>
+    ensures { IfOk result (λ found. IfSome found (BeginsAtPlace text.now name.now)) }
+{
+    match find_key(alloc, text, part, index, name)? {
+        Some(offset) => Ok(Some(place_of(text.as_bytes(), offset))),
+        None => Ok(None),
+    }
 }
 
 /// The keys of a document that nobody reads.
@@ -295,9 +307,26 @@ fn add_of_values<'t>(
 fn values_at<'t>(name: &str, document: &'t Table) -> &'t [Value]
     ensures { items_view result.now ≡ items_at name.now (table_view document.now) }
 {
-    match document.get(name) {
-        Some(Value::Array(values)) => values.as_slice(),
-        _ => &[],
+    match member(name, document) {
+        Some(value) => values_of(value),
+        None => &[],
+    }
+}
+
+/// Finds the value of a key.
+fn member<'t>(name: &str, document: &'t Table) -> Option<&'t Value>
+    ensures { option_map (λ v. view v.now) result ≡ get_member name.now (table_view document.now) }
+{
+    document.get(name)
+}
+
+/// The values of an array. Any other value has none.
+fn values_of(value: &Value) -> &[Value]
+    ensures { items_view result.now ≡ unwrap_or (as_array (view value.now)) no_items }
+{
+    match value.as_array() {
+        Some(values) => values.as_slice(),
+        None => &[],
     }
 }
 
