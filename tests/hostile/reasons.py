@@ -113,12 +113,12 @@ class Trial:
         self.see_errors("the longest", 0, [], "run", str(self.folder / "longest.toml"))
         loop = self.folder / "loop.toml"
         loop.symlink_to(loop)
-        reason = "Too many levels of symbolic links (os error 40)"
+        reason = "it can't be read: Too many levels of symbolic links (os error 40)"
         self.see_errors("a link to itself", 4, file_fault(loop, reason), "run", str(loop))
 
     def see_permission(self):
         """A stranger may not look into this folder; only root can become one, and else the file itself is closed to its owner."""
-        lines = file_fault(self.file, "Permission denied (os error 13)")
+        lines = file_fault(self.file, "it can't be read: Permission denied (os error 13)")
         if os.geteuid() != 0:
             os.chmod(self.file, 0)
             self.see_errors("not permitted", 4, lines, "run", self.file)
