@@ -1,6 +1,6 @@
 //! Why the program ends, and what an operator should know of a configuration: log lines before the line of a fault.
 
-ghost use Rattle.std.specs.Prelude.{◌≡◌};
+ghost use Rattle.std.specs.Prelude.{◌≡◌, ◌≢◌};
 
 use rad_advice::{UnreadKeys, advise_homes, syntax_error, unread_keys};
 use rad_realms::Config;
@@ -27,7 +27,7 @@ impl FileReason {
         ensures absent { kind ≡ ErrorKind.NotFound → result ≡ FileReason.Absent }
         ensures folder { kind ≡ ErrorKind.IsADirectory → result ≡ FileReason.Folder }
         ensures long { kind ≡ ErrorKind.FileTooLarge → result ≡ FileReason.TooLong }
-        ensures other { kind ≡ ErrorKind.PermissionDenied → result ≡ FileReason.System }
+        ensures other { (kind ≢ ErrorKind.NotFound) → (kind ≢ ErrorKind.IsADirectory) → (kind ≢ ErrorKind.FileTooLarge) → result ≡ FileReason.System }
     {
         match kind {
             ErrorKind::NotFound => FileReason::Absent,
