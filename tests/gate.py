@@ -35,7 +35,7 @@ SCRIPTS = {
     "mutations": ("hostile/mutations.py", "PROGRAM"),
     "unreachable": ("hostile/unreachable.py", "PROGRAM"),
     "descriptors": ("hostile/descriptors.py", "PROGRAM"),
-    "reasons": ("hostile/reasons.py", "PROGRAM"),
+    "failures": ("hostile/failures.py", "PROGRAM"),
     "service": ("service/run.py", "PROGRAM"),
     "soak": ("hostile/soak.py", "PROGRAM"),
 }

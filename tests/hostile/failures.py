@@ -1,11 +1,11 @@
 #!/usr/bin/env python3
 """Has the program end by each fault whose reason the log tells, and compares all that it prints on standard error.
 
-usage: reasons.py PROGRAM
+usage: failures.py PROGRAM
 
 `run` tells the reason of a file, a socket, the input and the output before the line of the fault, which stays as it is and is
 the last; `check` does where standard error is a terminal or the environment has RAD_PROXY_LOG; `replay` never does. What is
-told of a text stands in advice.py. The last line is `N passed, M failed`, of what was looked at.
+told of a text is tried by reasons.py. The last line is `N passed, M failed`, of what was looked at.
 """
 import os
 import pathlib
