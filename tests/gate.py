@@ -36,6 +36,7 @@ SCRIPTS = {
     "unreachable": ("hostile/unreachable.py", "PROGRAM"),
     "descriptors": ("hostile/descriptors.py", "PROGRAM"),
     "failures": ("hostile/failures.py", "PROGRAM"),
+    "reasons": ("hostile/reasons.py", "PROGRAM"),
     "service": ("service/run.py", "PROGRAM"),
     "soak": ("hostile/soak.py", "PROGRAM"),
 }

@@ -1,0 +1,3 @@
+mod LastLines
+mod Lists
+mod Names

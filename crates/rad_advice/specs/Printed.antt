@@ -1,7 +1,51 @@
 -- What is told of a configuration, as it is printed (own).
-use Rattle.std.specs.Prelude.{ℕ, List, ◌++◌, codes}
-use Rattle.std.specs.Fmt.{decimal}
+use Rattle.std.specs.Prelude.{ℕ, ◌/◌, ◌%◌, Bool, false, not, ◌&&◌, ◌==◌, nat_le, nat_lt, if◌then◌else◌, List, [], ◌∷◌, ◌++◌, length, take, codes, Option, Some, None, string_bytes}
+use Rattle.std.specs.List.{flat_map}
+use Rattle.std.specs.Fmt.{decimal, digits}
+use Rattle.rad_realms.specs.declared.reading.faults.Part.{Part}
+use Rattle.rad_realms.specs.Spot.{part_name, index_text}
+use Rattle.rad_realms.specs.Printed.{endpoint_text}
 use Rattle.rad_advice.specs.declared.place.Place.{Place}
+use Rattle.rad_advice.specs.declared.syntax.SyntaxError.{SyntaxError}
+use Rattle.rad_advice.specs.declared.unread.UnreadKey.{UnreadKey}
+use Rattle.rad_advice.specs.declared.homes.HomeAdvice.{HomeAdvice}
+use Rattle.rad_advice.specs.declared.homes.AddressFault.{AddressFault}
+use Rattle.rad_advice.specs.declared.homes.AddressFault.TheVariants.{Listen, Unspecified, Broadcast, Multicast, Reserved}
 
 abbrev pub place_text : Place → List ℕ
-place_text place = codes "line " ++ (decimal place.line ++ (codes ", column " ++ decimal place.column))
+place_text place = codes "line " ++ decimal place.line ++ codes ", column " ++ decimal place.column
+
+abbrev pub syntax_text : SyntaxError → List ℕ
+syntax_text e = place_text e.place ++ codes ": " ++ string_bytes e.message
+
+-- An octet of a name that is printed as it is: from `!` to `~`, but `%`, `"` and `=`.
+abbrev pub is_plain : ℕ → Bool
+is_plain o = (nat_le 33 o && nat_le o 126) && ((not (o == 37) && not (o == 34)) && not (o == 61))
+
+-- Any other: two hexadecimal digits behind a `%`.
+abbrev pub octet_text : ℕ → List ℕ
+octet_text o = if is_plain o then o ∷ [] else codes "%" ++ digits 16 false (o / 16) ++ digits 16 false (o % 16)
+
+-- A name: its first 64 octets, and `..` where it has more.
+abbrev pub name_text : List ℕ → List ℕ
+name_text name = if nat_le (length name) 64 then flat_map octet_text name else flat_map octet_text (take 64 name) ++ codes ".."
+
+abbrev pub table_text : Part → ℕ → List ℕ
+table_text part index = part_name part ++ index_text part index
+
+abbrev pub at_text : Option Place → List ℕ
+at_text None = []
+at_text (Some place) = codes " at " ++ place_text place
+
+abbrev pub unread_text : UnreadKey → List ℕ
+unread_text k = table_text k.part k.index ++ name_text (string_bytes k.name) ++ at_text k.place
+
+abbrev pub address_fault_text : AddressFault → List ℕ
+address_fault_text Listen = codes "listen serves it, so requests would come back"
+address_fault_text Unspecified = codes "no host has this address"
+address_fault_text Broadcast = codes "it is the broadcast address"
+address_fault_text Multicast = codes "it is a multicast address"
+address_fault_text Reserved = codes "it is a reserved address"
+
+abbrev pub home_advice_text : HomeAdvice → List ℕ
+home_advice_text a = codes "home " ++ a.name.now ++ codes " at " ++ endpoint_text a.endpoint ++ codes ": " ++ address_fault_text a.fault

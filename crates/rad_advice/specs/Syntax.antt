@@ -1,1 +1,12 @@
--- To come.
+-- Which octets are TOML, and what is told of others (own).
+use Rattle.std.specs.Prelude.{◌≡◌, ℕ, ◌≤◌, List, length, IsUtf8, IsSome}
+use Rattle.toml.specs.Parse.{parse_document}
+use Rattle.rad_advice.specs.declared.place.Place.{Place}
+use Rattle.rad_advice.specs.Place.{place_at}
+
+abbrev pub IsToml : List ℕ → Type 0
+IsToml text = IsUtf8 text × IsSome (parse_document text)
+
+-- The place of an octet of the text, or of its end.
+abbrev pub IsPlaceIn : List ℕ → Place → Type 0
+IsPlaceIn text place = (offset : ℕ) × (offset ≤ length text) × (place ≡ place_at offset text)

@@ -1,5 +1,8 @@
 //! Names that come from a file, as they are printed.
 
+ghost use Rattle.std.specs.Prelude.{◌≡◌, ◌≤◌, length, take};
+ghost use Rattle.rad_advice.specs.Printed.{is_plain};
+
 use std::fmt;
 
 /// The most octets of a name that are printed.
@@ -10,29 +13,74 @@ const MOST_OCTETS: usize = 64;
 #[derive(Clone, Copy, Debug)]
 pub(crate) struct Escaped<'a>(pub &'a str);
 
+/// Octets, each as one of a name.
+#[derive(Clone, Copy)]
+struct EscapedOctets<'a>(&'a [u8]);
+
+/// An octet of a name.
+#[derive(Clone, Copy)]
+struct EscapedOctet(u8);
+
 impl fmt::Display for Escaped<'_> {
+    ghost use Rattle.std.specs.Prelude.{Some};
+    ghost use Rattle.rad_advice.specs.Printed.{name_text};
+
+    ghost output = { λ name. Some (name_text name.0.now) };
+
     fn fmt<W: fmt::Write>(&self, f: &mut fmt::Formatter<W>) -> fmt::Result {
         let octets = self.0.as_bytes();
         if octets.len() <= MOST_OCTETS {
-            return write_octets(f, octets);
+            let whole = EscapedOctets(octets);
+            return write!(f, "{whole}");
         }
-        write_octets(f, &octets[..MOST_OCTETS])?;
-        f.write_str("..")
+        let front = EscapedOctets(front_of(octets));
+        write!(f, "{front}..")
     }
 }
 
-/// Writes octets.
-fn write_octets<W: fmt::Write>(f: &mut fmt::Formatter<W>, octets: &[u8]) -> fmt::Result {
-    for octet in octets {
-        write_octet(f, *octet)?;
+impl fmt::Display for EscapedOctets<'_> {
+    ghost use Rattle.std.specs.Prelude.{Some};
+    ghost use Rattle.std.specs.List.{flat_map};
+    ghost use Rattle.rad_advice.specs.Printed.{octet_text};
+
+    ghost output = { λ octets. Some (flat_map octet_text octets.0.now) };
+
+    fn fmt<W: fmt::Write>(&self, f: &mut fmt::Formatter<W>) -> fmt::Result {
+        for octet in self.0 {
+            let octet = EscapedOctet(*octet);
+            write!(f, "{octet}")?;
+        }
+        Ok(())
     }
-    Ok(())
 }
 
-/// Writes an octet.
-fn write_octet<W: fmt::Write>(f: &mut fmt::Formatter<W>, octet: u8) -> fmt::Result {
-    match octet {
-        b'%' | b'"' | b'=' | 0..=32 | 127..=255 => write!(f, "%{:x}{:x}", octet / 16, octet % 16),
-        plain => f.write_char(char::from(plain)),
+impl fmt::Display for EscapedOctet {
+    ghost use Rattle.std.specs.Prelude.{Some};
+    ghost use Rattle.rad_advice.specs.Printed.{octet_text};
+
+    ghost output = { λ octet. Some (octet_text octet.0) };
+
+    fn fmt<W: fmt::Write>(&self, f: &mut fmt::Formatter<W>) -> fmt::Result {
+        let octet = self.0;
+        if is_printed(octet) {
+            let plain = char::from(octet);
+            return write!(f, "{plain}");
+        }
+        write!(f, "%{:x}{:x}", octet / 16, octet % 16)
     }
+}
+
+/// The octets of a long name that are printed.
+fn front_of(octets: &[u8]) -> &[u8]
+    requires { 64 ≤ length octets.now }
+    ensures { result.now ≡ take 64 octets.now }
+{
+    &octets[..MOST_OCTETS]
+}
+
+/// Whether an octet is printed as it is: a visible one of ASCII, but for `%`, `"` and `=`.
+fn is_printed(octet: u8) -> bool
+    ensures { result ≡ is_plain octet }
+{
+    octet.is_ascii_graphic() && octet != b'%' && octet != b'"' && octet != b'='
 }

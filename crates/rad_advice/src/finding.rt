@@ -1,21 +1,297 @@
 //! Where a key stands in a text that is TOML.
 //!
-//! A document doesn't tell where its keys stand, so the text is gone over by its tokens, which are TOML's: a header or
-//! a pair of a key and a value at a time. Whatever is found is compared with the key before it is answered.
+//! A document doesn't tell where its keys stand, so the text is gone over, a header or a pair of a key and a value at a
+//! time. What is found so is read once more as a key and compared before it is answered.
 
-use rad_realms::Part;
+ghost use Rattle.std.specs.Prelude.{◌≡◌, ◌≤◌, Some, length, option_map, IfOk, IfSome, IsTrue, string_bytes};
+ghost use Rattle.std.specs.List.{slice_get};
+ghost use Rattle.rad_advice.specs.Keys.{BeginsAt};
+
+use crate::keys::name_of;
+use crate::tokens::{Token, next_token, read_key, skip_expression, skip_part};
+use rad_realms::{Key, Part};
 use std::alloc::{AllocError, Global};
-use toml_parser::bytes::is_bare;
 use toml_parser::text::{byte_at, first, skip, skip_blank, skip_ws};
-use toml_parser::{ParseError, quoted, starts_string};
 
-/// Where a key that nobody reads begins in a text, in octets: at its first time in the table of this part and index.
+/// What is looked for: a key of a table.
+#[derive(Clone, Copy)]
+struct Wanted<'a> {
+    /// The part that the table belongs to.
+    part: Part,
+    /// The name of the part's array, which the top has not.
+    array: &'a str,
+    /// Which table of the array.
+    index: usize,
+    /// The name of the key.
+    name: &'a str,
+}
+
+/// The tables that what follows may stand in.
+#[derive(Clone, Copy, PartialEq, Eq)]
+enum Section {
+    /// The top: no header has come yet.
+    Top,
+    /// The last table of the array that is looked for.
+    Array,
+    /// Any other.
+    Other,
+}
+
+/// How far the text was gone over.
+#[derive(Clone, Copy)]
+struct Passed {
+    /// What the last header began.
+    section: Section,
+    /// How many tables of the array have begun.
+    tables: usize,
+}
+
+/// Where a key begins in a text, in octets: at its first time in the table of this part and index. It is `None` where it
+/// was not found.
 pub(crate) fn find_key(
     alloc: Global,
     text: &str,
     part: Part,
     index: usize,
     name: &str,
-) -> Result<Option<usize>, AllocError> {
+) -> Result<Option<usize>, AllocError>
+    ensures { IfOk result (λ found. IfSome found (λ offset. (offset ≤ length text.now) × BeginsAt name.now offset text.now)) }
+{
+    let array = array_name(alloc, part)?;
+    let array = array.as_str();
+    let wanted = Wanted {
+        part,
+        array,
+        index,
+        name,
+    };
+    find(alloc, text, wanted)
+}
+
+/// The name of a part's array of tables. It is empty for the top, which is none.
+fn array_name(alloc: Global, part: Part) -> Result<String, AllocError> {
+    match part {
+        Part::Top => Ok(String::new(alloc)),
+        Part::Client => name_of(alloc, Key::Client),
+        Part::Home => name_of(alloc, Key::Home),
+        Part::Realm => name_of(alloc, Key::Realm),
+    }
+}
+
+/// Goes over a text until the key is found.
+fn find(alloc: Global, text: &str, wanted: Wanted<'_>) -> Result<Option<usize>, AllocError>
+    ensures { IfOk result (λ found. IfSome found (λ offset. (offset ≤ length text.now) × BeginsAt wanted.entry.name.now offset text.now)) }
+{
+    let mut passed = Passed {
+        section: Section::Top,
+        tables: 0,
+    };
+    let mut rest = skip_mark(text);
+    for _ in 0..text.len() {
+        let start = skip_blank(rest, true);
+        if let Some(found) = find_in_expression(alloc, wanted, &mut passed, start)? {
+            let offset = text.len().saturating_sub(found.len());
+            if stands_at(alloc, text, offset, wanted.name)? {
+                return Ok(Some(offset));
+            }
+        }
+        match skip_expression(alloc, start)? {
+            Some(after) => rest = after,
+            None => return Ok(None),
+        }
+    }
     Ok(None)
+}
+
+/// A text without the byte order mark that it may begin with.
+fn skip_mark(text: &str) -> &str {
+    match text.strip_prefix("\u{feff}") {
+        Some(rest) => rest,
+        None => text,
+    }
+}
+
+/// Whether a key of this name begins at an offset of a text.
+fn stands_at(alloc: Global, text: &str, offset: usize, name: &str) -> Result<bool, AllocError>
+    ensures { IfOk result (λ stands. IsTrue stands → (offset ≤ length text.now) × BeginsAt name.now offset text.now) }
+{
+    let Some(rest) = text.get(offset..) else {
+        return Ok(false);
+    };
+    match read_key(alloc, rest)? {
+        Some((parts, _)) => Ok(is_part(parts.as_slice(), 0, name)),
+        None => Ok(false),
+    }
+}
+
+/// Whether a key has this name at this place among its parts.
+fn is_part(parts: &[String], place: usize, name: &str) -> bool
+    ensures { IsTrue result → option_map string_bytes (slice_get parts.now place) ≡ Some name.now }
+{
+    match parts.get(place) {
+        Some(part) => part.as_str() == name,
+        None => false,
+    }
+}
+
+/// Looks for the key in the header or the pair at the front: what begins with the key, where it is there.
+fn find_in_expression<'t>(
+    alloc: Global,
+    wanted: Wanted<'_>,
+    passed: &mut Passed,
+    start: &'t str,
+) -> Result<Option<&'t str>, AllocError> {
+    if first(start) != b'[' {
+        return find_in_pair(alloc, wanted, passed, start);
+    }
+    let double = byte_at(start, 1) == b'[';
+    let key = if double {
+        skip(start, 2)
+    } else {
+        skip(start, 1)
+    };
+    find_in_header(alloc, wanted, passed, double, skip_ws(key))
+}
+
+/// Looks for the key in the key of a header.
+fn find_in_header<'t>(
+    alloc: Global,
+    wanted: Wanted<'_>,
+    passed: &mut Passed,
+    double: bool,
+    key: &'t str,
+) -> Result<Option<&'t str>, AllocError> {
+    passed.section = Section::Other;
+    let Some((parts, _)) = read_key(alloc, key)? else {
+        return Ok(None);
+    };
+    let parts = parts.as_slice();
+    if wanted.part == Part::Top {
+        return Ok(some_if(is_part(parts, 0, wanted.name), key));
+    }
+    if !is_part(parts, 0, wanted.array) {
+        return Ok(None);
+    }
+    if parts.len() == 1 {
+        if double {
+            passed.begin();
+        }
+        return Ok(None);
+    }
+    if passed.is_at(wanted.index) && is_part(parts, 1, wanted.name) {
+        return skip_part(alloc, key);
+    }
+    Ok(None)
+}
+
+impl Passed {
+    /// Passes the header of a table of the array.
+    fn begin(&mut self) {
+        self.section = Section::Array;
+        self.tables = self.tables.saturating_add(1);
+    }
+
+    /// Whether this is the last table of the array that has begun.
+    fn is_at(&self, index: usize) -> bool {
+        self.tables.checked_sub(1) == Some(index)
+    }
+}
+
+/// Looks for the key in a pair of a key and a value.
+fn find_in_pair<'t>(
+    alloc: Global,
+    wanted: Wanted<'_>,
+    passed: &Passed,
+    start: &'t str,
+) -> Result<Option<&'t str>, AllocError> {
+    let Some((parts, after)) = read_key(alloc, start)? else {
+        return Ok(None);
+    };
+    let parts = parts.as_slice();
+    if is_array(wanted, passed, parts) {
+        return find_in_array(alloc, wanted, after);
+    }
+    let found = is_section(wanted, passed) && is_part(parts, 0, wanted.name);
+    Ok(some_if(found, start))
+}
+
+/// A text, where a test says so.
+fn some_if(test: bool, text: &str) -> Option<&str> {
+    if test { Some(text) } else { None }
+}
+
+/// Whether this is the key of the part's array, at the top.
+fn is_array(wanted: Wanted<'_>, passed: &Passed, parts: &[String]) -> bool {
+    wanted.part != Part::Top && passed.section == Section::Top && is_part(parts, 0, wanted.array)
+}
+
+/// Whether what comes next stands in the table that is looked for.
+fn is_section(wanted: Wanted<'_>, passed: &Passed) -> bool {
+    if wanted.part == Part::Top {
+        return passed.section == Section::Top;
+    }
+    passed.section == Section::Array && passed.is_at(wanted.index)
+}
+
+/// The brackets that are open in an array that is written as one value.
+#[derive(Clone, Copy)]
+struct Brackets {
+    /// How many they are.
+    depth: usize,
+    /// Which element of the array this is.
+    element: usize,
+    /// Whether a key of that element, or its end, comes next.
+    key_next: bool,
+}
+
+/// Looks for the key in an array of tables that is written as one value, behind its key.
+fn find_in_array<'t>(
+    alloc: Global,
+    wanted: Wanted<'_>,
+    value: &'t str,
+) -> Result<Option<&'t str>, AllocError> {
+    let mut brackets = Brackets {
+        depth: 0,
+        element: 0,
+        key_next: false,
+    };
+    let mut rest = value;
+    for _ in 0..value.len() {
+        let start = skip_blank(rest, true);
+        if brackets.key_next && brackets.element == wanted.index {
+            if begins_with(alloc, start, wanted.name)? {
+                return Ok(Some(start));
+            }
+        }
+        let Some((token, after)) = next_token(alloc, start)? else {
+            return Ok(None);
+        };
+        if !brackets.pass(token) {
+            return Ok(None);
+        }
+        rest = after;
+    }
+    Ok(None)
+}
+
+/// Whether a text begins with a key whose first part is this name.
+fn begins_with(alloc: Global, text: &str, name: &str) -> Result<bool, AllocError> {
+    match read_key(alloc, text)? {
+        Some((parts, _)) => Ok(is_part(parts.as_slice(), 0, name)),
+        None => Ok(false),
+    }
+}
+
+impl Brackets {
+    /// Passes a token. Whether the array goes on.
+    fn pass(&mut self, token: Token) -> bool {
+        match token {
+            Token::Open => self.depth = self.depth.saturating_add(1),
+            Token::Close => self.depth = self.depth.saturating_sub(1),
+            Token::Comma if self.depth == 1 => self.element = self.element.saturating_add(1),
+            Token::Comma | Token::Other => {}
+        }
+        self.key_next = self.depth == 2 && matches!(token, Token::Open | Token::Comma);
+        token != Token::Close || self.depth > 0
+    }
 }

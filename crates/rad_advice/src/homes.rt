@@ -1,5 +1,11 @@
 //! Home servers that can't be sent to, and those that the proxy is itself.
 
+ghost use Rattle.std.specs.Prelude.{◌≡◌, ◌++◌, map, option_map, IfOk, OnOk};
+ghost use Rattle.std.specs.List.{list_any};
+ghost use Rattle.std.specs.Option.{option_to_list};
+ghost use Rattle.std.specs.Str.{bytes_eq};
+ghost use Rattle.rad_advice.specs.Homes.{Advice, advice_told, is_local as belongs_here, is_served as comes_to, address_fault as fault_at, advice_of, advice_of_all};
+
 use rad_realms::{Config, Endpoint, Home};
 use std::alloc::{AllocError, Global};
 use std::fmt;
@@ -31,6 +37,11 @@ pub struct HomeAdvice<'c> {
 }
 
 impl fmt::Display for AddressFault {
+    ghost use Rattle.std.specs.Prelude.{Some};
+    ghost use Rattle.rad_advice.specs.Printed.{address_fault_text};
+
+    ghost output = { λ fault. Some (address_fault_text fault) };
+
     fn fmt<W: fmt::Write>(&self, f: &mut fmt::Formatter<W>) -> fmt::Result {
         match self {
             AddressFault::Listen => f.write_str("listen serves it, so requests would come back"),
@@ -43,6 +54,11 @@ impl fmt::Display for AddressFault {
 }
 
 impl fmt::Display for HomeAdvice<'_> {
+    ghost use Rattle.std.specs.Prelude.{Some};
+    ghost use Rattle.rad_advice.specs.Printed.{home_advice_text};
+
+    ghost output = { λ advice. Some (home_advice_text advice) };
+
     fn fmt<W: fmt::Write>(&self, f: &mut fmt::Formatter<W>) -> fmt::Result {
         let name = self.name;
         let endpoint = self.endpoint;
@@ -57,24 +73,41 @@ pub fn advise_homes<'c>(
     alloc: Global,
     config: &'c Config,
     local: &[[u8; 4]],
-) -> Result<Vec<HomeAdvice<'c>>, AllocError> {
+) -> Result<Vec<HomeAdvice<'c>>, AllocError>
+    ensures { IfOk result (λ advice. map advice_told advice.items ≡ advice_of_all local.now config.now) }
+{
     let mut advice = Vec::new(alloc);
     let listen = config.listen();
     for home in config.homes() {
-        if let Some(one) = advise_home(listen, local, home) {
-            advice.push(one)?;
-        }
+        let one = advise_home(listen, local, home);
+        add_advice(&mut advice, one)?;
     }
     Ok(advice)
 }
 
+/// Adds what is told of a home server, where something is.
+fn add_advice<'c>(
+    advice: &mut Vec<HomeAdvice<'c>>,
+    one: Option<HomeAdvice<'c>>,
+) -> Result<(), AllocError>
+    ensures { OnOk result (map advice_told advice.new.items ≡ map advice_told advice.old.items ++ option_to_list (option_map advice_told one.entry)) }
+{
+    if let Some(one) = one {
+        advice.push(one)?;
+    }
+    Ok(())
+}
+
 /// What speaks against a home server, where `listen` serves the clients.
 /// `local` are the addresses of this machine beside 127.0.0.0/8.
+#[tactic(auto, unfolding(crate::specs::Homes::advice_of))]
 pub fn advise_home<'c>(
     listen: Endpoint,
     local: &[[u8; 4]],
     home: &'c Home,
-) -> Option<HomeAdvice<'c>> {
+) -> Option<HomeAdvice<'c>>
+    ensures { option_map advice_told result ≡ advice_of listen local.now home.now }
+{
     let endpoint = Endpoint {
         address: home.address(),
         port: home.port(),
@@ -92,7 +125,9 @@ pub fn advise_home<'c>(
 }
 
 /// Whether a datagram that is sent to this address and port comes to a socket that is bound to `listen`.
-fn is_served(listen: Endpoint, local: &[[u8; 4]], to: Endpoint) -> bool {
+fn is_served(listen: Endpoint, local: &[[u8; 4]], to: Endpoint) -> bool
+    ensures { result ≡ comes_to listen local.now to }
+{
     if listen.port != to.port {
         return false;
     }
@@ -100,17 +135,39 @@ fn is_served(listen: Endpoint, local: &[[u8; 4]], to: Endpoint) -> bool {
 }
 
 /// Whether this machine has an address: one of the loopback, or one of those that it is said to have.
-fn is_local(local: &[[u8; 4]], address: [u8; 4]) -> bool {
-    address[0] == 127 || local.iter().any(|own| *own == address)
+fn is_local(local: &[[u8; 4]], address: [u8; 4]) -> bool
+    ensures { result ≡ belongs_here local.now address }
+{
+    address[0] == 127 || has_address(local, address)
+}
+
+/// Whether one of these is the address.
+fn has_address(local: &[[u8; 4]], address: [u8; 4]) -> bool
+    ensures { result ≡ list_any (λ own. bytes_eq own address) local.now }
+{
+    local.iter().any(|own| is_same(*own, address))
+}
+
+/// Whether two addresses are the same.
+fn is_same(one: [u8; 4], other: [u8; 4]) -> bool
+    ensures { result ≡ bytes_eq one other }
+{
+    one == other
 }
 
 /// What speaks against an address, whatever the port.
-fn address_fault(address: [u8; 4]) -> Option<AddressFault> {
-    match address {
-        [0, 0, 0, 0] => Some(AddressFault::Unspecified),
-        [255, 255, 255, 255] => Some(AddressFault::Broadcast),
-        [224..=239, ..] => Some(AddressFault::Multicast),
-        [240..=255, ..] => Some(AddressFault::Reserved),
-        _ => None,
+fn address_fault(address: [u8; 4]) -> Option<AddressFault>
+    ensures { result ≡ fault_at address }
+{
+    if address == [0, 0, 0, 0] {
+        Some(AddressFault::Unspecified)
+    } else if address == [255, 255, 255, 255] {
+        Some(AddressFault::Broadcast)
+    } else if address[0] >= 240 {
+        Some(AddressFault::Reserved)
+    } else if address[0] >= 224 {
+        Some(AddressFault::Multicast)
+    } else {
+        None
     }
 }

@@ -12,6 +12,7 @@ mod homes;
 mod keys;
 mod place;
 mod syntax;
+mod tokens;
 mod unread;
 
 pub use homes::{AddressFault, HomeAdvice, advise_home, advise_homes};

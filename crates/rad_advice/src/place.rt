@@ -1,8 +1,8 @@
 //! Where an octet of a text stands, as an editor counts.
 
-ghost use Rattle.std.specs.Prelude.{◌≡◌, ◌≤◌, length};
+ghost use Rattle.std.specs.Prelude.{◌≡◌, ◌≤◌, length, option_copied};
 ghost use Rattle.std.specs.List.{count_by};
-ghost use Rattle.rad_advice.specs.Place.{is_line_feed, begins_character, last_line, line_after, column_after, place_at};
+ghost use Rattle.rad_advice.specs.Place.{is_line_feed, begins_character, line_behind, line_after, column_after, place_at};
 
 use std::fmt;
 
@@ -29,6 +29,7 @@ impl fmt::Display for Place {
 }
 
 /// The place of the octet at an offset of a text; at the text's end, of what would follow.
+#[tactic(auto, unfolding(crate::specs::Place::place_at))]
 pub fn place_of(text: &[u8], offset: usize) -> Place
     requires { offset ≤ length text.now }
     ensures { result ≡ place_at offset text.now }
@@ -64,7 +65,11 @@ fn count_line_feeds(octets: &[u8]) -> usize
 fn column_of(before: &[u8]) -> usize
     ensures { result ≡ column_after before.now }
 {
-    count_characters(behind_line_feed(before)) + 1
+    let line = match behind_line_feed(before) {
+        Some(line) => line,
+        None => before,
+    };
+    count_characters(line) + 1
 }
 
 /// How many characters begin in these octets.
@@ -81,16 +86,17 @@ fn count_characters(octets: &[u8]) -> usize
     count
 }
 
-/// What follows the last line feed of these octets, or all of them where there is none.
-fn behind_line_feed(octets: &[u8]) -> &[u8]
-    ensures { result.now ≡ last_line octets.now }
+/// What follows the last line feed of these octets, where there is one.
+fn behind_line_feed(octets: &[u8]) -> Option<&[u8]>
+    ensures { option_copied result ≡ line_behind octets.now }
 {
     let mut place = octets.len();
     while place > 0 {
-        if octets[place - 1] == b'\n' {
-            break;
-        }
+        let rest = &octets[place..];
         place -= 1;
+        if octets[place] == b'\n' {
+            return Some(rest);
+        }
     }
-    &octets[place..]
+    None
 }

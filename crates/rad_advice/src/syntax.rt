@@ -1,5 +1,11 @@
 //! Where a text stops being TOML, and what was expected there.
 
+ghost use Rattle.std.specs.Prelude.{◌≡◌, Some, None, IfOk, IfSome, IsSome, IsNone, IsUtf8, ◌↔◌, string_bytes};
+ghost use Rattle.std.specs.Str.Lossy.{utf8_valid_len};
+ghost use Rattle.toml.specs.Parse.{parse_document};
+ghost use Rattle.rad_advice.specs.Place.{place_at};
+ghost use Rattle.rad_advice.specs.Syntax.{IsToml, IsPlaceIn};
+
 use crate::place::{Place, place_of};
 use std::alloc::{AllocError, Global};
 use std::fmt;
@@ -15,17 +21,26 @@ pub struct SyntaxError {
 
 impl SyntaxError {
     /// Where the text stops being TOML. Where it is no text, the place of the first octet that is not UTF-8.
-    pub fn place(&self) -> Place {
+    pub fn place(&self) -> Place
+        ensures { result ≡ self.now.place }
+    {
         self.place
     }
 
     /// What is wrong there, or what was expected: one line without quotation marks, in the words of TOML's reader.
-    pub fn message(&self) -> &str {
+    pub fn message(&self) -> &str
+        ensures { result.now ≡ string_bytes self.now.message }
+    {
         self.message.as_str()
     }
 }
 
 impl fmt::Display for SyntaxError {
+    ghost use Rattle.std.specs.Prelude.{Some};
+    ghost use Rattle.rad_advice.specs.Printed.{syntax_text};
+
+    ghost output = { λ fault. Some (syntax_text fault) };
+
     fn fmt<W: fmt::Write>(&self, f: &mut fmt::Formatter<W>) -> fmt::Result {
         let place = self.place;
         let message = self.message.as_str();
@@ -34,7 +49,11 @@ impl fmt::Display for SyntaxError {
 }
 
 /// Why a text is no TOML, or `None` where it is TOML. It takes the memory of reading it.
-pub fn syntax_error(alloc: Global, text: &[u8]) -> Result<Option<SyntaxError>, AllocError> {
+pub fn syntax_error(alloc: Global, text: &[u8]) -> Result<Option<SyntaxError>, AllocError>
+    ensures toml { IfOk result (λ fault. IsNone fault ↔ IsToml text.now) }
+    ensures place { IfOk result (λ fault. IfSome fault (λ f. IsPlaceIn text.now f.place)) }
+    ensures utf8 { ¬ IsUtf8 text.now → IfOk result (λ fault. IfSome fault (λ f. f.place ≡ place_at (utf8_valid_len text.now) text.now)) }
+{
     match std::str::from_utf8(text) {
         Ok(words) => toml_error(alloc, words),
         Err(fault) => {
@@ -46,7 +65,10 @@ pub fn syntax_error(alloc: Global, text: &[u8]) -> Result<Option<SyntaxError>, A
 }
 
 /// Why a text is no TOML, where it is none.
-fn toml_error(alloc: Global, text: &str) -> Result<Option<SyntaxError>, AllocError> {
+fn toml_error(alloc: Global, text: &str) -> Result<Option<SyntaxError>, AllocError>
+    ensures toml { IfOk result (λ fault. IsNone fault ↔ IsSome (parse_document text.now)) }
+    ensures place { IfOk result (λ fault. IfSome fault (λ f. IsPlaceIn text.now f.place)) }
+{
     let fault = match toml::table_from_str(alloc, text) {
         Ok(_) => return Ok(None),
         Err(fault) => fault,

@@ -1,0 +1,10 @@
+//! Tests over the public calls of `rad_advice`, apart from it so that no proof of its own is made again for a test. It has
+//! no other code.
+#![tactic(auto)]
+
+#[cfg(test)]
+mod homes;
+#[cfg(test)]
+mod keys;
+#[cfg(test)]
+mod syntax;
