@@ -1,215 +1,237 @@
 #!/usr/bin/env python3
-"""Has the program end by each fault whose reason the log tells, and compares all that it prints on standard error.
+"""Has the program tell why it ends, and what an operator should know of a configuration.
 
 usage: reasons.py PROGRAM
 
-`run` tells the reason of a file, a socket, the input and the output before the line of the fault, which stays as it is and is
-the last; `check` does where standard error is a terminal or the environment has RAD_PROXY_LOG; `replay` never does. What is
-told of a text stands in advice.py. The last line is `N passed, M failed`, of what was looked at.
+Each case is a file, and what is told of it: by `run`, by `check` with `RAD_PROXY_LOG` and with a terminal as standard error, and
+not at all by `check` without either and by `replay`. The line of a fault stays alone on its line, and is the last. The last line
+is `N passed, M failed`, of what was looked at.
 """
+import contextlib
 import os
 import pathlib
 import pty
-import resource
-import shutil
+import re
 import socket
 import subprocess
 import sys
 import tempfile
+import time
 
-HERE, ELSEWHERE = "127.0.0.1", "192.0.2.1"
+HERE = "127.0.0.1"
 PATIENCE = 60
-MOST_FILE_OCTETS = 1_048_576
-STRANGER = 65534
+MOST_FILE = 1_048_576
 COUNTS = "clients 1 homes 1 realms 1\n"
-ABSENT = "there is no such file"
-
-
-def bound():
-    """A UDP socket on loopback."""
-    made = socket.socket(socket.AF_INET, socket.SOCK_DGRAM)
-    made.bind((HERE, 0))
-    return made
+VALUE = "invalid value, expected a string, number, boolean, date-time, array or inline table"
 
 
 def free_port():
-    with bound() as tried:
+    with socket.socket(socket.AF_INET, socket.SOCK_DGRAM) as tried:
+        tried.bind((HERE, 0))
         return tried.getsockname()[1]
 
 
-def configuration(port, address=HERE):
-    return (f'listen = "{address}:{port}"\nlinger = 0\n[[client]]\naddress = "192.0.2.7"\nsecret = "nas-secret"\n'
-            f'[[home]]\nname = "h1"\naddress = "{HERE}:9"\nsecret = "home-secret"\n'
-            '[[realm]]\nname = "example.org"\nhome = "h1"\n')
+def configuration(listen="127.0.0.1:1", home="192.0.2.9:1813", more="", top=""):
+    """A configuration of 13 lines, and more: these lines in the home server's table, which is the last."""
+    return (f'listen = "{listen}"\nlinger = 0\n{top}[[client]]\naddress = "192.0.2.1"\nsecret = "nas-secret"\n'
+            '[[realm]]\nname = "example.org"\nhome = "h1"\n'
+            f'[[home]]\nname = "h1"\naddress = "{home}"\nsecret = "home-secret"\n{more}').encode()
 
 
-def environment(level=None):
-    """That of this process, and how much is logged."""
+def environment(log=None):
+    """That of this process, without what changes what the program tells but this."""
     kept = {name: value for name, value in os.environ.items() if not name.startswith("RAD_PROXY_")}
-    return kept if level is None else kept | {"RAD_PROXY_LOG": level}
-
-
-def at_most(files):
-    """Has a program open no more than so many files."""
-    return lambda: resource.setrlimit(resource.RLIMIT_NOFILE, (files, files))
-
-
-def fault_of(event, reason, keys=""):
-    return f'level=error event={event}{keys} reason="{reason}"'
-
-
-def file_fault(path, reason):
-    """The lines of a file that can't be read, whose name has none but plain characters."""
-    return [fault_of("file-fault", reason, f" file={path}"), f"file: {path}"]
+    return kept if log is None else kept | {"RAD_PROXY_LOG": log}
 
 
 class Trial:
-    """The program, and what was seen of it."""
+    """Counts what was looked at, over one program."""
 
-    def __init__(self, program, folder):
-        self.program, self.folder = program, pathlib.Path(folder)
-        self.passed, self.failed = 0, 0
-        self.file = self.write("proxy.toml", configuration(free_port()))
-        self.absent = str(self.folder / "absent.toml")
+    def __init__(self, program):
+        self.program = program
+        self.passed = self.failed = 0
 
-    def write(self, name, text):
-        path = self.folder / name
-        path.write_text(text, "utf-8")
-        return str(path)
-
-    def see(self, what, found, wanted):
-        self.passed += found == wanted
-        self.failed += found != wanted
-        if found != wanted:
-            print(f"not so: {what}: {found!r}, and not {wanted!r}", flush=True)
-
-    def ended(self, *words, level=None, **options):
-        given = {"stdin": subprocess.DEVNULL, "stdout": subprocess.PIPE, "env": environment(level), "timeout": PATIENCE} | options
-        return subprocess.run([self.program, *words], stderr=subprocess.PIPE, **given)
-
-    def see_errors(self, what, status, lines, *words, **options):
-        """What the program prints on standard error, and its status."""
-        done = self.ended(*words, **options)
-        self.see(what, (done.returncode, done.stderr.decode().splitlines()), (status, lines))
-
-    def run(self):
-        self.see_files()
-        self.see_permission()
-        self.see_names()
-        self.see_whether_check_tells()
-        self.see_terminal()
-        self.see_streams()
-        self.see_sockets()
-
-    def see_files(self):
-        self.see_errors("absent", 4, file_fault(self.absent, ABSENT), "run", self.absent)
-        folder = str(self.folder)
-        self.see_errors("a folder", 4, file_fault(folder, "it is a folder"), "run", folder)
-        whole = pathlib.Path(self.file).read_text("utf-8") + "#"
-        text = whole + "#" * (MOST_FILE_OCTETS + 1 - len(whole))
-        long = self.write("long.toml", text)
-        self.see_errors("too long", 4, file_fault(long, f"it is longer than {MOST_FILE_OCTETS} octets"), "run", long)
-        self.write("longest.toml", text[:-1])
-        self.see_errors("the longest", 0, [], "run", str(self.folder / "longest.toml"))
-        loop = self.folder / "loop.toml"
-        loop.symlink_to(loop)
-        reason = "Too many levels of symbolic links (os error 40)"
-        self.see_errors("a link to itself", 4, file_fault(loop, reason), "run", str(loop))
-
-    def see_permission(self):
-        """A stranger may not look into this folder; only root can become one, and else the file itself is closed to its owner."""
-        lines = file_fault(self.file, "Permission denied (os error 13)")
-        if os.geteuid() != 0:
-            os.chmod(self.file, 0)
-            self.see_errors("not permitted", 4, lines, "run", self.file)
-            os.chmod(self.file, 0o600)
+    def look(self, name, told, wanted):
+        if told == wanted:
+            self.passed += 1
             return
-        with tempfile.TemporaryDirectory() as shared:
-            os.chmod(shared, 0o755)
-            kept, self.program = self.program, shutil.copy(self.program, shared)
-            os.chmod(self.program, 0o755)
-            self.see_errors("not permitted", 4, lines, "run", self.file, user=STRANGER)
-            self.program = kept
+        self.failed += 1
+        print(f"{name}: {told!r} where {wanted!r} was expected", flush=True)
 
-    def see_names(self):
-        """A name with a line end is one line wherever it is printed; an ordinary name is as it is after `file: `."""
-        broken = f"{self.folder}/one\nlevel=error two\x7f.toml"
-        escaped = f"{self.folder}/one%0alevel"
-        lines = [fault_of("file-fault", ABSENT, f" file={escaped}%3derror%20two%7f.toml"), f"file: {escaped}=error two%7f.toml"]
-        self.see_errors("a name with a line end", 4, lines, "run", broken)
-        self.see_errors("the same, checked", 4, lines[1:], "check", broken)
-        plain = f"{self.folder}/a \"plain\" näme 100%.toml"
-        logged = f"{self.folder}/a%20%22plain%22%20n%c3%a4me%20100%25.toml"
-        lines = [fault_of("file-fault", ABSENT, f" file={logged}"), f"file: {plain}"]
-        self.see_errors("an ordinary name", 4, lines, "run", plain)
+    def ended(self, *words, log=None, given=b""):
+        """The status, what was printed and what was told, of a program that ends by itself."""
+        done = subprocess.run([self.program, *words], input=given, capture_output=True, timeout=PATIENCE,
+                              env=environment(log), check=False)
+        return done.returncode, done.stdout.decode(), done.stderr.decode()
 
-    def see_whether_check_tells(self):
-        lines = file_fault(self.absent, ABSENT)
-        self.see_errors("check alone", 4, lines[1:], "check", self.absent)
-        for level in ("error", "info", "trace", "no-level"):
-            told = ['level=warn event=no-such-level reason="RAD_PROXY_LOG is none of off, error, warn, info, debug, trace"']
-            told = told if level == "no-level" else []
-            self.see_errors(f"check at {level}", 4, told + lines, "check", self.absent, level=level)
-        self.see_errors("check, and no log", 4, lines[1:], "check", self.absent, level="off")
-        self.see_errors("run, and no log", 4, lines[1:], "run", self.absent, level="off")
-        for level in (None, "trace"):
-            done = self.ended("check", self.file, level=level)
-            self.see(f"a right file at {level}", (done.returncode, done.stdout.decode(), done.stderr), (0, COUNTS, b""))
+    def on_a_terminal(self, *words):
+        """What is told where standard error is a terminal."""
+        leader, terminal = pty.openpty()
+        with contextlib.closing(os.fdopen(leader, "rb", buffering=0)) as seen:
+            process = subprocess.Popen([self.program, *words], stdin=subprocess.DEVNULL, stdout=subprocess.PIPE,
+                                       stderr=terminal, env=environment())
+            os.close(terminal)
+            told = b""
+            with contextlib.suppress(OSError):
+                while some := seen.read(4096):
+                    told += some
+            process.communicate(timeout=PATIENCE)
+        return told.decode().replace("\r\n", "\n")
 
-    def see_terminal(self):
-        """Standard error is a terminal, where each line ends with a carriage return too."""
-        ours, theirs = pty.openpty()
-        words = [self.program, "check", self.absent]
-        done = subprocess.run(words, stdin=subprocess.DEVNULL, stderr=theirs, env=environment(), timeout=PATIENCE)
-        os.close(theirs)
-        found = b""
-        try:
-            while got := os.read(ours, 4096):
-                found += got
-        except OSError:
-            pass
-        os.close(ours)
-        self.see("check at a terminal", (done.returncode, found.decode().splitlines()), (4, file_fault(self.absent, ABSENT)))
 
-    def see_streams(self):
-        """A folder as standard input fails at each read, and /dev/full as standard output at each write."""
-        folder = os.open(self.folder, os.O_RDONLY)
-        lines = [fault_of("input-fault", "Is a directory (os error 21)"), "input: failed"]
-        self.see_errors("run, its input", 4, lines, "run", self.file, stdin=folder)
-        for level in (None, "trace"):
-            self.see_errors(f"replay, its input, at {level}", 4, lines[1:], "replay", stdin=folder, level=level)
-        os.close(folder)
-        reason = fault_of("output-fault", "No space left on device (os error 28)")
-        with open("/dev/full", "wb") as full:
-            self.see_errors("run, its output", 4, [reason], "run", self.file, stdout=full)
-            self.see_errors("check, its output", 4, [], "check", self.file, stdout=full)
-            self.see_errors("check, its output, and a log", 4, [reason], "check", self.file, stdout=full, level="info")
-            with open(self.write("script", configuration(free_port()) + "%%\nstate\n"), "rb") as script:
-                self.see_errors("replay, its output", 4, [], "replay", stdin=script, stdout=full, level="trace")
+def line(level, event, reason):
+    return f'level={level} event={event} reason="{reason}"\n'
 
-    def see_sockets(self):
-        with bound() as taken:
-            port = taken.getsockname()[1]
-            file = self.write("taken.toml", configuration(port))
-            lines = [fault_of("unbound", "Address already in use (os error 98)", f" socket={HERE}:{port}"), f"socket: {HERE}:{port}"]
-            self.see_errors("a port in use", 4, lines, "run", file)
-        port = free_port()
-        file = self.write("elsewhere.toml", configuration(port, ELSEWHERE))
-        reason = "Cannot assign requested address (os error 99)"
-        lines = [fault_of("unbound", reason, f" socket={ELSEWHERE}:{port}"), f"socket: {ELSEWHERE}:{port}"]
-        self.see_errors("no such address", 4, lines, "run", file)
-        reason = fault_of("unbound", "Too many open files (os error 24)", " socket=0.0.0.0:0")
-        self.see_errors("too many sockets", 4, [reason, "socket: lane 0"], "run", self.file, preexec_fn=at_most(4))
+
+def faulty(trial, folder):
+    """Faults of a text, with what is told before the line of the fault."""
+    cases = [
+        ("no value", b"listen = \n", line("error", "no-toml", f"line 1, column 10: {VALUE}"), "configuration: Toml\n"),
+        ("no UTF-8", b"# one\n# \xc3\xa9\xff\n", line("error", "no-toml", "line 2, column 4: no UTF-8"),
+         "configuration: Toml\n"),
+        ("a header that is not closed", b"[[client]\n",
+         line("error", "no-toml", "line 1, column 10: unclosed array table, expected `]]`"), "configuration: Toml\n"),
+        ("a misspelt key", b'lisen = "127.0.0.1:1"\n', line("warn", "unread-key", "top lisen at line 1, column 1"),
+         "configuration: Missing at top listen\n"),
+        ("no text at all", b"", "", "configuration: Missing at top listen\n"),
+    ]
+    for name, text, told, fixed in cases:
+        file = folder / "faulty.toml"
+        file.write_bytes(text)
+        trial.look(f"check, {name}", trial.ended("check", file), (2, "", fixed))
+        trial.look(f"check with a log, {name}", trial.ended("check", file, log="info"), (2, "", told + fixed))
+        trial.look(f"check on a terminal, {name}", trial.on_a_terminal("check", file), told + fixed)
+        trial.look(f"run, {name}", trial.ended("run", file), (2, "", told + fixed))
+        trial.look(f"replay, {name}", trial.ended("replay", given=text), (2, "", fixed))
+        trial.look(f"replay with a log, {name}", trial.ended("replay", given=text, log="trace"), (2, "", fixed))
+        trial.look(f"run without a log, {name}", trial.ended("run", file, log="off"), (2, "", fixed))
+
+
+def unread(trial, folder):
+    """Keys that nobody reads, of a configuration that is read."""
+    port = free_port()
+    cases = [
+        ("windw", configuration(f"{HERE}:{port}", more="windw = 3\n"),
+         line("warn", "unread-key", "home 0 windw at line 13, column 1")),
+        ("realms", configuration(f"{HERE}:{port}", more="[[realms]]\nname = 1\n"),
+         line("warn", "unread-key", "top realms at line 13, column 3")),
+        ("a table", configuration(f"{HERE}:{port}", more="  [ home . more ]\nwindow = 1\n"),
+         line("warn", "unread-key", "home 0 more at line 13, column 12")),
+        ("a name with control characters", configuration(f"{HERE}:{port}", more='"\\u001b[2J\\n\\"" = 1\n'),
+         line("warn", "unread-key", "home 0 %1b[2J%0a%22 at line 13, column 1")),
+        ("in no order", configuration(f"{HERE}:{port}", top="zz = 1\naa = 2\n"),
+         line("warn", "unread-key", "top aa at line 4, column 1") + line("warn", "unread-key", "top zz at line 3, column 1")),
+        ("none", configuration(f"{HERE}:{port}", more="window = 3\n"), ""),
+    ]
+    for name, text, told in cases:
+        file = folder / "unread.toml"
+        file.write_bytes(text)
+        trial.look(f"check, {name}", trial.ended("check", file), (0, COUNTS, ""))
+        trial.look(f"check with a log, {name}", trial.ended("check", file, log="warn"), (0, COUNTS, told))
+        trial.look(f"check on a terminal, {name}", trial.on_a_terminal("check", file), told)
+        status, printed, errors = trial.ended("run", file, log="warn")
+        trial.look(f"run, {name}", (status, printed.splitlines()[:1], errors), (0, [f"listening {HERE}:{port}"], told))
+        trial.look(f"replay, {name}", trial.ended("replay", given=text, log="trace")[2], "")
+
+
+def many(trial, folder):
+    """A file that is as long as it may be, of keys that nobody reads."""
+    text = configuration(f"{HERE}:{free_port()}")
+    count = 0
+    lines = []
+    size = len(text)
+    while size + 12 <= MOST_FILE:
+        lines.append(b"k%06d = 1\n" % count)
+        size += len(lines[-1])
+        count += 1
+    file = folder / "many.toml"
+    file.write_bytes(text + b"".join(lines))
+    begun = time.monotonic()
+    status, printed, told = trial.ended("check", file, log="warn")
+    spent = time.monotonic() - begun
+    told = told.splitlines()
+    trial.look("many keys are read past", (status, printed), (0, COUNTS))
+    trial.look("many keys make few lines", len(told), 21)
+    trial.look("the first of many", told[:1], [line("warn", "unread-key", "home 0 k000000 at line 13, column 1")[:-1]])
+    trial.look("the last of many", told[-1:], [f"level=warn event=unread-keys count={count - 20}"])
+    trial.look("many keys take no minute", spent < PATIENCE / 2, True)
+
+
+def homes(trial, folder):
+    """Home servers that loop, or that nothing can be sent to."""
+    port = free_port()
+    comes_back = "listen serves it, so requests would come back"
+    cases = [
+        (f"{HERE}:{port}", f"{HERE}:{port}", comes_back),
+        (f"0.0.0.0:{port}", f"127.9.9.9:{port}", comes_back),
+        (f"0.0.0.0:{port}", f"0.0.0.0:{port}", comes_back),
+        (f"{HERE}:{port}", "0.0.0.0:1813", "no host has this address"),
+        (f"{HERE}:{port}", "255.255.255.255:1813", "it is the broadcast address"),
+        (f"{HERE}:{port}", "224.0.0.1:1813", "it is a multicast address"),
+        (f"{HERE}:{port}", "240.0.0.1:1813", "it is a reserved address"),
+        (f"{HERE}:{port}", f"127.0.0.2:{port}", None),
+        (f"{HERE}:{port}", "192.0.2.9:1813", None),
+    ]
+    for listen, home, reason in cases:
+        file = folder / "homes.toml"
+        file.write_bytes(configuration(listen, home))
+        told = "" if reason is None else line("warn", "home-address", f"home h1 at {home}: {reason}")
+        trial.look(f"check, {home}", trial.ended("check", file), (0, COUNTS, ""))
+        trial.look(f"check with a log, {home}", trial.ended("check", file, log="warn"), (0, COUNTS, told))
+        trial.look(f"run, {home}", trial.ended("run", file, log="warn")[2], told)
+
+
+def reason_before(trial, name, told, fixed):
+    """One line of the log with a reason, and then the line of the fault, alone and last."""
+    form = r'level=error event=[a-z-]+( [a-z_]+=[^ "]+)* reason="[^"]+"\n' + re.escape(fixed)
+    trial.look(name, bool(re.fullmatch(form, told)), True)
+    if not re.fullmatch(form, told):
+        print(f"  {told!r}")
+
+
+def files(trial, folder):
+    """Files that can't be read."""
+    long = folder / "long.toml"
+    long.write_bytes(b"#" * (MOST_FILE + 1))
+    cases = [("absent", folder / "absent.toml"), ("a folder", folder), ("too long", long)]
+    if os.geteuid():
+        hidden = folder / "hidden.toml"
+        hidden.write_bytes(configuration())
+        hidden.chmod(0)
+        cases.append(("not to be read", hidden))
+    for name, file in cases:
+        fixed = f"file: {file}\n"
+        trial.look(f"check, {name}", trial.ended("check", file), (4, "", fixed))
+        reason_before(trial, f"check with a log, {name}", trial.ended("check", file, log="info")[2], fixed)
+        reason_before(trial, f"run, {name}", trial.ended("run", file)[2], fixed)
+    split = f"{folder}/a\nb"
+    trial.look("a name with a line end", len(trial.ended("run", split)[2].splitlines()), 2)
+
+
+def sockets(trial, folder):
+    """Sockets that can't be had."""
+    file = folder / "sockets.toml"
+    with socket.socket(socket.AF_INET, socket.SOCK_DGRAM) as taken:
+        taken.bind((HERE, 0))
+        listen = f"{HERE}:{taken.getsockname()[1]}"
+        file.write_bytes(configuration(listen))
+        status, printed, told = trial.ended("run", file)
+    trial.look("a port in use", (status, printed), (4, ""))
+    reason_before(trial, "a port in use has its reason", told, f"socket: {listen}\n")
+    elsewhere = f"192.0.2.77:{free_port()}"
+    file.write_bytes(configuration(elsewhere))
+    reason_before(trial, "an address that is not here", trial.ended("run", file)[2], f"socket: {elsewhere}\n")
 
 
 def main():
     if len(sys.argv) != 2:
         sys.exit(__doc__)
+    trial = Trial(sys.argv[1])
     with tempfile.TemporaryDirectory() as folder:
-        trial = Trial(str(pathlib.Path(sys.argv[1]).resolve()), folder)
-        trial.run()
+        for part in (faulty, unread, many, homes, files, sockets):
+            part(trial, pathlib.Path(folder))
     print(f"{trial.passed} passed, {trial.failed} failed")
-    sys.exit(1 if trial.failed else 0)
+    sys.exit(trial.failed > 0)
 
 
 if __name__ == "__main__":

@@ -1,8 +1,7 @@
 //! Why the program ends, and what an operator should know of a configuration: log lines before the line of a fault.
 
-ghost use Rattle.std.specs.Prelude.{◌≡◌};
+ghost use Rattle.std.specs.Prelude.{◌≡◌, ◌≢◌};
 
-use crate::loading::MOST_FILE_OCTETS;
 use rad_advice::{UnreadKeys, advise_homes, syntax_error, unread_keys};
 use rad_realms::Config;
 use rad_telemetry::{Escaped, Log, tell_error, tell_reason, tell_warning, warn_of_reason};
@@ -16,9 +15,9 @@ pub enum FileReason {
     /// There is no file of this name.
     Absent,
     Folder,
-    /// It is longer than [`MOST_FILE_OCTETS`].
+    /// It has more than 1,048,576 octets.
     TooLong,
-    /// The system's own reason says it.
+    /// It can't be read, for a reason of the system's.
     System,
 }
 
@@ -28,13 +27,29 @@ impl FileReason {
         ensures absent { kind ≡ ErrorKind.NotFound → result ≡ FileReason.Absent }
         ensures folder { kind ≡ ErrorKind.IsADirectory → result ≡ FileReason.Folder }
         ensures long { kind ≡ ErrorKind.FileTooLarge → result ≡ FileReason.TooLong }
-        ensures other { kind ≡ ErrorKind.PermissionDenied → result ≡ FileReason.System }
+        ensures other { (kind ≢ ErrorKind.NotFound) → (kind ≢ ErrorKind.IsADirectory) → (kind ≢ ErrorKind.FileTooLarge) → result ≡ FileReason.System }
     {
         match kind {
             ErrorKind::NotFound => FileReason::Absent,
             ErrorKind::IsADirectory => FileReason::Folder,
             ErrorKind::FileTooLarge => FileReason::TooLong,
             _ => FileReason::System,
+        }
+    }
+}
+
+impl Display for FileReason {
+    ghost use Rattle.std.specs.Prelude.{Some};
+    ghost use Rattle.rad_proxy.specs.Reasons.{file_reason_text};
+
+    ghost output = { λ reason. Some (file_reason_text reason) };
+
+    fn fmt<W: fmt::Write>(&self, f: &mut fmt::Formatter<W>) -> fmt::Result {
+        match self {
+            FileReason::Absent => f.write_str("there is no such file"),
+            FileReason::Folder => f.write_str("it is a folder"),
+            FileReason::TooLong => f.write_str("it is longer than 1048576 octets"),
+            FileReason::System => f.write_str("it can't be read"),
         }
     }
 }
@@ -49,19 +64,13 @@ struct FileLine<'a> {
 impl Display for FileLine<'_> {
     fn fmt<W: fmt::Write>(&self, f: &mut fmt::Formatter<W>) -> fmt::Result {
         let path = Escaped(self.path.as_bytes());
-        write!(f, "event=file-fault file={path} reason=\"")?;
-        write_file_reason(f, self.error)?;
+        let reason = FileReason::of(self.error.kind());
+        write!(f, "event=file-fault file={path} reason=\"{reason}")?;
+        if reason == FileReason::System {
+            let error = self.error;
+            write!(f, ": {error}")?;
+        }
         f.write_str("\"")
-    }
-}
-
-/// Writes why a file can't be read, in words.
-fn write_file_reason<W: fmt::Write>(f: &mut fmt::Formatter<W>, error: &Error) -> fmt::Result {
-    match FileReason::of(error.kind()) {
-        FileReason::Absent => f.write_str("there is no such file"),
-        FileReason::Folder => f.write_str("it is a folder"),
-        FileReason::TooLong => write!(f, "it is longer than {MOST_FILE_OCTETS} octets"),
-        FileReason::System => write!(f, "{error}"),
     }
 }
 
@@ -70,6 +79,11 @@ fn write_file_reason<W: fmt::Write>(f: &mut fmt::Formatter<W>, error: &Error) ->
 struct MoreKeysLine(usize);
 
 impl Display for MoreKeysLine {
+    ghost use Rattle.std.specs.Prelude.{Some};
+    ghost use Rattle.rad_proxy.specs.Reasons.{more_keys_line};
+
+    ghost output = { λ line. Some (more_keys_line line.0) };
+
     fn fmt<W: fmt::Write>(&self, f: &mut fmt::Formatter<W>) -> fmt::Result {
         let count = self.0;
         write!(f, "event=unread-keys count={count}")
