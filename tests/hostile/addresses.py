@@ -30,7 +30,7 @@ SERVED = ["127.0.0.1", "127.0.0.5", "10.77.0.1", "10.77.0.2"]
 NASES = ["10.77.1.1", "10.77.1.2", "10.77.1.3", "10.77.1.4"]
 NAS_SECRET, HOME_SECRET = b"nas-secret", b"home-secret"
 PATIENCE = 30
-BURST = 128
+BURST = 400
 SOCKETS, KNOWN = 256, 512
 CLOSE_ON_EXEC = 0o2000000
 WITHOUT_PROC = "mount -t tmpfs none /proc && exec \"$@\""
@@ -48,7 +48,7 @@ def until(text, test):
         found = test()
         if found:
             return found
-        time.sleep(0.02)
+        time.sleep(0.0005)
     raise AssertionError(f"never: {text}")
 
 
@@ -165,7 +165,7 @@ def test_beyond_the_bound(program, folder):
     with Service(program, folder) as service, bound(NASES[0]) as early, bound(NASES[0]) as late:
         asked = service.send(early, SERVED[1])
         forwarded = service.forwarded()
-        for nas in NASES:
+        for nas in NASES[:3]:
             send_from_each_port(nas, SERVED[2])
         recent = service.send(late, SERVED[3])
         other = service.forwarded()
@@ -183,8 +183,14 @@ def send_from_each_port(nas, address):
         raw.bind((nas, 0))
         for port in range(1, 65536):
             raw.sendto(struct.pack("!HHHH", port, PORT, 8, 0), (address, 0))
-            if port % BURST == 0:
-                time.sleep(0.002)
+            if port % BURST == 0 or port == 65535:
+                until("all is received", is_all_received)
+
+
+def is_all_received():
+    """Whether nothing waits at any socket of the service, by Linux's list of them."""
+    lines = [line.split() for line in pathlib.Path("/proc/net/udp").read_text().splitlines()[1:]]
+    return all(line[4].endswith(":00000000") for line in lines if line[1].endswith(f":{PORT:04X}"))
 
 
 def test_strangers_change_nothing(program, folder):

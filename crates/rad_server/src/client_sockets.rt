@@ -51,13 +51,19 @@ impl ClientSockets {
             return Err(ServeFault::Memory);
         }
         if listen.address != ALL {
-            return Ok(ClientSockets { sockets, known: None });
+            return Ok(ClientSockets {
+                sockets,
+                known: None,
+            });
         }
         match read_local_addresses(rt, alloc) {
             Ok(addresses) => bind_each(alloc, sockets, listen, addresses.as_slice(), gate),
             Err(error) => {
                 gate.addresses_unread(&error);
-                Ok(ClientSockets { sockets, known: None })
+                Ok(ClientSockets {
+                    sockets,
+                    known: None,
+                })
             }
         }
     }

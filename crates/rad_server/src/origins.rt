@@ -5,6 +5,7 @@ use std::alloc::{AllocError, Global};
 
 /// How many rows there are, and how many ports of clients a row holds: together 65,536.
 const ROWS: usize = 1 << 13;
+
 const ROW: usize = 8;
 
 /// By how many bits a product of 64 is cut to a row's index.
@@ -148,7 +149,9 @@ fn client_origins(alloc: Global, clients: &[Client]) -> Result<Vec<ClientOrigin>
             socket: 0,
         })?;
     }
-    origins.as_mut_slice().sort_unstable_by_key(|client| client.address);
+    origins
+        .as_mut_slice()
+        .sort_unstable_by_key(|client| client.address);
     Ok(origins)
 }
 

@@ -1,8 +1,8 @@
 //! What `std` has no call for: options of a socket, and one that may be bound beside another.
 
 use libc::net::{
-    _SS_SIZE, AF_INET, SO_RCVBUF, SO_REUSEADDR, SOCK_CLOEXEC, SOCK_DGRAM, SOCK_NONBLOCK, SOL_SOCKET,
-    bind, setsockopt, socket,
+    _SS_SIZE, AF_INET, SO_RCVBUF, SO_REUSEADDR, SOCK_CLOEXEC, SOCK_DGRAM, SOCK_NONBLOCK,
+    SOL_SOCKET, bind, setsockopt, socket,
 };
 use os::FromRawFd;
 use rad_realms::Endpoint;

@@ -98,6 +98,7 @@ where
 
     fn send(&mut self, socket: u16, address: [u8; 4], port: u16, octets: &[u8]) -> Delivery {
         self.traffic.went(socket, address, port, octets);
-        self.sockets.send(socket, Endpoint { address, port }, octets)
+        self.sockets
+            .send(socket, Endpoint { address, port }, octets)
     }
 }
