@@ -23,7 +23,7 @@ sys.dont_write_bytecode = True
 sys.path.insert(0, str(pathlib.Path(__file__).resolve().parent.parent))
 
 from model import read
-from vectors import PROXY_STATE, ZEROS, answer, attribute, request, user_name
+from vectors import PROXY_STATE, answer, attribute, request, user_name
 
 PORT, HOME_PORT = 1813, 2813
 SERVED = ["127.0.0.1", "127.0.0.5", "10.77.0.1", "10.77.0.2"]
@@ -77,7 +77,7 @@ class Service:
         home = f'[[home]]\nname = "h"\naddress = "127.0.0.1:{HOME_PORT}"\nsecret = "home-secret"\nfirst_wait = 60000\n'
         self.file, self.log = pathlib.Path(folder, "proxy.toml"), pathlib.Path(folder, "log")
         self.file.write_text(f'listen = "0.0.0.0:{PORT}"\ndefault_home = "h"\nlinger = 0\n{clients}{home}', "utf-8")
-        self.asked = 0
+        self.asked, self.seen = 0, set()
         with self.log.open("wb") as log:
             pipes = {"stdin": subprocess.PIPE, "stdout": subprocess.PIPE, "stderr": log}
             self.ran = subprocess.Popen([*before, program, "run", str(self.file)], **pipes)
@@ -99,8 +99,12 @@ class Service:
         return octets
 
     def forwarded(self):
-        """What the home server receives next, and from where."""
-        return self.home.recvfrom(4096)
+        """What the home server receives next for the first time, and from where."""
+        while True:
+            octets, sender = self.home.recvfrom(4096)
+            if octets not in self.seen:
+                self.seen.add(octets)
+                return octets, sender
 
     def reply(self, forwarded):
         octets, sender = forwarded
