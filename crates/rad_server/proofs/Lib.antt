@@ -1,1 +1,1 @@
-mod Listings
+pub mod Listings

@@ -1,7 +1,7 @@
 -- Which addresses Linux's text of its routes, /proc/net/fib_trie, lists as this machine's own (own). A line that has
 -- `|-- ADDRESS` behind its spaces names an address, and one below it that has `/32 host LOCAL` says that this address alone
 -- is one of the machine's.
-use Rattle.std.specs.Prelude.{◌≡◌, ℕ, List, [], ◌∷◌, ◌++◌, codes, Option, Some, None, ◌×◌, Bool, true, false, nat_eq, if◌then◌else◌}
+use Rattle.std.specs.Prelude.{◌≡◌, ℕ, List, [], ◌∷◌, ◌++◌, codes, Option, Some, None, Bool, true, false, nat_eq, if◌then◌else◌}
 use Rattle.std.specs.Str.{trim_start}
 use Rattle.std.specs.Str.Lines.{lines}
 use Rattle.std.specs.List.{starts_with}
@@ -36,17 +36,17 @@ after_name so_far line (Some address) = record { listed = so_far.listed; named =
 after_name so_far line None = record { listed = so_far.listed ++ local_by so_far.named (is_local line); named = so_far.named }
 
 -- What is listed behind one line more.
-unfoldable pub after_line : Listing → List ℕ → Listing
+abbrev pub after_line : Listing → List ℕ → Listing
 after_line so_far line = after_name so_far line (named_in line)
 
 -- What is listed behind these lines.
-pub listing : Listing → List (List ℕ) → Listing
+abbrev pub listing : Listing → List (List ℕ) → Listing
 listing so_far [] = so_far
 listing so_far (line ∷ more) = listing (after_line so_far (trim_start line)) more
 
-pub nothing_listed : Listing
+abbrev pub nothing_listed : Listing
 nothing_listed = record { listed = []; named = None }
 
 -- The local addresses that a text lists, in its order.
-pub local_addresses : List ℕ → List (List ℕ)
+abbrev pub local_addresses : List ℕ → List (List ℕ)
 local_addresses text = (listing nothing_listed (lines text)).listed

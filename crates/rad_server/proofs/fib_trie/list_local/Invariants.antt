@@ -6,5 +6,6 @@ abbrev pub invariant-loop-line : goal.invariant-loop-line
 invariant-loop-line l = record {
   can_next : (goal.iterator-loop-line).can_next l.line-iterator;
   finite : (goal.iterator-loop-line).is_finite l.line-iterator;
-  listed : record { listed = l.listed.items; named = l.named } ≡ listing nothing_listed (map (λ line. line.now) l.yielded);
+  listed : l.listed.items ≡ (listing nothing_listed (map (λ line. line.now) l.yielded)).listed;
+  named : l.named ≡ (listing nothing_listed (map (λ line. line.now) l.yielded)).named;
 }
