@@ -1,16 +1,20 @@
 -- Which addresses Linux's text of its routes, /proc/net/fib_trie, lists as this machine's own (own). A line that has
 -- `|-- ADDRESS` behind its spaces names an address, and one below it that has `/32 host LOCAL` says that this address alone
 -- is one of the machine's.
-use Rattle.std.specs.Prelude.{◌≡◌, ℕ, List, [], ◌∷◌, ◌++◌, codes, Option, Some, None, option_and_then, Bool, true, false, nat_eq, if◌then◌else◌}
+use Rattle.std.specs.Prelude.{◌≡◌, ℕ, List, [], ◌∷◌, ◌++◌, codes, Option, Some, None, Bool, true, false, nat_eq, if◌then◌else◌}
 use Rattle.std.specs.Str.{trim_start}
 use Rattle.std.specs.Str.Lines.{lines}
 use Rattle.std.specs.List.{starts_with}
 use Rattle.std.specs.Cmp.Lexicographic.{pointwise}
 use Rattle.rad_realms.specs.Address.{around_first, address_in}
 
--- What a line names: the text of an address.
-unfoldable pub named_in : List ℕ → Option (List ℕ)
-named_in line = option_and_then (around_first 32 line) (λ parts. if pointwise nat_eq parts.0 (codes "|--") then Some parts.1 else None)
+-- The text of the address that a line names, by what stands before its first space and behind it.
+abbrev pub name_of : Option (List ℕ × List ℕ) → Option (List ℕ)
+name_of (Some parts) = if pointwise nat_eq parts.0 (codes "|--") then Some parts.1 else None
+name_of None = None
+
+abbrev pub named_in : List ℕ → Option (List ℕ)
+named_in line = name_of (around_first 32 line)
 
 -- What a line says of the address above it: that it is local.
 unfoldable pub is_local : List ℕ → Bool
@@ -32,17 +36,17 @@ after_name so_far line (Some address) = record { listed = so_far.listed; named =
 after_name so_far line None = record { listed = so_far.listed ++ local_by so_far.named (is_local line); named = so_far.named }
 
 -- What is listed behind one line more.
-unfoldable pub after_line : Listing → List ℕ → Listing
+abbrev pub after_line : Listing → List ℕ → Listing
 after_line so_far line = after_name so_far line (named_in line)
 
 -- What is listed behind these lines.
-pub listing : Listing → List (List ℕ) → Listing
+abbrev pub listing : Listing → List (List ℕ) → Listing
 listing so_far [] = so_far
 listing so_far (line ∷ more) = listing (after_line so_far (trim_start line)) more
 
-pub nothing_listed : Listing
+abbrev pub nothing_listed : Listing
 nothing_listed = record { listed = []; named = None }
 
 -- The local addresses that a text lists, in its order.
-pub local_addresses : List ℕ → List (List ℕ)
+abbrev pub local_addresses : List ℕ → List (List ℕ)
 local_addresses text = (listing nothing_listed (lines text)).listed

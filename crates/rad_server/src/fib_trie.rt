@@ -12,7 +12,7 @@ use std::alloc::{AllocError, Global};
 /// # Errors
 ///
 /// Where memory is refused.
-pub(crate) fn list_local(alloc: Global, text: &str) -> Result<Vec<[u8; 4]>, AllocError>
+pub fn list_local(alloc: Global, text: &str) -> Result<Vec<[u8; 4]>, AllocError>
     ensures { IfOk result (λ addresses. addresses.items ≡ local_addresses text.now) }
 {
     let mut listed = Vec::new(alloc);
@@ -28,12 +28,13 @@ pub(crate) fn list_local(alloc: Global, text: &str) -> Result<Vec<[u8; 4]>, Allo
 }
 
 /// The text of the address that a line names, if it names one.
-#[tactic(auto, unfolding(crate::specs::FibTrie::named_in))]
 fn name_in(line: &str) -> Option<&str>
     ensures { option_copied result ≡ named_in line.now }
 {
-    let (sign, address) = split_around(line, ' ')?;
-    if sign == "|--" { Some(address) } else { None }
+    match split_around(line, ' ') {
+        Some((sign, address)) => { if sign == "|--" { Some(address) } else { None } }
+        None => None,
+    }
 }
 
 /// Splits a text around the first delimiter, an ASCII character.

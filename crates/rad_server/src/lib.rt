@@ -34,6 +34,7 @@ mod worker_sockets;
 mod working;
 
 pub use faults::ServeFault;
+pub use fib_trie::list_local;
 pub use interrupting::Interruptible;
 pub use local_addresses::read_local_addresses;
 pub use notifying::{Notifier, Notifiers};
