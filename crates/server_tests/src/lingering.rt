@@ -76,7 +76,15 @@ fn what_lingers_is_left_over(rt: HostRuntime) -> Result<(), Fail> {
     let writer = Looking {
         is_accepted: &is_accepted,
     };
-    let end = run(&rt, alloc, &config, &Open, reader, writer, Descriptors::none())?;
+    let end = run(
+        &rt,
+        alloc,
+        &config,
+        &Open,
+        reader,
+        writer,
+        Descriptors::none(),
+    )?;
     assert!(rt; is_accepted.get());
     assert_eq!(rt; end.queued.saturating_add(end.outstanding), 1);
     assert!(rt; !end.is_clean());

@@ -45,7 +45,15 @@ fn commands_are_answered(rt: HostRuntime) -> Result<(), Fail> {
         taken: &mut taken,
         room: 1000,
     };
-    let end = run(&rt, alloc, &config, &Open, reader, writer, Descriptors::none())?;
+    let end = run(
+        &rt,
+        alloc,
+        &config,
+        &Open,
+        reader,
+        writer,
+        Descriptors::none(),
+    )?;
     assert!(rt; end.is_clean());
     let printed = "listening 127.0.0.1:1813\n\
          lane 0 h1 up open accepted 0 queued 0 outstanding 0 answered 0 opening 0\n\
@@ -69,7 +77,15 @@ fn a_failed_read_ends_the_service(rt: HostRuntime) -> Result<(), Fail> {
         taken: &mut taken,
         room: 1000,
     };
-    let ran = run(&rt, alloc, &config, &Open, reader, writer, Descriptors::none());
+    let ran = run(
+        &rt,
+        alloc,
+        &config,
+        &Open,
+        reader,
+        writer,
+        Descriptors::none(),
+    );
     assert!(rt; matches!(ran, Err(ServeFault::Input)));
     assert_eq!(rt;
         taken.as_slice(),
