@@ -14,10 +14,16 @@ fn push_each<Q: Fifo<u64>>(
     end: u64,
 ) -> Result<(), AllocError> {
     for number in first..end {
-        queue.reserve_one()?;
-        assert!(rt; queue.spare() > 0);
-        queue.push_back(number);
+        push(rt, queue, number)?;
     }
+    Ok(())
+}
+
+/// Pushes a number, for which there is room then.
+fn push<Q: Fifo<u64>>(rt: &impl Abort, queue: &mut Q, number: u64) -> Result<(), AllocError> {
+    queue.reserve_one()?;
+    assert!(rt; queue.spare() > 0);
+    queue.push_back(number);
     Ok(())
 }
 
@@ -92,15 +98,56 @@ fn has_each(rt: &impl Abort, queue: &mut BlockQueue<u64>, end: u64) {
     has_none(rt, queue);
 }
 
+/// How many items were popped from a queue, and how many are left in it.
+#[derive(Clone, Copy)]
+struct Shortened {
+    popped: u64,
+    left: u64,
+}
+
+/// A queue behind which another one is appended; together they have the numbers from 0.
+fn joined(
+    rt: &impl Abort,
+    alloc: Global,
+    one: Shortened,
+    other: Shortened,
+) -> Result<BlockQueue<u64>, AllocError> {
+    let end = one.left.wrapping_add(other.left);
+    let mut queue = numbered(rt, alloc, one.popped, 0, one.left)?;
+    append(
+        rt,
+        &mut queue,
+        numbered(rt, alloc, other.popped, one.left, end)?,
+    );
+    Ok(queue)
+}
+
+/// Joins two queues of these lengths.
+fn whole_are_right(
+    rt: &impl Abort,
+    alloc: Global,
+    first: u64,
+    second: u64,
+) -> Result<(), AllocError> {
+    let one = Shortened {
+        popped: 0,
+        left: first,
+    };
+    let other = Shortened {
+        popped: 0,
+        left: second,
+    };
+    let mut queue = joined(rt, alloc, one, other)?;
+    has_each(rt, &mut queue, first.wrapping_add(second));
+    Ok(())
+}
+
 #[test]
 fn joined_queues_follow_one_another(rt: HostRuntime) -> Result<(), Fail> {
     let lengths = [0u64, 1, 31, 32, 33, 64, 65];
     for first in lengths {
         for second in lengths {
-            let both = first.wrapping_add(second);
-            let mut queue = numbered(&rt, rt.alloc(), 0, 0, first)?;
-            append(&rt, &mut queue, numbered(&rt, rt.alloc(), 0, first, both)?);
-            has_each(&rt, &mut queue, both);
+            whole_are_right(&rt, rt.alloc(), first, second)?;
         }
     }
     Ok(())
@@ -110,18 +157,11 @@ fn joined_queues_follow_one_another(rt: HostRuntime) -> Result<(), Fail> {
 fn shortened_is_right(
     rt: &impl Abort,
     alloc: Global,
-    one: (u64, u64),
-    other: (u64, u64),
+    one: Shortened,
+    other: Shortened,
 ) -> Result<(), AllocError> {
-    let ((popped, left), (more_popped, more_left)) = (one, other);
-    let both = left.wrapping_add(more_left);
-    let mut queue = numbered(rt, alloc, popped, 0, left)?;
-    append(
-        rt,
-        &mut queue,
-        numbered(rt, alloc, more_popped, left, both)?,
-    );
-    push_each(rt, &mut queue, both, 100)?;
+    let mut queue = joined(rt, alloc, one, other)?;
+    push_each(rt, &mut queue, one.left.wrapping_add(other.left), 100)?;
     has_each(rt, &mut queue, 100);
     Ok(())
 }
@@ -130,9 +170,10 @@ fn shortened_is_right(
 #[test]
 fn shortened_queues_follow_one_another(rt: HostRuntime) -> Result<(), Fail> {
     let counts = [(0u64, 0u64), (1, 0), (40, 0), (40, 1), (70, 30), (64, 33)];
-    for one in counts {
-        for other in counts {
-            shortened_is_right(&rt, rt.alloc(), one, other)?;
+    for (popped, left) in counts {
+        let one = Shortened { popped, left };
+        for (popped, left) in counts {
+            shortened_is_right(&rt, rt.alloc(), one, Shortened { popped, left })?;
         }
     }
     Ok(())
@@ -184,19 +225,28 @@ fn unused_room_stays(rt: HostRuntime) -> Result<(), Fail> {
     Ok(())
 }
 
+/// Joins a queue of one full block and another, and pops so many.
+fn room_stays(
+    rt: &impl Abort,
+    alloc: Global,
+    other: Shortened,
+    popped: u64,
+) -> Result<(), AllocError> {
+    let full = Shortened {
+        popped: 0,
+        left: 32,
+    };
+    let mut queue = joined(rt, alloc, full, other)?;
+    keeps_its_room(rt, &mut queue, popped)
+}
+
 /// A block between the first one and the last one may hold one item.
 #[test]
 fn unused_room_stays_behind_one_item(rt: HostRuntime) -> Result<(), Fail> {
-    for (more_popped, more_left) in [(31u64, 1u64), (30, 2), (0, 32)] {
+    for (popped, left) in [(31u64, 1u64), (30, 2), (0, 32)] {
+        let other = Shortened { popped, left };
         for popped in [31u64, 32, 33] {
-            let end = more_left.wrapping_add(32);
-            let mut queue = numbered(&rt, rt.alloc(), 0, 0, 32)?;
-            append(
-                &rt,
-                &mut queue,
-                numbered(&rt, rt.alloc(), more_popped, 32, end)?,
-            );
-            keeps_its_room(&rt, &mut queue, popped)?;
+            room_stays(&rt, rt.alloc(), other, popped)?;
         }
     }
     Ok(())
@@ -232,10 +282,19 @@ fn counted_items<'a>(
 ) -> Result<BlockQueue<Counted<'a>>, AllocError> {
     let mut queue = BlockQueue::new(alloc);
     for _ in 0..65 {
-        queue.reserve_one()?;
-        queue.push_back(Counted { drops });
+        push_counted(&mut queue, drops)?;
     }
     Ok(queue)
+}
+
+/// Pushes an item that counts its drop.
+fn push_counted<'a>(
+    queue: &mut BlockQueue<Counted<'a>>,
+    drops: &'a AtomicU64,
+) -> Result<(), AllocError> {
+    queue.reserve_one()?;
+    queue.push_back(Counted { drops });
+    Ok(())
 }
 
 /// Moves 40 items on into another queue.
@@ -245,12 +304,21 @@ fn take<'a>(
 ) -> Result<BlockQueue<Counted<'a>>, AllocError> {
     let mut kept = BlockQueue::new(alloc);
     for _ in 0..40 {
-        kept.reserve_one()?;
-        if let Some(item) = queue.pop_front() {
-            kept.push_back(item);
-        }
+        move_one(queue, &mut kept)?;
     }
     Ok(kept)
+}
+
+/// Moves the first item, if there is one, on into another queue.
+fn move_one<'a>(
+    queue: &mut BlockQueue<Counted<'a>>,
+    kept: &mut BlockQueue<Counted<'a>>,
+) -> Result<(), AllocError> {
+    kept.reserve_one()?;
+    if let Some(item) = queue.pop_front() {
+        kept.push_back(item);
+    }
+    Ok(())
 }
 
 #[test]
@@ -275,6 +343,13 @@ struct Both {
 }
 
 impl Both {
+    fn new(alloc: Global) -> Both {
+        Both {
+            blocks: BlockQueue::new(alloc),
+            plain: PlainQueue::new(alloc),
+        }
+    }
+
     fn push(&mut self, number: u64) -> Result<(), AllocError> {
         self.blocks.reserve_one()?;
         self.plain.reserve_one()?;
@@ -319,10 +394,7 @@ fn next(state: u64) -> u64 {
 
 #[test]
 fn both_queues_answer_alike(rt: HostRuntime) -> Result<(), Fail> {
-    let mut both = Both {
-        blocks: BlockQueue::new(rt.alloc()),
-        plain: PlainQueue::new(rt.alloc()),
-    };
+    let mut both = Both::new(rt.alloc());
     Ok(both.play(&rt)?)
 }
 
