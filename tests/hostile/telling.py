@@ -241,8 +241,8 @@ class Trial:
         for _ in range(50):
             self.ask(proxy, b"bob@flood.example")
         self.ask(proxy, b"bob@last.example")
-        last = lambda: proxy.lines("dropped")[-1].get("realm") == "last.example"
-        self.see("of many the last one is named", is_so(last), proxy.lines("dropped")[3:])
+        is_last = is_so(lambda: proxy.lines("dropped")[-1].get("realm") == "last.example")
+        self.see("of many the last one is named", is_last, proxy.lines("dropped")[3:])
         proxy.end()
 
     def tell_of_loops(self):

@@ -38,11 +38,13 @@ home_delta delta =
 abbrev pub cut_delta : CutDelta → List ℕ
 cut_delta delta = codes "event=cut home=" ++ delta.home.now ++ codes " count=" ++ decimal delta.count
 
--- Requests that came with Proxy-States as this proxy adds them.
+-- Requests that came with Proxy-States as this proxy adds them: how many, and how many Proxy-States the one with the most had.
+unfoldable pub marked_counts : ℕ → ℕ → List ℕ
+marked_counts count most = codes "count=" ++ decimal count ++ codes " proxy_states=" ++ decimal most
+
 abbrev pub marked_delta : MarkedDelta → List ℕ
 marked_delta delta =
-    (codes "event=marked home=" ++ delta.home.now ++ codes " count=" ++ decimal delta.count)
-    ++ (codes " proxy_states=" ++ decimal delta.most ++ codes " " ++ client_text delta.client)
+    (codes "event=marked home=" ++ delta.home.now ++ codes " ") ++ (marked_counts delta.count delta.most ++ codes " " ++ client_text delta.client)
 
 -- Sends of a worker that failed, or receives.
 abbrev pub fault_delta : FaultDelta → List ℕ

@@ -54,6 +54,10 @@ pub struct MarkedDelta<'a> {
     pub client: Endpoint,
 }
 
+/// How many requests had such Proxy-States, and how many the one with the most of them had.
+#[derive(Clone, Copy)]
+struct MarkedCounts(u64, u64);
+
 impl ClientDelta {
     /// What was counted of a kind, the last one of this client.
     pub fn new(kind: EventKind, delta: Delta) -> ClientDelta
@@ -124,17 +128,23 @@ impl fmt::Display for MarkedDelta<'_> {
     ghost output = { λ delta. Some (marked_delta delta) };
 
     fn fmt<W: fmt::Write>(&self, f: &mut fmt::Formatter<W>) -> fmt::Result {
-        let MarkedDelta {
-            home,
-            count,
-            most,
-            client,
-        } = *self;
-        let client = ClientText(client);
-        write!(
-            f,
-            "event=marked home={home} count={count} proxy_states={most} {client}"
-        )
+        let home = self.home;
+        let counts = MarkedCounts(self.count, self.most);
+        let client = ClientText(self.client);
+        write!(f, "event=marked home={home} {counts} {client}")
+    }
+}
+
+impl fmt::Display for MarkedCounts {
+    ghost use Rattle.std.specs.Prelude.{Some};
+    ghost use Rattle.rad_telemetry.specs.DeltaLines.{marked_counts};
+
+    ghost output = { λ counts. Some (marked_counts counts.0 counts.1) };
+
+    #[tactic(auto, unfolding(crate::specs::DeltaLines::marked_counts))]
+    fn fmt<W: fmt::Write>(&self, f: &mut fmt::Formatter<W>) -> fmt::Result {
+        let MarkedCounts(count, most) = *self;
+        write!(f, "count={count} proxy_states={most}")
     }
 }
 

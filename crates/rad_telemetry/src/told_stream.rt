@@ -24,13 +24,13 @@ impl<'a, S: Drop, L: Log> ToldStream<'a, S, L> {
             is_told: false,
         }
     }
+}
 
-    /// Tells of a failure, where it is the first.
-    fn tell(&mut self, error: &io::Error) {
-        if !self.is_told && error.kind() != ErrorKind::Interrupted {
-            self.is_told = true;
-            tell_reason(self.log, self.event, error);
-        }
+/// Tells of a failure, where it is the first.
+fn tell<L: Log>(is_told: &mut bool, event: &str, log: &L, error: &io::Error) {
+    if !*is_told && error.kind() != ErrorKind::Interrupted {
+        *is_told = true;
+        tell_reason(log, event, error);
     }
 }
 
@@ -40,7 +40,7 @@ impl<S: Read + Drop, L: Log> Read for ToldStream<'_, S, L> {
     fn read(&mut self, buf: &mut [u8]) -> io::Result<usize> {
         let got = self.stream.read(buf);
         if let Err(error) = &got {
-            self.tell(error);
+            tell(&mut self.is_told, self.event, self.log, error);
         }
         got
     }
@@ -50,7 +50,7 @@ impl<S: Write + Drop, L: Log> Write for ToldStream<'_, S, L> {
     fn write(&mut self, buf: &[u8]) -> io::Result<usize> {
         let put = self.stream.write(buf);
         if let Err(error) = &put {
-            self.tell(error);
+            tell(&mut self.is_told, self.event, self.log, error);
         }
         put
     }
