@@ -8,6 +8,7 @@ use crate::file_name::FileName;
 use crate::reasons::{tell_file, tell_homes, tell_text};
 use rad_console::{read_at_most, read_configuration};
 use rad_realms::Config;
+use rad_server::read_local_addresses;
 use rad_telemetry::Log;
 use std::alloc::Global;
 use std::fs;
@@ -28,9 +29,26 @@ where
     R::File: Drop,
     ensures { IfOk result (λ config. IsLoaded None MOST_FILE_OCTETS config) }
 {
-    match fs::open(rt, path) {
-        Ok(file) => load_text(alloc, log, path, file),
-        Err(error) => Err(file_fault(alloc, log, path, &error)),
+    let file = match fs::open(rt, path) {
+        Ok(file) => file,
+        Err(error) => return Err(file_fault(alloc, log, path, &error)),
+    };
+    let loaded = load_text(alloc, log, path, file);
+    if let Ok(config) = &loaded {
+        advise(rt, alloc, log, config);
+    }
+    loaded
+}
+
+/// Tells what an operator should know of a configuration on this machine. Where the machine's addresses can't be read, only
+/// those that every machine has are known.
+fn advise<R: Files, L: Log>(rt: &R, alloc: Global, log: &L, config: &Config)
+where
+    R::File: Drop,
+{
+    match read_local_addresses(rt, alloc) {
+        Ok(local) => tell_homes(alloc, log, config, local.as_slice()),
+        Err(_) => tell_homes(alloc, log, config, &[]),
     }
 }
 
@@ -49,10 +67,7 @@ pub fn load_text<R: Read + Drop, L: Log>(
     };
     tell_text(alloc, log, &text);
     match read_configuration(alloc, text.as_slice()) {
-        Ok(config) => {
-            tell_homes(alloc, log, &config);
-            Ok(config)
-        }
+        Ok(config) => Ok(config),
         Err(fault) => Err(Fault::Configuration(fault)),
     }
 }

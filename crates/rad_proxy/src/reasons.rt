@@ -116,10 +116,10 @@ fn tell_keys<L: Log>(log: &L, keys: &UnreadKeys) {
     }
 }
 
-/// Tells of home servers that send the proxy its own requests, or that nothing can be sent to. Where memory is refused it tells
-/// nothing.
-pub fn tell_homes<L: Log>(alloc: Global, log: &L, config: &Config) {
-    if let Ok(advice) = advise_homes(alloc, config, &[]) {
+/// Tells of home servers that send the proxy its own requests, or that nothing can be sent to, on a machine of these addresses.
+/// Where memory is refused it tells nothing.
+pub fn tell_homes<L: Log>(alloc: Global, log: &L, config: &Config, local: &[[u8; 4]]) {
+    if let Ok(advice) = advise_homes(alloc, config, local) {
         for home in advice.as_slice() {
             warn_of_reason(log, "home-address", home);
         }
