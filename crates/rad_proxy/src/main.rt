@@ -19,6 +19,7 @@ use descriptors::open_standard;
 use faults::Fault;
 use rad_console::EndLine;
 use rad_replay::replay;
+use rad_server::{LocalAddresses, RuntimeAddresses};
 use rad_telemetry::{Log, ReplaceFile, RuntimeFiles, open_log_if_asked, tell_reason};
 use run_command::serve_file;
 use std::alloc::{AllocGlobal, Global};
@@ -38,7 +39,8 @@ const LEFT_OVER: u8 = 3;
 
 fn main(rt: HostRuntime) -> ExitCode {
     let files = RuntimeFiles::new(rt);
-    let status = match obey_words(&rt, files) {
+    let addresses = RuntimeAddresses::new(rt);
+    let status = match obey_words(&rt, files, &addresses) {
         Ok(status) => status,
         Err(fault) => {
             if !matches!(fault, Fault::Output) {
@@ -51,11 +53,12 @@ fn main(rt: HostRuntime) -> ExitCode {
 }
 
 /// Does what the words ask for, and gives the status.
-fn obey_words<R, F>(rt: &R, files: F) -> Result<u8, Fault>
+fn obey_words<R, F, A>(rt: &R, files: F, addresses: &A) -> Result<u8, Fault>
 where
     R: Runtime + AllocGlobal + Net + RandomSource + Threads + Wait + Sync + Copy + Send + 'static,
     R::File: Drop + IntoRawFd,
     F: ReplaceFile + Drop + Send + 'static,
+    A: LocalAddresses + Sync,
 {
     open_standard(rt)?;
     let alloc = rt.alloc();
@@ -68,7 +71,7 @@ where
             print_counts(rt, alloc, &log, file.as_str())
         }
         Task::Run(file) => {
-            let end = serve_file(rt, files, alloc, file.as_str())?;
+            let end = serve_file(rt, files, addresses, alloc, file.as_str())?;
             Ok(status_at(&end))
         }
     }

@@ -7,7 +7,7 @@ use crate::loading::load;
 use libc::{STDIN_FILENO, STDOUT_FILENO};
 use rad_console::EndLine;
 use rad_realms::Config;
-use rad_server::{Descriptors, ServeFault, run};
+use rad_server::{Descriptors, LocalAddresses, ServeFault, run};
 use rad_telemetry::{
     CounterFile, CounterTexts, ErrorLines, Log, Logged, ReplaceFile, Reporter, StopFlag, Telemetry,
     ToldStream, find_counter_file, log_fault, open_log, report, start_texts, tell_reason,
@@ -16,7 +16,7 @@ use std::alloc::{AllocError, AllocGlobal, Global};
 use std::io::{self, Read, Write};
 use std::net::Net;
 use std::random::RandomSource;
-use std::rt::{Files, Runtime};
+use std::rt::Runtime;
 use std::sync::{Arc, Wait};
 use std::thread::{self, Scope, Threads};
 use std::time::{Clock, Duration, Instant};
@@ -32,11 +32,18 @@ const LAST_LINES: u64 = 1000;
 /// # Errors
 ///
 /// As [`load`], and as [`run`]; `Threads` where a thread that reports or writes can't be started.
-pub fn serve_file<R, F>(rt: &R, files: F, alloc: Global, path: &str) -> Result<EndLine, Fault>
+pub fn serve_file<R, F, A>(
+    rt: &R,
+    files: F,
+    addresses: &A,
+    alloc: Global,
+    path: &str,
+) -> Result<EndLine, Fault>
 where
     R: Runtime + AllocGlobal + Net + RandomSource + Threads + Wait + Sync + Copy + Send + 'static,
     R::File: Drop,
     F: ReplaceFile + Drop + Send + 'static,
+    A: LocalAddresses + Sync,
 {
     let Ok(log) = open_log(rt, alloc) else {
         return Err(Fault::Memory);
@@ -53,6 +60,7 @@ where
     };
     let service = Service {
         rt,
+        addresses,
         alloc,
         config: &config,
         telemetry: &telemetry,
@@ -118,32 +126,33 @@ fn end_writers<R: Clock + Wait>(rt: &R, log: &Logged<(), ErrorLines>, texts: &Co
 }
 
 /// A configuration that is served, and what tells how that goes.
-struct Service<'a, R, L> {
+struct Service<'a, R, L, A> {
     rt: &'a R,
+    addresses: &'a A,
     alloc: Global,
     config: &'a Config,
     telemetry: &'a Telemetry<'a, L>,
     reporter: Reporter<'a, L>,
 }
 
-impl<R, L> Clone for Service<'_, R, L> {
+impl<R, L, A> Clone for Service<'_, R, L, A> {
     fn clone(&self) -> Result<Self, AllocError> {
         Ok(*self)
     }
 }
 
-impl<R, L> Copy for Service<'_, R, L> {}
+impl<R, L, A> Copy for Service<'_, R, L, A> {}
 
 /// Serves a configuration, while a thread of its own reports what is counted.
-fn serve<R, L, I, O>(
-    service: Service<'_, R, L>,
+fn serve<R, L, A, I, O>(
+    service: Service<'_, R, L, A>,
     reader: I,
     writer: O,
 ) -> Result<EndLine, ServeFault>
 where
-    R: Clock + Files + Net + RandomSource + Threads + Wait + Sync,
-    R::File: Drop,
+    R: Clock + Net + RandomSource + Threads + Wait + Sync,
     L: Log + Sync,
+    A: LocalAddresses + Sync,
     I: Read + Drop,
     O: Write + Drop,
 {
@@ -153,7 +162,7 @@ where
         thread::scope_env(),
         service.rt,
         move |scope| -> Result<EndLine, ServeFault>
-            requires { IsSync R.row × IsSync L.row }
+            requires { IsSync R.row × IsSync L.row × IsSync A.row }
         {
             if !start_reporter(scope, service, stop) {
                 return Err(ServeFault::Threads);
@@ -166,14 +175,15 @@ where
 }
 
 /// Starts the thread that reports until the flag is set, and answers whether it could.
-fn start_reporter<'s, E, R, L>(
+fn start_reporter<'s, E, R, L, A>(
     scope: &Scope<'s, E>,
-    service: Service<'s, R, L>,
+    service: Service<'s, R, L, A>,
     stop: &'s StopFlag,
 ) -> bool
 where
     R: Clock + Wait + Sync + 's,
     L: Log + Sync + 's,
+    A: Sync + 's,
 {
     let Service {
         rt,
@@ -187,20 +197,21 @@ where
 }
 
 /// Serves a configuration. That a worker ended by itself is logged.
-fn serve_and_tell<R, L, I, O>(
-    service: Service<'_, R, L>,
+fn serve_and_tell<R, L, A, I, O>(
+    service: Service<'_, R, L, A>,
     reader: I,
     writer: O,
 ) -> Result<EndLine, ServeFault>
 where
-    R: Clock + Files + Net + RandomSource + Threads + Wait + Sync,
-    R::File: Drop,
+    R: Clock + Net + RandomSource + Threads + Wait + Sync,
     L: Log + Sync,
+    A: LocalAddresses + Sync,
     I: Read + Drop,
     O: Write + Drop,
 {
     let Service {
         rt,
+        addresses,
         alloc,
         config,
         telemetry,
@@ -210,7 +221,16 @@ where
         input: Some(STDIN_FILENO),
         output: Some(STDOUT_FILENO),
     };
-    let end = run(rt, alloc, config, telemetry, reader, writer, descriptors);
+    let end = run(
+        rt,
+        addresses,
+        alloc,
+        config,
+        telemetry,
+        reader,
+        writer,
+        descriptors,
+    );
     if let Err(ServeFault::Ended(worker)) = end {
         telemetry.tell_end(worker);
     }

@@ -1,10 +1,9 @@
 //! Watching for addresses that this machine has later than the start.
 
 use crate::known_addresses::KnownAddresses;
-use crate::local_addresses::read_local_addresses;
+use crate::local_addresses::LocalAddresses;
 use rad_desk::Gate;
 use std::alloc::Global;
-use std::rt::Files;
 use std::time::{Clock, Duration, Instant};
 
 /// How long it is at least from one look to the next, in seconds.
@@ -15,8 +14,9 @@ const LOOK: u64 = 10;
 /// What is asked at such an address comes to the socket that is bound to all of them. So the machine's addresses are read
 /// anew only after a datagram came there, where the front has nothing else to receive, and once in ten seconds at most.
 #[derive(Drop)]
-pub(crate) struct AddressWatch<'a, R, G> {
-    rt: &'a R,
+pub(crate) struct AddressWatch<'a, R, G, A> {
+    clock: &'a R,
+    addresses: &'a A,
     alloc: Global,
     gate: &'a G,
     known: KnownAddresses,
@@ -26,16 +26,18 @@ pub(crate) struct AddressWatch<'a, R, G> {
     looked: Option<Instant>,
 }
 
-impl<'a, R, G> AddressWatch<'a, R, G> {
+impl<'a, R, G, A> AddressWatch<'a, R, G, A> {
     /// These addresses are known, and no datagram came yet.
     pub(crate) fn new(
-        rt: &'a R,
+        clock: &'a R,
+        addresses: &'a A,
         alloc: Global,
         gate: &'a G,
         known: KnownAddresses,
-    ) -> AddressWatch<'a, R, G> {
+    ) -> AddressWatch<'a, R, G, A> {
         AddressWatch {
-            rt,
+            clock,
+            addresses,
             alloc,
             gate,
             known,
@@ -50,10 +52,7 @@ impl<'a, R, G> AddressWatch<'a, R, G> {
     }
 }
 
-impl<R: Clock + Files, G: Gate> AddressWatch<'_, R, G>
-where
-    R::File: Drop,
-{
+impl<R: Clock, G: Gate, A: LocalAddresses> AddressWatch<'_, R, G, A> {
     /// Looks for new addresses, where it is time. The clock is read only where a datagram came to the socket of all addresses.
     pub(crate) fn look_if_due(&mut self) {
         if self.has_come && self.is_due() {
@@ -65,7 +64,7 @@ where
     /// Whether there was no look for some time. There was none then where the clock fails.
     fn is_due(&self) -> bool {
         match &self.looked {
-            Some(last) => match last.elapsed(self.rt) {
+            Some(last) => match last.elapsed(self.clock) {
                 Ok(passed) => passed >= Duration::from_secs(LOOK),
                 Err(_) => true,
             },
@@ -75,8 +74,8 @@ where
 
     /// Tells the gate of each address that is new.
     fn look(&mut self) {
-        self.looked = Instant::now(self.rt).ok();
-        let Ok(addresses) = read_local_addresses(self.rt, self.alloc) else {
+        self.looked = Instant::now(self.clock).ok();
+        let Ok(addresses) = self.addresses.read(self.alloc) else {
             return;
         };
         for address in &addresses {

@@ -3,22 +3,25 @@
 ghost use Rattle.rad_server.specs.Wires.{FitsRoom};
 
 use crate::address_watch::AddressWatch;
+use crate::local_addresses::LocalAddresses;
 use crate::origins::Origins;
 use rad_desk::{Gate, Received};
 use rad_realms::Endpoint;
-use std::rt::Files;
 use std::time::Clock;
 
 /// Shows the front's sockets as one, and keeps which of them each client asked.
 #[derive(Drop)]
-pub(crate) struct Answering<'a, R, G> {
+pub(crate) struct Answering<'a, R, G, A> {
     origins: Origins,
-    watch: AddressWatch<'a, R, G>,
+    watch: AddressWatch<'a, R, G, A>,
 }
 
-impl<'a, R, G> Answering<'a, R, G> {
+impl<'a, R, G, A> Answering<'a, R, G, A> {
     /// Nothing came yet.
-    pub(crate) fn new(origins: Origins, watch: AddressWatch<'a, R, G>) -> Answering<'a, R, G> {
+    pub(crate) fn new(
+        origins: Origins,
+        watch: AddressWatch<'a, R, G, A>,
+    ) -> Answering<'a, R, G, A> {
         Answering { origins, watch }
     }
 
@@ -36,10 +39,7 @@ impl<'a, R, G> Answering<'a, R, G> {
     }
 }
 
-impl<R: Clock + Files, G: Gate> Answering<'_, R, G>
-where
-    R::File: Drop,
-{
+impl<R: Clock, G: Gate, A: LocalAddresses> Answering<'_, R, G, A> {
     /// The same receive, as if there were one socket. Where nothing came, there is time to look for new addresses.
     pub(crate) fn received(&mut self, received: Received) -> Received
         requires { FitsRoom received }

@@ -2,7 +2,7 @@
 
 use crate::faults::ServeFault;
 use crate::known_addresses::KnownAddresses;
-use crate::local_addresses::read_local_addresses;
+use crate::local_addresses::LocalAddresses;
 use crate::raw_sockets::{bind_beside, set_shared, widen};
 use crate::sockets::{RECEIVE_BUFFER, bind};
 use rad_desk::Gate;
@@ -10,7 +10,6 @@ use rad_realms::Endpoint;
 use std::alloc::Global;
 use std::io::{Error, ErrorKind};
 use std::net::{Net, UdpSocket};
-use std::rt::Files;
 
 /// All addresses of this machine.
 const ALL: [u8; 4] = [0, 0, 0, 0];
@@ -33,15 +32,13 @@ impl ClientSockets {
     /// # Errors
     ///
     /// `Listen` where one can't be had, `Memory` where a growth was refused.
-    pub(crate) fn bind<R: Files + Net, G: Gate>(
+    pub(crate) fn bind<R: Net, A: LocalAddresses, G: Gate>(
         rt: &R,
+        addresses: &A,
         alloc: Global,
         listen: Endpoint,
         gate: &G,
-    ) -> Result<ClientSockets, ServeFault>
-    where
-        R::File: Drop,
-    {
+    ) -> Result<ClientSockets, ServeFault> {
         let first = match bind(rt, listen) {
             Ok(socket) => socket,
             Err(error) => return Err(fault_at(listen, listen, &error, gate)),
@@ -56,8 +53,8 @@ impl ClientSockets {
                 known: None,
             });
         }
-        match read_local_addresses(rt, alloc) {
-            Ok(addresses) => bind_each(alloc, sockets, listen, addresses.as_slice(), gate),
+        match addresses.read(alloc) {
+            Ok(local) => bind_each(alloc, sockets, listen, local.as_slice(), gate),
             Err(error) => {
                 gate.addresses_unread(&error);
                 Ok(ClientSockets {

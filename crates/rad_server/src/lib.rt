@@ -36,7 +36,7 @@ mod working;
 pub use faults::ServeFault;
 pub use fib_trie::list_local;
 pub use interrupting::Interruptible;
-pub use local_addresses::read_local_addresses;
+pub use local_addresses::{LocalAddresses, RuntimeAddresses, read_local_addresses};
 pub use notifying::{Notifier, Notifiers};
 pub use serving::{run, serve};
 pub use watching::Descriptors;

@@ -13,6 +13,38 @@ const PATH: &str = "/proc/self/net/fib_trie";
 /// The most octets of that file, which are those of some 50,000 routes.
 const MOST_OCTETS: u64 = 1 << 22;
 
+/// Tells which addresses a machine has.
+pub trait LocalAddresses {
+    /// Its single IPv4 addresses, each once or more.
+    ///
+    /// # Errors
+    ///
+    /// Why they can't be read.
+    fn read(&self, alloc: Global) -> io::Result<Vec<[u8; 4]>>;
+}
+
+/// The addresses of the machine of a runtime.
+#[derive(Drop)]
+pub struct RuntimeAddresses<R> {
+    rt: R,
+}
+
+impl<R> RuntimeAddresses<R> {
+    pub fn new(rt: R) -> RuntimeAddresses<R> {
+        RuntimeAddresses { rt }
+    }
+}
+
+impl<R: Files> LocalAddresses for RuntimeAddresses<R>
+where
+    R::File: Drop,
+{
+    /// As [`read_local_addresses`].
+    fn read(&self, alloc: Global) -> io::Result<Vec<[u8; 4]>> {
+        read_local_addresses(&self.rt, alloc)
+    }
+}
+
 /// The single IPv4 addresses of this machine, each once or more.
 ///
 /// # Errors

@@ -5,6 +5,7 @@ ghost use Rattle.rad_console.specs.Closing.{IsEndOf};
 
 use crate::faults::ServeFault;
 use crate::lingering::linger_of;
+use crate::local_addresses::LocalAddresses;
 use crate::notifying::Notifiers;
 use crate::printing::Output;
 use crate::sockets::BoundSockets;
@@ -20,7 +21,6 @@ use std::alloc::Global;
 use std::io::{Read, Write};
 use std::net::Net;
 use std::random::RandomSource;
-use std::rt::Files;
 use std::sync::Wait;
 use std::thread::Threads;
 use std::time::Clock;
@@ -28,13 +28,14 @@ use std::time::Clock;
 /// Serves a configuration until the reader ends: binds its sockets, serves, and says where it listens once all workers have
 /// begun. Where the reader reads from a descriptor and so may wait, a worker that ends ends its wait. Where the writer writes
 /// to one and so may wait, the input is watched meanwhile: from its end on the lanes are drained, and the writer is waited for
-/// no longer than they linger.
+/// no longer than they linger. Where all addresses of the machine are served, `addresses` says which these are.
 ///
 /// # Errors
 ///
 /// `Listen` or `LaneSocket` where a socket can't be had; else as `serve`.
-pub fn run<R, G, I, O>(
+pub fn run<R, A, G, I, O>(
     rt: &R,
+    addresses: &A,
     alloc: Global,
     config: &Config,
     gate: &G,
@@ -43,8 +44,8 @@ pub fn run<R, G, I, O>(
     descriptors: Descriptors,
 ) -> Result<EndLine, ServeFault>
 where
-    R: Clock + Files + Net + RandomSource + Threads + Wait + Sync,
-    R::File: Drop,
+    R: Clock + Net + RandomSource + Threads + Wait + Sync,
+    A: LocalAddresses + Sync,
     G: Gate + Sync,
     I: Read + Drop,
     O: Write + Drop,
@@ -53,8 +54,8 @@ where
     let listen = config.listen();
     let mut output = open_output(alloc, config, writer, descriptors)?;
     output.add(&ListeningLine { endpoint: listen })?;
-    let sockets = BoundSockets::bind(rt, alloc, config, gate)?;
-    let wires = make_wires(rt, alloc, config, gate, sockets)?;
+    let sockets = BoundSockets::bind(rt, addresses, alloc, config, gate)?;
+    let wires = make_wires(rt, addresses, alloc, config, gate, sockets)?;
     let reader = make_reader(rt, alloc, reader, descriptors.input)?;
     let Ok(notifiers) = notifiers_of(alloc, &wires, &reader) else {
         return Err(ServeFault::Memory);

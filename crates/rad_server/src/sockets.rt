@@ -2,13 +2,13 @@
 
 use crate::client_sockets::ClientSockets;
 use crate::faults::ServeFault;
+use crate::local_addresses::LocalAddresses;
 use crate::raw_sockets::widen;
 use rad_desk::Gate;
 use rad_realms::{Config, Endpoint, Home};
 use std::alloc::Global;
 use std::io;
 use std::net::{Ipv4Addr, Net, SocketAddr, SocketAddrV4, UdpSocket};
-use std::rt::Files;
 
 /// How many octets of datagrams a socket may hold that nobody has received yet. The system may grant less.
 pub(crate) const RECEIVE_BUFFER: i32 = 1 << 20;
@@ -34,16 +34,14 @@ impl BoundSockets {
     ///
     /// `Listen`, then `LaneSocket` of the first lane, where a socket can't be bound; `Memory` where a growth was
     /// refused.
-    pub(crate) fn bind<R: Files + Net, G: Gate>(
+    pub(crate) fn bind<R: Net, A: LocalAddresses, G: Gate>(
         rt: &R,
+        addresses: &A,
         alloc: Global,
         config: &Config,
         gate: &G,
-    ) -> Result<BoundSockets, ServeFault>
-    where
-        R::File: Drop,
-    {
-        let front = ClientSockets::bind(rt, alloc, config.listen(), gate)?;
+    ) -> Result<BoundSockets, ServeFault> {
+        let front = ClientSockets::bind(rt, addresses, alloc, config.listen(), gate)?;
         let lanes = bind_lanes(rt, alloc, config.homes(), gate)?;
         Ok(BoundSockets { front, lanes })
     }

@@ -1,5 +1,6 @@
 //! The sockets of a worker as the wire that it works over.
 
+use crate::local_addresses::LocalAddresses;
 use crate::notifying::Notifier;
 use crate::worker_sockets::WorkerSockets;
 use rad_desk::{Delivery, Gate, Received, Traffic, Wire};
@@ -8,7 +9,6 @@ use rad_tables::Moment;
 use rand::Rng;
 use rand::rngs::StdRng;
 use std::alloc::AllocError;
-use std::rt::Files;
 use std::time::{Clock, Instant};
 
 /// The sockets of a worker, its clock and its random octets.
@@ -16,24 +16,24 @@ use std::time::{Clock, Instant};
 /// A receive waits at most 20 milliseconds, and not at all in the turn after a send, when there may be more to send.
 /// Whoever has work for the worker notifies it and so ends the wait.
 #[derive(Drop)]
-pub(crate) struct UdpWire<'a, R, G> {
+pub(crate) struct UdpWire<'a, R, G, A> {
     clock: &'a R,
     start: Instant,
     /// The moment that was told last.
     moment: Moment,
     random: StdRng,
-    sockets: WorkerSockets<'a, R, G>,
+    sockets: WorkerSockets<'a, R, G, A>,
     traffic: Traffic,
 }
 
-impl<'a, R, G> UdpWire<'a, R, G> {
+impl<'a, R, G, A> UdpWire<'a, R, G, A> {
     /// A wire over these sockets, whose moments count from the start.
     pub(crate) fn new(
         clock: &'a R,
         start: Instant,
         random: StdRng,
-        sockets: WorkerSockets<'a, R, G>,
-    ) -> UdpWire<'a, R, G> {
+        sockets: WorkerSockets<'a, R, G, A>,
+    ) -> UdpWire<'a, R, G, A> {
         UdpWire {
             clock,
             start,
@@ -54,10 +54,7 @@ impl<'a, R, G> UdpWire<'a, R, G> {
     }
 }
 
-impl<R: Clock + Files, G: Gate> Wire for UdpWire<'_, R, G>
-where
-    R::File: Drop,
-{
+impl<R: Clock, G: Gate, A: LocalAddresses> Wire for UdpWire<'_, R, G, A> {
     ghost log = { λ w. w.traffic.passed };
 
     fn now(&mut self) -> Moment {

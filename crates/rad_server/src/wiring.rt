@@ -32,14 +32,15 @@ pub struct Wires<W: Drop> {
 
 /// Makes wires whose moments count from the same start.
 #[derive(Drop)]
-struct WireMaker<'a, R, G> {
+struct WireMaker<'a, R, G, A> {
     rt: &'a R,
+    addresses: &'a A,
     alloc: Global,
     start: Instant,
     gate: &'a G,
 }
 
-impl<'a, R: Clock + Net + RandomSource, G> WireMaker<'a, R, G> {
+impl<'a, R: Clock + Net + RandomSource, G, A> WireMaker<'a, R, G, A> {
     /// The wire of the front over these sockets, which are one to these clients.
     ///
     /// # Errors
@@ -49,7 +50,7 @@ impl<'a, R: Clock + Net + RandomSource, G> WireMaker<'a, R, G> {
         &self,
         sockets: ClientSockets,
         clients: &[Client],
-    ) -> io::Result<UdpWire<'a, R, G>> {
+    ) -> io::Result<UdpWire<'a, R, G, A>> {
         let ClientSockets { sockets, known } = sockets;
         let mut random: StdRng = make_rng(self.rt)?;
         let answering = match known {
@@ -69,9 +70,9 @@ impl<'a, R: Clock + Net + RandomSource, G> WireMaker<'a, R, G> {
         clients: &[Client],
         known: KnownAddresses,
         random: u64,
-    ) -> Result<Answering<'a, R, G>, AllocError> {
+    ) -> Result<Answering<'a, R, G, A>, AllocError> {
         let origins = Origins::new(self.alloc, clients, random)?;
-        let watch = AddressWatch::new(self.rt, self.alloc, self.gate, known);
+        let watch = AddressWatch::new(self.rt, self.addresses, self.alloc, self.gate, known);
         Ok(Answering::new(origins, watch))
     }
 
@@ -84,8 +85,8 @@ impl<'a, R: Clock + Net + RandomSource, G> WireMaker<'a, R, G> {
         &self,
         random: StdRng,
         sockets: Vec<UdpSocket>,
-        answering: Option<Answering<'a, R, G>>,
-    ) -> io::Result<UdpWire<'a, R, G>> {
+        answering: Option<Answering<'a, R, G, A>>,
+    ) -> io::Result<UdpWire<'a, R, G, A>> {
         let polled = PolledSockets::new(self.rt, self.alloc, sockets)?;
         let sockets = WorkerSockets::new(polled, answering);
         Ok(UdpWire::new(self.rt, self.start, random, sockets))
@@ -96,7 +97,7 @@ impl<'a, R: Clock + Net + RandomSource, G> WireMaker<'a, R, G> {
     /// # Errors
     ///
     /// The system's, and `OutOfMemory`.
-    fn make_lane(&self, sockets: Vec<UdpSocket>) -> io::Result<UdpWire<'a, R, G>> {
+    fn make_lane(&self, sockets: Vec<UdpSocket>) -> io::Result<UdpWire<'a, R, G, A>> {
         self.make(make_rng(self.rt)?, sockets, None)
     }
 
@@ -105,7 +106,10 @@ impl<'a, R: Clock + Net + RandomSource, G> WireMaker<'a, R, G> {
     /// # Errors
     ///
     /// `LaneSocket` of the first one that can't be made, `Memory` where a growth was refused.
-    fn make_lanes(&self, lanes: Vec<Vec<UdpSocket>>) -> Result<Vec<UdpWire<'a, R, G>>, ServeFault> {
+    fn make_lanes(
+        &self,
+        lanes: Vec<Vec<UdpSocket>>,
+    ) -> Result<Vec<UdpWire<'a, R, G, A>>, ServeFault> {
         let Ok(mut wires) = Vec::with_capacity(self.alloc, lanes.len()) else {
             return Err(ServeFault::Memory);
         };
@@ -128,18 +132,20 @@ impl<'a, R: Clock + Net + RandomSource, G> WireMaker<'a, R, G> {
 /// # Errors
 ///
 /// `Listen` or `LaneSocket` where the system refuses one, `Memory` where a growth was refused, `Input` where the clock fails.
-pub(crate) fn make_wires<'a, R: Clock + Net + RandomSource, G>(
+pub(crate) fn make_wires<'a, R: Clock + Net + RandomSource, G, A>(
     rt: &'a R,
+    addresses: &'a A,
     alloc: Global,
     config: &Config,
     gate: &'a G,
     sockets: BoundSockets,
-) -> Result<Wires<UdpWire<'a, R, G>>, ServeFault> {
+) -> Result<Wires<UdpWire<'a, R, G, A>>, ServeFault> {
     let Ok(start) = Instant::now(rt) else {
         return Err(ServeFault::Input);
     };
     let maker = WireMaker {
         rt,
+        addresses,
         alloc,
         start,
         gate,
@@ -158,9 +164,9 @@ pub(crate) fn make_wires<'a, R: Clock + Net + RandomSource, G>(
 /// # Errors
 ///
 /// Where memory is refused.
-pub(crate) fn notifiers_of<R, G, I: Read + Drop>(
+pub(crate) fn notifiers_of<R, G, A, I: Read + Drop>(
     alloc: Global,
-    wires: &Wires<UdpWire<'_, R, G>>,
+    wires: &Wires<UdpWire<'_, R, G, A>>,
     reader: &Interruptible<I>,
 ) -> Result<Notifiers, AllocError> {
     let lanes = notifiers_of_lanes(alloc, wires.lanes.as_slice())?;
@@ -178,9 +184,9 @@ pub(crate) fn notifiers_of<R, G, I: Read + Drop>(
 /// # Errors
 ///
 /// Where memory is refused.
-fn notifiers_of_lanes<R, G>(
+fn notifiers_of_lanes<R, G, A>(
     alloc: Global,
-    wires: &[UdpWire<'_, R, G>],
+    wires: &[UdpWire<'_, R, G, A>],
 ) -> Result<Vec<Notifier>, AllocError> {
     let mut notifiers = Vec::with_capacity(alloc, wires.len())?;
     for wire in wires {

@@ -3,30 +3,30 @@
 ghost use Rattle.rad_server.specs.Wires.{FitsRoom};
 
 use crate::answering::Answering;
+use crate::local_addresses::LocalAddresses;
 use crate::notifying::Notifier;
 use crate::polling::PolledSockets;
 use rad_desk::{Delivery, Gate, Received};
 use rad_realms::Endpoint;
 use std::alloc::AllocError;
 use std::net::{Ipv4Addr, SocketAddr, SocketAddrV4};
-use std::rt::Files;
 use std::time::Clock;
 
 /// The sockets of a worker. Those of a lane have the numbers of its source ports. The front's are all 0, where there are
 /// several: each answers what came to it.
 #[derive(Drop)]
-pub(crate) struct WorkerSockets<'a, R, G> {
+pub(crate) struct WorkerSockets<'a, R, G, A> {
     polled: PolledSockets,
     /// Where they are all 0.
-    answering: Option<Answering<'a, R, G>>,
+    answering: Option<Answering<'a, R, G, A>>,
 }
 
-impl<'a, R, G> WorkerSockets<'a, R, G> {
+impl<'a, R, G, A> WorkerSockets<'a, R, G, A> {
     /// These sockets by their indexes, or as one.
     pub(crate) fn new(
         polled: PolledSockets,
-        answering: Option<Answering<'a, R, G>>,
-    ) -> WorkerSockets<'a, R, G> {
+        answering: Option<Answering<'a, R, G, A>>,
+    ) -> WorkerSockets<'a, R, G, A> {
         WorkerSockets { polled, answering }
     }
 
@@ -51,10 +51,7 @@ impl<'a, R, G> WorkerSockets<'a, R, G> {
     }
 }
 
-impl<R: Clock + Files, G: Gate> WorkerSockets<'_, R, G>
-where
-    R::File: Drop,
-{
+impl<R: Clock, G: Gate, A: LocalAddresses> WorkerSockets<'_, R, G, A> {
     /// Receives a datagram, and waits for one where there is nothing else to do.
     pub(crate) fn receive(&mut self, room: &mut [u8; 4096]) -> Received
         ensures { FitsRoom result }

@@ -5,7 +5,7 @@ use crate::streams::Narrow;
 use crate::wires::{LOOKS, TWO_HOMES, pause, quiet};
 use rad_desk::Worker;
 use rad_realms::read_config;
-use rad_server::{Descriptors, Notifiers, ServeFault, Wires, run, serve};
+use rad_server::{Descriptors, Notifiers, RuntimeAddresses, ServeFault, Wires, run, serve};
 use std::io::{self, Error, ErrorKind, Read};
 use std::os::fd::AsRawFd;
 use std::os::unix::net::UnixStream;
@@ -85,6 +85,7 @@ fn a_worker_that_ends_ends_the_service(rt: HostRuntime) -> Result<(), Fail> {
 #[test]
 fn a_worker_that_ends_ends_the_wait_for_input(rt: HostRuntime) -> Result<(), Fail> {
     let alloc = rt.alloc();
+    let addresses = RuntimeAddresses::new(rt);
     let config = read_config(alloc, ONE_HOME)?;
     let (reader, _silent) = UnixStream::pair(&rt)?;
     let descriptors = Descriptors {
@@ -98,7 +99,16 @@ fn a_worker_that_ends_ends_the_wait_for_input(rt: HostRuntime) -> Result<(), Fai
             room: 1000,
         };
         let gate = Ending(worker);
-        let ran = run(&rt, alloc, &config, &gate, &reader, writer, descriptors);
+        let ran = run(
+            &rt,
+            &addresses,
+            alloc,
+            &config,
+            &gate,
+            &reader,
+            writer,
+            descriptors,
+        );
         let is_told = matches!(ran, Err(ServeFault::Ended(ended)) if ended == worker);
         assert!(rt; is_told, "{worker:?}");
         assert_eq!(rt; taken.as_slice(), b"listening 127.0.0.1:1816\n".as_slice());

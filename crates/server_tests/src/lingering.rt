@@ -4,7 +4,7 @@ use crate::gates::Open;
 use crate::serving::NO_LINGER;
 use crate::wires::{LOOKS, pause};
 use rad_realms::read_config;
-use rad_server::{Descriptors, run};
+use rad_server::{Descriptors, RuntimeAddresses, run};
 use std::cell::Cell;
 use std::io::{self, Read, Write};
 use std::net::{Ipv4Addr, SocketAddr, UdpSocket};
@@ -63,6 +63,7 @@ impl Write for Looking<'_> {
 #[test]
 fn what_lingers_is_left_over(rt: HostRuntime) -> Result<(), Fail> {
     let alloc = rt.alloc();
+    let addresses = RuntimeAddresses::new(rt);
     let config = read_config(alloc, NO_LINGER)?;
     let any = SocketAddr::from((Ipv4Addr::LOCALHOST, 0));
     let is_accepted = Cell::new(false);
@@ -78,6 +79,7 @@ fn what_lingers_is_left_over(rt: HostRuntime) -> Result<(), Fail> {
     };
     let end = run(
         &rt,
+        &addresses,
         alloc,
         &config,
         &Open,

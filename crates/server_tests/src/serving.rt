@@ -3,7 +3,7 @@
 use crate::gates::Open;
 use crate::streams::{Narrow, Slow};
 use rad_realms::read_config;
-use rad_server::{Descriptors, ServeFault, run};
+use rad_server::{Descriptors, RuntimeAddresses, ServeFault, run};
 use std::test::Fail;
 
 /// A configuration of one client, two home servers and three realms.
@@ -34,6 +34,7 @@ home = "h1"
 #[test]
 fn commands_are_answered(rt: HostRuntime) -> Result<(), Fail> {
     let alloc = rt.alloc();
+    let addresses = RuntimeAddresses::new(rt);
     let config = read_config(alloc, CONFIGURATION)?;
     let mut taken = Vec::new(alloc);
     let reader = Slow {
@@ -47,6 +48,7 @@ fn commands_are_answered(rt: HostRuntime) -> Result<(), Fail> {
     };
     let end = run(
         &rt,
+        &addresses,
         alloc,
         &config,
         &Open,
@@ -66,6 +68,7 @@ fn commands_are_answered(rt: HostRuntime) -> Result<(), Fail> {
 #[test]
 fn a_failed_read_ends_the_service(rt: HostRuntime) -> Result<(), Fail> {
     let alloc = rt.alloc();
+    let addresses = RuntimeAddresses::new(rt);
     let config = read_config(alloc, NO_LINGER)?;
     let mut taken = Vec::new(alloc);
     let reader = Slow {
@@ -79,6 +82,7 @@ fn a_failed_read_ends_the_service(rt: HostRuntime) -> Result<(), Fail> {
     };
     let ran = run(
         &rt,
+        &addresses,
         alloc,
         &config,
         &Open,
