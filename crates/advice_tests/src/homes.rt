@@ -1,8 +1,8 @@
 //! What is told of home servers' addresses.
 
-use rad_advice::{AddressFault, advise_homes};
+use rad_advice::{AddressFault, HomeAdvice, advise_homes};
 use rad_realms::{Config, read_config};
-use std::alloc::Global;
+use std::alloc::{AllocError, Global};
 use std::test::Fail;
 
 /// A configuration that listens at one address and port, and has one home server at another.
@@ -97,22 +97,33 @@ const HOMES: [(&str, &str, Option<AddressFault>); 27] = [
     ("127.0.0.1:1813", "198.51.100.20:1813", None),
 ];
 
+/// What is told of the one home server of a configuration.
+fn told_of_one(alloc: Global, config: &Config) -> Result<Option<AddressFault>, Fail> {
+    let advice = advise_homes(alloc, config, &LOCAL)?;
+    match advice.as_slice() {
+        [] => Ok(None),
+        [one] => Ok(Some(one.fault)),
+        _ => Err(Fail::from("more than one fault")),
+    }
+}
+
+/// What is told of a home server's address, where the proxy listens at another one.
+fn told_of(alloc: Global, listen: &str, home: &str) -> Result<Option<AddressFault>, Fail> {
+    let config = configuration(alloc, listen, home)?;
+    told_of_one(alloc, &config)
+}
+
 #[test]
 fn each_address_is_judged(rt: HostRuntime) -> Result<(), Fail> {
     for (listen, home, wanted) in HOMES {
-        let config = configuration(rt.alloc(), listen, home)?;
-        let advice = advise_homes(rt.alloc(), &config, &LOCAL)?;
-        let told = match advice.as_slice().first() {
-            Some(one) => Some(one.fault),
-            None => None,
-        };
+        let told = told_of(rt.alloc(), listen, home)?;
         assert!(rt; told == wanted, "{home} where {listen} is listened at");
-        assert!(rt; advice.len() <= 1);
     }
     Ok(())
 }
 
-const THREE: &str = r#"
+/// Six home servers, of which something is told but of the second.
+const SIX: &str = r#"
 listen = "0.0.0.0:1813"
 [[client]]
 address = "10.0.0.1"
@@ -143,19 +154,38 @@ address = "250.1.2.3:1813"
 secret = "s"
 "#;
 
-#[test]
-fn each_is_printed_in_its_order(rt: HostRuntime) -> Result<(), Fail> {
-    let Ok(config) = read_config(rt.alloc(), THREE) else {
+/// What is told of them, in lines.
+const TOLD: &str =
+    "home first.one at 127.0.0.1:1813: listen serves it, so requests would come back\nhome third at 224.0.0.9:1813: it is a multicast address\nhome fourth at 0.0.0.0:2813: no host has this address\nhome fifth at 255.255.255.255:1813: it is the broadcast address\nhome sixth at 250.1.2.3:1813: it is a reserved address\n";
+
+/// Adds a line of what is told of a home server.
+fn add_line(alloc: Global, told: &mut String, one: &HomeAdvice<'_>) -> Result<(), AllocError> {
+    let line = format!(in alloc; "{one}\n")?;
+    told.push_str(line.as_str())
+}
+
+/// Adds a line for each home server of which something is told, where the machine has no address but those of 127.0.0.0/8.
+fn add_lines(alloc: Global, told: &mut String, config: &Config) -> Result<(), AllocError> {
+    let advice = advise_homes(alloc, config, &[])?;
+    for one in advice.as_slice() {
+        add_line(alloc, told, one)?;
+    }
+    Ok(())
+}
+
+/// What is told of the home servers of a configuration, in lines.
+fn lines_of(alloc: Global, text: &str) -> Result<String, Fail> {
+    let Ok(config) = read_config(alloc, text) else {
         return Err(Fail::from("a configuration"));
     };
-    let advice = advise_homes(rt.alloc(), &config, &[])?;
-    let mut told = String::new(rt.alloc());
-    for one in advice.as_slice() {
-        let line = format!(in rt.alloc(); "{one}\n")?;
-        told.push_str(line.as_str())?;
-    }
-    let wanted =
-        "home first.one at 127.0.0.1:1813: listen serves it, so requests would come back\nhome third at 224.0.0.9:1813: it is a multicast address\nhome fourth at 0.0.0.0:2813: no host has this address\nhome fifth at 255.255.255.255:1813: it is the broadcast address\nhome sixth at 250.1.2.3:1813: it is a reserved address\n";
-    assert!(rt; told.as_str() == wanted, "{told}");
+    let mut told = String::new(alloc);
+    add_lines(alloc, &mut told, &config)?;
+    Ok(told)
+}
+
+#[test]
+fn each_is_printed_in_its_order(rt: HostRuntime) -> Result<(), Fail> {
+    let told = lines_of(rt.alloc(), SIX)?;
+    assert!(rt; told.as_str() == TOLD, "{told}");
     Ok(())
 }

@@ -1,10 +1,13 @@
 //! What no clause says of the console: how lines are cut into commands however they are read, and what is printed.
 
 use crate::streams::{Narrow, Slow};
-use rad_console::{Command, Commands, close, obey};
-use rad_desk::open;
-use rad_realms::read_config;
+use rad_console::{Command, Commands, EndLine, close, obey};
+use rad_desk::{Proxy, open};
+use rad_realms::{Config, read_config};
+use std::alloc::Global;
+use std::io;
 use std::result::Result;
+use std::sync::Wait;
 use std::test::Fail;
 
 /// A client and two home servers.
@@ -70,29 +73,61 @@ fn each_line_is_a_command(rt: HostRuntime) -> Result<(), Fail> {
     Ok(())
 }
 
-#[test]
-fn each_command_is_obeyed(rt: HostRuntime) -> Result<(), Fail> {
-    let alloc = rt.alloc();
-    let config = read_config(alloc, TWO_HOMES)?;
-    let (proxy, inlets) = open(alloc, &config)?;
-    let mut taken = Vec::new(alloc);
-    let mut output = Narrow {
-        taken: &mut taken,
-        room: 1000,
-    };
-    let commands = [
+/// Has some commands obeyed, and keeps what they print.
+fn obey_each(
+    rt: &impl Wait,
+    config: &Config,
+    proxy: &Proxy,
+    taken: &mut Vec<u8>,
+) -> io::Result<()> {
+    let mut output = Narrow { taken, room: 1000 };
+    for command in [
         Command::State,
         Command::Unknown,
         Command::Drain,
         Command::State,
-    ];
-    for command in commands {
-        obey(&rt, &config, &proxy, command, &mut output)?;
+    ] {
+        obey(rt, config, proxy, command, &mut output)?;
     }
+    Ok(())
+}
+
+/// The end of a proxy that obeyed them.
+fn end_of(
+    rt: &impl Wait,
+    alloc: Global,
+    config: &Config,
+    taken: &mut Vec<u8>,
+) -> Result<EndLine, Fail> {
+    let (proxy, inlets) = open(alloc, config)?;
+    obey_each(rt, config, &proxy, taken)?;
+    Ok(close(alloc, proxy, inlets)?)
+}
+
+#[test]
+fn each_command_is_obeyed(rt: HostRuntime) -> Result<(), Fail> {
+    let alloc = rt.alloc();
+    let config = read_config(alloc, TWO_HOMES)?;
+    let mut taken = Vec::new(alloc);
+    let end = end_of(&rt, alloc, &config, &mut taken)?;
     assert_eq!(rt; taken.as_slice(), PRINTED.as_bytes());
-    let end = close(alloc, proxy, inlets)?;
     assert!(rt; end.is_clean());
     Ok(())
+}
+
+/// Whether a command fails where there is room for so many octets, once these are written.
+fn is_cut(
+    rt: &impl Wait,
+    config: &Config,
+    proxy: &Proxy,
+    command: Command,
+    room: usize,
+    taken: &mut Vec<u8>,
+) -> bool {
+    taken.clear();
+    let mut output = Narrow { taken, room };
+    let obeyed = obey(rt, config, proxy, command, &mut output);
+    obeyed.is_err() && output.taken.len() == room
 }
 
 #[test]
@@ -100,16 +135,11 @@ fn a_failed_write_ends_a_command(rt: HostRuntime) -> Result<(), Fail> {
     let alloc = rt.alloc();
     let config = read_config(alloc, TWO_HOMES)?;
     let (proxy, _inlets) = open(alloc, &config)?;
+    let mut taken = Vec::new(alloc);
     for command in [Command::State, Command::Drain, Command::Unknown] {
         for room in [0, 7] {
-            let mut taken = Vec::new(alloc);
-            let mut output = Narrow {
-                taken: &mut taken,
-                room,
-            };
-            let obeyed = obey(&rt, &config, &proxy, command, &mut output);
-            assert!(rt; obeyed.is_err(), "{command:?} with room for {room}");
-            assert_eq!(rt; taken.len(), room);
+            let is_right = is_cut(&rt, &config, &proxy, command, room, &mut taken);
+            assert!(rt; is_right, "{command:?} with room for {room}");
         }
     }
     Ok(())
