@@ -1,5 +1,5 @@
 -- What is listed behind one line more.
-use Rattle.std.specs.Prelude.{◌≡◌, ℕ, List, [], ◌∷◌, ◌++◌, Option, Some, None}
+use Rattle.std.specs.Prelude.{◌≡◌, ℕ, List, [], ◌∷◌, ◌++◌, Option}
 use Rattle.std.specs.Borrow.{Bor}
 use Rattle.std.specs.Str.{trim_start}
 use Rattle.std.proofs.Common.{refl, ap, sym, ◌∙◌, map}

@@ -1,7 +1,7 @@
 -- Which addresses Linux's text of its routes, /proc/net/fib_trie, lists as this machine's own (own). A line that has
 -- `|-- ADDRESS` behind its spaces names an address, and one below it that has `/32 host LOCAL` says that this address alone
 -- is one of the machine's.
-use Rattle.std.specs.Prelude.{◌≡◌, ℕ, List, [], ◌∷◌, ◌++◌, codes, Option, Some, None, Bool, true, false, nat_eq, if◌then◌else◌}
+use Rattle.std.specs.Prelude.{ℕ, List, [], ◌∷◌, ◌++◌, codes, Option, Some, None, Bool, true, false, nat_eq, if◌then◌else◌}
 use Rattle.std.specs.Str.{trim_start}
 use Rattle.std.specs.Str.Lines.{lines}
 use Rattle.std.specs.List.{starts_with}

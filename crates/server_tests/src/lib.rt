@@ -13,7 +13,6 @@ mod interrupting;
 #[cfg(test)]
 mod lingering;
 #[cfg(test)]
-#[cfg(test)]
 mod serving;
 #[cfg(test)]
 mod streams;

@@ -4,20 +4,10 @@
 use crate::shared::{MemoryLog, NAS, Setup, TWO_HOMES};
 use rad_desk::{Gate, Note, Worker};
 use rad_realms::{Dropped, Endpoint};
-use rad_telemetry::{LevelFilter, ReplaceFile, Telemetry};
+use rad_telemetry::{LevelFilter, Telemetry};
 use std::result::Result;
 use std::test::Fail;
 use test_octets::nas::{NAME_ONLY_REQUEST, SEVENTH};
-
-/// Replaces no file.
-#[derive(Drop)]
-struct Nowhere;
-
-impl ReplaceFile for Nowhere {
-    fn replace(&self, _path: &str, _new: &str, _text: &[u8]) -> bool {
-        false
-    }
-}
 
 /// A proxy of this form.
 const OTHER_PROXY: Endpoint = Endpoint {
@@ -64,7 +54,7 @@ fn drop_for_its_realm(telemetry: &Telemetry<'_, MemoryLog>, packet: &[u8]) {
 
 /// Logs what is new.
 fn log_deltas(telemetry: &Telemetry<'_, MemoryLog>) {
-    telemetry.reporter(&None, &Nowhere).log_deltas();
+    telemetry.reporter(None).log_deltas();
 }
 
 /// Tells of drops, and has them logged one after the other.

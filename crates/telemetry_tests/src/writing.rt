@@ -58,12 +58,12 @@ fn has_written(alloc: Global, takes: &[usize], expected: &str) -> Result<bool, A
 fn lines_that_find_no_room_are_counted(rt: HostRuntime) -> Result<(), Fail> {
     let alloc = rt.alloc();
     let mut room = room_of(alloc, 8, &["one\n", "four\n", "two\n"])?;
-    assert!(rt; room.lines() == b"one\n" && room.dropped() == 2);
+    assert!(rt; room.lines() == b"one\n".as_slice() && room.dropped() == 2);
     room.clear();
     assert!(rt; room.lines().is_empty() && room.dropped() == 0);
     room.put(b"one\n");
     room.put(b"two\n");
-    assert!(rt; room.lines() == b"one\ntwo\n" && room.dropped() == 0);
+    assert!(rt; room.lines() == b"one\ntwo\n".as_slice() && room.dropped() == 0);
     Ok(())
 }
 
