@@ -112,7 +112,7 @@ install:
 	@test -x $(PROGRAM) || { echo "there is no $(PROGRAM): run make build first" >&2; exit 1; }
 	install -d $(DESTDIR)$(SBINDIR) $(DESTDIR)$(LIBEXECDIR)/rad_proxy $(DESTDIR)$(UNITDIR) $(DESTDIR)$(SYSUSERSDIR)
 	install -d $(DESTDIR)$(MANDIR)/man8 $(DESTDIR)$(MANDIR)/man5 $(DESTDIR)$(DOCDIR)/docs $(DESTDIR)$(SYSCONFDIR)/rad_proxy
-	install -m 755 $(PROGRAM) $(DESTDIR)$(SBINDIR)
+	install -m 755 $(PROGRAM) $(DESTDIR)$(SBINDIR)/rad_proxy
 	sed $(FOLDERS) packaging/rad_proxyctl.in > $(DESTDIR)$(SBINDIR)/rad_proxyctl
 	sed $(FOLDERS) packaging/serve.in > $(DESTDIR)$(LIBEXECDIR)/rad_proxy/serve
 	chmod 755 $(DESTDIR)$(SBINDIR)/rad_proxyctl $(DESTDIR)$(LIBEXECDIR)/rad_proxy/serve
