@@ -21,8 +21,11 @@ A row is a file FOLDER/NAME.row. It reads as a conversation, with what goes in a
 Where a word is FILE, the input is the file of that name in the folder in which the program runs, and else it is
 standard input. In place of a line there may be a Python expression for it, behind `<=`, `+=`, `>=` or `!=`: the octets,
 or the text in UTF-8, that it gives, with no line feed added. In it `lines` makes one text of many lines, and `before` is
-what stands before it on the same side. A line that begins with two spaces continues the one above it. The last line
-is `N passed, M failed`.
+what stands before it on the same side. A line that begins with two spaces continues the one above it.
+
+Why `run` ends, or can't write a file, is told by its log, and that is no part of a row: tests/hostile/failures.py, files.py and
+reasons.py look at it. So where `run` ends by a fault, the line of the log that tells its reason is left out, and in another
+line of the log the reason is. The last line is `N passed, M failed`.
 """
 import os
 import pathlib
@@ -36,6 +39,8 @@ ROWS = pathlib.Path(__file__).resolve().parent
 TOP = ROWS.parent.parent
 SECONDS = 60
 MOST_LINES = 6
+REASON = rb' reason="[^"\n]*"'
+FAULT = rb"^level=error event=(?:file-fault|no-toml|unbound|output-fault)(?: [a-z_]+=[^ \"\n]+)*" + REASON + rb"\n(?=[^\n]*\n?\Z)"
 
 
 def lines(texts):
@@ -89,6 +94,15 @@ class Row:
                 return subprocess.run([program, *self.words], input=given, **how)
 
 
+def without_reasons(row, errors):
+    """What `run` wrote to standard error, without the reasons that its log tells, where the row has none."""
+    if row.words[:1] != ["run"] or b" reason=" in row.streams["!"]:
+        return errors
+    if row.status:
+        errors = re.sub(FAULT, b"", errors, flags=re.MULTILINE)
+    return re.sub(b"^(level=.*)" + REASON + b"$", rb"\1", errors, flags=re.MULTILINE)
+
+
 def clipped(line):
     text = line.decode("utf-8", "replace")
     return text if len(text) <= 120 else f"{text[:110]}.. ({len(text)} characters)"
@@ -117,8 +131,8 @@ def faults(program, name):
         return [f"  it did not end in {SECONDS} seconds"]
     except Exception as fault:
         return [f"  it can't be read or run: {fault}"]
-    told = []
-    for title, sign, got in (("standard output", ">", run.stdout or b""), ("standard error", "!", run.stderr)):
+    told, errors = [], without_reasons(row, run.stderr)
+    for title, sign, got in (("standard output", ">", run.stdout or b""), ("standard error", "!", errors)):
         if got != row.streams[sign]:
             told += [f"  {title}:", *difference(row.streams[sign], got)]
     if run.returncode != row.status:
