@@ -20,7 +20,7 @@ fn configuration(alloc: Global, listen: &str, home: &str) -> Result<Config, Fail
 const LOCAL: [[u8; 4]; 2] = [[192, 0, 2, 7], [10, 1, 2, 3]];
 
 /// Where the proxy listens, where the home server is, and what speaks against it.
-const HOMES: [(&str, &str, Option<AddressFault>); 27] = [
+static HOMES: [(&str, &str, Option<AddressFault>); 27] = [
     // what `listen` serves
     (
         "127.0.0.1:1813",
@@ -115,7 +115,7 @@ fn told_of(alloc: Global, listen: &str, home: &str) -> Result<Option<AddressFaul
 
 #[test]
 fn each_address_is_judged(rt: HostRuntime) -> Result<(), Fail> {
-    for (listen, home, wanted) in HOMES {
+    for &(listen, home, wanted) in &HOMES {
         let told = told_of(rt.alloc(), listen, home)?;
         assert!(rt; told == wanted, "{home} where {listen} is listened at");
     }

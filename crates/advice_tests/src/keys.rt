@@ -48,7 +48,7 @@ home = "h1"
 "#;
 
 /// Texts, and what is told of them.
-const TEXTS: [(&str, &str); 40] = [
+static TEXTS: [(&str, &str); 40] = [
     ("", ""),
     (ALL, ""),
     // no TOML
@@ -183,7 +183,7 @@ const TEXTS: [(&str, &str); 40] = [
 
 #[test]
 fn each_key_is_told_with_its_place(rt: HostRuntime) -> Result<(), Fail> {
-    for (text, wanted) in TEXTS {
+    for &(text, wanted) in &TEXTS {
         let told = printed(rt.alloc(), text.as_bytes())?;
         assert!(rt;
             told.as_str() == wanted,

@@ -20,7 +20,7 @@ const KEY: &str = "invalid key, expected letters, numbers, `-`, `_` or a quoted 
 const LINE: &str = "unexpected key or value, expected newline, `#`";
 
 /// Texts, each with the place where it stops being TOML, and what is told there.
-const FAULTS: [(&[u8], usize, usize, &str); 14] = [
+static FAULTS: [(&[u8], usize, usize, &str); 14] = [
     // a value is missing
     (b"listen = ", 1, 10, VALUE),
     (b"# one\n\nlisten = \nlinger = 1\n", 3, 10, VALUE),
@@ -69,7 +69,7 @@ const FAULTS: [(&[u8], usize, usize, &str); 14] = [
 
 #[test]
 fn each_fault_has_its_place(rt: HostRuntime) -> Result<(), Fail> {
-    for (text, line, column, message) in FAULTS {
+    for &(text, line, column, message) in &FAULTS {
         let told = printed(rt.alloc(), text)?;
         let wanted = format!(in rt.alloc(); "line {line}, column {column}: {message}")?;
         assert!(rt;
@@ -81,7 +81,7 @@ fn each_fault_has_its_place(rt: HostRuntime) -> Result<(), Fail> {
 }
 
 /// Octets that are not UTF-8, and the place of the first of them.
-const OCTETS: [(&[u8], usize, usize); 6] = [
+static OCTETS: [(&[u8], usize, usize); 6] = [
     (b"\xff", 1, 1),
     (b"listen = \"\x80\"\n", 1, 11),
     // a character of two octets stands before; an overlong form
@@ -96,7 +96,7 @@ const OCTETS: [(&[u8], usize, usize); 6] = [
 
 #[test]
 fn octets_that_are_no_text_have_their_place(rt: HostRuntime) -> Result<(), Fail> {
-    for (text, line, column) in OCTETS {
+    for &(text, line, column) in &OCTETS {
         let told = printed(rt.alloc(), text)?;
         let wanted = format!(in rt.alloc(); "line {line}, column {column}: no UTF-8")?;
         assert!(rt;
