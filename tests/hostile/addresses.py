@@ -282,6 +282,7 @@ def test_addresses_unread(program, folder):
     before = ("unshare", "--mount", "sh", "-c", WITHOUT_PROC, "sh")
     with Service(program, folder, before) as service, bound(NASES[0]) as nas:
         service.ask(nas, SERVED[1])
+        until("it is told", lambda: service.told("addresses-unread"))
         hope("how often it is told", len(service.told("addresses-unread")), 1)
         hope("its level", "level=warn" in service.told("addresses-unread")[0], True)
 
@@ -294,6 +295,7 @@ def test_too_many_routes(program, folder):
     try:
         with Service(program, folder) as service, bound(NASES[0]) as nas:
             service.ask(nas, SERVED[1])
+            until("it is told", lambda: service.told("addresses-unread"))
             hope("how often it is told", len(service.told("addresses-unread")), 1)
     finally:
         change("del")
@@ -307,6 +309,7 @@ def test_many_addresses(program, folder):
     change("add")
     try:
         with Service(program, folder) as service, bound(NASES[0]) as nas:
+            until("so many are told", lambda: len(service.told("address-unbound")) >= KNOWN - SOCKETS)
             told = {line.rpartition("=")[2] for line in service.told("address-unbound")}
             hope("how many are told", len(told), KNOWN - SOCKETS)
             for address in more[:5]:
