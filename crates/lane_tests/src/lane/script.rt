@@ -103,16 +103,30 @@ const THIRD: Slot = Slot {
 /// Plays a script on a new lane, whose home server has these lines more in the configuration. After each call that
 /// is refused the lane has to leave what it leaves without that call, and so it has where a call was refused memory.
 pub fn play(rt: &impl Abort, alloc: Global, more: &str, script: &[Row<'_>]) -> Result<(), Fail> {
-    let whole = leave(rt, alloc, more, script)?;
+    assert!(rt; leave_same(rt, alloc, more, script, script)?);
     for place in 0..script.len() {
         if script[place].2.is_refused() {
-            let before = leave(rt, alloc, more, &script[..place])?;
-            let after = leave(rt, alloc, more, &script[..place + 1])?;
-            assert!(rt; is_same(&after, &before), "changed by call {place}");
+            let (before, after) = (&script[..place], &script[..place + 1]);
+            assert!(rt;
+                leave_same(rt, alloc, more, before, after)?,
+                "changed by call {place}"
+            );
         }
     }
-    assert!(rt; is_same(&leave(rt, alloc, more, script)?, &whole));
     Ok(())
+}
+
+/// Whether a new lane leaves the same after either script.
+fn leave_same(
+    rt: &impl Abort,
+    alloc: Global,
+    more: &str,
+    one: &[Row<'_>],
+    other: &[Row<'_>],
+) -> Result<bool, Fail> {
+    let one = leave(rt, alloc, more, one)?;
+    let other = leave(rt, alloc, more, other)?;
+    Ok(is_same(&one, &other))
 }
 
 /// What a new lane leaves when it is closed after a script.
