@@ -186,8 +186,8 @@ class Trial:
         proxy = self.proxy("homes", {name: (home.port, limits.format(waits[name])) for name, home in homes.items()})
         for name, home in homes.items():
             for session in (b"first", b"S 1=\xff", b"third"):
-                self.ask(proxy, f"bob@{name}.example".encode(), attribute(ACCT_SESSION_ID, session))
                 count = len(home.requests())
+                self.ask(proxy, f"bob@{name}.example".encode(), attribute(ACCT_SESSION_ID, session))
                 self.see("a request comes", is_so(lambda: len(home.requests()) > count))
                 if session == b"first":
                     home.answer(*home.requests()[0])

@@ -358,13 +358,34 @@ def counters_that_are_not_written_are_told(service):
 def sent_again_is_never_less_than_nothing(service):
     """While requests come, what `metrics` tells as sent is never less than what it tells as accepted and not queued."""
     service.start()
+    see_sent_again(service)
+
+
+def counters_that_are_written_late_are_waited_for(service):
+    """The same where the counters are written half a second after they were read."""
+    library, slow = service.room / "slow.so", service.room / "slow/rad_proxy"
+    compiler = os.environ.get("CC", "cc").split()
+    subprocess.run([*compiler, "-O2", "-shared", "-fPIC", "-o", library, HERE / "tests/hostile/slow.c"], check=True)
+    slow.parent.mkdir()
+    variables = f"LD_PRELOAD={library} SLOW_PATH={service.run} SLOW_OPEN=500"
+    slow.write_text(f"#!/bin/sh\n{variables} exec {service.environment['RAD_PROXY_PROGRAM']} \"$@\"\n")
+    slow.chmod(0o755)
+    service.environment["RAD_PROXY_PROGRAM"] = str(slow)
+    service.start()
+    until("counters", (service.run / "counters").exists)
+    see_sent_again(service)
+
+
+def see_sent_again(service):
+    """What `metrics` tells of a service, several times, while requests come."""
     sender = subprocess.Popen(
         [sys.executable, "-c", NASES, str(service.port), str(service.home.fileno())], pass_fds=[service.home.fileno()])
     try:
         time.sleep(1)
         for _ in range(4):
-            text = service.ask("metrics").stdout
-            accepted, queued, sent = (int(re.search(rf"^rad_proxy_{name}{{.*}} (\d+)$", text, re.M)[1])
+            done = service.ask("metrics")
+            hope("status", (done.returncode, done.stderr), (0, ""))
+            accepted, queued, sent = (int(re.search(rf"^rad_proxy_{name}{{.*}} (\d+)$", done.stdout, re.M)[1])
                                       for name in ("accepted_total", "queued", "sent_total"))
             hope("requests come", accepted > 0, True)
             hope(f"sent {sent} accepted {accepted} queued {queued}", sent >= accepted - queued, True)
@@ -539,6 +560,7 @@ TESTS = [
     a_stopped_asker_keeps_nobody_out, an_asker_without_an_answer_gives_up, many_ask_at_once,
     a_hand_over_that_dies_is_started_anew, nobody_reads_its_output, its_output_is_full, what_is_left_over_is_a_warning,
     counters_elsewhere_are_told, counters_that_are_not_written_are_told, sent_again_is_never_less_than_nothing,
+    counters_that_are_written_late_are_waited_for,
     memory_is_refused_and_nothing_ends, relative_paths_hold, an_answer_that_cannot_be_written_is_told,
     whoever_keeps_the_pipe_is_not_waited_for, the_unit_takes_no_core_dump, root_asks_as_the_owner,
     the_owner_gets_nothing_of_roots, root_serves_nobody_elses_folder,

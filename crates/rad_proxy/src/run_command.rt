@@ -58,25 +58,46 @@ where
     let Ok(telemetry) = Telemetry::new(alloc, &config, &log) else {
         return Err(Fault::Memory);
     };
+    let is_reported = file.is_some();
+    if !start_writers(rt, alloc, &log, &texts, file, files) {
+        return Err(fault_told(&log, ServeFault::Threads));
+    }
+    let left = if is_reported { Some(&*texts) } else { None };
+    let outcome = serve_told(rt, addresses, alloc, &config, &telemetry, left, &log);
+    end_writers(rt, &log, &texts);
+    outcome
+}
+
+/// Serves a configuration over the standard streams. What ends it is told.
+fn serve_told<'a, R, L, A>(
+    rt: &'a R,
+    addresses: &'a A,
+    alloc: Global,
+    config: &'a Config,
+    telemetry: &'a Telemetry<'a, L>,
+    texts: Option<&'a CounterTexts>,
+    log: &'a L,
+) -> Result<EndLine, Fault>
+where
+    R: Runtime + AllocGlobal + Net + RandomSource + Threads + Wait + Sync,
+    L: Log + Sync,
+    A: LocalAddresses + Sync,
+{
+    let reporter = telemetry.reporter(texts);
     let service = Service {
         rt,
         addresses,
         alloc,
-        config: &config,
-        telemetry: &telemetry,
-        reporter: telemetry.reporter(file.is_some().then_some(&*texts)),
+        config,
+        telemetry,
+        reporter,
     };
-    if !start_writers(rt, alloc, &log, &texts, file, files) {
-        return Err(fault_told(&log, ServeFault::Threads));
-    }
-    let reader = ToldStream::new(rt.reader(), "input-fault", &log);
-    let writer = ToldStream::new(io::writer(rt), "output-fault", &log);
-    let outcome = match serve(service, reader, writer) {
+    let reader = ToldStream::new(rt.reader(), "input-fault", log);
+    let writer = ToldStream::new(io::writer(rt), "output-fault", log);
+    match serve(service, reader, writer) {
         Ok(end) => Ok(end),
-        Err(fault) => Err(fault_told(&log, fault)),
-    };
-    end_writers(rt, &log, &texts);
-    outcome
+        Err(fault) => Err(fault_told(log, fault)),
+    }
 }
 
 /// What ends a service ends the program. The log is told of a thread that can't be had; the other reasons were told as they came.
