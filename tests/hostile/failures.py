@@ -10,6 +10,7 @@ told of a text is tried by reasons.py. The last line is `N passed, M failed`, of
 import os
 import pathlib
 import pty
+import re
 import resource
 import shutil
 import socket
@@ -23,6 +24,8 @@ MOST_FILE_OCTETS = 1_048_576
 STRANGER = 65534
 COUNTS = "clients 1 homes 1 realms 1\n"
 ABSENT = "there is no such file"
+TOO_MANY = "Too many open files (os error 24)"
+MOST_FILES = 40
 
 
 def bound():
@@ -100,6 +103,8 @@ class Trial:
         self.see_terminal()
         self.see_streams()
         self.see_sockets()
+        self.see_few_files()
+        self.see_clock()
 
     def see_files(self):
         self.see_errors("absent", 4, file_fault(self.absent, ABSENT), "run", self.absent)
@@ -198,8 +203,40 @@ class Trial:
         reason = "Cannot assign requested address (os error 99)"
         lines = [fault_of("unbound", reason, f" socket={ELSEWHERE}:{port}"), f"socket: {ELSEWHERE}:{port}"]
         self.see_errors("no such address", 4, lines, "run", file)
-        reason = fault_of("unbound", "Too many open files (os error 24)", " socket=0.0.0.0:0")
+        reason = fault_of("unbound", TOO_MANY, " socket=0.0.0.0:0")
         self.see_errors("too many sockets", 4, [reason, "socket: lane 0"], "run", self.file, preexec_fn=at_most(4))
+
+    def see_few_files(self):
+        """However few files the program may open, it tells why it ends: each socket and each wait, the input's too, takes some."""
+        ends = set()
+        for files in range(3, MOST_FILES):
+            done = self.ended("run", self.file, preexec_fn=at_most(files))
+            if done.returncode == 0:
+                break
+            lines = done.stderr.decode().splitlines()
+            ends.add(lines[-1])
+            event, keys = ("input-fault", "") if lines[-1] == "input: failed" else ("unbound", " socket=")
+            start, end = f"level=error event={event}{keys}", f'reason="{TOO_MANY}"'
+            told = len(lines) == 2 and lines[0].startswith(start) and lines[0].endswith(end)
+            self.see(f"{files} files, {lines}", (done.returncode, told), (4, True))
+        self.see("files enough", (files < MOST_FILES - 1, done.stderr), (True, b""))
+        listen = re.search(r'listen = "(.*)"', pathlib.Path(self.file).read_text("utf-8"))[1]
+        self.see("each end", ends, {f"socket: {listen}", "socket: lane 0", "input: failed"})
+
+    def see_clock(self):
+        """A clock that fails at the start, and one that fails after some calls, whenever that is."""
+        library = self.folder / "clock.so"
+        compiler = os.environ.get("CC", "cc").split()
+        source = pathlib.Path(__file__).parent / "clock.c"
+        subprocess.run([*compiler, "-O2", "-shared", "-fPIC", "-o", library, source], check=True)
+        for calls in (0, 1, 2, 5):
+            given = environment() | {"LD_PRELOAD": str(library), "CLOCK_CALLS": str(calls)}
+            done = self.ended("run", self.file, env=given)
+            told = done.stderr.decode().splitlines()
+            if calls == 0:
+                self.see("a clock that fails", (done.returncode, told), (4, ["clock: failed"]))
+            else:
+                self.see(f"a clock that fails after {calls} calls", (done.returncode, told) in ((4, ["clock: failed"]), (0, [])), True)
 
 
 def main():

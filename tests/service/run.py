@@ -582,9 +582,17 @@ def tried(program, test):
     return "passed", ""
 
 
+def heed_signals():
+    """Has what is started here end by the signals that are meant to end it, also where this was started to ignore them, as by nohup."""
+    for number in (signal.SIGHUP, signal.SIGINT, signal.SIGQUIT, signal.SIGTERM):
+        if signal.getsignal(number) == signal.SIG_IGN:
+            signal.signal(number, signal.SIG_DFL)
+
+
 def main():
     if len(sys.argv) < 2:
         sys.exit(__doc__.splitlines()[2])
+    heed_signals()
     program, names = pathlib.Path(sys.argv[1]).resolve(), sys.argv[2:]
     words = []
     for test in TESTS:

@@ -1,7 +1,7 @@
 -- How the program ends at a fault (own).
 use Rattle.std.specs.Prelude.{ℕ}
 use Rattle.rad_proxy.specs.declared.faults.Fault.{Fault}
-use Rattle.rad_proxy.specs.declared.faults.Fault.TheVariants.{Usage, Input, File, Configuration, Listen, LaneSocket, Threads, Memory, Events, Output}
+use Rattle.rad_proxy.specs.declared.faults.Fault.TheVariants.{Usage, Input, Clock, File, Configuration, Listen, LaneSocket, Threads, Memory, Events, Output}
 use Rattle.rad_replay.specs.declared.faults.ReplayFault.{ReplayFault}
 use Rattle.rad_replay.specs.declared.faults.ReplayFault.TheVariants as replaying
 use Rattle.rad_server.specs.declared.faults.ServeFault.{ServeFault}
@@ -12,6 +12,7 @@ abbrev pub status_of : Fault → ℕ
 status_of Usage = 1
 status_of (Configuration fault) = 2
 status_of Input = 4
+status_of Clock = 4
 status_of (File path) = 4
 status_of (Listen endpoint) = 4
 status_of (LaneSocket lane) = 4
@@ -35,5 +36,7 @@ fault_of_serving (serving.LaneSocket lane) = LaneSocket lane
 fault_of_serving serving.Threads = Threads
 fault_of_serving (serving.Ended worker) = Threads
 fault_of_serving serving.Input = Input
+fault_of_serving (serving.InputWait reason) = Input
+fault_of_serving serving.Clock = Clock
 fault_of_serving serving.Output = Output
 fault_of_serving serving.Memory = Memory

@@ -13,6 +13,8 @@ pub enum Fault {
     Usage,
     #[error("input: failed")]
     Input,
+    #[error("clock: failed")]
+    Clock,
     /// The file can't be read, or is too long.
     #[error("file: {0}")]
     File(FileName),
@@ -50,6 +52,7 @@ impl Fault {
             Fault::Usage => 1,
             Fault::Configuration(_) => 2,
             Fault::Input
+            | Fault::Clock
             | Fault::File(_)
             | Fault::Listen(_)
             | Fault::LaneSocket(_)
@@ -90,7 +93,8 @@ impl From<ServeFault> for Fault {
             ServeFault::Listen(endpoint) => Fault::Listen(endpoint),
             ServeFault::LaneSocket(lane) => Fault::LaneSocket(lane),
             ServeFault::Threads | ServeFault::Ended(_) => Fault::Threads,
-            ServeFault::Input => Fault::Input,
+            ServeFault::Input | ServeFault::InputWait(_) => Fault::Input,
+            ServeFault::Clock => Fault::Clock,
             ServeFault::Output => Fault::Output,
             ServeFault::Memory => Fault::Memory,
         }

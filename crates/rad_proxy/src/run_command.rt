@@ -13,7 +13,7 @@ use rad_telemetry::{
     ToldStream, find_counter_file, log_fault, open_log, report, start_texts, tell_reason,
 };
 use std::alloc::{AllocError, AllocGlobal, Global};
-use std::io::{self, Read, Write};
+use std::io::{self, Error, Read, Write};
 use std::net::Net;
 use std::random::RandomSource;
 use std::rt::Runtime;
@@ -26,6 +26,12 @@ const LAST_TEXT: u64 = 500;
 
 /// How long it waits for that and for the log.
 const LAST_LINES: u64 = 1000;
+
+/// Why there is no thread: the system tells one number for both.
+const NO_THREAD: &str = "the system has no thread more, or no memory for one";
+
+/// Why the input can't be waited for, where the system tells no number.
+const NO_WAIT: &str = "the system can't wait for it";
 
 /// Serves the configuration in a file until standard input ends.
 ///
@@ -100,14 +106,16 @@ where
     }
 }
 
-/// What ends a service ends the program. The log is told of a thread that can't be had; the other reasons were told as they came.
+/// What ends a service ends the program. The log is told why a thread can't be had, or what waits for the input; the other
+/// reasons were told as they came, and the clock has none.
 fn fault_told<L: Log>(log: &L, fault: ServeFault) -> Fault {
-    if let ServeFault::Threads = fault {
-        tell_reason(
-            log,
-            "thread-fault",
-            &"the system has no thread more, or no memory for one",
-        );
+    match fault {
+        ServeFault::Threads => tell_reason(log, "thread-fault", &NO_THREAD),
+        ServeFault::InputWait(Some(number)) => {
+            tell_reason(log, "input-fault", &Error::from_raw_os_error(number));
+        }
+        ServeFault::InputWait(None) => tell_reason(log, "input-fault", &NO_WAIT),
+        _ => {}
     }
     Fault::from(fault)
 }

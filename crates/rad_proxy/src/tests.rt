@@ -123,10 +123,15 @@ fn each_form_of_words_has_its_task(rt: HostRuntime) -> Result<(), Fail> {
 
 #[test]
 fn the_fault_is_printed(rt: HostRuntime) -> Result<(), Fail> {
-    for fault in [ServeFault::Threads, ServeFault::Ended(Worker::Front)] {
+    for (fault, line) in [
+        (ServeFault::Threads, "threads: failed"),
+        (ServeFault::Ended(Worker::Front), "threads: failed"),
+        (ServeFault::InputWait(None), "input: failed"),
+        (ServeFault::Clock, "clock: failed"),
+    ] {
         let fault = Fault::from(fault);
         let text = format!(in rt.alloc(); "{fault}")?;
-        assert_eq!(rt; text.as_str(), "threads: failed");
+        assert_eq!(rt; text.as_str(), line);
         assert_eq!(rt; fault.status(), 4);
     }
     Ok(())

@@ -15,7 +15,7 @@ use std::time::{Clock, Instant};
 ///
 /// # Errors
 ///
-/// `Ended` where a worker ended by itself, `Input` where the reader or the clock failed, and as [`Output::advance`].
+/// `Ended` where a worker ended by itself, `Input` where the reader failed, `Clock` where the clock did, and as [`Output::advance`].
 pub(crate) fn attend<R: Clock + Wait, G: Gate, I: Read + Drop, O: Write + Drop>(
     service: Service<'_, R, G>,
     reader: I,
@@ -39,7 +39,7 @@ fn end_of_input<O: Write + Drop>(
     }
     match Instant::now(clock) {
         Ok(now) => Ok(now),
-        Err(_) => Err(ServeFault::Input),
+        Err(_) => Err(ServeFault::Clock),
     }
 }
 

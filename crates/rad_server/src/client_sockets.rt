@@ -137,7 +137,12 @@ fn share_each<G: Gate>(
 }
 
 /// That a socket can't be had, of which the gate is told.
-fn fault_at<G: Gate>(listen: Endpoint, at: Endpoint, error: &Error, gate: &G) -> ServeFault {
+pub(crate) fn fault_at<G: Gate>(
+    listen: Endpoint,
+    at: Endpoint,
+    error: &Error,
+    gate: &G,
+) -> ServeFault {
     gate.unbound(at, error);
     ServeFault::Listen(listen).or_memory(error)
 }

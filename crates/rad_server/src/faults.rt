@@ -15,8 +15,12 @@ pub enum ServeFault {
     Threads,
     /// This worker ended by itself, and it was the first.
     Ended(Worker),
-    /// The reader failed, or the clock.
+    /// The reader failed.
     Input,
+    /// What waits for the reader can't be had. The number is that by which the system tells the reason, where it has one.
+    InputWait(Option<i32>),
+    /// The clock failed.
+    Clock,
     /// The writer failed, or took nothing for as long as it was waited for after the end of the input; the lanes were drained
     /// then.
     Output,

@@ -69,7 +69,7 @@ where
 ///
 /// # Errors
 ///
-/// `Input` where the reader or the clock fails, `Output` where the writer does, `Threads` where a worker can't be started,
+/// `Input` where the reader fails, `Clock` where the clock does, `Output` where the writer does, `Threads` where a worker can't be started,
 /// `Ended` where one ends by itself, `Memory` where a growth was refused. The workers have ended then, and the lanes were not
 /// drained. A reader that is `Interrupted` is read again, where all workers go on.
 pub fn serve<R, W, G, I, O>(

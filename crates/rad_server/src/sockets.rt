@@ -7,7 +7,7 @@ use crate::raw_sockets::widen;
 use rad_desk::Gate;
 use rad_realms::{Config, Endpoint, Home};
 use std::alloc::Global;
-use std::io;
+use std::io::{self, Error};
 use std::net::{Ipv4Addr, Net, SocketAddr, SocketAddrV4, UdpSocket};
 
 /// How many octets of datagrams a socket may hold that nobody has received yet. The system may grant less.
@@ -61,16 +61,19 @@ fn bind_lanes<R: Net, G: Gate>(
         let ports = home.limits().numbers().ports;
         let sockets = match bind_ports(rt, alloc, ports) {
             Ok(sockets) => sockets,
-            Err(error) => {
-                gate.unbound(ANY, &error);
-                return Err(ServeFault::LaneSocket(lane).or_memory(&error));
-            }
+            Err(error) => return Err(lane_fault(lane, &error, gate)),
         };
         if lanes.push(sockets).is_err() {
             return Err(ServeFault::Memory);
         }
     }
     Ok(lanes)
+}
+
+/// That the sockets of a lane can't be had, of which the gate is told.
+pub(crate) fn lane_fault<G: Gate>(lane: usize, error: &Error, gate: &G) -> ServeFault {
+    gate.unbound(ANY, error);
+    ServeFault::LaneSocket(lane).or_memory(error)
 }
 
 /// So many sockets, at ports that the system picks.

@@ -2,16 +2,17 @@
 
 use crate::address_watch::AddressWatch;
 use crate::answering::Answering;
-use crate::client_sockets::ClientSockets;
+use crate::client_sockets::{ClientSockets, fault_at};
 use crate::faults::ServeFault;
 use crate::interrupting::Interruptible;
 use crate::known_addresses::KnownAddresses;
 use crate::notifying::{Notifier, Notifiers};
 use crate::origins::Origins;
 use crate::polling::PolledSockets;
-use crate::sockets::BoundSockets;
+use crate::sockets::{BoundSockets, lane_fault};
 use crate::wires::UdpWire;
 use crate::worker_sockets::WorkerSockets;
+use rad_desk::Gate;
 use rad_realms::{Client, Config};
 use rand::rngs::StdRng;
 use rand::{Rng, make_rng};
@@ -40,7 +41,7 @@ struct WireMaker<'a, R, G, A> {
     gate: &'a G,
 }
 
-impl<'a, R: Clock + Net + RandomSource, G, A> WireMaker<'a, R, G, A> {
+impl<'a, R: Clock + Net + RandomSource, G: Gate, A> WireMaker<'a, R, G, A> {
     /// The wire of the front over these sockets, which are one to these clients.
     ///
     /// # Errors
@@ -96,8 +97,25 @@ impl<'a, R: Clock + Net + RandomSource, G, A> WireMaker<'a, R, G, A> {
     ///
     /// # Errors
     ///
+    /// `LaneSocket` where the system refuses what waits at them, of which the gate is told, or random octets; `Memory` where a
+    /// growth was refused.
+    fn make_lane(
+        &self,
+        lane: usize,
+        sockets: Vec<UdpSocket>,
+    ) -> Result<UdpWire<'a, R, G, A>, ServeFault> {
+        match self.make_over(sockets) {
+            Ok(wire) => Ok(wire),
+            Err(error) => Err(lane_fault(lane, &error, self.gate)),
+        }
+    }
+
+    /// A wire over these sockets, each of which answers for itself.
+    ///
+    /// # Errors
+    ///
     /// The system's, and `OutOfMemory`.
-    fn make_lane(&self, sockets: Vec<UdpSocket>) -> io::Result<UdpWire<'a, R, G, A>> {
+    fn make_over(&self, sockets: Vec<UdpSocket>) -> io::Result<UdpWire<'a, R, G, A>> {
         self.make(make_rng(self.rt)?, sockets, None)
     }
 
@@ -114,10 +132,7 @@ impl<'a, R: Clock + Net + RandomSource, G, A> WireMaker<'a, R, G, A> {
             return Err(ServeFault::Memory);
         };
         for (lane, sockets) in lanes.into_iter().enumerate() {
-            let wire = match self.make_lane(sockets) {
-                Ok(wire) => wire,
-                Err(error) => return Err(ServeFault::LaneSocket(lane).or_memory(&error)),
-            };
+            let wire = self.make_lane(lane, sockets)?;
             if wires.push(wire).is_err() {
                 return Err(ServeFault::Memory);
             }
@@ -127,12 +142,12 @@ impl<'a, R: Clock + Net + RandomSource, G, A> WireMaker<'a, R, G, A> {
 }
 
 /// The wires over these sockets of a configuration. Their moments count from now. The gate is told of an address that this
-/// machine has later.
+/// machine has later, and of what the system refuses.
 ///
 /// # Errors
 ///
-/// `Listen` or `LaneSocket` where the system refuses one, `Memory` where a growth was refused, `Input` where the clock fails.
-pub(crate) fn make_wires<'a, R: Clock + Net + RandomSource, G, A>(
+/// `Listen` or `LaneSocket` where the system refuses one, `Memory` where a growth was refused, `Clock` where the clock fails.
+pub(crate) fn make_wires<'a, R: Clock + Net + RandomSource, G: Gate, A>(
     rt: &'a R,
     addresses: &'a A,
     alloc: Global,
@@ -141,7 +156,7 @@ pub(crate) fn make_wires<'a, R: Clock + Net + RandomSource, G, A>(
     sockets: BoundSockets,
 ) -> Result<Wires<UdpWire<'a, R, G, A>>, ServeFault> {
     let Ok(start) = Instant::now(rt) else {
-        return Err(ServeFault::Input);
+        return Err(ServeFault::Clock);
     };
     let maker = WireMaker {
         rt,
@@ -153,7 +168,7 @@ pub(crate) fn make_wires<'a, R: Clock + Net + RandomSource, G, A>(
     let BoundSockets { front, lanes } = sockets;
     let front = match maker.make_front(front, config.clients()) {
         Ok(wire) => wire,
-        Err(error) => return Err(ServeFault::Listen(config.listen()).or_memory(&error)),
+        Err(error) => return Err(fault_at(config.listen(), config.listen(), &error, gate)),
     };
     let lanes = maker.make_lanes(lanes)?;
     Ok(Wires { front, lanes })
@@ -199,7 +214,7 @@ fn notifiers_of_lanes<R, G, A>(
 ///
 /// # Errors
 ///
-/// `Memory` where a growth was refused, else `Input`.
+/// `Memory` where a growth was refused, else `InputWait`.
 pub(crate) fn make_reader<I: Read + Drop>(
     net: &impl Net,
     alloc: Global,
@@ -208,6 +223,6 @@ pub(crate) fn make_reader<I: Read + Drop>(
 ) -> Result<Interruptible<I>, ServeFault> {
     match Interruptible::new(net, alloc, reader, descriptor) {
         Ok(reader) => Ok(reader),
-        Err(error) => Err(ServeFault::Input.or_memory(&error)),
+        Err(error) => Err(ServeFault::InputWait(error.raw_os_error()).or_memory(&error)),
     }
 }
