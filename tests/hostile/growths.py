@@ -3,11 +3,11 @@
 
 usage: growths.py PROGRAM [TESTS ..]
 
-`replay` runs over some rows of tests/rows, and `run` is asked for its state and drained. In each run an allocation is
+`replay` runs over some rows of tests/rows, `check` over a configuration, and `run` is asked for its state and drained. In each run an allocation is
 refused by refuse.c: the first, then the second, and so on until there is none of that number; and once more so, with all
 that follow refused too. `replay` has to end in `configuration: OutOfMemory` or `memory: refused`, with the lines before as
 without the refusal, or it goes on: then each event whose growth was refused says so and has changed nothing, and every
-other line and the end are what model.py answers. `run` ends in one of these two or in `threads: failed`. Where one
+other line and the end are what model.py answers. `check` ends in one of these two, and `run` too, or in `threads: failed`. Where one
 allocation alone is refused, the program may also do with a smaller one and answer all; where all that follow are refused
 too, `replay` may not. Each thread of `run` is refused in turn as well: then it has to end in `threads: failed`. The row each-call-is-made-twice makes each call that takes memory twice, so that the second one shows
 what is there after a refusal; what-takes-no-memory has to come to its end with every growth refused from some event on.
@@ -115,7 +115,7 @@ def fault_of_replay(script, ran, is_alone):
 
 
 def fault_of_run(wanted, ran, _):
-    """The same of `run`, which has to print these lines where it does not end early."""
+    """The same of `check` or `run`, which has to print these lines where it does not end early."""
     told, error = told_by(ran)
     if (ran.returncode, told) == (0, wanted):
         return None
@@ -163,6 +163,7 @@ def subjects(program, folder):
         listen = f"127.0.0.1:{free.getsockname()[1]}"
     file = pathlib.Path(folder, "one-home.toml")
     file.write_text((rows.ROWS / "one-home.toml").read_text("utf-8").replace("127.0.0.1:1813", listen), "utf-8")
+    yield Subject("check", [program, "check", str(file)], b"", partial(fault_of_run, ["clients 1 homes 1 realms 1"]))
     wanted = [f"listening {listen}", STATE, "drain: 0 0", "end: queued 0 outstanding 0 untaken 0"]
     words = [program, "run", str(file)]
     yield Subject("run", words, COMMANDS, partial(fault_of_run, wanted))

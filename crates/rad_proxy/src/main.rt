@@ -10,8 +10,6 @@ mod file_name;
 mod loading;
 mod reasons;
 mod run_command;
-#[cfg(test)]
-mod tests;
 mod words;
 
 use check_command::check_file;
