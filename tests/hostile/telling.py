@@ -98,15 +98,17 @@ class Home:
 
 
 class Proxy:
-    """The program, with one client, which is everybody here, and these home servers: for each its port, and its limits."""
+    """The program, with one client, which is everybody here, and these home servers: for each its port here, or its whole address,
+    and its limits."""
 
-    def __init__(self, program, folder, name, homes, port=None, default=None, level="info"):
+    def __init__(self, program, folder, name, homes, port=None, default=None, level="info", linger=0):
         self.listen = (HERE, port or free_ports(1)[0])
         self.log, self.counters = pathlib.Path(folder, f"{name}.log"), pathlib.Path(folder, f"{name}.prom")
-        first = f'listen = "{HERE}:{self.listen[1]}"\nlinger = 0\n' + (f'default_home = "{default}"\n' if default else "")
+        first = f'listen = "{HERE}:{self.listen[1]}"\nlinger = {linger}\n' + (f'default_home = "{default}"\n' if default else "")
         parts = [first, f'[[client]]\naddress = "{HERE}"\nsecret = "{SECRET.decode()}"\n']
         for home, (home_port, limits) in homes.items():
-            parts.append(f'[[home]]\nname = "{home}"\naddress = "{HERE}:{home_port}"\nsecret = "{SECRET.decode()}"\n{limits}')
+            address = f"{HERE}:{home_port}" if isinstance(home_port, int) else home_port
+            parts.append(f'[[home]]\nname = "{home}"\naddress = "{address}"\nsecret = "{SECRET.decode()}"\n{limits}')
             parts.append(f'[[realm]]\nname = "{home}.example"\nhome = "{home}"\n')
         file = pathlib.Path(folder, f"{name}.toml")
         file.write_text("".join(parts), "utf-8")

@@ -1,0 +1,406 @@
+#!/usr/bin/env python3
+"""When the program does what it has to do, and how often: wakes, resendings, idle time, the end, and what is counted.
+
+usage: moments.py PROGRAM [TEST ..]
+
+A test is a function below; its first line says what holds. Home servers and the NAS are sockets of this script. A machine may
+have much else to do, so a bound of time is kept where the best of TRIES keeps it; what a bound of time does not concern holds each
+time. The last line is `N passed, M failed`.
+"""
+import os
+import pathlib
+import re
+import resource
+import socket
+import subprocess
+import sys
+import tempfile
+import time
+
+sys.dont_write_bytecode = True
+
+from model import read
+from telling import HERE, SECRET, Home, Proxy, bound, is_so
+from vectors import ACCOUNTING_REQUEST, STATUS_SERVER, answer, request, user_name
+
+TRIES = 5
+PATIENCE = 30
+TICKS = os.sysconf("SC_CLK_TCK")
+# A worker that nobody wakes looks again after 20 milliseconds.
+LATE = 0.012
+NOTHING_LEFT = "end: queued 0 outstanding 0 untaken 0"
+FACES = ["down", "up"]
+
+
+class Failed(Exception):
+    """What was seen is not what holds."""
+
+
+def hope(is_right, *told):
+    if not is_right:
+        raise Failed(" ".join(map(str, told)))
+
+
+def best(tried, is_kept):
+    """Tries something until a bound is kept, TRIES times at most."""
+    seen = []
+    for _ in range(TRIES):
+        seen.append(tried())
+        if is_kept(seen[-1]):
+            return
+    raise Failed(f"not in {TRIES} tries: {seen}")
+
+
+class Nas:
+    """An access server: each request that it sends is a new one."""
+
+    def __init__(self, proxy):
+        self.socket, self.proxy, self.asked = bound(), proxy, 0
+        self.socket.settimeout(PATIENCE)
+
+    def ask(self, home="h0"):
+        self.asked += 1
+        name = f"user{self.asked}@{home}.example".encode()
+        octets = request(self.asked % 256, user_name(name), SECRET)
+        self.socket.sendto(octets, self.proxy.listen)
+        return octets
+
+    def is_answered(self, asked):
+        """Whether what comes next is the response to this request."""
+        return self.socket.recv(4096) == answer(asked, asked[1], b"", SECRET)
+
+
+class Stage:
+    """A program, its home servers, which are named h0, h1 and so on, and its NAS."""
+
+    def __init__(self, program, folder, limits="", count=1, linger=0, addresses=()):
+        self.homes = [Home() for _ in range(count)]
+        for home in self.homes:
+            home.ear.settimeout(PATIENCE)
+        places = [home.port for home in self.homes] + list(addresses)
+        homes = {f"h{lane}": (place, limits) for lane, place in enumerate(places)}
+        self.proxy = Proxy(program, folder, "moments", homes, linger=linger)
+        self.nas = Nas(self.proxy)
+
+    def __enter__(self):
+        return self
+
+    def __exit__(self, *_):
+        self.proxy.kill()
+        for one in (self.nas.socket, *(home.ear for home in self.homes)):
+            one.close()
+
+    def came(self, lane=0):
+        """What comes next to a home server, and from where."""
+        octets, sender = self.homes[lane].ear.recvfrom(4096)
+        return read(octets), sender
+
+    def round_trip(self, lane=0):
+        """A request is sent and answered: how long that took."""
+        begun = time.monotonic()
+        asked = self.nas.ask(f"h{lane}")
+        self.homes[lane].answer(*self.came(lane))
+        hope(self.nas.is_answered(asked), "another response came")
+        return time.monotonic() - begun
+
+    def say(self, command, lines):
+        """A command to the program, and so many lines of its answer."""
+        self.proxy.ran.stdin.write(command + b"\n")
+        self.proxy.ran.stdin.flush()
+        return [self.proxy.ran.stdout.readline().decode().rstrip("\n") for _ in range(lines)]
+
+    def counters(self):
+        """Each counter, by its name and labels."""
+        lines = self.proxy.counters.read_text("utf-8").splitlines()
+        return {line.rsplit(" ", 1)[0]: int(line.rsplit(" ", 1)[1]) for line in lines if not line.startswith("#")}
+
+    def ends(self):
+        """Has the input end: how long the program took from then on, its last line and its status."""
+        begun = time.monotonic()
+        printed, _ = self.proxy.ran.communicate(timeout=PATIENCE)
+        return time.monotonic() - begun, printed.decode().splitlines()[-1], self.proxy.ran.returncode
+
+
+def no_wake_is_late(program, folder):
+    """Of 100 round trips, one after the other, next to none waits for a worker that nobody woke."""
+    with Stage(program, folder) as stage:
+        best(lambda: sum(stage.round_trip() > LATE for _ in range(100)), lambda late: late <= 5)
+
+
+def no_wake_is_late_at_any_port(program, folder):
+    """The same at each of four source ports, of which each takes 256 requests before the next one does."""
+    with Stage(program, folder, "ports = 4\n") as stage:
+        best(lambda: sum(stage.round_trip() > LATE for _ in range(4 * 256)), lambda late: late <= 4 * 12)
+
+
+def no_wake_is_late_at_any_lane(program, folder):
+    """The same at each of eight home servers in turn."""
+    with Stage(program, folder, count=8) as stage:
+        best(lambda: sum(stage.round_trip(trip % 8) > LATE for trip in range(104)), lambda late: late <= 5)
+
+
+def resendings_come_at_their_moment(program, folder):
+    """A request is sent again first_wait after its first sending, and then after twice as long, with the same octets."""
+    with Stage(program, folder, "first_wait = 600\ntries = 4\n") as stage:
+
+        def waited():
+            stage.nas.ask()
+            first, sender = stage.came()
+            moments = [time.monotonic()]
+            for _ in range(2):
+                again, _ = stage.came()
+                moments.append(time.monotonic())
+                hope(again.octets == first.octets, "other octets are sent again")
+            stage.homes[0].answer(first, sender)
+            stage.nas.socket.recv(4096)
+            return [round(later - earlier, 3) for earlier, later in zip(moments, moments[1:])]
+
+        best(waited, lambda waits: abs(waits[0] - 0.6) < 0.05 and abs(waits[1] - 1.2) < 0.05)
+
+
+def probes_come_at_their_moments(program, folder):
+    """A home server that is down is probed at once and then each probe_every, with other random octets each time."""
+    limits = "first_wait = 500\ntries = 1\nprobe_every = 1000\ndown_wait = 600000\n"
+    with Stage(program, folder, limits, count=4) as stage:
+        for lane in range(4):
+            stage.nas.ask(f"h{lane}")
+        probes, moments = [], []
+        end = time.monotonic() + 5.8
+        while time.monotonic() < end:
+            for lane, home in enumerate(stage.homes):
+                before = len(home.came)
+                home.hear(0.005)
+                for packet, _ in home.came[before:]:
+                    if packet.code == STATUS_SERVER:
+                        probes.append(packet)
+                        moments.append((lane, time.monotonic()))
+        hope(len(probes) >= 16, "too few probes:", len(probes))
+        authenticators = {packet.octets[4:20] for packet in probes}
+        hope(len(authenticators) == len(probes), "two probes have the same Authenticator")
+        still = [place for place in range(16) if len({one[place] for one in authenticators}) == 1]
+        hope(not still, "octets that are the same in each Authenticator:", still)
+        waits = []
+        for lane in range(4):
+            of_lane = [moment for each, moment in moments if each == lane]
+            waits += [later - earlier for earlier, later in zip(of_lane, of_lane[1:])]
+        near = sum(abs(wait - 1) < 0.06 for wait in waits)
+        hope(2 * near >= len(waits), "no second between probes:", [round(wait, 3) for wait in waits])
+
+
+def ten_idle_seconds_cost_little(program, folder):
+    """A proxy that has nothing to do takes less than half a second of a processor in ten seconds."""
+    with Stage(program, folder, count=2) as stage:
+        stage.round_trip()
+
+        def worked():
+            return sum(map(int, pathlib.Path(f"/proc/{stage.proxy.ran.pid}/stat").read_text().rsplit(")", 1)[1].split()[11:13])) / TICKS
+
+        before = worked()
+        time.sleep(10)
+        hope(worked() - before < 0.5, "it took", worked() - before)
+
+
+def ends_at_once_where_nothing_is_left(program, folder):
+    """Where all is answered the end comes at once, however long it might linger."""
+
+    def ended():
+        with Stage(program, folder, linger=20_000) as stage:
+            stage.round_trip()
+            seconds, line, status = stage.ends()
+            hope((line, status) == (NOTHING_LEFT, 0), line, status)
+            return round(seconds, 3)
+
+    best(ended, lambda seconds: seconds < 0.4)
+
+
+def lingers_for_a_home_that_is_silent(program, folder):
+    """Where a request is not answered the end comes after `linger`, and not before."""
+
+    def ended():
+        with Stage(program, folder, "first_wait = 60000\n", linger=1500) as stage:
+            stage.nas.ask()
+            stage.came()
+            seconds, line, status = stage.ends()
+            hope((line, status) == ("end: queued 0 outstanding 1 untaken 0", 3), line, status)
+            hope(seconds >= 1.45, "it ended after", seconds)
+            return round(seconds, 3)
+
+    best(ended, lambda seconds: seconds < 1.9)
+
+
+def ends_as_the_last_answer_comes(program, folder):
+    """A request that is answered after the end of the input is answered to the NAS, and then the end comes at once."""
+
+    def ended():
+        with Stage(program, folder, linger=20_000) as stage:
+            asked = stage.nas.ask()
+            came = stage.came()
+            stage.proxy.ran.stdin.close()
+            time.sleep(0.25)
+            begun = time.monotonic()
+            stage.homes[0].answer(*came)
+            hope(stage.nas.is_answered(asked), "another response came")
+            stage.proxy.ran.stdin = None
+            _, line, status = stage.ends()
+            hope((line, status) == (NOTHING_LEFT, 0), line, status)
+            return round(time.monotonic() - begun, 3)
+
+    best(ended, lambda seconds: seconds < 0.4)
+
+
+def state_and_drain_tell_each_lane(program, folder):
+    """`state` and `drain` tell of each lane its own numbers; a drained lane refuses, and its numbers stay."""
+    with Stage(program, folder, "first_wait = 60000\n", count=3) as stage:
+        for lane in range(3):
+            for _ in range(lane + 1):
+                stage.round_trip(lane)
+        stage.nas.ask("h1")
+        stage.came(1)
+        waiting = [0, 1, 0]
+        for door in ("open", "draining"):
+            wanted = []
+            for lane in range(3):
+                taken = lane + 1 + waiting[lane]
+                state = door if door == "open" or waiting[lane] else "done"
+                wanted.append(f"lane {lane} h{lane} up {state} accepted {taken} queued 0 outstanding {waiting[lane]} "
+                              f"answered {lane + 1} opening 0")
+            told = stage.say(b"state", 3)
+            hope(told == wanted, told, "and not", wanted)
+            told = stage.say(b"drain", 3)
+            hope(told == ["drain: 0 1", "drain: 1 3", "drain: 2 3"], told)
+
+
+def counts_each_lane(program, folder, count):
+    """Sends other numbers of requests to each of so many lanes, and compares every counter."""
+    soft, hard = resource.getrlimit(resource.RLIMIT_NOFILE)
+    resource.setrlimit(resource.RLIMIT_NOFILE, (min(hard, 4096), hard))
+    with Stage(program, folder, "first_wait = 60000\n", count=count) as stage:
+        asked = [lane % 3 + 1 for lane in range(count)]
+        for lane in range(count):
+            for _ in range(asked[lane]):
+                stage.round_trip(lane)
+        strays = [0] * count
+        for lane in (0, count - 1):
+            packet, sender = None, None
+            again = stage.nas.ask(f"h{lane}")
+            packet, sender = stage.came(lane)
+            stage.homes[lane].answer(packet, sender)
+            hope(stage.nas.is_answered(again), "another response came")
+            asked[lane] += 1
+            stage.homes[lane].ear.sendto(b"no packet", sender)
+            stage.homes[lane].answer(packet, sender)
+            strays[lane] += 1
+        stage.nas.socket.sendto(b"no packet", stage.proxy.listen)
+        wanted = {}
+        for lane in range(count):
+            labels = f'lane="{lane}",home="h{lane}"'
+            wanted |= {f"rad_proxy_sent_total{{{labels}}}": asked[lane], f"rad_proxy_probes_total{{{labels}}}": 0}
+            wanted |= {f"rad_proxy_{face}s_total{{{labels}}}": 0 for face in FACES}
+            wanted |= {f"rad_proxy_{way}_faults_total{{{labels}}}": 0 for way in ("send", "receive")}
+            wanted |= {f"rad_proxy_marked_total{{{labels}}}": 0, f"rad_proxy_cut_total{{{labels}}}": 0}
+            for reason in ("Unread", "Unknown"):
+                wanted[f'rad_proxy_unheard_total{{{labels},reason="{reason}"}}'] = strays[lane]
+            for reason in ("NotHome", "RingFull", "WrongCode", "BadAuthenticator", "NoProxyState", "OutOfMemory"):
+                wanted[f'rad_proxy_unheard_total{{{labels},reason="{reason}"}}'] = 0
+        wanted['rad_proxy_dropped_total{reason="Unread"}'] = 1
+        wanted['rad_proxy_dropped_total{reason="NoRealm"}'] = 0
+        wanted['rad_proxy_refused_total{reason="BookFull"}'] = 0
+
+        def are_so():
+            found = stage.counters()
+            return {name: found.get(name) for name in wanted} == wanted
+
+        if not is_so(are_so):
+            found = stage.counters()
+            raise Failed({name: (found.get(name), count) for name, count in wanted.items() if found.get(name) != count})
+        stage.ends()
+        found = stage.counters()
+        hope({name: found.get(name) for name in wanted} == wanted, "the last text has other numbers")
+
+
+def counts_of_two_lanes(program, folder):
+    """Each counter of two lanes has what came and went there, and nothing else."""
+    counts_each_lane(program, folder, 2)
+
+
+def counts_of_sixty_four_lanes(program, folder):
+    """The same of 64 lanes, the first and the last one too."""
+    counts_each_lane(program, folder, 64)
+
+
+def counters_are_replaced(program, folder):
+    """The file of the counters is another one each time: whoever has it open reads one text to its end."""
+    with Stage(program, folder) as stage:
+        is_so(stage.proxy.counters.exists)
+        with stage.proxy.counters.open("rb") as kept:
+            text = kept.read()
+            for _ in range(3):
+                stage.round_trip()
+            hope(is_so(lambda: stage.counters()['rad_proxy_sent_total{lane="0",home="h0"}'] == 3), "three requests are not counted")
+            kept.seek(0)
+            hope(kept.read() == text, "the file was written in place")
+            hope(os.fstat(kept.fileno()).st_ino != stage.proxy.counters.stat().st_ino, "it is the same file")
+        stage.round_trip()
+        stage.ends()
+        hope(stage.counters()['rad_proxy_sent_total{lane="0",home="h0"}'] == 4, "the last text has not the last request")
+        left = [name for name in os.listdir(folder) if ".new" in name]
+        hope(not left, "files are left behind:", left)
+
+
+def sends_that_fail_are_counted(program, folder):
+    """A sending that the system refuses is counted as sent and as a fault of that lane, and of no other; it ends nothing."""
+    with Stage(program, folder, "first_wait = 500\ntries = 2\n", count=1, addresses=["255.255.255.255:9"]) as stage:
+        stage.nas.ask("h1")
+        of_lane = '{lane="1",home="h1"}'
+
+        def is_counted():
+            found = stage.counters()
+            return found[f"rad_proxy_send_faults_total{of_lane}"] >= 2 and found[f"rad_proxy_downs_total{of_lane}"] == 1
+
+        hope(is_so(is_counted), "no fault is counted")
+        found = stage.counters()
+        sent = found[f"rad_proxy_sent_total{of_lane}"] + found[f"rad_proxy_probes_total{of_lane}"]
+        hope(found[f"rad_proxy_send_faults_total{of_lane}"] == sent, found)
+        for other in ('{side="clients"}', '{lane="0",home="h0"}'):
+            hope(found[f"rad_proxy_send_faults_total{other}"] == 0, "faults of", other)
+        hope(found[f"rad_proxy_receive_faults_total{of_lane}"] == 0, "a receive is told to have failed")
+        told = is_so(lambda: any(line["worker"] == "h1" for line in stage.proxy.lines("send-fault")))
+        hope(told and all(line["level"] == "warn" for line in stage.proxy.lines("send-fault")), "no line of a send that failed")
+        stage.round_trip()
+
+
+TESTS = [
+    no_wake_is_late, no_wake_is_late_at_any_port, no_wake_is_late_at_any_lane, resendings_come_at_their_moment,
+    probes_come_at_their_moments, ten_idle_seconds_cost_little, ends_at_once_where_nothing_is_left,
+    lingers_for_a_home_that_is_silent, ends_as_the_last_answer_comes, state_and_drain_tell_each_lane, counts_of_two_lanes,
+    counts_of_sixty_four_lanes, counters_are_replaced, sends_that_fail_are_counted,
+]
+
+
+def fault_of(test, program):
+    """What is wrong, where something is."""
+    with tempfile.TemporaryDirectory() as folder:
+        try:
+            test(program, folder)
+        except (Failed, OSError, KeyError, subprocess.SubprocessError) as fault:
+            return f"{type(fault).__name__}: {fault}"
+    return None
+
+
+def main():
+    if len(sys.argv) < 2:
+        sys.exit(__doc__)
+    program, names = str(pathlib.Path(sys.argv[1]).resolve()), sys.argv[2:]
+    tests = [test for test in TESTS if not names or test.__name__ in names]
+    failed = 0
+    for test in tests:
+        fault = fault_of(test, program)
+        if fault is not None:
+            failed += 1
+            print(f"failed: {test.__name__}: {fault}", flush=True)
+    print(f"{len(tests) - failed} passed, {failed} failed")
+    sys.exit(1 if failed else 0)
+
+
+if __name__ == "__main__":
+    main()
