@@ -2,7 +2,7 @@
 """The whole gate: what `rt ci` proves, refuses and runs; then that each wrong body can be applied, and the octets that the
 tests expect, as another implementation makes them; and then the program that `rt ci` built: over the rows and the examples,
 with growths refused in turn, with spoiled datagrams, with standard descriptors that are closed, at several addresses, with a
-flooded source port, with home servers that are killed or not there, with output that nobody reads, by the scripts of the service,
+flooded source port, with home servers that are killed or not there, with output that nobody reads, by when it does what it does, by the scripts of the service,
 over UDP and a network that loses, and by what memory it has after a load and after the same load again.
 
 usage: gate.py PROGRAM
@@ -40,6 +40,7 @@ SCRIPTS = {
     "unreachable": ("hostile/unreachable.py", "PROGRAM"),
     "telling": ("hostile/telling.py", "PROGRAM"),
     "ending": ("hostile/ending.py", "PROGRAM"),
+    "moments": ("hostile/moments.py", "PROGRAM"),
     "reasons": ("hostile/reasons.py", "PROGRAM"),
     "files": ("hostile/files.py", "PROGRAM"),
     "failures": ("hostile/failures.py", "PROGRAM"),

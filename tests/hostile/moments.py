@@ -11,7 +11,7 @@ import os
 import pathlib
 import re
 import resource
-import socket
+import select
 import subprocess
 import sys
 import tempfile
@@ -21,7 +21,7 @@ sys.dont_write_bytecode = True
 
 from model import read
 from telling import HERE, SECRET, Home, Proxy, bound, is_so
-from vectors import ACCOUNTING_REQUEST, STATUS_SERVER, answer, request, user_name
+from vectors import STATUS_SERVER, TOP, answer, request, user_name
 
 TRIES = 5
 PATIENCE = 30
@@ -30,6 +30,7 @@ TICKS = os.sysconf("SC_CLK_TCK")
 LATE = 0.012
 NOTHING_LEFT = "end: queued 0 outstanding 0 untaken 0"
 FACES = ["down", "up"]
+LEVELS = {"error", "warn", "info", "debug", "trace"}
 
 
 class Failed(Exception):
@@ -73,13 +74,13 @@ class Nas:
 class Stage:
     """A program, its home servers, which are named h0, h1 and so on, and its NAS."""
 
-    def __init__(self, program, folder, limits="", count=1, linger=0, addresses=()):
+    def __init__(self, program, folder, limits="", count=1, addresses=(), **more):
         self.homes = [Home() for _ in range(count)]
         for home in self.homes:
             home.ear.settimeout(PATIENCE)
         places = [home.port for home in self.homes] + list(addresses)
         homes = {f"h{lane}": (place, limits) for lane, place in enumerate(places)}
-        self.proxy = Proxy(program, folder, "moments", homes, linger=linger)
+        self.proxy = Proxy(program, folder, "moments", homes, **more)
         self.nas = Nas(self.proxy)
 
     def __enter__(self):
@@ -103,6 +104,22 @@ class Stage:
         hope(self.nas.is_answered(asked), "another response came")
         return time.monotonic() - begun
 
+    def is_answered_in_the_end(self, asked, lane):
+        """Whether a request is answered, which the NAS sends again until it is, while the home server answers what comes."""
+
+        def comes():
+            home = self.homes[lane]
+            before = len(home.came)
+            home.hear(0.1)
+            for packet, sender in home.came[before:]:
+                home.answer(packet, sender)
+            if select.select([self.nas.socket], [], [], 0.2)[0]:
+                return self.nas.is_answered(asked)
+            self.nas.socket.sendto(asked, self.proxy.listen)
+            return False
+
+        return is_so(comes)
+
     def say(self, command, lines):
         """A command to the program, and so many lines of its answer."""
         self.proxy.ran.stdin.write(command + b"\n")
@@ -110,7 +127,8 @@ class Stage:
         return [self.proxy.ran.stdout.readline().decode().rstrip("\n") for _ in range(lines)]
 
     def counters(self):
-        """Each counter, by its name and labels."""
+        """Each counter, by its name and labels, once there are some."""
+        hope(is_so(self.proxy.counters.exists), "there is no file of counters")
         lines = self.proxy.counters.read_text("utf-8").splitlines()
         return {line.rsplit(" ", 1)[0]: int(line.rsplit(" ", 1)[1]) for line in lines if not line.startswith("#")}
 
@@ -369,11 +387,82 @@ def sends_that_fail_are_counted(program, folder):
         stage.round_trip()
 
 
+def faults_are_counted(program, folder):
+    """Receives and sends that fail are counted, each once, at the side where they failed; they end nothing."""
+    library = pathlib.Path(folder, "faults.so")
+    compiler = os.environ.get("CC", "cc").split()
+    subprocess.run([*compiler, "-O2", "-shared", "-fPIC", "-o", library, pathlib.Path(__file__).parent / "faults.c"], check=True)
+    variables = {"LD_PRELOAD": str(library), "RECEIVE_FAULTS": "3", "SEND_FAULTS": "2"}
+    with Stage(program, folder, "first_wait = 500\n", count=2, variables=variables) as stage:
+        for lane in range(2):
+            hope(stage.is_answered_in_the_end(stage.nas.ask(f"h{lane}"), lane), "a request is never answered")
+        sides = {"front": '{side="clients"}', "h0": '{lane="0",home="h0"}', "h1": '{lane="1",home="h1"}'}
+        for way, count in (("receive", 3), ("send", 2)):
+            for worker, labels in sides.items():
+                counted = is_so(lambda: stage.counters()[f"rad_proxy_{way}_faults_total{labels}"] >= count)
+                found = stage.counters()[f"rad_proxy_{way}_faults_total{labels}"]
+                hope(counted and found == count, way, worker, found)
+                lines = [line for line in stage.proxy.lines(f"{way}-fault") if line["worker"] == worker]
+                hope(sum(int(line["count"]) for line in lines) == count, way, worker, lines)
+
+
+def levels_of(table):
+    """The levels of each event, by the table of docs/formats.md."""
+    levels = {}
+    for line in table.splitlines():
+        cells = [cell.strip() for cell in line.strip("|").split("|")]
+        if len(cells) == 3 and cells[0].startswith("`") and set(cells[1].split(", ")) <= LEVELS:
+            for event in re.findall(r"`([a-z-]+)`", cells[0]):
+                levels.setdefault(event, set()).update(cells[1].split(", "))
+    return levels
+
+
+def each_event_has_its_level(program, folder):
+    """At `trace` each event of a proxy that serves is told, at each level that the table has for it and at no other."""
+    limits = "first_wait = 500\ntries = 1\ndown_wait = 600000\nbook = 2\nspan = 1000\n"
+    with Stage(program, folder, limits, level="trace") as stage:
+        stage.round_trip()
+        stage.nas.socket.sendto(b"no packet", stage.proxy.listen)
+        asked = stage.nas.ask()
+        packet, sender = stage.came()
+        stage.homes[0].ear.sendto(b"no packet", sender)
+        hope(is_so(lambda: stage.proxy.lines("down")), "it does not go down")
+        stage.nas.ask()
+        hope(is_so(lambda: stage.proxy.lines("refused")), "a full book refuses nothing")
+        stage.homes[0].answer(packet, sender)
+        hope(stage.nas.is_answered(asked), "another response came")
+        hope(is_so(lambda: {"info", "debug"} <= {line["level"] for line in stage.proxy.lines("cut")}), "nothing is cut")
+        stage.ends()
+        wanted = levels_of((TOP / "docs" / "formats.md").read_text("utf-8"))
+        found = {}
+        for line in stage.proxy.log.read_text("utf-8").splitlines():
+            level, event = re.match(r"level=([a-z]+) event=([a-z-]+)", line).groups()
+            found.setdefault(event, set()).add(level)
+        told = ["down", "up", "cut", "dropped", "refused", "unheard", "accepted", "answered", "returned", "came", "went"]
+        hope(set(told) <= found.keys(), "not told:", set(told) - found.keys())
+        for event, levels in found.items():
+            hope(levels == wanted.get(event), event, levels, "and not", wanted.get(event))
+
+
+def what_is_refused_is_told(program, folder):
+    """Requests that a drained lane refuses are counted, and told in one line of so many."""
+    with Stage(program, folder) as stage:
+        stage.say(b"drain", 1)
+        for _ in range(3):
+            stage.nas.ask()
+        hope(is_so(lambda: stage.counters()['rad_proxy_refused_total{reason="Draining"}'] == 3), "three are not counted")
+        stage.ends()
+        lines = stage.proxy.lines("refused")
+        hope(sum(int(line["count"]) for line in lines) == 3, lines)
+        hope(all((line["level"], line["reason"]) == ("warn", "Draining") for line in lines), lines)
+
+
 TESTS = [
     no_wake_is_late, no_wake_is_late_at_any_port, no_wake_is_late_at_any_lane, resendings_come_at_their_moment,
     probes_come_at_their_moments, ten_idle_seconds_cost_little, ends_at_once_where_nothing_is_left,
     lingers_for_a_home_that_is_silent, ends_as_the_last_answer_comes, state_and_drain_tell_each_lane, counts_of_two_lanes,
-    counts_of_sixty_four_lanes, counters_are_replaced, sends_that_fail_are_counted,
+    counts_of_sixty_four_lanes, counters_are_replaced, sends_that_fail_are_counted, faults_are_counted, each_event_has_its_level,
+    what_is_refused_is_told,
 ]
 
 

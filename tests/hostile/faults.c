@@ -1,0 +1,36 @@
+/*
+ * Has the first RECEIVE_FAULTS receives and the first SEND_FAULTS sends of each socket of the program that it is loaded into
+ * (LD_PRELOAD) fail.
+ */
+#define _GNU_SOURCE
+#include <dlfcn.h>
+#include <errno.h>
+#include <stdatomic.h>
+#include <stdlib.h>
+#include <sys/socket.h>
+
+#define MOST 1024
+
+static atomic_long receives[MOST], sends[MOST];
+
+static int fails(atomic_long *calls, int socket, const char *name)
+{
+    const char *text = getenv(name);
+    if (!text || socket < 0 || socket >= MOST || atomic_fetch_add(&calls[socket], 1) >= strtol(text, NULL, 10)) {
+        return 0;
+    }
+    errno = ENOBUFS;
+    return 1;
+}
+
+ssize_t recvfrom(int socket, void *room, size_t size, int flags, struct sockaddr *from, socklen_t *length)
+{
+    ssize_t (*receive)(int, void *, size_t, int, struct sockaddr *, socklen_t *) = dlsym(RTLD_NEXT, "recvfrom");
+    return fails(receives, socket, "RECEIVE_FAULTS") ? -1 : receive(socket, room, size, flags, from, length);
+}
+
+ssize_t sendto(int socket, const void *octets, size_t size, int flags, const struct sockaddr *to, socklen_t length)
+{
+    ssize_t (*send)(int, const void *, size_t, int, const struct sockaddr *, socklen_t) = dlsym(RTLD_NEXT, "sendto");
+    return fails(sends, socket, "SEND_FAULTS") ? -1 : send(socket, octets, size, flags, to, length);
+}
