@@ -42,6 +42,7 @@ SCRIPTS = {
     "telling": ("hostile/telling.py", "PROGRAM"),
     "ending": ("hostile/ending.py", "PROGRAM"),
     "moments": ("hostile/moments.py", "PROGRAM"),
+    "lists": ("hostile/lists.py", "PROGRAM"),
     "reasons": ("hostile/reasons.py", "PROGRAM"),
     "files": ("hostile/files.py", "PROGRAM"),
     "failures": ("hostile/failures.py", "PROGRAM"),
