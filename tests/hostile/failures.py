@@ -25,7 +25,8 @@ STRANGER = 65534
 COUNTS = "clients 1 homes 1 realms 1\n"
 ABSENT = "there is no such file"
 TOO_MANY = "Too many open files (os error 24)"
-MOST_FILES = 40
+# With less than this one the system can't load the program.
+FEWEST_FILES, MOST_FILES = 4, 40
 
 
 def bound():
@@ -209,7 +210,7 @@ class Trial:
     def see_few_files(self):
         """However few files the program may open, it tells why it ends: each socket and each wait, the input's too, takes some."""
         ends = set()
-        for files in range(3, MOST_FILES):
+        for files in range(FEWEST_FILES, MOST_FILES):
             done = self.ended("run", self.file, preexec_fn=at_most(files))
             if done.returncode == 0:
                 break
