@@ -9,6 +9,7 @@ time. The last line is `N passed, M failed`.
 """
 import os
 import pathlib
+import random
 import re
 import resource
 import select
@@ -155,6 +156,27 @@ def no_wake_is_late_at_any_lane(program, folder):
     """The same at each of eight home servers in turn."""
     with Stage(program, folder, count=8) as stage:
         best(lambda: sum(stage.round_trip(trip % 8) > LATE for trip in range(104)), lambda late: late <= 5)
+
+
+def no_wake_is_lost_while_a_worker_works(program, folder):
+    """Of 600 pairs of requests, the second of which comes while the workers are at the first, next to none is forwarded late."""
+    chance = random.Random(1)
+    with Stage(program, folder) as stage:
+
+        def pair():
+            asked = [stage.nas.ask()]
+            begun = time.monotonic() + chance.uniform(0, 0.0004)
+            while time.monotonic() < begun:
+                pass
+            asked.append(stage.nas.ask())
+            came = [stage.came() for _ in asked]
+            forwarded = time.monotonic() - begun
+            for packet, sender in came:
+                stage.homes[0].answer(packet, sender)
+            hope(all(stage.nas.is_answered(each) for each in asked), "other responses came")
+            return forwarded > LATE
+
+        best(lambda: sum(pair() for _ in range(600)), lambda late: late <= 6)
 
 
 def resendings_come_at_their_moment(program, folder):
@@ -457,12 +479,47 @@ def what_is_refused_is_told(program, folder):
         hope(all((line["level"], line["reason"]) == ("warn", "Draining") for line in lines), lines)
 
 
+def serves_beside(program, folder, is_gone):
+    """A program that logs more than its standard error takes answers requests, and ends well and soon."""
+    reading, writing = os.pipe()
+    try:
+        if is_gone:
+            os.close(reading)
+        with Stage(program, folder, level="trace", errors=writing) as stage:
+            for _ in range(30):
+                for _ in range(100):
+                    stage.nas.socket.sendto(b"no packet", stage.proxy.listen)
+                best(stage.round_trip, lambda seconds: seconds < 0.5)
+            seconds, line, status = stage.ends()
+            hope((line, status) == (NOTHING_LEFT, 0), line, status)
+            hope(seconds < 5, "it ended after", seconds)
+            if is_gone:
+                return
+            os.set_blocking(reading, False)
+            text = os.read(reading, 1 << 20)
+            hope(text.startswith(b"level=") and len(text) >= 4096, "its log begins with", text[:80])
+    finally:
+        os.close(writing)
+        if not is_gone:
+            os.close(reading)
+
+
+def serves_beside_a_full_pipe(program, folder):
+    """Where standard error is a pipe that nobody reads, requests are answered, and the end comes."""
+    serves_beside(program, folder, False)
+
+
+def serves_though_its_log_has_no_reader(program, folder):
+    """Where the reader of standard error is gone, requests are answered, and the end comes."""
+    serves_beside(program, folder, True)
+
+
 TESTS = [
-    no_wake_is_late, no_wake_is_late_at_any_port, no_wake_is_late_at_any_lane, resendings_come_at_their_moment,
-    probes_come_at_their_moments, ten_idle_seconds_cost_little, ends_at_once_where_nothing_is_left,
+    no_wake_is_late, no_wake_is_late_at_any_port, no_wake_is_late_at_any_lane, no_wake_is_lost_while_a_worker_works,
+    resendings_come_at_their_moment, probes_come_at_their_moments, ten_idle_seconds_cost_little, ends_at_once_where_nothing_is_left,
     lingers_for_a_home_that_is_silent, ends_as_the_last_answer_comes, state_and_drain_tell_each_lane, counts_of_two_lanes,
     counts_of_sixty_four_lanes, counters_are_replaced, sends_that_fail_are_counted, faults_are_counted, each_event_has_its_level,
-    what_is_refused_is_told,
+    what_is_refused_is_told, serves_beside_a_full_pipe, serves_though_its_log_has_no_reader,
 ]
 
 

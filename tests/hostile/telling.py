@@ -101,7 +101,8 @@ class Proxy:
     """The program, with one client, which is everybody here, and these home servers: for each its port here, or its whole address,
     and its limits."""
 
-    def __init__(self, program, folder, name, homes, port=None, default=None, level="info", linger=0, variables=()):
+    def __init__(self, program, folder, name, homes, port=None, default=None, level="info", linger=0, variables=(),
+                 errors=None):
         self.listen = (HERE, port or free_ports(1)[0])
         self.log, self.counters = pathlib.Path(folder, f"{name}.log"), pathlib.Path(folder, f"{name}.prom")
         first = f'listen = "{HERE}:{self.listen[1]}"\nlinger = {linger}\n' + (f'default_home = "{default}"\n' if default else "")
@@ -114,7 +115,7 @@ class Proxy:
         file.write_text("".join(parts), "utf-8")
         environment = {"RAD_PROXY_LOG": level, "RAD_PROXY_COUNTERS": str(self.counters)} | dict(variables)
         with self.log.open("wb") as log:
-            pipes = {"stdin": subprocess.PIPE, "stdout": subprocess.PIPE, "stderr": log}
+            pipes = {"stdin": subprocess.PIPE, "stdout": subprocess.PIPE, "stderr": log if errors is None else errors}
             self.ran = subprocess.Popen([program, "run", str(file)], env=environment, **pipes)
         self.ran.stdout.readline()
 
