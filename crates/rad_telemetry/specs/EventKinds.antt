@@ -122,3 +122,17 @@ metric_name metric.Sent = codes "sent_total"
 metric_name metric.Probed = codes "probes_total"
 metric_name metric.Cut = codes "cut_total"
 metric_name metric.Marked = codes "marked_total"
+
+-- What a counter counts, as Prometheus shows it.
+abbrev pub metric_help : Metric → List ℕ
+metric_help metric.Dropped = codes "Datagrams of clients that were dropped."
+metric_help metric.Refused = codes "Requests that were refused."
+metric_help metric.Unheard = codes "Datagrams at a home server's sockets that were dropped."
+metric_help metric.SendFault = codes "Sends that failed."
+metric_help metric.ReceiveFault = codes "Receives that failed."
+metric_help metric.WentDown = codes "How often the home server went down."
+metric_help metric.WentUp = codes "How often the home server went up again."
+metric_help metric.Sent = codes "Accounting-Requests sent to the home server, for the first time and again."
+metric_help metric.Probed = codes "Status-Servers sent to the home server."
+metric_help metric.Cut = codes "Answered requests that left the book."
+metric_help metric.Marked = codes "Requests for the home server that came with Proxy-States of this proxy's own form."

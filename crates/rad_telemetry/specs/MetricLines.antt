@@ -1,7 +1,7 @@
 -- The counters in Prometheus' text format, line by line without the line feeds (own).
 use Rattle.std.specs.Prelude.{ℕ, List, ◌++◌, codes}
 use Rattle.std.specs.Fmt.{decimal}
-use Rattle.rad_telemetry.specs.EventKinds.{reason_text, metric_name}
+use Rattle.rad_telemetry.specs.EventKinds.{reason_text, metric_help, metric_name}
 use Rattle.rad_telemetry.specs.declared.event_kind.EventKind.{EventKind}
 use Rattle.rad_telemetry.specs.declared.metric.Metric.{Metric}
 use Rattle.rad_telemetry.specs.declared.metric_lines.CounterLine.{CounterLine}
@@ -30,3 +30,7 @@ counter_line line =
 -- What stands before the counters of a metric.
 abbrev pub type_line : Metric → List ℕ
 type_line m = codes "# TYPE rad_proxy_" ++ metric_name m ++ codes " counter"
+
+-- What stands before that: what the metric counts.
+abbrev pub help_line : Metric → List ℕ
+help_line m = codes "# HELP rad_proxy_" ++ metric_name m ++ codes " " ++ metric_help m

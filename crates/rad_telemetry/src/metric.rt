@@ -1,7 +1,7 @@
 //! The metrics: what is counted under one name, each kind of it by a label of its own.
 
 ghost use Rattle.std.specs.Prelude.{◌≡◌};
-ghost use Rattle.rad_telemetry.specs.EventKinds.{event_of, metric_name};
+ghost use Rattle.rad_telemetry.specs.EventKinds.{event_of, metric_help, metric_name};
 
 /// The kinds of events that differ by their reason alone.
 #[derive(Clone, Copy, Debug, PartialEq, Eq)]
@@ -75,6 +75,27 @@ impl Metric {
             Metric::Probed => "probes_total",
             Metric::Cut => "cut_total",
             Metric::Marked => "marked_total",
+        }
+    }
+
+    /// What a counter counts, as Prometheus shows it.
+    pub fn help(self) -> &'static str
+        ensures { result.now ≡ metric_help self }
+    {
+        match self {
+            Metric::Dropped => "Datagrams of clients that were dropped.",
+            Metric::Refused => "Requests that were refused.",
+            Metric::Unheard => "Datagrams at a home server's sockets that were dropped.",
+            Metric::SendFault => "Sends that failed.",
+            Metric::ReceiveFault => "Receives that failed.",
+            Metric::WentDown => "How often the home server went down.",
+            Metric::WentUp => "How often the home server went up again.",
+            Metric::Sent =>
+                "Accounting-Requests sent to the home server, for the first time and again.",
+            Metric::Probed => "Status-Servers sent to the home server.",
+            Metric::Cut => "Answered requests that left the book.",
+            Metric::Marked =>
+                "Requests for the home server that came with Proxy-States of this proxy's own form.",
         }
     }
 }

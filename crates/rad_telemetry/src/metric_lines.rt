@@ -37,6 +37,10 @@ pub struct CounterLine<'a> {
 #[derive(Clone, Copy)]
 pub struct TypeLine(pub Metric);
 
+/// What stands before that: what the metric counts.
+#[derive(Clone, Copy)]
+pub struct HelpLine(pub Metric);
+
 impl fmt::Display for ReasonLabel {
     ghost use Rattle.std.specs.Prelude.{Some};
     ghost use Rattle.rad_telemetry.specs.MetricLines.{reason_label};
@@ -110,5 +114,18 @@ impl fmt::Display for TypeLine {
     fn fmt<W: fmt::Write>(&self, f: &mut fmt::Formatter<W>) -> fmt::Result {
         let name = self.0.name();
         write!(f, "# TYPE rad_proxy_{name} counter")
+    }
+}
+
+impl fmt::Display for HelpLine {
+    ghost use Rattle.std.specs.Prelude.{Some};
+    ghost use Rattle.rad_telemetry.specs.MetricLines.{help_line};
+
+    ghost output = { λ line. Some (help_line line.0) };
+
+    fn fmt<W: fmt::Write>(&self, f: &mut fmt::Formatter<W>) -> fmt::Result {
+        let name = self.0.name();
+        let help = self.0.help();
+        write!(f, "# HELP rad_proxy_{name} {help}")
     }
 }

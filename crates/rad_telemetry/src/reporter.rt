@@ -7,7 +7,7 @@ use crate::delta_lines::{ClientDelta, CutDelta, FaultDelta, HomeDelta, MarkedDel
 use crate::event_kind::{EVENT_KINDS, EventKind};
 use crate::last_realm::LastRealm;
 use crate::metric::{METRICS, Metric};
-use crate::metric_lines::{CounterLine, Labels, TypeLine};
+use crate::metric_lines::{CounterLine, HelpLine, Labels, TypeLine};
 use crate::workers::{worker_name, worker_of_lane};
 use log::{Log, info, warn};
 use rad_desk::Worker;
@@ -174,8 +174,7 @@ impl<L: Log> Reporter<'_, L> {
 
     /// Writes the counters of a metric: the front's, then those of the lanes in order.
     fn write_metric<W: Write>(&self, writer: &mut W, metric: Metric) -> io::Result<()> {
-        let line = TypeLine(metric);
-        writeln!(writer, "{line}")?;
+        write_head(writer, metric)?;
         self.write_front(writer, metric)?;
         for (lane, home) in self.config.homes().iter().enumerate() {
             self.write_lane(writer, metric, lane, home.name())?;
@@ -261,6 +260,14 @@ impl<L: Log> Reporter<'_, L> {
         };
         writeln!(writer, "{line}")
     }
+}
+
+/// Writes what stands before the counters of a metric.
+fn write_head<W: Write>(writer: &mut W, metric: Metric) -> io::Result<()> {
+    let help = HelpLine(metric);
+    writeln!(writer, "{help}")?;
+    let kind = TypeLine(metric);
+    writeln!(writer, "{kind}")
 }
 
 fn log_dropped<L: Log>(log: &L, kind: EventKind, delta: Delta) {

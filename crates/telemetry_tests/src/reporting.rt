@@ -56,40 +56,51 @@ impl ReplaceFile for Memory {
 }
 
 /// How the counters begin, where one datagram of a client was dropped.
-const HEAD: &str = "# TYPE rad_proxy_dropped_total counter\n\
+const HEAD: &str = "# HELP rad_proxy_dropped_total Datagrams of clients that were dropped.\n\
+    # TYPE rad_proxy_dropped_total counter\n\
     rad_proxy_dropped_total{reason=\"UnknownClient\"} 1\n\
     rad_proxy_dropped_total{reason=\"Unread\"} 0\n";
 
 /// How they end, where the second home server went down and was sent two requests, and the first one was probed.
-const TAIL: &str = "# TYPE rad_proxy_send_faults_total counter\n\
+const TAIL: &str = "# HELP rad_proxy_send_faults_total Sends that failed.\n\
+    # TYPE rad_proxy_send_faults_total counter\n\
     rad_proxy_send_faults_total{side=\"clients\"} 0\n\
     rad_proxy_send_faults_total{lane=\"0\",home=\"h1\"} 0\n\
     rad_proxy_send_faults_total{lane=\"1\",home=\"h2\"} 0\n\
+    # HELP rad_proxy_receive_faults_total Receives that failed.\n\
     # TYPE rad_proxy_receive_faults_total counter\n\
     rad_proxy_receive_faults_total{side=\"clients\"} 0\n\
     rad_proxy_receive_faults_total{lane=\"0\",home=\"h1\"} 0\n\
     rad_proxy_receive_faults_total{lane=\"1\",home=\"h2\"} 0\n\
+    # HELP rad_proxy_downs_total How often the home server went down.\n\
     # TYPE rad_proxy_downs_total counter\n\
     rad_proxy_downs_total{lane=\"0\",home=\"h1\"} 0\n\
     rad_proxy_downs_total{lane=\"1\",home=\"h2\"} 1\n\
+    # HELP rad_proxy_ups_total How often the home server went up again.\n\
     # TYPE rad_proxy_ups_total counter\n\
     rad_proxy_ups_total{lane=\"0\",home=\"h1\"} 0\n\
     rad_proxy_ups_total{lane=\"1\",home=\"h2\"} 0\n\
+    # HELP rad_proxy_sent_total Accounting-Requests sent to the home server, for the first time and again.\n\
     # TYPE rad_proxy_sent_total counter\n\
     rad_proxy_sent_total{lane=\"0\",home=\"h1\"} 0\n\
     rad_proxy_sent_total{lane=\"1\",home=\"h2\"} 2\n\
+    # HELP rad_proxy_probes_total Status-Servers sent to the home server.\n\
     # TYPE rad_proxy_probes_total counter\n\
     rad_proxy_probes_total{lane=\"0\",home=\"h1\"} 1\n\
     rad_proxy_probes_total{lane=\"1\",home=\"h2\"} 0\n\
+    # HELP rad_proxy_cut_total Answered requests that left the book.\n\
     # TYPE rad_proxy_cut_total counter\n\
     rad_proxy_cut_total{lane=\"0\",home=\"h1\"} 0\n\
     rad_proxy_cut_total{lane=\"1\",home=\"h2\"} 5\n\
+    # HELP rad_proxy_marked_total Requests for the home server that came with Proxy-States of this proxy's own form.\n\
     # TYPE rad_proxy_marked_total counter\n\
     rad_proxy_marked_total{lane=\"0\",home=\"h1\"} 1\n\
     rad_proxy_marked_total{lane=\"1\",home=\"h2\"} 0\n";
 
 /// What the counters' file is given, where nothing was counted yet.
-const GIVEN: &str = "some/file # TYPE rad_proxy_dropped_total counter\n\
+const GIVEN: &str =
+    "some/file # HELP rad_proxy_dropped_total Datagrams of clients that were dropped.\n\
+    # TYPE rad_proxy_dropped_total counter\n\
     rad_proxy_dropped_total{reason=\"UnknownClient\"} 0\n";
 
 /// The sums of what each worker had.
