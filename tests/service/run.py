@@ -355,6 +355,31 @@ def counters_that_are_not_written_are_told(service):
     hope("old counters", "of yesterday" in done.stdout, False)
 
 
+def metrics_are_as_prometheus_reads_them(service):
+    """Each family of `metrics` stands once, behind its HELP and its TYPE; `promtool check metrics` finds no fault, where it is here."""
+    service.start()
+    until("counters", (service.run / "counters").exists)
+    done = service.ask("metrics")
+    hope("status", (done.returncode, done.stderr), (0, ""))
+    families, family, samples = [], None, 0
+    for line in done.stdout.splitlines():
+        if line.startswith("# HELP "):
+            family = line.split()[2]
+            families.append(family)
+            hope(f"what {family} counts", len(line.split(None, 3)), 4)
+        elif line.startswith("# TYPE "):
+            kind = "counter" if family.endswith("_total") else "gauge"
+            hope("type", line, f"# TYPE {family} {kind}")
+        else:
+            hope("family", re.fullmatch(r"(\w+)\{[^{}]*\} \d+", line)[1], family)
+            samples += 1
+    hope("families that stand twice", [name for name in set(families) if families.count(name) > 1], [])
+    hope("numbers", samples > len(families) > 10, True)
+    if shutil.which("promtool"):
+        checked = subprocess.run(["promtool", "check", "metrics"], input=done.stdout, capture_output=True, text=True)
+        hope("promtool", (checked.returncode, checked.stdout + checked.stderr), (0, ""))
+
+
 def sent_again_is_never_less_than_nothing(service):
     """While requests come, what `metrics` tells as sent is never less than what it tells as accepted and not queued."""
     service.start()
@@ -559,8 +584,8 @@ TESTS = [
     the_lock_outlives_a_serve_that_was_killed, refuses_a_folder_that_others_write_in, whatever_the_umask,
     a_stopped_asker_keeps_nobody_out, an_asker_without_an_answer_gives_up, many_ask_at_once,
     a_hand_over_that_dies_is_started_anew, nobody_reads_its_output, its_output_is_full, what_is_left_over_is_a_warning,
-    counters_elsewhere_are_told, counters_that_are_not_written_are_told, sent_again_is_never_less_than_nothing,
-    counters_that_are_written_late_are_waited_for,
+    counters_elsewhere_are_told, counters_that_are_not_written_are_told,
+    metrics_are_as_prometheus_reads_them, sent_again_is_never_less_than_nothing, counters_that_are_written_late_are_waited_for,
     memory_is_refused_and_nothing_ends, relative_paths_hold, an_answer_that_cannot_be_written_is_told,
     whoever_keeps_the_pipe_is_not_waited_for, the_unit_takes_no_core_dump, root_asks_as_the_owner,
     the_owner_gets_nothing_of_roots, root_serves_nobody_elses_folder,
