@@ -7,6 +7,7 @@ use super::test_lane::TestLane;
 use super::waiting::accept_each;
 use block_queue::{BlockQueue, Fifo};
 use rad_lane::{Answered, Entry, Leftover, Record};
+use rad_tables::Slots;
 use std::process::Abort;
 use std::test::Fail;
 use test_octets::homes::SECOND_PROBE;
@@ -14,18 +15,32 @@ use test_octets::homes::SECOND_PROBE;
 /// Whether two lanes left the same: the stamps, the answers with their octets, under each pair of four
 /// source ports what is outstanding, with its octets, its due and how often it was sent, and the queue.
 pub fn is_same(one: &Leftover<BlockQueue<Record>>, other: &Leftover<BlockQueue<Record>>) -> bool {
+    are_same_stamps(one, other)
+        && are_same_answers(one.answered(), other.answered())
+        && are_same_entries(one.outstanding(), other.outstanding())
+        && are_same_queues(one.queued(), other.queued())
+}
+
+fn are_same_stamps(
+    one: &Leftover<BlockQueue<Record>>,
+    other: &Leftover<BlockQueue<Record>>,
+) -> bool {
     one.lane() == other.lane()
         && one.opening() == other.opening()
         && one.accepted() == other.accepted()
         && one.sent() == other.sent()
-        && are_same_answers(one.answered(), other.answered())
-        && one.outstanding().used() == other.outstanding().used()
+}
+
+fn are_same_entries(one: &Slots<Entry>, other: &Slots<Entry>) -> bool {
+    one.used() == other.used()
         && (0..1024).all(|count| {
             let pair = pair(count);
-            is_same_entry(one.outstanding().get(pair), other.outstanding().get(pair))
+            is_same_entry(one.get(pair), other.get(pair))
         })
-        && one.queued().len() == other.queued().len()
-        && is_same_front(one.queued().front(), other.queued().front())
+}
+
+fn are_same_queues(one: &BlockQueue<Record>, other: &BlockQueue<Record>) -> bool {
+    one.len() == other.len() && is_same_front(one.front(), other.front())
 }
 
 fn are_same_answers(one: &[Answered], other: &[Answered]) -> bool {
