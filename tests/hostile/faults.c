@@ -1,6 +1,6 @@
 /*
  * Has the first RECEIVE_FAULTS receives and the first SEND_FAULTS sends of each socket of the program that it is loaded into
- * (LD_PRELOAD) fail.
+ * (LD_PRELOAD) fail. And each receive that finds nothing takes EMPTY_MILLISECONDS.
  */
 #define _GNU_SOURCE
 #include <dlfcn.h>
@@ -8,6 +8,7 @@
 #include <stdatomic.h>
 #include <stdlib.h>
 #include <sys/socket.h>
+#include <unistd.h>
 
 #define MOST 1024
 
@@ -26,7 +27,16 @@ static int fails(atomic_long *calls, int socket, const char *name)
 ssize_t recvfrom(int socket, void *room, size_t size, int flags, struct sockaddr *from, socklen_t *length)
 {
     ssize_t (*receive)(int, void *, size_t, int, struct sockaddr *, socklen_t *) = dlsym(RTLD_NEXT, "recvfrom");
-    return fails(receives, socket, "RECEIVE_FAULTS") ? -1 : receive(socket, room, size, flags, from, length);
+    if (fails(receives, socket, "RECEIVE_FAULTS")) {
+        return -1;
+    }
+    ssize_t count = receive(socket, room, size, flags, from, length);
+    const char *wait = getenv("EMPTY_MILLISECONDS");
+    if (count < 0 && errno == EAGAIN && wait) {
+        usleep(1000 * (useconds_t)strtol(wait, NULL, 10));
+        errno = EAGAIN;
+    }
+    return count;
 }
 
 ssize_t sendto(int socket, const void *octets, size_t size, int flags, const struct sockaddr *to, socklen_t length)

@@ -7,6 +7,7 @@ A test is a function below; its first line says what holds. Home servers and the
 have much else to do, so a bound of time is kept where the best of TRIES keeps it; what a bound of time does not concern holds each
 time. The last line is `N passed, M failed`.
 """
+import contextlib
 import os
 import pathlib
 import random
@@ -51,6 +52,14 @@ def best(tried, is_kept):
         if is_kept(seen[-1]):
             return
     raise Failed(f"not in {TRIES} tries: {seen}")
+
+
+def built(folder, name):
+    """A library that is loaded before the program's own, from the C file of this name."""
+    library, source = pathlib.Path(folder, f"{name}.so"), pathlib.Path(__file__).parent / f"{name}.c"
+    compiler = os.environ.get("CC", "cc").split()
+    subprocess.run([*compiler, "-O2", "-shared", "-fPIC", "-o", library, source], check=True)
+    return str(library)
 
 
 class Nas:
@@ -131,7 +140,16 @@ class Stage:
         """Each counter, by its name and labels, once there are some."""
         hope(is_so(self.proxy.counters.exists), "there is no file of counters")
         lines = self.proxy.counters.read_text("utf-8").splitlines()
-        return {line.rsplit(" ", 1)[0]: int(line.rsplit(" ", 1)[1]) for line in lines if not line.startswith("#")}
+        pairs = [line.rsplit(" ", 1) for line in lines if not line.startswith("#")]
+        found = {name: int(count) for name, count in pairs}
+        hope(len(found) == len(pairs), "a counter stands there twice")
+        return found
+
+    def next_report(self):
+        """Waits until the file of the counters is replaced."""
+        hope(is_so(self.proxy.counters.exists), "there is no file of counters")
+        before = self.proxy.counters.stat().st_ino, self.proxy.counters.stat().st_mtime_ns
+        hope(is_so(lambda: (self.proxy.counters.stat().st_ino, self.proxy.counters.stat().st_mtime_ns) != before), "no report comes")
 
     def ends(self):
         """Has the input end: how long the program took from then on, its last line and its status."""
@@ -177,6 +195,20 @@ def no_wake_is_lost_while_a_worker_works(program, folder):
             return forwarded > LATE
 
         best(lambda: sum(pair() for _ in range(600)), lambda late: late <= 6)
+
+
+def no_notification_is_lost_before_a_sleep(program, folder):
+    """The same where each receive that finds nothing takes some milliseconds: most requests come while a worker is about to
+    sleep."""
+    chance = random.Random(1)
+    variables = {"LD_PRELOAD": built(folder, "faults"), "EMPTY_MILLISECONDS": "2"}
+    with Stage(program, folder, variables=variables) as stage:
+
+        def trip():
+            time.sleep(chance.uniform(0, 0.002))
+            return stage.round_trip()
+
+        best(lambda: sum(trip() > LATE for _ in range(100)), lambda late: late <= 5)
 
 
 def resendings_come_at_their_moment(program, folder):
@@ -241,11 +273,13 @@ def ten_idle_seconds_cost_little(program, folder):
 
 
 def ends_at_once_where_nothing_is_left(program, folder):
-    """Where all is answered the end comes at once, however long it might linger."""
+    """Where all is answered the end comes at once, however long it might linger, and at whatever moment between two reports."""
 
     def ended():
-        with Stage(program, folder, linger=20_000) as stage:
-            stage.round_trip()
+        with Stage(program, folder, linger=20_000, count=3) as stage:
+            stage.round_trip(2)
+            stage.next_report()
+            time.sleep(0.2)
             seconds, line, status = stage.ends()
             hope((line, status) == (NOTHING_LEFT, 0), line, status)
             return round(seconds, 3)
@@ -269,16 +303,17 @@ def lingers_for_a_home_that_is_silent(program, folder):
 
 
 def ends_as_the_last_answer_comes(program, folder):
-    """A request that is answered after the end of the input is answered to the NAS, and then the end comes at once."""
+    """A request of the last of three home servers that is answered after the end of the input is answered to the NAS, and then
+    the end comes at once."""
 
     def ended():
-        with Stage(program, folder, linger=20_000) as stage:
-            asked = stage.nas.ask()
-            came = stage.came()
+        with Stage(program, folder, linger=20_000, count=3) as stage:
+            asked = stage.nas.ask("h2")
+            came = stage.came(2)
             stage.proxy.ran.stdin.close()
             time.sleep(0.25)
             begun = time.monotonic()
-            stage.homes[0].answer(*came)
+            stage.homes[2].answer(*came)
             hope(stage.nas.is_answered(asked), "another response came")
             stage.proxy.ran.stdin = None
             _, line, status = stage.ends()
@@ -387,6 +422,25 @@ def counters_are_replaced(program, folder):
         hope(not left, "files are left behind:", left)
 
 
+def reports_come_each_second(program, folder):
+    """The file of the counters is replaced once a second, and what was dropped since is told in a line then."""
+    with Stage(program, folder) as stage:
+        stage.next_report()
+
+        def told():
+            before = len(stage.proxy.lines("dropped"))
+            begun = time.monotonic()
+            stage.nas.socket.sendto(b"no packet", stage.proxy.listen)
+            hope(is_so(lambda: len(stage.proxy.lines("dropped")) > before), "no line tells of what is dropped")
+            stage.next_report()
+            stage.next_report()
+            return round(time.monotonic() - begun, 3)
+
+        best(told, lambda seconds: seconds < 3.5)
+        stage.next_report()
+        stage.counters()
+
+
 def sends_that_fail_are_counted(program, folder):
     """A sending that the system refuses is counted as sent and as a fault of that lane, and of no other; it ends nothing."""
     with Stage(program, folder, "first_wait = 500\ntries = 2\n", count=1, addresses=["255.255.255.255:9"]) as stage:
@@ -411,10 +465,7 @@ def sends_that_fail_are_counted(program, folder):
 
 def faults_are_counted(program, folder):
     """Receives and sends that fail are counted, each once, at the side where they failed; they end nothing."""
-    library = pathlib.Path(folder, "faults.so")
-    compiler = os.environ.get("CC", "cc").split()
-    subprocess.run([*compiler, "-O2", "-shared", "-fPIC", "-o", library, pathlib.Path(__file__).parent / "faults.c"], check=True)
-    variables = {"LD_PRELOAD": str(library), "RECEIVE_FAULTS": "3", "SEND_FAULTS": "2"}
+    variables = {"LD_PRELOAD": built(folder, "faults"), "RECEIVE_FAULTS": "3", "SEND_FAULTS": "2"}
     with Stage(program, folder, "first_wait = 500\n", count=2, variables=variables) as stage:
         for lane in range(2):
             hope(stage.is_answered_in_the_end(stage.nas.ask(f"h{lane}"), lane), "a request is never answered")
@@ -514,12 +565,31 @@ def serves_though_its_log_has_no_reader(program, folder):
     serves_beside(program, folder, True)
 
 
+def starts_beside_a_full_pipe(program, folder):
+    """Where standard error takes nothing from the start on, a line that is logged before the threads run holds nothing up."""
+    reading, writing = os.pipe()
+    try:
+        os.set_blocking(writing, False)
+        with contextlib.suppress(BlockingIOError):
+            while True:
+                os.write(writing, b"x" * 4096)
+        os.set_blocking(writing, True)
+        with Stage(program, folder, level="loud", errors=writing) as stage:
+            stage.round_trip()
+            seconds, line, status = stage.ends()
+            hope((line, status) == (NOTHING_LEFT, 0), line, status)
+            hope(seconds < 5, "it ended after", seconds)
+    finally:
+        os.close(writing)
+        os.close(reading)
+
+
 TESTS = [
     no_wake_is_late, no_wake_is_late_at_any_port, no_wake_is_late_at_any_lane, no_wake_is_lost_while_a_worker_works,
-    resendings_come_at_their_moment, probes_come_at_their_moments, ten_idle_seconds_cost_little, ends_at_once_where_nothing_is_left,
+    no_notification_is_lost_before_a_sleep, resendings_come_at_their_moment, probes_come_at_their_moments, ten_idle_seconds_cost_little, ends_at_once_where_nothing_is_left,
     lingers_for_a_home_that_is_silent, ends_as_the_last_answer_comes, state_and_drain_tell_each_lane, counts_of_two_lanes,
-    counts_of_sixty_four_lanes, counters_are_replaced, sends_that_fail_are_counted, faults_are_counted, each_event_has_its_level,
-    what_is_refused_is_told, serves_beside_a_full_pipe, serves_though_its_log_has_no_reader,
+    counts_of_sixty_four_lanes, counters_are_replaced, reports_come_each_second, sends_that_fail_are_counted, faults_are_counted, each_event_has_its_level,
+    what_is_refused_is_told, serves_beside_a_full_pipe, starts_beside_a_full_pipe, serves_though_its_log_has_no_reader,
 ]
 
 

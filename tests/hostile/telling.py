@@ -117,6 +117,9 @@ class Proxy:
         with self.log.open("wb") as log:
             pipes = {"stdin": subprocess.PIPE, "stdout": subprocess.PIPE, "stderr": log if errors is None else errors}
             self.ran = subprocess.Popen([program, "run", str(file)], env=environment, **pipes)
+        if not select.select([self.ran.stdout], [], [], PATIENCE)[0]:
+            self.kill()
+            raise OSError("it does not begin to listen")
         self.ran.stdout.readline()
 
     def lines(self, event, home=None):
