@@ -102,6 +102,7 @@ DESTDIR ?=
 FOLDERS = -e 's,@sbindir@,$(SBINDIR),g' -e 's,@libexecdir@,$(LIBEXECDIR),g' -e 's,@sysconfdir@,$(SYSCONFDIR),g' \
 	-e 's,@rundir@,$(RUNDIR),g'
 ONE = -e 's,@of@,,' -e 's,@config@,rad_proxy,g' -e 's,@runtime@,rad_proxy,'
+UNITS = rad_proxy.service rad_proxy@.service rad_proxy-metrics.socket rad_proxy-metrics@.service
 MANY = -e 's,@of@, %i,' -e 's,@config@,%i,g' -e 's,@runtime@,rad_proxy-%i,'
 
 .PHONY: install uninstall manual deb service
@@ -118,7 +119,9 @@ install:
 	chmod 755 $(DESTDIR)$(SBINDIR)/rad_proxyctl $(DESTDIR)$(LIBEXECDIR)/rad_proxy/serve
 	sed $(FOLDERS) $(ONE) packaging/rad_proxy.service.in > $(DESTDIR)$(UNITDIR)/rad_proxy.service
 	sed $(FOLDERS) $(MANY) packaging/rad_proxy.service.in > $(DESTDIR)$(UNITDIR)/rad_proxy@.service
-	chmod 644 $(DESTDIR)$(UNITDIR)/rad_proxy.service $(DESTDIR)$(UNITDIR)/rad_proxy@.service
+	sed $(FOLDERS) packaging/rad_proxy-metrics.socket.in > $(DESTDIR)$(UNITDIR)/rad_proxy-metrics.socket
+	sed $(FOLDERS) packaging/rad_proxy-metrics@.service.in > $(DESTDIR)$(UNITDIR)/rad_proxy-metrics@.service
+	cd $(DESTDIR)$(UNITDIR) && chmod 644 $(UNITS)
 	install -m 644 packaging/sysusers.conf $(DESTDIR)$(SYSUSERSDIR)/rad_proxy.conf
 	install -m 644 man/man8/rad_proxy.8 man/man8/rad_proxyctl.8 $(DESTDIR)$(MANDIR)/man8
 	install -m 644 man/man5/rad_proxy.toml.5 $(DESTDIR)$(MANDIR)/man5
@@ -129,7 +132,7 @@ install:
 # Takes away what `make install` put, and leaves the configuration.
 uninstall:
 	rm -f $(DESTDIR)$(SBINDIR)/rad_proxy $(DESTDIR)$(SBINDIR)/rad_proxyctl
-	rm -f $(DESTDIR)$(UNITDIR)/rad_proxy.service $(DESTDIR)$(UNITDIR)/rad_proxy@.service
+	test ! -d $(DESTDIR)$(UNITDIR) || (cd $(DESTDIR)$(UNITDIR) && rm -f $(UNITS))
 	rm -f $(DESTDIR)$(SYSUSERSDIR)/rad_proxy.conf $(DESTDIR)$(MANDIR)/man8/rad_proxy.8
 	rm -f $(DESTDIR)$(MANDIR)/man8/rad_proxyctl.8 $(DESTDIR)$(MANDIR)/man5/rad_proxy.toml.5
 	rm -rf $(DESTDIR)$(LIBEXECDIR)/rad_proxy $(DESTDIR)$(DOCDIR)

@@ -380,6 +380,114 @@ def metrics_are_as_prometheus_reads_them(service):
         hope("promtool", (checked.returncode, checked.stdout + checked.stderr), (0, ""))
 
 
+def metrics_go_to_a_file(service):
+    """`metrics FILE` writes the metrics whole to a new file that everybody may read and that takes the place of FILE, and leaves
+    nothing beside it."""
+    service.start()
+    until("counters", (service.run / "counters").exists)
+    folder = service.room / "collected"
+    folder.mkdir()
+    file = folder / "rad_proxy.prom"
+    for mask in (0o022, 0o077):
+        done = service.ask("metrics", str(file), preexec_fn=lambda: os.umask(mask))
+        hope("it ends", (done.returncode, done.stdout, done.stderr), (0, "", ""))
+        told = service.ask("metrics").stdout
+        hope("names", *(re.findall(r"^[a-z#].*(?= )", text, re.M) for text in (file.read_text(), told)))
+        hope("mode", oct(stat.S_IMODE(file.stat().st_mode)), oct(0o644))
+        hope("folder", os.listdir(folder), [file.name])
+    with file.open() as kept:
+        text = kept.read()
+        done = service.ask("metrics", file.name, cwd=folder)
+        hope("a name in this folder", (done.returncode, done.stderr), (0, ""))
+        kept.seek(0)
+        hope("the file before", kept.read(), text)
+        hope("another file", os.fstat(kept.fileno()).st_ino != file.stat().st_ino, True)
+
+
+def metrics_of_no_proxy_are_removed(service):
+    """Where no proxy answers, `metrics FILE` removes FILE, says why, and ends with 4; a proxy that was stopped is none."""
+    file = service.room / "rad_proxy.prom"
+    file.write_text("old\n")
+    done = service.ask("metrics", str(file))
+    hope("no service", (done.returncode, done.stderr, file.exists()),
+         (4, f"rad_proxyctl: no service in {service.run}, or no right to ask it\n", False))
+    process = service.start()
+    until("counters", (service.run / "counters").exists)
+    service.ask("metrics", str(file))
+    hope("a service", file.exists(), True)
+    program = until("program", lambda: [pid for pid, name in service.children(process) if name == "rad_proxy"])[0]
+    os.kill(program, signal.SIGSTOP)
+    done = service.ask("metrics", str(file))
+    hope("no answer", (done.returncode, done.stderr, file.exists()), (4, "rad_proxyctl: no answer in 5 seconds\n", False))
+    os.kill(program, signal.SIGCONT)
+
+
+def metrics_go_to_no_other_file(service):
+    """`metrics FILE` leaves alone what is no regular file, and says so; where it can't write, it says so too."""
+    service.start()
+    until("counters", (service.run / "counters").exists)
+    target, link, folder = (service.room / name for name in ("target", "link", "folder"))
+    target.write_text("kept\n")
+    link.symlink_to(target)
+    folder.mkdir()
+    for file in (link, folder, pathlib.Path("/dev/null")):
+        done = service.ask("metrics", str(file))
+        hope(str(file), (done.returncode, done.stderr), (4, f"rad_proxyctl: {file} is no regular file\n"))
+    hope("target", (target.read_text(), link.is_symlink(), os.listdir(folder)), ("kept\n", True, []))
+    file = service.room / "missing" / "file"
+    done = service.ask("metrics", str(file))
+    hope("no folder", (done.returncode, done.stderr), (4, f"rad_proxyctl: cannot write {file}\n"))
+    done = service.ask("state", str(file))
+    hope("state has no file", done.returncode, 1)
+
+
+def scraped(service, octets, is_closed=False):
+    """The status line, the head and the text of the response to a request of HTTP."""
+    ours, theirs = socket.socketpair()
+    with ours:
+        with theirs:
+            answers = subprocess.Popen([service.ctl, "http"], stdin=theirs, stdout=theirs, env=service.environment)
+        ours.sendall(octets)
+        if is_closed:
+            ours.shutdown(socket.SHUT_WR)
+        ours.settimeout(PATIENCE)
+        with ours.makefile("rb") as reader:
+            head, _, text = reader.read().decode().partition("\r\n\r\n")
+        hope("status", answers.wait(PATIENCE), 0)
+    first, *lines = head.split("\r\n")
+    fields = dict(line.split(": ", 1) for line in lines)
+    hope("length", int(fields["Content-Length"]), len(text))
+    return first, fields, text
+
+
+def metrics_are_had_by_http(service):
+    """`http` answers a GET of /metrics or / by the metrics, and what else it is asked by a status that says why not."""
+    service.start()
+    until("counters", (service.run / "counters").exists)
+    for path in ("/metrics", "/"):
+        first, fields, text = scraped(service, f"GET {path} HTTP/1.1\r\nHost: here\r\n\r\n".encode())
+        hope(path, (first, fields["Content-Type"]), ("HTTP/1.1 200 OK", "text/plain; version=0.0.4; charset=utf-8"))
+        names = (re.findall(r"^[a-z#].*(?= )", each, re.M) for each in (text, service.ask("metrics").stdout))
+        hope("names", *names)
+    for octets, status in ((b"GET /other HTTP/1.1\r\n\r\n", "404 Not Found"), (b"GET / HTTP/2.0\n\n", "404 Not Found"),
+                           (b"POST /metrics HTTP/1.1\r\nContent-Length: 0\r\n\r\n", "405 Method Not Allowed"),
+                           (b"HEAD / HTTP/1.0\r\n\r\n", "405 Method Not Allowed"), (b"\r\n\r\n", "405 Method Not Allowed")):
+        hope(str(octets), scraped(service, octets)[0], f"HTTP/1.1 {status}")
+    for octets in (b"", b"GET /metrics HTTP/1.1\r\n", b"GET /metrics HTTP/1.1\r\n" + 200 * b"X: y\r\n"):
+        hope(str(octets[:40]), scraped(service, octets, is_closed=True)[0], "HTTP/1.1 400 Bad Request")
+
+
+def http_waits_for_no_client(service):
+    """A client that sends no whole request is answered after five seconds; where no proxy answers, the response says so."""
+    began = time.monotonic()
+    first, _, text = scraped(service, b"GET /metrics HTTP/1.1\r\n")
+    hope("no whole request", (first, text), ("HTTP/1.1 400 Bad Request", "no request of HTTP in 5 seconds\n"))
+    hope("seconds", 4.5 < time.monotonic() - began < 15, True)
+    first, _, text = scraped(service, b"GET /metrics HTTP/1.1\r\n\r\n")
+    hope("no service", (first, text),
+         ("HTTP/1.1 503 Service Unavailable", f"no service in {service.run}, or no right to ask it\n"))
+
+
 def sent_again_is_never_less_than_nothing(service):
     """While requests come, what `metrics` tells as sent is never less than what it tells as accepted and not queued."""
     service.start()
@@ -585,7 +693,8 @@ TESTS = [
     a_stopped_asker_keeps_nobody_out, an_asker_without_an_answer_gives_up, many_ask_at_once,
     a_hand_over_that_dies_is_started_anew, nobody_reads_its_output, its_output_is_full, what_is_left_over_is_a_warning,
     counters_elsewhere_are_told, counters_that_are_not_written_are_told,
-    metrics_are_as_prometheus_reads_them, sent_again_is_never_less_than_nothing, counters_that_are_written_late_are_waited_for,
+    metrics_are_as_prometheus_reads_them, metrics_go_to_a_file,
+    metrics_of_no_proxy_are_removed, metrics_go_to_no_other_file, metrics_are_had_by_http, http_waits_for_no_client, sent_again_is_never_less_than_nothing, counters_that_are_written_late_are_waited_for,
     memory_is_refused_and_nothing_ends, relative_paths_hold, an_answer_that_cannot_be_written_is_told,
     whoever_keeps_the_pipe_is_not_waited_for, the_unit_takes_no_core_dump, root_asks_as_the_owner,
     the_owner_gets_nothing_of_roots, root_serves_nobody_elses_folder,
