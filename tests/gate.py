@@ -27,6 +27,7 @@ import progress
 
 TOP = pathlib.Path(__file__).resolve().parent.parent
 RT = os.environ.get("RT", "rt").split()
+QUEUE_TESTS = TOP / "crates" / "queue_tests" / "out" / "queue_tests_tests"
 SCRIPTS = {
     "wrong-bodies": ("edits.py", "--check"),
     "vectors": ("vectors.py", "--check"),
@@ -43,6 +44,8 @@ SCRIPTS = {
     "ending": ("hostile/ending.py", "PROGRAM"),
     "moments": ("hostile/moments.py", "PROGRAM"),
     "lists": ("hostile/lists.py", "PROGRAM"),
+    "calls": ("hostile/calls.py", "PROGRAM"),
+    "blocks": ("hostile/blocks.py", str(QUEUE_TESTS)),
     "reasons": ("hostile/reasons.py", "PROGRAM"),
     "files": ("hostile/files.py", "PROGRAM"),
     "failures": ("hostile/failures.py", "PROGRAM"),

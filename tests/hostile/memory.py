@@ -84,16 +84,21 @@ class Proxy:
     """The program under `run`, whose live octets are counted in a file."""
 
     def __init__(self, program, folder, load, home, library):
-        self.port, self.live, self.load = free_port(), folder / "live", load
+        self.port, self.load = free_port(), load
         file = folder / "proxy.toml"
         file.write_text(
             f'listen = "127.0.0.1:{self.port}"\n[[client]]\naddress = "127.0.0.1"\nsecret = "{CLIENT_SECRET}"\n'
             f'[[home]]\nname = "h0"\naddress = "127.0.0.1:{home}"\nsecret = "{HOME_SECRET}"\nwindow = 254\n'
             f'book = {load.book}\nspan = {load.span}\n[[realm]]\nname = "r00.bench"\nhome = "h0"\n', "utf-8")
-        more = {"LD_PRELOAD": str(library), "LIVE_OCTETS": str(self.live)}
+        more = self.settings(library, folder)
         how = {"stdin": subprocess.PIPE, "stdout": subprocess.PIPE, "bufsize": 0, "preexec_fn": end_with_parent}
         with (folder / "log").open("wb") as log:
             self.ran = subprocess.Popen([program, "run", str(file)], env={**os.environ, **more}, stderr=log, **how)
+
+    def settings(self, library, folder):
+        """The library that is loaded before the program's own, and what it is told."""
+        self.live = folder / "live"
+        return {"LD_PRELOAD": str(library), "LIVE_OCTETS": str(self.live)}
 
     def line(self):
         """The next line that it prints."""

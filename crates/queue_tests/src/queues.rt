@@ -425,3 +425,42 @@ fn a_refused_block_leaves_the_queue(rt: HostRuntime) {
     }
     assert!(rt; queue.len() as u64 == taken);
 }
+
+/// How many items pass a queue, or are appended to, in a test of what that takes.
+const MANY: u64 = 20_000;
+
+/// More items than a queue of those tests has.
+const LONGEST: usize = 1_000_000;
+
+/// What passes a queue that stays as long takes no block: the one that is emptied in front is used again behind.
+#[test]
+fn what_passes_takes_no_block(rt: HostRuntime) -> Result<(), Fail> {
+    let mut queue = numbered(&rt, rt.alloc(), 0, 0, 40)?;
+    for number in 0..MANY {
+        push(&rt, &mut queue, number.wrapping_add(40))?;
+        assert!(rt; queue.pop_front() == Some(number));
+    }
+    Ok(())
+}
+
+/// A block of no items that an appended queue brings along is used for the next items.
+#[test]
+fn what_is_appended_empty_takes_no_room(rt: HostRuntime) -> Result<(), Fail> {
+    let mut queue = BlockQueue::new(rt.alloc());
+    for _ in 0..MANY {
+        append_empty(rt.alloc(), &mut queue)?;
+        queue.reserve_one()?;
+        queue.push_back([0u64; 32]);
+    }
+    Ok(())
+}
+
+/// Appends a queue of no items that has room for some.
+fn append_empty(alloc: Global, queue: &mut BlockQueue<[u64; 32]>) -> Result<(), AllocError> {
+    let mut other = BlockQueue::new(alloc);
+    other.reserve_one()?;
+    if queue.len() < LONGEST {
+        queue.append(other);
+    }
+    Ok(())
+}
