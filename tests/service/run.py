@@ -488,6 +488,18 @@ def http_waits_for_no_client(service):
          ("HTTP/1.1 503 Service Unavailable", f"no service in {service.run}, or no right to ask it\n"))
 
 
+def alerts_fire_where_they_should(service):
+    """Each alert of examples/alerts.yml fires over series that ask for it, and over no others, as promtool reads them."""
+    if shutil.which("promtool") is None:
+        raise LeftOut("promtool of Prometheus is not here")
+    for file in (HERE / "examples" / "alerts.yml", HERE / "tests" / "service" / "alerts-test.yml"):
+        shutil.copy(file, service.room)
+    done = subprocess.run(["promtool", "test", "rules", "alerts-test.yml"], cwd=service.room, capture_output=True, text=True)
+    hope("promtool", (done.returncode, done.stderr), (0, ""))
+    tried = set(re.findall(r"alertname: (\w+)", (service.room / "alerts-test.yml").read_text()))
+    hope("alerts", tried, set(re.findall(r"alert: (\w+)", (service.room / "alerts.yml").read_text())))
+
+
 def sent_again_is_never_less_than_nothing(service):
     """While requests come, what `metrics` tells as sent is never less than what it tells as accepted and not queued."""
     service.start()
@@ -693,7 +705,7 @@ TESTS = [
     a_stopped_asker_keeps_nobody_out, an_asker_without_an_answer_gives_up, many_ask_at_once,
     a_hand_over_that_dies_is_started_anew, nobody_reads_its_output, its_output_is_full, what_is_left_over_is_a_warning,
     counters_elsewhere_are_told, counters_that_are_not_written_are_told,
-    metrics_are_as_prometheus_reads_them, metrics_go_to_a_file,
+    metrics_are_as_prometheus_reads_them, alerts_fire_where_they_should, metrics_go_to_a_file,
     metrics_of_no_proxy_are_removed, metrics_go_to_no_other_file, metrics_are_had_by_http, http_waits_for_no_client, sent_again_is_never_less_than_nothing, counters_that_are_written_late_are_waited_for,
     memory_is_refused_and_nothing_ends, relative_paths_hold, an_answer_that_cannot_be_written_is_told,
     whoever_keeps_the_pipe_is_not_waited_for, the_unit_takes_no_core_dump, root_asks_as_the_owner,
