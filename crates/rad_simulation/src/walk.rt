@@ -1,0 +1,184 @@
+//! The walk over what happened in one call of a worker, which compares each event with what should have been.
+
+use crate::events::{Came, DownBy, Event, Gone, Telling};
+use crate::rules::Rule;
+use rad_desk::{Call, Go, Note};
+use rad_realms::Endpoint;
+
+/// Where a walk stands, and what was drawn last.
+#[derive(Clone, Copy)]
+pub struct Walk<'a> {
+    events: &'a [Event],
+    /// How many events were looked at.
+    place: usize,
+    /// The octets that the wire drew last in this turn.
+    drawn: Option<[u8; 16]>,
+}
+
+impl<'a> Walk<'a> {
+    pub fn new(events: &'a [Event]) -> Walk<'a> {
+        Walk {
+            events,
+            place: 0,
+            drawn: None,
+        }
+    }
+
+    /// The next event, but for what was drawn, which is remembered; none at the end.
+    fn peek(&mut self) -> Option<&'a Event> {
+        for _ in 0..self.events.len() {
+            match self.events.get(self.place) {
+                Some(Event::Drew(octets)) => {
+                    self.drawn = Some(*octets);
+                    self.place = self.place.saturating_add(1);
+                }
+                other => return other,
+            }
+        }
+        None
+    }
+
+    fn next(&mut self) -> Result<&'a Event, Rule> {
+        let Some(event) = self.peek() else {
+            return Err(Rule::GoesOn);
+        };
+        self.place = self.place.saturating_add(1);
+        Ok(event)
+    }
+
+    /// The octets that were drawn last.
+    pub fn drawn(&self) -> Option<[u8; 16]> {
+        self.drawn
+    }
+
+    /// A turn begins: what came, and at which moment.
+    pub fn receives(&mut self) -> Result<(u64, &'a Came), Rule> {
+        self.drawn = None;
+        match self.next()? {
+            Event::Received(moment, came) => Ok((*moment, came)),
+            _ => Err(Rule::Receive),
+        }
+    }
+
+    /// Nothing more happens.
+    pub fn ends(&mut self, rule: Rule) -> Result<(), Rule> {
+        match self.peek() {
+            None => Ok(()),
+            Some(_) => {
+                self.place = self.place.saturating_add(1);
+                Err(rule)
+            }
+        }
+    }
+
+    /// The gate is told this.
+    pub fn tells(&mut self, telling: Telling, rule: Rule) -> Result<(), Rule> {
+        match self.next()? {
+            Event::Told(told) if *told == telling => Ok(()),
+            _ => Err(rule),
+        }
+    }
+
+    /// The gate is told this note.
+    pub fn notes(&mut self, note: Note, rule: Rule) -> Result<(), Rule> {
+        self.tells(Telling::Note(note), rule)
+    }
+
+    /// The gate is asked before a call. It gives whether the call is made, and where it is not, that nothing more happens.
+    pub fn asks(&mut self, call: Call, rule: Rule) -> Result<bool, Rule> {
+        match self.next()? {
+            Event::Told(Telling::Before(asked, Go::On)) if *asked == call => Ok(true),
+            Event::Told(Telling::Before(asked, Go::Stop)) if *asked == call => {
+                self.ends(Rule::Stops)?;
+                Ok(false)
+            }
+            _ => Err(rule),
+        }
+    }
+
+    /// Whether the gate is asked before this call next.
+    pub fn is_asked(&mut self, call: Call) -> bool {
+        match self.peek() {
+            Some(Event::Told(Telling::Before(asked, _))) => *asked == call,
+            _ => false,
+        }
+    }
+
+    /// The gate is told of what came.
+    pub fn told_received(&mut self, from: Endpoint, octets: &[u8]) -> Result<(), Rule> {
+        match self.next()? {
+            Event::ToldReceived(told, text) if *told == from && text.as_slice() == octets => Ok(()),
+            _ => Err(Rule::ToldReceived),
+        }
+    }
+
+    /// The gate is told of a packet whose realm leads nowhere.
+    pub fn told_no_realm(&mut self, octets: &[u8]) -> Result<(), Rule> {
+        match self.next()? {
+            Event::ToldNoRealm(text) if text.as_slice() == octets => Ok(()),
+            _ => Err(Rule::NoRealm),
+        }
+    }
+
+    /// The gate is told by which request a lane went down.
+    pub fn told_down(&mut self) -> Result<&'a DownBy, Rule> {
+        match self.next()? {
+            Event::ToldDown(down) => Ok(down),
+            _ => Err(Rule::DownBy),
+        }
+    }
+
+    /// These octets are sent, and the gate is told right before.
+    pub fn sends(&mut self, octets: &[u8], rule: Rule) -> Result<&'a Gone, Rule> {
+        let (to, text) = match self.next()? {
+            Event::ToldSends(to, text) => (to, text),
+            _ => return Err(rule),
+        };
+        match self.next()? {
+            Event::Went(gone) => {
+                if gone.octets.as_slice() != octets {
+                    return Err(rule);
+                }
+                if gone.to != *to || text.as_slice() != octets {
+                    return Err(Rule::ToldSends);
+                }
+                Ok(gone)
+            }
+            _ => Err(Rule::ToldSends),
+        }
+    }
+
+    /// What was looked at last, in a word or two.
+    pub fn last(&self) -> &'static str {
+        match self.events.get(self.place.saturating_sub(1)) {
+            Some(Event::Received(..)) => "a receive",
+            Some(Event::Drew(_)) => "a draw",
+            Some(Event::Went(_)) => "a send",
+            Some(Event::ToldReceived(..)) => "word of what came",
+            Some(Event::ToldSends(..)) => "word of what is sent",
+            Some(Event::ToldDown(_)) => "word of a lane that went down",
+            Some(Event::ToldNoRealm(_)) => "word of a realm",
+            Some(Event::Told(telling)) => name_of(telling),
+            None => "nothing",
+        }
+    }
+}
+
+fn name_of(telling: &Telling) -> &'static str {
+    match telling {
+        Telling::Before(Call::Turn, _) => "a question before a turn",
+        Telling::Before(..) => "a question",
+        Telling::After(_) => "word of a call",
+        Telling::Note(Note::Cut(_)) => "a note of a cut",
+        Telling::Note(Note::WentDown) => "a note that a lane is down",
+        Telling::Note(Note::WentUp) => "a note that a lane is up",
+        Telling::Note(Note::Took(..)) => "a note that a response was taken",
+        Telling::Note(Note::ReceiveFault) | Telling::Note(Note::SendFault) => "a note of a fault",
+        Telling::Note(_) => "a note of what is dropped",
+        Telling::Accepted(..) => "word of an accepted request",
+        Telling::Answered(..) => "word of an answer",
+        Telling::WentUp(..) => "word of a lane that went up",
+        Telling::Marked(..) => "word of marks",
+        Telling::OfAnother => "word in another worker's name",
+    }
+}
