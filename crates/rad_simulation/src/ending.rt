@@ -9,7 +9,7 @@ use rad_realms::Endpoint;
 use rad_tables::Slot;
 
 /// Compares what is left of all lanes.
-pub fn compare_end(report: &Report, books: &[Book]) -> Result<(), Rule> {
+pub fn compare_end(report: &mut Report, books: &[Book]) -> Result<(), Rule> {
     let ends = report.ends.as_slice();
     if ends.len() != books.len() {
         return Err(Rule::Close);
@@ -143,20 +143,27 @@ fn is_outgoing(outgoing: &Outgoing, serial: u64, number: u64, book: &Book) -> bo
 }
 
 /// Compares what was never sent: of the first lane in order, then of the second, and so on.
-fn compare_queued(report: &Report, books: &[Book]) -> Result<(), Rule> {
-    let mut count: u64 = 0;
+fn compare_queued(report: &mut Report, books: &[Book]) -> Result<(), Rule> {
     for book in books {
-        count = count.saturating_add(book.accepted().saturating_sub(book.sent));
+        for number in book.sent..book.accepted() {
+            if !is_next_queued(report, number, book) {
+                return Err(Rule::CloseQueued);
+            }
+        }
     }
-    if report.queued.len() as u64 != count {
-        return Err(Rule::CloseQueued);
+    if report.queued.is_empty() {
+        Ok(())
+    } else {
+        Err(Rule::CloseQueued)
     }
-    let first = books
-        .iter()
-        .find_map(|book| book.at(book.sent));
-    match (first, report.queued.front()) {
-        (None, None) => Ok(()),
-        (Some(asked), Some(record)) if record.text() == asked.text.as_slice() => Ok(()),
-        _ => Err(Rule::CloseQueued),
+}
+
+/// Whether the next record of the queue is the request of this number.
+fn is_next_queued(report: &mut Report, number: u64, book: &Book) -> bool {
+    match (report.queued.pop_front(), book.at(number)) {
+        (Some(record), Some(asked)) => {
+            is_stamp(&record.stamp(), number, asked) && record.text() == asked.text.as_slice()
+        }
+        _ => false,
     }
 }

@@ -1,6 +1,7 @@
 //! The turns of the front, as the rules have them.
 
-use crate::book::{Book, Taking};
+use crate::accepting::Taking;
+use crate::book::Book;
 use crate::events::Telling;
 use crate::making::{USER_NAME, first_value, make_plain_answer};
 use crate::rules::Rule;
@@ -75,7 +76,14 @@ impl Books {
                     &secret,
                 );
                 let octets = self.draft.bytes();
-                answer(coming.socket, coming.from, octets, Rule::Status, shift, walk)?;
+                answer(
+                    coming.socket,
+                    coming.from,
+                    octets,
+                    Rule::Status,
+                    shift,
+                    walk,
+                )?;
                 Ok(true)
             }
             Err(reason) => {
@@ -177,7 +185,14 @@ fn take(book: &mut Book, shift: &mut Shift, walk: &mut Walk<'_>) -> Result<(), R
     let Some(client) = book.client_of(number) else {
         return Err(Rule::Client);
     };
-    answer(0, client, book.response_of(number), Rule::Response, shift, walk)?;
+    answer(
+        0,
+        client,
+        book.response_of(number),
+        Rule::Response,
+        shift,
+        walk,
+    )?;
     walk.notes(Note::Took(book.lane, serial), Rule::Took)
 }
 

@@ -1,9 +1,11 @@
 //! The turns of a lane's worker, as the rules have them.
 
-use crate::book::{Book, Doing, Hearing};
+use crate::book::Book;
 use crate::events::Telling;
+use crate::hearing::Hearing;
 use crate::rules::Rule;
 use crate::shift::{Coming, Destination, Shift, Socket};
+use crate::stepping::Doing;
 use crate::walk::Walk;
 use rad_desk::{Call, Note, UpReason};
 

@@ -2,25 +2,30 @@
 //! scheduler of a given seed, in one thread, over wires in memory, with one virtual clock and a network that loses, doubles,
 //! delays and reorders. NASes repeat, home servers die, come back and answer late, twice, wrongly or never, receives and sends
 //! fail, gates stop, lanes are drained, and the proxy is closed at the end. After each call all that the worker did is compared
-//! with what the rules say, by a flat model of them (`book.rt`, `front_turn.rt`, `lane_turn.rt`) that calls nothing of the lanes.
+//! with what the rules say, by a flat model of them (`book.rt` and
+//! what it names, `front_turn.rt`, `lane_turn.rt`) that calls nothing of the lanes.
 //!
 //! It is called with the first seed and how many seeds there are. Where a seed fails, it prints that seed, its turn and the rule
 //! that was broken, and ends with status 1; the same seed fails again.
 #![tactic(auto)]
 
+mod accepting;
 mod book;
 mod chance;
 mod ending;
 mod events;
 mod front_turn;
+mod hearing;
 mod lane_turn;
 mod making;
 mod nases;
 mod network;
+mod planning;
 mod rules;
 mod run;
 mod setting;
 mod shift;
+mod stepping;
 mod trace;
 mod walk;
 

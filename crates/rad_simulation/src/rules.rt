@@ -138,7 +138,8 @@ impl Rule {
             Rule::Marked => "the gate is told how many marks of this form a request has",
             Rule::Accept => "the front asks before a lane takes a request, and tells after",
             Rule::Accepted => "a new request is accepted by its lane under the next number",
-            Rule::Refused => "a request is refused where a rule says so, and the first reason noted",
+            Rule::Refused =>
+                "a request is refused where a rule says so, and the first reason noted",
             Rule::Again => {
                 "a repeat is answered again within the span, with the same octets, and waits before"
             }
@@ -146,7 +147,9 @@ impl Rule {
             Rule::Take => "the front takes from each inlet once in each turn, in order",
             Rule::Response => "each response goes out once, in order of answering, as it was made",
             Rule::Client => "what answers a client goes to the address and port that asked",
-            Rule::ListenSocket => "a response leaves by the clients' socket",
+            Rule::ListenSocket => {
+                "what answers at once leaves by the socket that was asked, and a response by the first one"
+            }
             _ => "a response that was sent is noted as taken, by its lane and serial",
         }
     }
@@ -168,10 +171,12 @@ impl Rule {
             }
             Rule::SourcePort => "what goes to the home server leaves from its pair's source port",
             Rule::Home => "what a lane sends goes to its home server",
-            Rule::WentDown => "a lane goes down when a request that is due is spent, and not before",
+            Rule::WentDown =>
+                "a lane goes down when a request that is due is spent, and not before",
             Rule::DownBy => "the gate is told by which request a lane went down",
             Rule::WentUp => "a lane that is down goes up once its time is over, and this is told",
-            Rule::MustTurn => "a book that is half full is turned at an idle step, within ten milliseconds",
+            Rule::MustTurn =>
+                "a book that is half full is turned at an idle step, within ten milliseconds",
             Rule::Turn => "a book is turned where it is half full, and by its own worker alone",
             _ => "a turn cuts the first requests that are over, and their count is noted",
         }
@@ -182,7 +187,8 @@ impl Rule {
             Rule::Close => "the proxy is closed, and each lane has an end",
             Rule::CloseCounts => "the end tells the counts of the book",
             Rule::CloseAccepted => "the end tells what the book still held, in order of accepting",
-            Rule::CloseAnswered => "the end tells the answers that the book held, in order of answering",
+            Rule::CloseAnswered =>
+                "the end tells the answers that the book held, in order of answering",
             Rule::CloseOutstanding => "the end tells what is outstanding, under its pairs",
             Rule::CloseRest => "the end tells the responses that nobody took",
             _ => "the end tells what was never sent, lane by lane, in order",

@@ -3,15 +3,16 @@
 use crate::book::Book;
 use crate::chance::Chance;
 use crate::ending::compare_end;
-use crate::events::{Came, Event, Gone, Mail};
+use crate::events::{Event, Gone, Mail};
 use crate::front_turn::Books;
 use crate::lane_turn::lane_turn;
 use crate::nases::Nases;
 use crate::network::Network;
+use crate::planning::Plan;
 use crate::rules::Rule;
 use crate::setting::Setting;
 use crate::shift::Shift;
-use crate::trace::{Arrival, Trace, TraceGate, TraceWire};
+use crate::trace::{Trace, TraceGate, TraceWire};
 use crate::walk::Walk;
 use rad_desk::{Inlet, Proxy, Tally, Worker, front_worker, lane_worker, open};
 use rad_packet::Datagram;
@@ -30,32 +31,21 @@ pub struct Outcome {
 
 /// A run that goes on.
 #[derive(Drop)]
-struct Run {
-    alloc: Global,
-    chance: Chance,
-    setting: Setting,
-    config: Config,
-    proxy: Proxy,
-    inlets: Vec<Inlet>,
-    books: Books,
-    nases: Nases,
-    network: Network,
-    trace: Trace,
-    clock: u64,
-    turns: u64,
+pub struct Run {
+    pub alloc: Global,
+    pub chance: Chance,
+    pub setting: Setting,
+    pub config: Config,
+    pub proxy: Proxy,
+    pub inlets: Vec<Inlet>,
+    pub books: Books,
+    pub nases: Nases,
+    pub network: Network,
+    pub trace: Trace,
+    pub clock: u64,
+    pub turns: u64,
     /// What was seen last.
-    seen: &'static str,
-}
-
-/// What is fixed of a call of a worker before it is made.
-#[derive(Drop)]
-struct Plan {
-    lane: Option<u16>,
-    turns: u64,
-    arrivals: Vec<Arrival>,
-    /// How many calls its gate lets it make; with none, all.
-    calls: Option<u32>,
-    lag: u64,
+    pub seen: &'static str,
 }
 
 /// Runs a seed.
@@ -145,7 +135,8 @@ impl Run {
         if self.chance.is_one_in(40) {
             self.network.turn_over(&mut self.chance);
         }
-        if self.chance.is_one_in(900) {
+        let drains = self.setting.drains;
+        if drains != 0 && self.chance.is_one_in(drains) {
             self.drain(rt)?;
         }
         let plan = self.plan();
@@ -155,9 +146,10 @@ impl Run {
 
     fn have_nas_send(&mut self) -> Result<(), Rule> {
         let (from, octets) = self.nases.send(&mut self.chance, &self.setting)?;
+        let socket = if self.chance.is_one_in(3) { 2 } else { 0 };
         let mail = Mail {
             from,
-            socket: 0,
+            socket,
             octets,
         };
         self.network
@@ -179,90 +171,6 @@ impl Run {
             Ok(())
         } else {
             Err(Rule::Drain)
-        }
-    }
-
-    /// Who is called next, for how many turns, and what comes in each.
-    fn plan(&mut self) -> Plan {
-        let lanes = self.setting.homes.len() as u64;
-        let lane = match self.chance.below(lanes.saturating_add(1)) {
-            0 => None,
-            other => Some((other.saturating_sub(1) & 0xffff) as u16),
-        };
-        let turns = if self.chance.is_one_in(3) {
-            self.chance.between(2, 4)
-        } else {
-            1
-        };
-        let stops = self.setting.stops;
-        let calls = if stops != 0 && self.chance.is_one_in(stops) {
-            Some((self.chance.below(8) & 0xff) as u32)
-        } else {
-            None
-        };
-        Plan {
-            lane,
-            turns,
-            arrivals: self.arrivals(lane, turns),
-            calls,
-            lag: if self.chance.is_one_in(10) {
-                self.chance.below(4)
-            } else {
-                0
-            },
-        }
-    }
-
-    /// What comes in so many turns, the first one last; nothing where memory is refused.
-    fn arrivals(&mut self, lane: Option<u16>, turns: u64) -> Vec<Arrival> {
-        let mut arrivals = Vec::new(self.alloc);
-        let mut clock = self.clock;
-        for _ in 0..turns {
-            let wait = self.wait(clock);
-            clock = clock.saturating_add(wait);
-            let came = self.came(lane, clock);
-            let _ = arrivals.push(Arrival { wait, came });
-        }
-        arrivals.as_mut_slice().reverse();
-        arrivals
-    }
-
-    fn came(&mut self, lane: Option<u16>, clock: u64) -> Came {
-        let faults = self.setting.faults;
-        if faults != 0 && self.chance.is_one_in(faults) {
-            return Came::Fault;
-        }
-        match self.network.arrive(clock, lane) {
-            Some(mail) => Came::Datagram(mail),
-            None => Came::Nothing,
-        }
-    }
-
-    /// How long a receive waits: not at all, a little, or just until, or just before, something is due.
-    fn wait(&mut self, clock: u64) -> u64 {
-        if self.setting.is_hurried {
-            return self.chance.below(2);
-        }
-        match self.chance.below(40) {
-            0..=19 => 0,
-            20..=29 => self.chance.below(20),
-            30..=36 => self.wait_for_change(clock),
-            37..=38 => self.chance.below(200),
-            _ => self.chance.below(3000),
-        }
-    }
-
-    fn wait_for_change(&mut self, clock: u64) -> u64 {
-        let place = self.chance.below(self.setting.homes.len() as u64) as usize;
-        let Some(book) = self.books.books.as_slice().get(place) else {
-            return 0;
-        };
-        match book.next_change(clock) {
-            Some(moment) => {
-                let wait = moment.saturating_sub(clock).min(5000);
-                wait.saturating_add(self.chance.below(3)).saturating_sub(1)
-            }
-            None => 0,
         }
     }
 
@@ -294,7 +202,16 @@ impl Run {
                 &gate,
                 turns,
             )),
-            Some(lane) => work_lane(rt, self.alloc, &self.proxy, &self.config, lane, &mut wire, &gate, turns),
+            Some(lane) => work_lane(
+                rt,
+                self.alloc,
+                &self.proxy,
+                &self.config,
+                lane,
+                &mut wire,
+                &gate,
+                turns,
+            ),
         };
         self.clock = wire.clock;
         let left = wire.into_arrivals();
@@ -314,7 +231,7 @@ impl Run {
         events: &[Event],
         tally: Tally,
     ) -> Result<(), Rule> {
-        let mut walk = Walk::new(events);
+        let mut walk = Walk::new(events, tally.turns == turns);
         let mut shift = Shift::new();
         let compared = self.compare_turns(lane, turns, &mut shift, &mut walk);
         self.seen = walk.last();
@@ -372,7 +289,8 @@ impl Run {
     /// Compares the counts of all lanes.
     fn compare_counts(&self, rt: &impl Wait) -> Result<(), Rule> {
         for book in self.books.books.as_slice() {
-            if book.lane >= self.proxy.lanes() || self.proxy.counts(rt, book.lane) != book.counts()
+            if book.lane >= self.proxy.lanes()
+                || self.proxy.counts(rt, book.lane) != book.counts()
             {
                 return Err(Rule::Counts);
             }
@@ -390,7 +308,7 @@ impl Run {
             ..
         } = self;
         match proxy.close(alloc, inlets) {
-            Ok(report) => compare_end(&report, books.books.as_slice()),
+            Ok(mut report) => compare_end(&mut report, books.books.as_slice()),
             Err(_) => Err(Rule::Memory),
         }
     }
@@ -414,7 +332,5 @@ fn work_lane(
     if lane >= proxy.lanes() {
         return None;
     }
-    Some(lane_worker(
-        rt, alloc, proxy, lane, home, wire, gate, turns,
-    ))
+    Some(lane_worker(rt, alloc, proxy, lane, home, wire, gate, turns))
 }

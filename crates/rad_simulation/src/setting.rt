@@ -93,7 +93,9 @@ pub struct Setting {
     pub faults: u64,
     /// One call in so many is stopped by its gate; 0 where none is.
     pub stops: u64,
-    /// How many turns there are in all, about.
+    /// A lane is drained after one call in so many; 0 where none is.
+    pub drains: u64,
+    /// How many calls of a worker there are.
     pub steps: u64,
 }
 
@@ -115,7 +117,12 @@ impl Setting {
             losses: if is_calm { 0 } else { chance.between(5, 20) },
             faults: if is_calm { 0 } else { chance.between(10, 60) },
             stops: if chance.is_one_in(3) { 20 } else { 0 },
-            steps: if is_hurried { 1300 } else { chance.between(100, 700) },
+            drains: if chance.is_one_in(4) { 300 } else { 0 },
+            steps: if is_hurried {
+                1300
+            } else {
+                chance.between(100, 700)
+            },
         })
     }
 
@@ -127,7 +134,9 @@ impl Setting {
         }
         for client in CLIENTS.iter() {
             let (address, secret) = (client.text, client.secret);
-            let table = format!(in alloc; "[[client]]\naddress = \"{address}\"\nsecret = \"{secret}\"\n")?;
+            let table = format!(in alloc;
+                "[[client]]\naddress = \"{address}\"\nsecret = \"{secret}\"\n"
+            )?;
             text.push_str(table.as_str())?;
         }
         for home in self.homes.as_slice() {
@@ -199,7 +208,9 @@ fn push_home(alloc: Global, text: &mut String, home: &HomeSetting) -> Result<(),
         realm,
         ..
     } = home.facts;
-    let table = format!(in alloc; "[[realm]]\nname = \"{realm}\"\nhome = \"{name}\"\n[[home]]\nname = \"{name}\"\naddress = \"{address}\"\nsecret = \"{secret}\"\n")?;
+    let table = format!(in alloc;
+        "[[realm]]\nname = \"{realm}\"\nhome = \"{name}\"\n[[home]]\nname = \"{name}\"\naddress = \"{address}\"\nsecret = \"{secret}\"\n"
+    )?;
     text.push_str(table.as_str())?;
     let LimitNumbers {
         window,

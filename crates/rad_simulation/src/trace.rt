@@ -265,12 +265,20 @@ impl<'a> Wire for TraceWire<'a> {
     fn receive(&mut self, datagram: &mut [u8; 4096]) -> Received {
         match self.arrive() {
             Came::Datagram(mail) => {
-                let Mail { from, socket, octets } = mail;
+                let Mail {
+                    from,
+                    socket,
+                    octets,
+                } = mail;
                 let Endpoint { address, port } = from;
                 let count = octets.len().min(4096);
                 datagram[..count].copy_from_slice(&octets.as_slice()[..count]);
                 self.traffic.came(socket, address, port, &datagram[..count]);
-                self.add_received(Came::Datagram(Mail { from, socket, octets }));
+                self.add_received(Came::Datagram(Mail {
+                    from,
+                    socket,
+                    octets,
+                }));
                 Received::Got {
                     address,
                     port,

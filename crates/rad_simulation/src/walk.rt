@@ -13,14 +13,17 @@ pub struct Walk<'a> {
     place: usize,
     /// The octets that the wire drew last in this turn.
     drawn: Option<[u8; 16]>,
+    /// Whether the worker began all its turns, by what it says itself.
+    began_all: bool,
 }
 
 impl<'a> Walk<'a> {
-    pub fn new(events: &'a [Event]) -> Walk<'a> {
+    pub fn new(events: &'a [Event], began_all: bool) -> Walk<'a> {
         Walk {
             events,
             place: 0,
             drawn: None,
+            began_all,
         }
     }
 
@@ -38,12 +41,16 @@ impl<'a> Walk<'a> {
         None
     }
 
-    fn next(&mut self) -> Result<&'a Event, Rule> {
-        let Some(event) = self.peek() else {
-            return Err(Rule::GoesOn);
-        };
-        self.place = self.place.saturating_add(1);
-        Ok(event)
+    /// The next event. Where there is none, this rule is broken, or the worker did not go on.
+    fn next(&mut self, rule: Rule) -> Result<&'a Event, Rule> {
+        match self.peek() {
+            Some(event) => {
+                self.place = self.place.saturating_add(1);
+                Ok(event)
+            }
+            None if self.began_all => Err(rule),
+            None => Err(Rule::GoesOn),
+        }
     }
 
     /// The octets that were drawn last.
@@ -54,7 +61,7 @@ impl<'a> Walk<'a> {
     /// A turn begins: what came, and at which moment.
     pub fn receives(&mut self) -> Result<(u64, &'a Came), Rule> {
         self.drawn = None;
-        match self.next()? {
+        match self.next(Rule::Receive)? {
             Event::Received(moment, came) => Ok((*moment, came)),
             _ => Err(Rule::Receive),
         }
@@ -73,7 +80,7 @@ impl<'a> Walk<'a> {
 
     /// The gate is told this.
     pub fn tells(&mut self, telling: Telling, rule: Rule) -> Result<(), Rule> {
-        match self.next()? {
+        match self.next(rule)? {
             Event::Told(told) if *told == telling => Ok(()),
             _ => Err(rule),
         }
@@ -86,7 +93,7 @@ impl<'a> Walk<'a> {
 
     /// The gate is asked before a call. It gives whether the call is made, and where it is not, that nothing more happens.
     pub fn asks(&mut self, call: Call, rule: Rule) -> Result<bool, Rule> {
-        match self.next()? {
+        match self.next(rule)? {
             Event::Told(Telling::Before(asked, Go::On)) if *asked == call => Ok(true),
             Event::Told(Telling::Before(asked, Go::Stop)) if *asked == call => {
                 self.ends(Rule::Stops)?;
@@ -106,7 +113,7 @@ impl<'a> Walk<'a> {
 
     /// The gate is told of what came.
     pub fn told_received(&mut self, from: Endpoint, octets: &[u8]) -> Result<(), Rule> {
-        match self.next()? {
+        match self.next(Rule::ToldReceived)? {
             Event::ToldReceived(told, text) if *told == from && text.as_slice() == octets => Ok(()),
             _ => Err(Rule::ToldReceived),
         }
@@ -114,7 +121,7 @@ impl<'a> Walk<'a> {
 
     /// The gate is told of a packet whose realm leads nowhere.
     pub fn told_no_realm(&mut self, octets: &[u8]) -> Result<(), Rule> {
-        match self.next()? {
+        match self.next(Rule::NoRealm)? {
             Event::ToldNoRealm(text) if text.as_slice() == octets => Ok(()),
             _ => Err(Rule::NoRealm),
         }
@@ -122,7 +129,7 @@ impl<'a> Walk<'a> {
 
     /// The gate is told by which request a lane went down.
     pub fn told_down(&mut self) -> Result<&'a DownBy, Rule> {
-        match self.next()? {
+        match self.next(Rule::DownBy)? {
             Event::ToldDown(down) => Ok(down),
             _ => Err(Rule::DownBy),
         }
@@ -130,11 +137,11 @@ impl<'a> Walk<'a> {
 
     /// These octets are sent, and the gate is told right before.
     pub fn sends(&mut self, octets: &[u8], rule: Rule) -> Result<&'a Gone, Rule> {
-        let (to, text) = match self.next()? {
+        let (to, text) = match self.next(rule)? {
             Event::ToldSends(to, text) => (to, text),
             _ => return Err(rule),
         };
-        match self.next()? {
+        match self.next(Rule::ToldSends)? {
             Event::Went(gone) => {
                 if gone.octets.as_slice() != octets {
                     return Err(rule);
