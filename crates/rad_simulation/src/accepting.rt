@@ -71,7 +71,7 @@ impl Book {
 
     /// How what repeats a request is taken; none where its span is over.
     fn repeat_of(&self, number: u64, now: u64) -> Option<Taking> {
-        let span = u64::from(self.home.limits.span);
+        let span = u64::from(self.limits.span);
         match self.at(number)?.answered {
             None => Some(Taking::Waiting),
             Some(moment) if now < moment.saturating_add(span) => Some(Taking::Again(number)),
@@ -84,10 +84,10 @@ impl Book {
         if self.is_drained {
             return Some(Refusal::Draining);
         }
-        if self.held() >= u64::from(self.home.limits.book) {
+        if self.held() >= u64::from(self.limits.book) {
             return Some(Refusal::BookFull);
         }
-        if self.queued() >= u64::from(self.home.limits.queue) {
+        if self.queued() >= u64::from(self.limits.queue) {
             return Some(Refusal::QueueFull);
         }
         if packet.octets().len() > LONGEST_REQUEST {

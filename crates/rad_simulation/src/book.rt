@@ -2,10 +2,11 @@
 //! `hearing.rt` and `stepping.rt`.
 
 use crate::making::{ACCT_SESSION_ID, first_value};
-use crate::setting::HomeSetting;
+use crate::setting::Home;
+use rad_auth::Secret;
 use rad_lane::Counts;
 use rad_packet::{Datagram, read};
-use rad_realms::Endpoint;
+use rad_realms::{Endpoint, LimitNumbers};
 use std::alloc::Global;
 
 /// A request that was accepted; its number is its place in the list.
@@ -45,7 +46,11 @@ pub struct Down {
 pub struct Book {
     pub alloc: Global,
     pub lane: u16,
-    pub home: HomeSetting,
+    /// Where the home server is.
+    pub endpoint: Endpoint,
+    /// The secret that the home server shares with the proxy.
+    pub secret: Secret,
+    pub limits: LimitNumbers,
     pub asked: Vec<Asked>,
     /// The number of the first request that is not cut off.
     pub opening: u64,
@@ -67,11 +72,13 @@ pub struct Book {
 }
 
 impl Book {
-    pub fn new(alloc: Global, lane: u16, home: HomeSetting) -> Book {
+    pub fn new(alloc: Global, lane: u16, home: &Home) -> Book {
         Book {
             alloc,
             lane,
-            home,
+            endpoint: home.endpoint,
+            secret: home.secret,
+            limits: home.limits,
             asked: Vec::new(alloc),
             opening: 0,
             sent: 0,
@@ -173,7 +180,7 @@ impl Book {
     /// Cuts the first requests that are over, and tells how many.
     pub fn cut(&mut self, moment: u64) -> u64 {
         let now = moment.max(self.last);
-        let span = u64::from(self.home.limits.span);
+        let span = u64::from(self.limits.span);
         let mut count: u64 = 0;
         for asked in self
             .asked
@@ -197,7 +204,7 @@ impl Book {
 
     /// The least moment at which something changes by itself, behind a moment.
     pub fn next_change(&self, now: u64) -> Option<u64> {
-        let span = u64::from(self.home.limits.span);
+        let span = u64::from(self.limits.span);
         let mut least = None;
         for out in self.out.as_slice() {
             if out.number.is_some() && self.down.is_none() {

@@ -5,7 +5,7 @@ use crate::book::Book;
 use crate::events::Telling;
 use crate::making::{USER_NAME, first_value, make_plain_answer};
 use crate::rules::Rule;
-use crate::setting::client_secret;
+use crate::setting::{client_secret, realm_of_home};
 use crate::shift::{Coming, Destination, Shift, Socket};
 use crate::walk::Walk;
 use rad_auth::{
@@ -123,7 +123,7 @@ impl Books {
             return if self.has_default { Some(0) } else { None };
         };
         for (place, book) in self.books.as_slice().iter().enumerate() {
-            if is_same_realm(realm, book.home.facts.realm.as_bytes()) {
+            if is_same_realm(realm, realm_of_home(book.lane).as_bytes()) {
                 return Some(place);
             }
         }

@@ -21,7 +21,7 @@ impl Book {
     /// Hears a datagram of the home server that came to a source port.
     pub fn hear(&mut self, moment: u64, port: u16, datagram: &[u8]) -> Result<Hearing, Rule> {
         let waiting = self.answers.len().saturating_sub(self.taken);
-        if waiting as u64 >= u64::from(self.home.limits.ring) {
+        if waiting as u64 >= u64::from(self.limits.ring) {
             return Ok(Hearing::Fault(DeskFault::RingFull));
         }
         let packet = match read(datagram) {
@@ -48,7 +48,7 @@ impl Book {
         let Ok(sent) = read(out.octets.as_slice()) else {
             return Err(HearFault::Unknown);
         };
-        if !check_response(packet, &sent.authenticator(), &self.home.secret) {
+        if !check_response(packet, &sent.authenticator(), &self.secret) {
             return Err(HearFault::BadAuthenticator);
         }
         let Some(number) = out.number else {

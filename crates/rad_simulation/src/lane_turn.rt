@@ -25,7 +25,7 @@ pub fn lane_turn(book: &mut Book, shift: &mut Shift, walk: &mut Walk<'_>) -> Res
 
 /// The lane hears what came from its home server.
 fn hear(book: &mut Book, coming: &Coming<'_>, walk: &mut Walk<'_>) -> Result<bool, Rule> {
-    if coming.from != book.home.facts.endpoint {
+    if coming.from != book.endpoint {
         walk.notes(Note::NotHome, Rule::NotHome)?;
         return Ok(true);
     }
@@ -90,7 +90,7 @@ fn send(
         rule: Rule::SourcePort,
     };
     let to = Destination {
-        endpoint: book.home.facts.endpoint,
+        endpoint: book.endpoint,
         rule: Rule::Home,
     };
     shift.send(walk, from, to, out.octets.as_slice(), rule)
@@ -124,7 +124,7 @@ fn turn(
     shift: &mut Shift,
     walk: &mut Walk<'_>,
 ) -> Result<bool, Rule> {
-    let is_half_full = book.held().saturating_mul(2) >= u64::from(book.home.limits.book);
+    let is_half_full = book.held().saturating_mul(2) >= u64::from(book.limits.book);
     if !walk.is_asked(Call::Turn) {
         let is_late = match shift.turned {
             Some(turned) => turned.saturating_add(TURNED_WITHIN) <= moment,

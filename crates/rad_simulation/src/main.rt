@@ -61,9 +61,9 @@ fn run_all<R: AllocGlobal + Print + Wait>(rt: &R, first: u64, count: u64) -> u8 
         let seed = first.saturating_add(place);
         let outcome = run_seed(rt, rt.alloc(), seed);
         turns = turns.saturating_add(outcome.turns);
-        if let Some((rule, seen)) = outcome.broken {
+        if let Some(rule) = outcome.broken {
             let turn = outcome.turns;
-            let _ = println!(rt; "seed {seed} turn {turn}: {rule} (seen last: {seen})");
+            let _ = println!(rt; "seed {seed} turn {turn}: {rule}");
             return FAILED;
         }
     }

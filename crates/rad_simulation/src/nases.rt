@@ -5,7 +5,7 @@ use crate::making::{
     ACCT_SESSION_ID, CLASS, USER_NAME, make_status_server, mark_value, push, sign_request,
 };
 use crate::rules::Rule;
-use crate::setting::{CLIENTS, ClientFacts, Setting};
+use crate::setting::{Setting, client_address, client_secret, realm_of_home};
 use rad_auth::{ACCOUNTING_REQUEST, MESSAGE_AUTHENTICATOR, PROXY_STATE, Secret};
 use rad_packet::Datagram;
 use rad_realms::Endpoint;
@@ -52,13 +52,12 @@ impl Nases {
         if !self.letters.is_empty() && chance.is_one_in(repeats) {
             return self.repeat(chance);
         }
-        let Some(client) = chance.pick(&CLIENTS).copied() else {
+        let address = client_address(chance.is_one_in(2));
+        let Some(secret) = client_secret(address) else {
             return Err(Rule::Configuration);
         };
-        let Ok(secret) = Secret::new(client.secret.as_bytes()) else {
-            return Err(Rule::Configuration);
-        };
-        let from = endpoint_of(chance, &client);
+        let port = if chance.is_one_in(3) { 40_001 } else { 40_000 };
+        let from = Endpoint { address, port };
         if chance.is_one_in(20) {
             let authenticator = chance.authenticator();
             make_status_server(&mut self.draft, chance.octet(), authenticator, &secret);
@@ -138,13 +137,6 @@ impl Nases {
     }
 }
 
-fn endpoint_of(chance: &mut Chance, client: &ClientFacts) -> Endpoint {
-    Endpoint {
-        address: client.address,
-        port: if chance.is_one_in(3) { 40_001 } else { 40_000 },
-    }
-}
-
 /// A User-Name: mostly of a realm that leads to a home server.
 fn push_name(draft: &mut Datagram, chance: &mut Chance, setting: &Setting) {
     match chance.below(40) {
@@ -154,21 +146,24 @@ fn push_name(draft: &mut Datagram, chance: &mut Chance, setting: &Setting) {
         3 => push(draft, USER_NAME, b"a@other.org@EXAMPLE.org"),
         4 => {}
         _ => {
-            let name: &[u8] = match chance.pick(setting.homes.as_slice()) {
-                Some(home) => name_in(home.facts.realm),
-                None => b"bob",
-            };
-            push(draft, USER_NAME, name);
+            let place = chance.below(setting.homes.len() as u64);
+            push_name_in(draft, realm_of_home((place & 3) as u16));
         }
     }
 }
 
-/// A name in a realm.
-fn name_in(realm: &str) -> &'static [u8] {
-    match realm {
-        "example.org" => b"bob@example.org",
-        "other.org" => b"bob@other.org",
-        _ => b"bob@third.net",
+/// A User-Name in a realm.
+fn push_name_in(draft: &mut Datagram, realm: &str) {
+    let mut name = [0; 32];
+    let octets = realm.as_bytes();
+    name[..4].copy_from_slice(b"bob@");
+    for (place, octet) in octets.iter().enumerate() {
+        if let Some(kept) = name.get_mut(place.saturating_add(4)) {
+            *kept = *octet;
+        }
+    }
+    if let Some(text) = name.get(..octets.len().saturating_add(4)) {
+        push(draft, USER_NAME, text);
     }
 }
 

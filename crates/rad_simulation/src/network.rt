@@ -5,7 +5,7 @@ use crate::events::{Came, Gone, Mail};
 use crate::making::{CLASS, push, sign_response};
 use crate::nases::turn_a_bit;
 use crate::rules::Rule;
-use crate::setting::{HomeSetting, Setting};
+use crate::setting::{Home, Setting};
 use crate::trace::Arrival;
 use rad_auth::{ACCOUNTING_RESPONSE, MESSAGE_AUTHENTICATOR, PROXY_STATE, STATUS_SERVER};
 use rad_packet::{Datagram, PacketRef, read};
@@ -168,7 +168,7 @@ impl Network {
         &mut self,
         chance: &mut Chance,
         setting: &Setting,
-        home: &HomeSetting,
+        home: &Home,
         sent: &PacketRef<'_>,
     ) {
         let fault = if setting.is_hurried {
@@ -210,16 +210,13 @@ fn push_states(draft: &mut Datagram, sent: &PacketRef<'_>) {
 
 /// An endpoint that differs from a home server's in its address, or in its port.
 fn nobody(home: Endpoint, chance: &mut Chance) -> Endpoint {
+    let Endpoint { address, port } = home;
     if chance.is_one_in(2) {
-        Endpoint {
-            address: [127, 0, 0, 3],
-            port: home.port,
-        }
+        let address = [127, 0, 0, 3];
+        Endpoint { address, port }
     } else {
-        Endpoint {
-            address: home.address,
-            port: 2815,
-        }
+        let port = 2815;
+        Endpoint { address, port }
     }
 }
 

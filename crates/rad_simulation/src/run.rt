@@ -25,8 +25,8 @@ use std::sync::Wait;
 pub struct Outcome {
     /// How many turns there were.
     pub turns: u64,
-    /// The rule that was broken in the last of them, if one was, and what was seen there.
-    pub broken: Option<(Rule, &'static str)>,
+    /// The rule that was broken in the last of them, if one was.
+    pub broken: Option<Rule>,
 }
 
 /// A run that goes on.
@@ -44,8 +44,6 @@ pub struct Run {
     pub trace: Trace,
     pub clock: u64,
     pub turns: u64,
-    /// What was seen last.
-    pub seen: &'static str,
 }
 
 /// Runs a seed.
@@ -55,12 +53,12 @@ pub fn run_seed(rt: &impl Wait, alloc: Global, seed: u64) -> Outcome {
         Err(rule) => {
             return Outcome {
                 turns: 0,
-                broken: Some((rule, "nothing")),
+                broken: Some(rule),
             };
         }
     };
     let went = run.go(rt);
-    let (turns, seen) = (run.turns, run.seen);
+    let turns = run.turns;
     let ended = match went {
         Ok(()) => run.end(),
         Err(rule) => {
@@ -70,7 +68,7 @@ pub fn run_seed(rt: &impl Wait, alloc: Global, seed: u64) -> Outcome {
     };
     let broken = match ended {
         Ok(()) => None,
-        Err(rule) => Some((rule, seen)),
+        Err(rule) => Some(rule),
     };
     Outcome { turns, broken }
 }
@@ -99,7 +97,6 @@ fn begin(alloc: Global, seed: u64) -> Result<Run, Rule> {
         trace: Trace::new(alloc),
         clock: 0,
         turns: 0,
-        seen: "nothing",
     })
 }
 
@@ -107,7 +104,7 @@ fn begin(alloc: Global, seed: u64) -> Result<Run, Rule> {
 fn books_of(alloc: Global, setting: &Setting) -> Result<Books, Rule> {
     let mut books = Vec::new(alloc);
     for (lane, home) in setting.homes.as_slice().iter().enumerate() {
-        books.push(Book::new(alloc, (lane & 0xffff) as u16, *home))?;
+        books.push(Book::new(alloc, (lane & 0xffff) as u16, home))?;
     }
     Ok(Books {
         books,
@@ -119,7 +116,7 @@ fn books_of(alloc: Global, setting: &Setting) -> Result<Books, Rule> {
 impl Run {
     /// Has the workers take their turns.
     fn go(&mut self, rt: &impl Wait) -> Result<(), Rule> {
-        for _ in 0..self.setting.steps {
+        for _ in 0..self.setting.calls {
             self.step(rt)?;
         }
         Ok(())
@@ -127,7 +124,6 @@ impl Run {
 
     /// Something may happen outside, and then one worker is called.
     fn step(&mut self, rt: &impl Wait) -> Result<(), Rule> {
-        self.seen = "nothing";
         let sends = if self.setting.is_hurried { 1 } else { 3 };
         if self.chance.is_one_in(sends) {
             self.have_nas_send()?;
@@ -234,7 +230,6 @@ impl Run {
         let mut walk = Walk::new(events, tally.turns == turns);
         let mut shift = Shift::new();
         let compared = self.compare_turns(lane, turns, &mut shift, &mut walk);
-        self.seen = walk.last();
         self.turns = self.turns.saturating_add(shift.tally.turns);
         compared?;
         if shift.tally == tally {

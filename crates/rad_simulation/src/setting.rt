@@ -1,4 +1,4 @@
-//! What stands for a whole run: the clients, the home servers and their limits, and how good the network is.
+//! What stands for a whole run: the home servers with their limits, and how good the network is.
 
 use crate::chance::Chance;
 use crate::rules::Rule;
@@ -6,75 +6,20 @@ use rad_auth::Secret;
 use rad_realms::{Endpoint, LimitNumbers};
 use std::alloc::Global;
 
-/// A client that the configuration names.
-#[derive(Clone, Copy)]
-pub struct ClientFacts {
-    pub address: [u8; 4],
-    pub text: &'static str,
-    pub secret: &'static str,
-}
-
-pub const CLIENTS: [ClientFacts; 2] = [
-    ClientFacts {
-        address: [10, 0, 0, 1],
-        text: "10.0.0.1",
-        secret: "nas-secret",
-    },
-    ClientFacts {
-        address: [10, 0, 0, 2],
-        text: "10.0.0.2",
-        secret: "second-secret",
-    },
-];
-
-/// What is fixed of a home server.
-#[derive(Clone, Copy)]
-pub struct HomeFacts {
-    pub name: &'static str,
-    pub endpoint: Endpoint,
-    pub text: &'static str,
-    pub secret: &'static str,
-    pub realm: &'static str,
-}
-
-/// Of which a run has the first one, two or three. Two of them have one port, and two one address.
-const HOMES: [HomeFacts; 3] = [
-    HomeFacts {
-        name: "h0",
-        endpoint: Endpoint {
-            address: [127, 0, 0, 1],
-            port: 2813,
-        },
-        text: "127.0.0.1:2813",
-        secret: "home-secret",
-        realm: "example.org",
-    },
-    HomeFacts {
-        name: "h1",
-        endpoint: Endpoint {
-            address: [127, 0, 0, 2],
-            port: 2813,
-        },
-        text: "127.0.0.2:2813",
-        secret: "other-secret",
-        realm: "other.org",
-    },
-    HomeFacts {
-        name: "h2",
-        endpoint: Endpoint {
-            address: [127, 0, 0, 1],
-            port: 2814,
-        },
-        text: "127.0.0.1:2814",
-        secret: "third-secret",
-        realm: "third.net",
-    },
-];
+/// Both clients.
+const CLIENTS: &str = r#"
+[[client]]
+address = "10.0.0.1"
+secret = "nas-secret"
+[[client]]
+address = "10.0.0.2"
+secret = "second-secret"
+"#;
 
 /// A home server of a run.
-#[derive(Clone, Copy)]
-pub struct HomeSetting {
-    pub facts: HomeFacts,
+#[derive(Drop)]
+pub struct Home {
+    pub endpoint: Endpoint,
     pub secret: Secret,
     pub limits: LimitNumbers,
 }
@@ -82,7 +27,8 @@ pub struct HomeSetting {
 /// What stands for a whole run.
 #[derive(Drop)]
 pub struct Setting {
-    pub homes: Vec<HomeSetting>,
+    /// One to three home servers.
+    pub homes: Vec<Home>,
     /// Whether a request without a realm leads to the first home server.
     pub has_default: bool,
     /// Whether requests come as fast as they are answered, so that identifiers go round.
@@ -96,34 +42,49 @@ pub struct Setting {
     /// A lane is drained after one call in so many; 0 where none is.
     pub drains: u64,
     /// How many calls of a worker there are.
-    pub steps: u64,
+    pub calls: u64,
 }
 
 impl Setting {
     pub fn draw(alloc: Global, chance: &mut Chance) -> Result<Setting, Rule> {
         let is_hurried = chance.is_one_in(8);
-        let mut homes = Vec::new(alloc);
-        let count = if is_hurried { 1 } else { chance.between(1, 3) };
-        for facts in HOMES.iter() {
-            if (homes.len() as u64) < count {
-                add_home(&mut homes, *facts, limits(chance, is_hurried))?;
-            }
-        }
         let is_calm = is_hurried || chance.is_one_in(4);
-        Ok(Setting {
-            homes,
+        let mut setting = Setting {
+            homes: Vec::new(alloc),
             has_default: chance.is_one_in(2),
             is_hurried,
             losses: if is_calm { 0 } else { chance.between(5, 20) },
             faults: if is_calm { 0 } else { chance.between(10, 60) },
             stops: if chance.is_one_in(3) { 20 } else { 0 },
             drains: if chance.is_one_in(4) { 300 } else { 0 },
-            steps: if is_hurried {
+            calls: if is_hurried {
                 1300
             } else {
                 chance.between(100, 700)
             },
-        })
+        };
+        let homes = if is_hurried { 1 } else { chance.between(1, 3) };
+        for place in 0..homes {
+            setting.add_home((place & 3) as u16, chance)?;
+        }
+        Ok(setting)
+    }
+
+    fn add_home(&mut self, place: u16, chance: &mut Chance) -> Result<(), Rule> {
+        let Ok(secret) = Secret::new(home_secret(place).as_bytes()) else {
+            return Err(Rule::Configuration);
+        };
+        let limits = if self.is_hurried {
+            hurried_limits(chance)
+        } else {
+            limits(chance)
+        };
+        self.homes.push(Home {
+            endpoint: home_endpoint(place),
+            secret,
+            limits,
+        })?;
+        Ok(())
     }
 
     /// The configuration's text.
@@ -132,55 +93,16 @@ impl Setting {
         if self.has_default {
             text.push_str("default_home = \"h0\"\n")?;
         }
-        for client in CLIENTS.iter() {
-            let (address, secret) = (client.text, client.secret);
-            let table = format!(in alloc;
-                "[[client]]\naddress = \"{address}\"\nsecret = \"{secret}\"\n"
-            )?;
-            text.push_str(table.as_str())?;
-        }
-        for home in self.homes.as_slice() {
-            push_home(alloc, &mut text, home)?;
+        text.push_str(CLIENTS)?;
+        for (place, home) in self.homes.as_slice().iter().enumerate() {
+            push_home(alloc, &mut text, (place & 3) as u16, home)?;
         }
         Ok(text)
     }
 }
 
-fn add_home(
-    homes: &mut Vec<HomeSetting>,
-    facts: HomeFacts,
-    limits: LimitNumbers,
-) -> Result<(), Rule> {
-    let Ok(secret) = Secret::new(facts.secret.as_bytes()) else {
-        return Err(Rule::Configuration);
-    };
-    let home = HomeSetting {
-        facts,
-        secret,
-        limits,
-    };
-    match homes.push(home) {
-        Ok(()) => Ok(()),
-        Err(_) => Err(Rule::Memory),
-    }
-}
-
-/// The limits of a home server: small ones, and ones that nothing comes up to.
-fn limits(chance: &mut Chance, is_hurried: bool) -> LimitNumbers {
-    if is_hurried {
-        return LimitNumbers {
-            window: one_of(chance, &[4, 20, 200]),
-            queue: 64,
-            book: one_of(chance, &[40, 300, 1000]),
-            tries: 2,
-            first_wait: 400,
-            probe_every: 1000,
-            down_wait: 2500,
-            span: one_of(chance, &[0, 20, 300]),
-            ring: one_of(chance, &[2, 16, 64]),
-            ports: one_of(chance, &[1, 2, 3]),
-        };
-    }
+/// Limits of which many are so small that they are come up to.
+fn limits(chance: &mut Chance) -> LimitNumbers {
     LimitNumbers {
         window: one_of(chance, &[1, 2, 3, 8, 64, 254]),
         queue: one_of(chance, &[1, 2, 4, 64]),
@@ -195,59 +117,103 @@ fn limits(chance: &mut Chance, is_hurried: bool) -> LimitNumbers {
     }
 }
 
+/// Limits by which more than 256 requests go through a lane.
+fn hurried_limits(chance: &mut Chance) -> LimitNumbers {
+    LimitNumbers {
+        window: one_of(chance, &[4, 20, 200]),
+        queue: 64,
+        book: one_of(chance, &[40, 300, 1000]),
+        tries: 2,
+        first_wait: 400,
+        probe_every: 1000,
+        down_wait: 2500,
+        span: one_of(chance, &[0, 20, 300]),
+        ring: one_of(chance, &[2, 16, 64]),
+        ports: one_of(chance, &[1, 2, 3]),
+    }
+}
+
 fn one_of(chance: &mut Chance, numbers: &[u32]) -> u32 {
     chance.pick(numbers).copied().unwrap_or(1)
 }
 
 /// The tables of a home server and of its realm.
-fn push_home(alloc: Global, text: &mut String, home: &HomeSetting) -> Result<(), Rule> {
-    let HomeFacts {
-        name,
-        text: address,
-        secret,
-        realm,
-        ..
-    } = home.facts;
-    let table = format!(in alloc;
-        "[[realm]]\nname = \"{realm}\"\nhome = \"{name}\"\n[[home]]\nname = \"{name}\"\naddress = \"{address}\"\nsecret = \"{secret}\"\n"
-    )?;
+fn push_home(alloc: Global, text: &mut String, place: u16, home: &Home) -> Result<(), Rule> {
+    let (realm, address, secret) = (
+        realm_of_home(place),
+        home_address(place),
+        home_secret(place),
+    );
+    let table = format!(in alloc; "[[realm]]\nname = \"{realm}\"\nhome = \"h{place}\"\n")?;
     text.push_str(table.as_str())?;
-    let LimitNumbers {
-        window,
-        queue,
-        book,
-        tries,
-        first_wait,
-        probe_every,
-        down_wait,
-        span,
-        ring,
-        ports,
-    } = home.limits;
-    for (key, number) in [
-        ("window", window),
-        ("queue", queue),
-        ("book", book),
-        ("tries", tries),
-        ("first_wait", first_wait),
-        ("probe_every", probe_every),
-        ("down_wait", down_wait),
-        ("span", span),
-        ("ring", ring),
-        ("ports", ports),
-    ] {
-        let line = format!(in alloc; "{key} = {number}\n")?;
-        text.push_str(line.as_str())?;
-    }
+    let table = format!(in alloc; "[[home]]\nname = \"h{place}\"\naddress = \"{address}\"\n")?;
+    text.push_str(table.as_str())?;
+    let line = format!(in alloc; "secret = \"{secret}\"\n")?;
+    text.push_str(line.as_str())?;
+    let limits = home.limits;
+    push_number(alloc, text, "window", limits.window)?;
+    push_number(alloc, text, "queue", limits.queue)?;
+    push_number(alloc, text, "book", limits.book)?;
+    push_number(alloc, text, "tries", limits.tries)?;
+    push_number(alloc, text, "first_wait", limits.first_wait)?;
+    push_number(alloc, text, "probe_every", limits.probe_every)?;
+    push_number(alloc, text, "down_wait", limits.down_wait)?;
+    push_number(alloc, text, "span", limits.span)?;
+    push_number(alloc, text, "ring", limits.ring)?;
+    push_number(alloc, text, "ports", limits.ports)
+}
+
+fn push_number(alloc: Global, text: &mut String, key: &str, number: u32) -> Result<(), Rule> {
+    let line = format!(in alloc; "{key} = {number}\n")?;
+    text.push_str(line.as_str())?;
     Ok(())
+}
+
+/// The realm that leads to a home server.
+pub fn realm_of_home(place: u16) -> &'static str {
+    match place {
+        0 => "example.org",
+        1 => "other.org",
+        _ => "third.net",
+    }
+}
+
+/// Two home servers have one port, and two one address.
+fn home_address(place: u16) -> &'static str {
+    match place {
+        0 => "127.0.0.1:2813",
+        1 => "127.0.0.2:2813",
+        _ => "127.0.0.1:2814",
+    }
+}
+
+fn home_endpoint(place: u16) -> Endpoint {
+    Endpoint {
+        address: [127, 0, 0, if place == 1 { 2 } else { 1 }],
+        port: if place == 2 { 2814 } else { 2813 },
+    }
+}
+
+fn home_secret(place: u16) -> &'static str {
+    match place {
+        0 => "home-secret",
+        1 => "other-secret",
+        _ => "third-secret",
+    }
+}
+
+/// The address of a client.
+pub fn client_address(is_first: bool) -> [u8; 4] {
+    [10, 0, 0, if is_first { 1 } else { 2 }]
 }
 
 /// The secret of the client of this address.
 pub fn client_secret(address: [u8; 4]) -> Option<Secret> {
-    for client in CLIENTS.iter() {
-        if client.address == address {
-            return Secret::new(client.secret.as_bytes()).ok();
-        }
+    if address == client_address(true) {
+        return Secret::new(b"nas-secret").ok();
+    }
+    if address == client_address(false) {
+        return Secret::new(b"second-secret").ok();
     }
     None
 }

@@ -51,12 +51,12 @@ impl Book {
         }
         if let Some(place) = self.least_due(true, now) {
             self.down = Some(Down {
-                until: now.saturating_add(u64::from(self.home.limits.down_wait)),
+                until: now.saturating_add(u64::from(self.limits.down_wait)),
                 next_probe: now,
             });
             return Ok(Doing::GoDown(self.number_at(place).unwrap_or(0)));
         }
-        let window = self.home.limits.window as usize;
+        let window = self.limits.window as usize;
         if self.queued() > 0 && self.outstanding() < window {
             let place = self.send_first(now)?;
             return Ok(Doing::Send(place));
@@ -68,7 +68,7 @@ impl Book {
     fn least_due(&self, is_spent: bool, now: u64) -> Option<usize> {
         let mut least: Option<(u64, u64, usize)> = None;
         for (place, out) in self.out.as_slice().iter().enumerate() {
-            let spent = out.sendings >= self.home.limits.tries;
+            let spent = out.sendings >= self.limits.tries;
             if let Some(number) = out.number
                 && out.due <= now
                 && spent == is_spent
@@ -81,7 +81,7 @@ impl Book {
     }
 
     fn send_again(&mut self, place: usize, now: u64) {
-        let first_wait = self.home.limits.first_wait;
+        let first_wait = self.limits.first_wait;
         if let Some(out) = self.out.as_mut_slice().get_mut(place) {
             out.sendings = out.sendings.saturating_add(1);
             out.due = now.saturating_add(wait_after(first_wait, out.sendings));
@@ -96,16 +96,10 @@ impl Book {
         if let Some(asked) = place_of(number).and_then(|place| self.asked.as_slice().get(place))
             && let Ok(request) = read(asked.text.as_slice())
         {
-            make_forwarded(
-                &mut self.draft,
-                &request,
-                identifier,
-                &mark,
-                &self.home.secret,
-            );
+            make_forwarded(&mut self.draft, &request, identifier, &mark, &self.secret);
         }
         self.sent = number.saturating_add(1);
-        let due = now.saturating_add(wait_after(self.home.limits.first_wait, 1));
+        let due = now.saturating_add(wait_after(self.limits.first_wait, 1));
         self.put_out(Some(number), due)
     }
 
@@ -125,7 +119,7 @@ impl Book {
 
     /// Takes the first free pair behind the one that was taken last.
     fn take_pair(&mut self) {
-        let pairs = self.home.limits.ports.saturating_mul(256);
+        let pairs = self.limits.ports.saturating_mul(256);
         for _ in 0..pairs {
             let next = self.pair.saturating_add(1);
             self.pair = if next < pairs { next } else { 0 };
@@ -144,11 +138,11 @@ impl Book {
             self.forget_probe();
             self.take_pair();
             let identifier = (self.pair % 256) as u8;
-            make_status_server(&mut self.draft, identifier, drawn, &self.home.secret);
+            make_status_server(&mut self.draft, identifier, drawn, &self.secret);
             let place = self.put_out(None, 0)?;
             self.down = Some(Down {
                 until: down.until,
-                next_probe: now.saturating_add(u64::from(self.home.limits.probe_every)),
+                next_probe: now.saturating_add(u64::from(self.limits.probe_every)),
             });
             return Ok(Doing::Probe(place));
         }

@@ -154,38 +154,4 @@ impl<'a> Walk<'a> {
             _ => Err(Rule::ToldSends),
         }
     }
-
-    /// What was looked at last, in a word or two.
-    pub fn last(&self) -> &'static str {
-        match self.events.get(self.place.saturating_sub(1)) {
-            Some(Event::Received(..)) => "a receive",
-            Some(Event::Drew(_)) => "a draw",
-            Some(Event::Went(_)) => "a send",
-            Some(Event::ToldReceived(..)) => "word of what came",
-            Some(Event::ToldSends(..)) => "word of what is sent",
-            Some(Event::ToldDown(_)) => "word of a lane that went down",
-            Some(Event::ToldNoRealm(_)) => "word of a realm",
-            Some(Event::Told(telling)) => name_of(telling),
-            None => "nothing",
-        }
-    }
-}
-
-fn name_of(telling: &Telling) -> &'static str {
-    match telling {
-        Telling::Before(Call::Turn, _) => "a question before a turn",
-        Telling::Before(..) => "a question",
-        Telling::After(_) => "word of a call",
-        Telling::Note(Note::Cut(_)) => "a note of a cut",
-        Telling::Note(Note::WentDown) => "a note that a lane is down",
-        Telling::Note(Note::WentUp) => "a note that a lane is up",
-        Telling::Note(Note::Took(..)) => "a note that a response was taken",
-        Telling::Note(Note::ReceiveFault) | Telling::Note(Note::SendFault) => "a note of a fault",
-        Telling::Note(_) => "a note of what is dropped",
-        Telling::Accepted(..) => "word of an accepted request",
-        Telling::Answered(..) => "word of an answer",
-        Telling::WentUp(..) => "word of a lane that went up",
-        Telling::Marked(..) => "word of marks",
-        Telling::OfAnother => "word in another worker's name",
-    }
 }
