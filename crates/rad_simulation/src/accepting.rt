@@ -42,14 +42,11 @@ impl Book {
         moment: u64,
     ) -> Result<Taking, Rule> {
         let now = moment.max(self.last);
-        if let Some(number) = self.last_of(from, packet) {
-            match self.repeat_of(number, now) {
-                Some(taking) => {
-                    self.last = now;
-                    return Ok(taking);
-                }
-                None => {}
-            }
+        if let Some(number) = self.last_of(from, packet)
+            && let Some(taking) = self.repeat_of(number, now)
+        {
+            self.last = now;
+            return Ok(taking);
         }
         if let Some(refusal) = self.refusal_of(packet) {
             return Ok(Taking::Refused(refusal));

@@ -40,9 +40,11 @@ impl Books {
     /// Compares a turn. It gives whether the front goes on.
     pub fn front_turn(&mut self, shift: &mut Shift, walk: &mut Walk<'_>) -> Result<bool, Rule> {
         let beginning = shift.begin(walk)?;
-        if let Some(coming) = &beginning.coming
-            && !self.take_in(coming, shift, walk)?
-        {
+        let goes_on = match &beginning.coming {
+            Some(coming) => self.take_in(coming, shift, walk)?,
+            None => true,
+        };
+        if !goes_on {
             return Ok(false);
         }
         self.hand_out(shift, walk)
@@ -119,7 +121,11 @@ impl Books {
 
     /// The place of the lane that a request leads to.
     fn lane_of(&self, packet: &PacketRef<'_>) -> Option<usize> {
-        let Some(realm) = first_value(packet, USER_NAME).and_then(realm_of) else {
+        let realm = match first_value(packet, USER_NAME) {
+            Some(name) => realm_of(name),
+            None => None,
+        };
+        let Some(realm) = realm else {
             return if self.has_default { Some(0) } else { None };
         };
         for (place, book) in self.books.as_slice().iter().enumerate() {

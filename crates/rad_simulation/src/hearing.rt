@@ -8,6 +8,7 @@ use rad_auth::{ACCOUNTING_RESPONSE, MESSAGE_AUTHENTICATOR, PROXY_STATE, check_re
 use rad_desk::DeskFault;
 use rad_lane::HearFault;
 use rad_packet::{PacketRef, read};
+use rad_realms::Endpoint;
 
 /// What a datagram of the home server is.
 #[derive(Clone, Copy, Debug, PartialEq, Eq)]
@@ -100,26 +101,29 @@ impl Book {
         self.out.as_slice().get(place)?.number
     }
 
+    /// A request is answered by a reply: its response is made.
     fn answer(&mut self, now: u64, number: u64, reply: &PacketRef<'_>) -> Result<(), Rule> {
-        let Some(asked) = place_of(number).and_then(|place| self
-            .asked
-            .as_mut_slice()
-            .get_mut(place)) else {
+        let Some((from, identifier, authenticator)) = self.key_of(number) else {
             return Ok(());
         };
-        let Some(secret) = client_secret(asked.from.address) else {
+        let Some(secret) = client_secret(from.address) else {
             return Ok(());
         };
-        make_response(
-            &mut self.draft,
-            reply,
-            asked.identifier,
-            &asked.authenticator,
-            &secret,
-        );
-        asked.response = self.draft.bytes().to_vec(self.alloc)?;
-        asked.answered = Some(now);
+        make_response(&mut self.draft, reply, identifier, &authenticator, &secret);
+        let response = self.draft.bytes().to_vec(self.alloc)?;
+        if let Some(place) = place_of(number)
+            && let Some(asked) = self.asked.as_mut_slice().get_mut(place)
+        {
+            asked.response = response;
+            asked.answered = Some(now);
+        }
         Ok(())
+    }
+
+    /// Who sent a request, and its Identifier and Authenticator.
+    fn key_of(&self, number: u64) -> Option<(Endpoint, u8, [u8; 16])> {
+        let asked = self.at(number)?;
+        Some((asked.from, asked.identifier, asked.authenticator))
     }
 }
 

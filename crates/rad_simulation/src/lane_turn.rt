@@ -15,9 +15,11 @@ const TURNED_WITHIN: u64 = 10;
 /// Compares a turn. It gives whether the worker goes on.
 pub fn lane_turn(book: &mut Book, shift: &mut Shift, walk: &mut Walk<'_>) -> Result<bool, Rule> {
     let beginning = shift.begin(walk)?;
-    if let Some(coming) = &beginning.coming
-        && !hear(book, coming, walk)?
-    {
+    let goes_on = match &beginning.coming {
+        Some(coming) => hear(book, coming, walk)?,
+        None => true,
+    };
+    if !goes_on {
         return Ok(false);
     }
     step(book, beginning.moment, shift, walk)

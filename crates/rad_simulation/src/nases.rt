@@ -66,7 +66,7 @@ impl Nases {
         }
         let octets = self.draft.bytes().to_vec(self.alloc)?;
         self.keep(from, octets.as_slice())?;
-        self.spoil(chance, from, octets)
+        spoil(chance, from, octets)
     }
 
     /// Keeps what was sent.
@@ -116,25 +116,24 @@ impl Nases {
         }
         sign_request(draft, secret);
     }
+}
 
-    /// The same octets, but for one in a few: cut short, with a bit turned, with padding, or from nobody.
-    fn spoil(
-        &mut self,
-        chance: &mut Chance,
-        from: Endpoint,
-        octets: Vec<u8>,
-    ) -> Result<(Endpoint, Vec<u8>), Rule> {
-        let mut octets = octets;
-        let mut from = from;
-        match chance.below(60) {
-            0 => turn_a_bit(&mut octets, chance),
-            1 => octets.truncate(chance.below(60) as usize),
-            2 => octets.extend_from_slice(&[0xff; 7])?,
-            3 => from.address = [10, 0, 0, 9],
-            _ => {}
-        }
-        Ok((from, octets))
+/// The same octets, but for one in a few: cut short, with a bit turned, with padding, or from nobody.
+fn spoil(
+    chance: &mut Chance,
+    from: Endpoint,
+    octets: Vec<u8>,
+) -> Result<(Endpoint, Vec<u8>), Rule> {
+    let mut octets = octets;
+    let mut from = from;
+    match chance.below(60) {
+        0 => turn_a_bit(&mut octets, chance),
+        1 => octets.truncate(chance.below(60) as usize),
+        2 => octets.extend_from_slice(&[0xff; 7])?,
+        3 => from.address = [10, 0, 0, 9],
+        _ => {}
     }
+    Ok((from, octets))
 }
 
 /// A User-Name: mostly of a realm that leads to a home server.

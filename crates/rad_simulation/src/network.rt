@@ -82,23 +82,21 @@ impl Network {
 
     /// What arrives by a moment at a lane, or at the front: the first that was sent.
     pub fn arrive(&mut self, now: u64, lane: Option<u16>) -> Option<Mail> {
-        for place in 0..self.flying.len() {
-            match self.flying.as_slice().get(place) {
-                Some(flying) if flying.at <= now && flying.lane == lane => {
-                    return Some(self.take(place)?.mail);
-                }
-                _ => {}
+        let place = self.find(now, lane)?;
+        if place >= self.flying.len() {
+            return None;
+        }
+        let Flying { mail, .. } = self.flying.remove(place);
+        Some(mail)
+    }
+
+    fn find(&self, now: u64, lane: Option<u16>) -> Option<usize> {
+        for (place, flying) in self.flying.as_slice().iter().enumerate() {
+            if flying.at <= now && flying.lane == lane {
+                return Some(place);
             }
         }
         None
-    }
-
-    fn take(&mut self, place: usize) -> Option<Flying> {
-        if place < self.flying.len() {
-            Some(self.flying.remove(place))
-        } else {
-            None
-        }
     }
 
     /// What a worker did not receive flies on.

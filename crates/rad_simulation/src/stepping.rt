@@ -1,9 +1,10 @@
 //! What a lane does by itself, as the rules have it.
 
-use crate::book::{Book, Down, Out, place_of};
+use crate::book::{Asked, Book, Down, Out, place_of};
 use crate::making::{make_forwarded, make_status_server, mark_value};
 use crate::rules::Rule;
-use rad_packet::read;
+use rad_auth::Secret;
+use rad_packet::{Datagram, read};
 
 /// The longest wait for an answer.
 const LONGEST_WAIT: u64 = 120_000;
@@ -93,11 +94,11 @@ impl Book {
         self.take_pair();
         let identifier = (self.pair % 256) as u8;
         let mark = mark_value(self.lane, number);
-        if let Some(asked) = place_of(number).and_then(|place| self.asked.as_slice().get(place))
-            && let Ok(request) = read(asked.text.as_slice())
-        {
-            make_forwarded(&mut self.draft, &request, identifier, &mark, &self.secret);
-        }
+        let asked = match place_of(number) {
+            Some(place) => self.asked.as_slice().get(place),
+            None => None,
+        };
+        make_first(&mut self.draft, asked, identifier, &mark, &self.secret);
         self.sent = number.saturating_add(1);
         let due = now.saturating_add(wait_after(self.limits.first_wait, 1));
         self.put_out(Some(number), due)
@@ -150,10 +151,28 @@ impl Book {
     }
 }
 
+/// Makes what goes to the home server for a request.
+fn make_first(
+    draft: &mut Datagram,
+    asked: Option<&Asked>,
+    identifier: u8,
+    mark: &[u8; 10],
+    secret: &Secret,
+) {
+    let Some(asked) = asked else {
+        return;
+    };
+    if let Ok(request) = read(asked.text.as_slice()) {
+        make_forwarded(draft, &request, identifier, mark, secret);
+    }
+}
+
+/// Whether this one comes before the least so far.
 fn is_before(due: u64, number: u64, least: Option<(u64, u64, usize)>) -> bool {
     match least {
         None => true,
-        Some((other_due, other_number, _)) => (due, number) < (other_due, other_number),
+        Some((other_due, other_number, _)) => due < other_due
+            || (due == other_due && number < other_number),
     }
 }
 
