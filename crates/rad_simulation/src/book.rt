@@ -72,6 +72,7 @@ pub struct Book {
 }
 
 impl Book {
+    /// An empty book.
     pub fn new(alloc: Global, lane: u16, home: &Home) -> Book {
         Book {
             alloc,
@@ -93,6 +94,7 @@ impl Book {
         }
     }
 
+    /// How many requests were accepted since the first.
     pub fn accepted(&self) -> u64 {
         self.asked.len() as u64
     }
@@ -118,6 +120,7 @@ impl Book {
         count
     }
 
+    /// What the counts of the lane have to be.
     pub fn counts(&self) -> Counts {
         Counts {
             opening: self.opening,
@@ -151,6 +154,7 @@ impl Book {
         Some((serial as u64, number))
     }
 
+    /// Who sent a request.
     pub fn client_of(&self, number: u64) -> Option<Endpoint> {
         Some(self.at(number)?.from)
     }

@@ -7,6 +7,7 @@ pub struct Chance {
 }
 
 impl Chance {
+    /// The row of a seed, at its beginning.
     pub fn new(seed: u64) -> Chance {
         Chance { state: seed }
     }
@@ -50,8 +51,9 @@ impl Chance {
     /// Sixteen octets, as of a probe.
     pub fn authenticator(&mut self) -> [u8; 16] {
         let mut octets = [0; 16];
-        octets[..8].copy_from_slice(&self.draw().to_be_bytes());
-        octets[8..].copy_from_slice(&self.draw().to_be_bytes());
+        let (first, second) = (self.draw().to_be_bytes(), self.draw().to_be_bytes());
+        octets[..8].copy_from_slice(&first);
+        octets[8..].copy_from_slice(&second);
         octets
     }
 }

@@ -132,11 +132,13 @@ fn turn(
             Some(turned) => turned.saturating_add(TURNED_WITHIN) <= moment,
             None => true,
         };
-        return if is_half_full && is_late {
-            Err(Rule::MustTurn)
-        } else {
-            Ok(true)
-        };
+        if !walk.is_between_turns() {
+            return Err(Rule::Idle);
+        }
+        if is_half_full && is_late {
+            return Err(Rule::MustTurn);
+        }
+        return Ok(true);
     }
     if !is_half_full {
         return Err(Rule::Turn);

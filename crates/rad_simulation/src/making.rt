@@ -6,10 +6,13 @@ use rad_auth::{
 };
 use rad_packet::{Datagram, PacketRef};
 
+/// The Type of a User-Name (RFC 2865 section 5.1).
 pub const USER_NAME: u8 = 1;
 
+/// The Type of a Class (RFC 2865 section 5.25).
 pub const CLASS: u8 = 25;
 
+/// The Type of an Acct-Session-Id (RFC 2866 section 5.5).
 pub const ACCT_SESSION_ID: u8 = 44;
 
 /// The value of a lane's mark: its number in two octets, and the request's in eight.
@@ -25,11 +28,13 @@ pub fn push(datagram: &mut Datagram, kind: u8, value: &[u8]) {
     let _ = datagram.push(kind, value);
 }
 
+/// Signs a request.
 pub fn sign_request(datagram: &mut Datagram, secret: &Secret) {
     let authenticator = request_authenticator(&datagram.packet(), secret);
     datagram.set_authenticator(authenticator);
 }
 
+/// Signs an answer to a packet of this Authenticator.
 pub fn sign_response(datagram: &mut Datagram, asked: &[u8; 16], secret: &Secret) {
     let authenticator = response_authenticator(&datagram.packet(), asked, secret);
     datagram.set_authenticator(authenticator);

@@ -33,6 +33,7 @@ pub struct Nases {
 }
 
 impl Nases {
+    /// Nothing was sent yet.
     pub fn new(alloc: Global) -> Nases {
         Nases {
             alloc,

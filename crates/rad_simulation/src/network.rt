@@ -33,6 +33,7 @@ pub struct Network {
 }
 
 impl Network {
+    /// Nothing is on its way, and all home servers are alive.
     pub fn new(alloc: Global) -> Network {
         Network {
             alloc,

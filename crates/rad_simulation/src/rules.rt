@@ -43,6 +43,7 @@ pub enum Rule {
     WentDown,
     DownBy,
     WentUp,
+    Idle,
     MustTurn,
     Turn,
     Cut,
@@ -175,6 +176,7 @@ impl Rule {
                 "a lane goes down when a request that is due is spent, and not before",
             Rule::DownBy => "the gate is told by which request a lane went down",
             Rule::WentUp => "a lane that is down goes up once its time is over, and this is told",
+            Rule::Idle => "a lane that has nothing due and nothing to send is idle",
             Rule::MustTurn =>
                 "a book that is half full is turned at an idle step, within ten milliseconds",
             Rule::Turn => "a book is turned where it is half full, and by its own worker alone",

@@ -46,6 +46,7 @@ pub struct Setting {
 }
 
 impl Setting {
+    /// Draws one.
     pub fn draw(alloc: Global, chance: &mut Chance) -> Result<Setting, Rule> {
         let is_hurried = chance.is_one_in(8);
         let is_calm = is_hurried || chance.is_one_in(4);

@@ -31,6 +31,7 @@ pub struct Beginning<'a> {
 }
 
 impl Shift {
+    /// Nothing is done yet.
     pub fn new() -> Shift {
         Shift {
             tally: Tally {

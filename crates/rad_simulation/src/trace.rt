@@ -19,6 +19,7 @@ pub struct Trace {
 }
 
 impl Trace {
+    /// Nothing happened yet.
     pub fn new(alloc: Global) -> Trace {
         Trace {
             alloc,
@@ -67,6 +68,7 @@ pub struct TraceGate<'a> {
 }
 
 impl<'a> TraceGate<'a> {
+    /// It stops the worker before the call that is one too many.
     pub fn new(trace: &'a Trace, worker: Worker, calls: Option<u32>) -> TraceGate<'a> {
         TraceGate {
             trace,
@@ -186,6 +188,7 @@ pub struct TraceWire<'a> {
 }
 
 impl<'a> TraceWire<'a> {
+    /// It gives what is to come, turn by turn.
     pub fn new(
         trace: &'a Trace,
         arrivals: Vec<Arrival>,

@@ -18,6 +18,7 @@ pub struct Walk<'a> {
 }
 
 impl<'a> Walk<'a> {
+    /// It begins at the first event.
     pub fn new(events: &'a [Event], began_all: bool) -> Walk<'a> {
         Walk {
             events,
@@ -108,6 +109,14 @@ impl<'a> Walk<'a> {
         match self.peek() {
             Some(Event::Told(Telling::Before(asked, _))) => *asked == call,
             _ => false,
+        }
+    }
+
+    /// Whether the next turn begins here, or nothing more happens.
+    pub fn is_between_turns(&mut self) -> bool {
+        match self.peek() {
+            Some(Event::Received(..)) | None => true,
+            Some(_) => false,
         }
     }
 
