@@ -16,6 +16,8 @@ pub enum Rule {
     ReceiveFault,
     SendFault,
     ToldSends,
+    SendsOnce,
+    OwnName,
     Dropped,
     NoRealm,
     Marked,
@@ -92,7 +94,9 @@ impl Rule {
             | Rule::ToldReceived
             | Rule::ReceiveFault
             | Rule::SendFault
-            | Rule::ToldSends => self.text_of_turns(),
+            | Rule::ToldSends
+            | Rule::SendsOnce
+            | Rule::OwnName => self.text_of_turns(),
             Rule::Dropped
             | Rule::NoRealm
             | Rule::Marked
@@ -126,6 +130,8 @@ impl Rule {
             Rule::ToldReceived => "the gate is told what came, before all else",
             Rule::ReceiveFault => "a receive that fails is noted once, and ends nothing",
             Rule::SendFault => "a send that fails is noted once, and ends nothing",
+            Rule::SendsOnce => "a worker sends what a rule asks for, once, and nothing else",
+            Rule::OwnName => "a worker asks and tells in its own name",
             _ => "the gate is told what is to be sent, right before",
         }
     }

@@ -64,7 +64,7 @@ impl<'a> Walk<'a> {
         self.drawn = None;
         match self.next(Rule::Receive)? {
             Event::Received(moment, came) => Ok((*moment, came)),
-            _ => Err(Rule::Receive),
+            other => Err(rule_of(other, Rule::Receive)),
         }
     }
 
@@ -72,10 +72,7 @@ impl<'a> Walk<'a> {
     pub fn ends(&mut self, rule: Rule) -> Result<(), Rule> {
         match self.peek() {
             None => Ok(()),
-            Some(_) => {
-                self.place = self.place.saturating_add(1);
-                Err(rule)
-            }
+            Some(event) => Err(rule_of(event, rule)),
         }
     }
 
@@ -83,7 +80,7 @@ impl<'a> Walk<'a> {
     pub fn tells(&mut self, telling: Telling, rule: Rule) -> Result<(), Rule> {
         match self.next(rule)? {
             Event::Told(told) if *told == telling => Ok(()),
-            _ => Err(rule),
+            other => Err(rule_of(other, rule)),
         }
     }
 
@@ -100,7 +97,7 @@ impl<'a> Walk<'a> {
                 self.ends(Rule::Stops)?;
                 Ok(false)
             }
-            _ => Err(rule),
+            other => Err(rule_of(other, rule)),
         }
     }
 
@@ -162,5 +159,19 @@ impl<'a> Walk<'a> {
             }
             _ => Err(Rule::ToldSends),
         }
+    }
+}
+
+/// The rule that is broken by an event that should not be, where another was to be by this rule: its own, where it has one.
+fn rule_of(event: &Event, rule: Rule) -> Rule {
+    match event {
+        Event::Told(Telling::Note(Note::ReceiveFault)) => Rule::ReceiveFault,
+        Event::Told(Telling::Note(Note::SendFault)) => Rule::SendFault,
+        Event::Told(Telling::Note(Note::Took(..))) => Rule::Took,
+        Event::Told(Telling::Note(Note::Cut(_))) => Rule::Cut,
+        Event::Told(Telling::Before(Call::Turn, _)) => Rule::Turn,
+        Event::Told(Telling::OfAnother) => Rule::OwnName,
+        Event::ToldSends(..) | Event::Went(_) => Rule::SendsOnce,
+        _ => rule,
     }
 }
