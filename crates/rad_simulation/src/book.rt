@@ -135,7 +135,7 @@ impl Book {
 
     /// The request of a number.
     pub fn at(&self, number: u64) -> Option<&Asked> {
-        self.asked.as_slice().get(usize::try_from(number).ok()?)
+        asked_at(self.asked.as_slice(), number)
     }
 
     /// The response of a request; no octets where it has none.
@@ -237,6 +237,11 @@ fn earlier(least: Option<u64>, moment: u64, now: u64) -> Option<u64> {
         Some(other) => Some(other.min(moment)),
         None => Some(moment),
     }
+}
+
+/// The request of a number, among all.
+pub fn asked_at(asked: &[Asked], number: u64) -> Option<&Asked> {
+    asked.get(place_of(number)?)
 }
 
 /// The place of a number in a list.

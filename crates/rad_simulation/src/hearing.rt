@@ -1,13 +1,13 @@
 //! What a lane makes of a datagram of its home server, as the rules have it.
 
-use crate::book::{Book, Out, place_of};
+use crate::book::{Asked, Book, Out, asked_at, place_of};
 use crate::making::{last_value, make_response, mark_value};
 use crate::rules::Rule;
 use crate::setting::client_secret;
-use rad_auth::{ACCOUNTING_RESPONSE, MESSAGE_AUTHENTICATOR, PROXY_STATE, check_response};
+use rad_auth::{ACCOUNTING_RESPONSE, MESSAGE_AUTHENTICATOR, PROXY_STATE, Secret, check_response};
 use rad_desk::DeskFault;
 use rad_lane::HearFault;
-use rad_packet::{PacketRef, read};
+use rad_packet::{Datagram, PacketRef, read};
 use rad_realms::Endpoint;
 
 /// What a datagram of the home server is.
@@ -103,13 +103,11 @@ impl Book {
 
     /// A request is answered by a reply: its response is made.
     fn answer(&mut self, now: u64, number: u64, reply: &PacketRef<'_>) -> Result<(), Rule> {
-        let Some((from, identifier, authenticator)) = self.key_of(number) else {
+        let Some(secret) = self.secret_of_client(number) else {
             return Ok(());
         };
-        let Some(secret) = client_secret(from.address) else {
-            return Ok(());
-        };
-        make_response(&mut self.draft, reply, identifier, &authenticator, &secret);
+        let asked = asked_at(self.asked.as_slice(), number);
+        make_answer(&mut self.draft, asked, reply, &secret);
         let response = self.draft.bytes().to_vec(self.alloc)?;
         if let Some(place) = place_of(number)
             && let Some(asked) = self.asked.as_mut_slice().get_mut(place)
@@ -120,10 +118,22 @@ impl Book {
         Ok(())
     }
 
-    /// Who sent a request, and its Identifier and Authenticator.
-    fn key_of(&self, number: u64) -> Option<(Endpoint, u8, [u8; 16])> {
-        let asked = self.at(number)?;
-        Some((asked.from, asked.identifier, asked.authenticator))
+    /// The secret of the client that sent a request.
+    fn secret_of_client(&self, number: u64) -> Option<Secret> {
+        let Endpoint { address, .. } = self.client_of(number)?;
+        client_secret(address)
+    }
+}
+
+/// Makes the response to a request after a reply.
+fn make_answer(
+    draft: &mut Datagram,
+    asked: Option<&Asked>,
+    reply: &PacketRef<'_>,
+    secret: &Secret,
+) {
+    if let Some(asked) = asked {
+        make_response(draft, reply, asked.identifier, &asked.authenticator, secret);
     }
 }
 

@@ -1,6 +1,6 @@
 //! What a lane does by itself, as the rules have it.
 
-use crate::book::{Asked, Book, Down, Out, place_of};
+use crate::book::{Asked, Book, Down, Out, asked_at};
 use crate::making::{make_forwarded, make_status_server, mark_value};
 use crate::rules::Rule;
 use rad_auth::Secret;
@@ -94,10 +94,7 @@ impl Book {
         self.take_pair();
         let identifier = (self.pair % 256) as u8;
         let mark = mark_value(self.lane, number);
-        let asked = match place_of(number) {
-            Some(place) => self.asked.as_slice().get(place),
-            None => None,
-        };
+        let asked = asked_at(self.asked.as_slice(), number);
         make_first(&mut self.draft, asked, identifier, &mark, &self.secret);
         self.sent = number.saturating_add(1);
         let due = now.saturating_add(wait_after(self.limits.first_wait, 1));
