@@ -3,6 +3,7 @@ RT ?= rt
 export RT
 
 PROGRAM = crates/rad_proxy/out/rad_proxy
+SIMULATION = crates/rad_simulation/out/rad_simulation
 EXAMPLE = examples/one-request-answered.replay
 
 # The crates whose wrong bodies `make edits` tries; none named: all of them.
@@ -13,7 +14,11 @@ DATAGRAMS ?= 100000
 SECONDS ?= 60
 SEED ?= 1
 
-.PHONY: build run test edits growths spoiled soak bench figures bench-queue
+# How many seeds `make simulate` runs of the simulation, from which one on.
+SEEDS ?= 1000
+FIRST ?= 1
+
+.PHONY: build run test edits simulate growths spoiled soak bench figures bench-queue
 
 # The mark of a program that was proved and built: made by `make build` and by the gate, and as old as the sources that they saw.
 STAMP = out/rad_proxy.stamp
@@ -39,16 +44,22 @@ run:
 	echo "--- $(PROGRAM) replay < $(EXAMPLE)"; \
 	$$program replay < $(EXAMPLE)
 
-# The whole gate: all proofs from nothing, the edits of must-fail/, the tests, the stored run; then that each wrong body can be
-# applied, and the octets that the tests expect; and the program that was built: the rows, the examples, growths refused in
-# turn, spoiled datagrams, home servers that are killed, UDP over a network that loses, and memory over two equal loads. The
-# last line counts it all.
+# The whole gate: all proofs from nothing, the edits of must-fail/, the tests, the stored runs; then that each wrong body can be
+# applied, and the octets that the tests expect; a thousand seeds of the simulation; and the program that was built: the rows,
+# the examples, growths refused in turn, spoiled datagrams, home servers that are killed, UDP over a network that loses, and
+# memory over two equal loads. The last line counts it all.
 test:
 	@python3 tests/gate.py $(PROGRAM)
 
 # The wrong bodies that the gate leaves out: the prover has to refuse each one. ALONE=1 tries each by itself.
 edits:
 	@python3 tests/edits.py $(if $(ALONE),--alone) $(CRATES)
+
+# The simulation of the whole proxy: proved and built over what earlier checks kept, and run with so many seeds.
+simulate:
+	@mkdir -p out
+	@cd crates/rad_simulation && python3 ../../tests/progress.py ../../out/simulation.txt $(RT) run -- $(FIRST) 1
+	@python3 tests/hostile/simulate.py $(SIMULATION) $(SEEDS) $(FIRST)
 
 # Each growth refused in turn, in the program that was built and in the tests that were; the gate does it in the program.
 growths:

@@ -1,0 +1,250 @@
+//! The book of a lane as the rules have it: flat lists, and loops over all of them. What its calls do stands in `accepting.rt`,
+//! `hearing.rt` and `stepping.rt`.
+
+use crate::making::{ACCT_SESSION_ID, first_value};
+use crate::setting::Home;
+use rad_auth::Secret;
+use rad_lane::Counts;
+use rad_packet::{Datagram, read};
+use rad_realms::{Endpoint, LimitNumbers};
+use std::alloc::Global;
+
+/// A request that was accepted; its number is its place in the list.
+#[derive(Drop)]
+pub struct Asked {
+    pub from: Endpoint,
+    pub identifier: u8,
+    pub authenticator: [u8; 16],
+    /// When it was accepted.
+    pub moment: u64,
+    pub text: Vec<u8>,
+    /// When it was answered.
+    pub answered: Option<u64>,
+    pub response: Vec<u8>,
+}
+
+/// What is out under a pair: a request, or a probe, which has no number.
+#[derive(Drop)]
+pub struct Out {
+    /// The pair's place in the order of pairs.
+    pub pair: u32,
+    pub number: Option<u64>,
+    pub octets: Vec<u8>,
+    pub sendings: u32,
+    pub due: u64,
+}
+
+/// What a lane that is down waits for.
+#[derive(Clone, Copy, Debug, PartialEq, Eq)]
+pub struct Down {
+    pub until: u64,
+    pub next_probe: u64,
+}
+
+/// The book of a lane.
+#[derive(Drop)]
+pub struct Book {
+    pub alloc: Global,
+    pub lane: u16,
+    /// Where the home server is.
+    pub endpoint: Endpoint,
+    /// The secret that the home server shares with the proxy.
+    pub secret: Secret,
+    pub limits: LimitNumbers,
+    pub asked: Vec<Asked>,
+    /// The number of the first request that is not cut off.
+    pub opening: u64,
+    /// How many were sent for the first time: those are the first ones.
+    pub sent: u64,
+    pub out: Vec<Out>,
+    /// The numbers of what was answered, in order of answering.
+    pub answers: Vec<u64>,
+    /// How many responses were taken.
+    pub taken: usize,
+    pub down: Option<Down>,
+    pub is_drained: bool,
+    /// The last moment.
+    pub last: u64,
+    /// The pair that was taken last.
+    pub pair: u32,
+    /// Where packets are made.
+    pub draft: Datagram,
+}
+
+impl Book {
+    /// An empty book.
+    pub fn new(alloc: Global, lane: u16, home: &Home) -> Book {
+        Book {
+            alloc,
+            lane,
+            endpoint: home.endpoint,
+            secret: home.secret,
+            limits: home.limits,
+            asked: Vec::new(alloc),
+            opening: 0,
+            sent: 0,
+            out: Vec::new(alloc),
+            answers: Vec::new(alloc),
+            taken: 0,
+            down: None,
+            is_drained: false,
+            last: 0,
+            pair: home.limits.ports.saturating_mul(256).saturating_sub(1),
+            draft: Datagram::new(),
+        }
+    }
+
+    /// How many requests were accepted since the first.
+    pub fn accepted(&self) -> u64 {
+        self.asked.len() as u64
+    }
+
+    /// How many requests the book holds.
+    pub fn held(&self) -> u64 {
+        self.accepted().saturating_sub(self.opening)
+    }
+
+    /// How many requests wait to be sent.
+    pub fn queued(&self) -> u64 {
+        self.accepted().saturating_sub(self.sent)
+    }
+
+    /// How many requests are out; a probe is none.
+    pub fn outstanding(&self) -> usize {
+        let mut count: usize = 0;
+        for out in self.out.as_slice() {
+            if out.number.is_some() {
+                count = count.saturating_add(1);
+            }
+        }
+        count
+    }
+
+    /// What the counts of the lane have to be.
+    pub fn counts(&self) -> Counts {
+        Counts {
+            opening: self.opening,
+            accepted: self.accepted(),
+            answered: self.answers.len() as u64,
+            queued: usize::try_from(self.queued()).unwrap_or(0),
+            outstanding: self.outstanding(),
+            up: self.down.is_none(),
+            draining: self.is_drained,
+        }
+    }
+
+    /// The request of a number.
+    pub fn at(&self, number: u64) -> Option<&Asked> {
+        asked_at(self.asked.as_slice(), number)
+    }
+
+    /// The response of a request; no octets where it has none.
+    pub fn response_of(&self, number: u64) -> &[u8] {
+        match self.at(number) {
+            Some(asked) => asked.response.as_slice(),
+            None => &[],
+        }
+    }
+
+    /// The next response that waits to be taken: its serial, and the number of its request.
+    pub fn take(&mut self) -> Option<(u64, u64)> {
+        let serial = self.taken;
+        let number = self.answers.as_slice().get(serial).copied()?;
+        self.taken = serial.saturating_add(1);
+        Some((serial as u64, number))
+    }
+
+    /// Who sent a request.
+    pub fn client_of(&self, number: u64) -> Option<Endpoint> {
+        Some(self.at(number)?.from)
+    }
+
+    /// When a request was accepted.
+    pub fn moment_of(&self, number: u64) -> Option<u64> {
+        Some(self.at(number)?.moment)
+    }
+
+    /// Whether the session of a request is this one.
+    pub fn is_session(&self, number: u64, session: Option<&[u8]>) -> bool {
+        let Some(asked) = self.at(number) else {
+            return false;
+        };
+        match read(asked.text.as_slice()) {
+            Ok(packet) => first_value(&packet, ACCT_SESSION_ID) == session,
+            Err(_) => false,
+        }
+    }
+
+    /// The lane is drained. It gives how many requests were accepted until it was drained first.
+    pub fn drain(&mut self) -> u64 {
+        self.is_drained = true;
+        self.accepted()
+    }
+
+    /// Cuts the first requests that are over, and tells how many.
+    pub fn cut(&mut self, moment: u64) -> u64 {
+        let now = moment.max(self.last);
+        let span = u64::from(self.limits.span);
+        let mut count: u64 = 0;
+        for asked in self
+            .asked
+            .as_slice()
+            .iter()
+            .skip(place_of(self.opening).unwrap_or(0))
+        {
+            match asked.answered {
+                Some(answered) if answered.saturating_add(span) <= now => {
+                    count = count.saturating_add(1);
+                }
+                _ => break,
+            }
+        }
+        if count > 0 {
+            self.last = now;
+            self.opening = self.opening.saturating_add(count);
+        }
+        count
+    }
+
+    /// The least moment at which something changes by itself, behind a moment.
+    pub fn next_change(&self, now: u64) -> Option<u64> {
+        let span = u64::from(self.limits.span);
+        let mut least = None;
+        for out in self.out.as_slice() {
+            if out.number.is_some() && self.down.is_none() {
+                least = earlier(least, out.due, now);
+            }
+        }
+        if let Some(down) = self.down {
+            least = earlier(least, down.until, now);
+            least = earlier(least, down.next_probe, now);
+        }
+        if let Some(asked) = self.at(self.opening)
+            && let Some(answered) = asked.answered
+        {
+            least = earlier(least, answered.saturating_add(span), now);
+        }
+        least
+    }
+}
+
+/// The earlier of two moments that are behind a third one.
+fn earlier(least: Option<u64>, moment: u64, now: u64) -> Option<u64> {
+    if moment <= now {
+        return least;
+    }
+    match least {
+        Some(other) => Some(other.min(moment)),
+        None => Some(moment),
+    }
+}
+
+/// The request of a number, among all.
+pub fn asked_at(asked: &[Asked], number: u64) -> Option<&Asked> {
+    asked.get(place_of(number)?)
+}
+
+/// The place of a number in a list.
+pub fn place_of(number: u64) -> Option<usize> {
+    usize::try_from(number).ok()
+}

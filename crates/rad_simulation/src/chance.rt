@@ -1,0 +1,59 @@
+//! Chance of a given seed: the same seed gives the same numbers.
+
+/// Where a row of numbers stands (Steele, Lea and Flood: SplitMix64).
+#[derive(Clone, Copy, Debug, PartialEq, Eq)]
+pub struct Chance {
+    state: u64,
+}
+
+impl Chance {
+    /// The row of a seed, at its beginning.
+    pub fn new(seed: u64) -> Chance {
+        Chance { state: seed }
+    }
+
+    /// The next number.
+    pub fn draw(&mut self) -> u64 {
+        self.state = self.state.wrapping_add(0x9e37_79b9_7f4a_7c15);
+        let mixed = self.state;
+        let mixed = (mixed ^ (mixed >> 30)).wrapping_mul(0xbf58_476d_1ce4_e5b9);
+        let mixed = (mixed ^ (mixed >> 27)).wrapping_mul(0x94d0_49bb_1331_11eb);
+        mixed ^ (mixed >> 31)
+    }
+
+    /// A number below a bound; 0 below none.
+    pub fn below(&mut self, bound: u64) -> u64 {
+        self.draw().checked_rem(bound).unwrap_or(0)
+    }
+
+    /// A number from one to another.
+    pub fn between(&mut self, least: u64, most: u64) -> u64 {
+        let more = self.below(most.saturating_sub(least).saturating_add(1));
+        least.saturating_add(more)
+    }
+
+    /// Whether what comes once in so many times does.
+    pub fn is_one_in(&mut self, times: u64) -> bool {
+        self.below(times) == 0
+    }
+
+    /// One of these; none of an empty list.
+    pub fn pick<'a, T>(&mut self, items: &'a [T]) -> Option<&'a T> {
+        let place = usize::try_from(self.below(items.len() as u64)).ok()?;
+        items.get(place)
+    }
+
+    /// An octet.
+    pub fn octet(&mut self) -> u8 {
+        (self.draw() & 0xff) as u8
+    }
+
+    /// Sixteen octets, as of a probe.
+    pub fn authenticator(&mut self) -> [u8; 16] {
+        let mut octets = [0; 16];
+        let (first, second) = (self.draw().to_be_bytes(), self.draw().to_be_bytes());
+        octets[..8].copy_from_slice(&first);
+        octets[8..].copy_from_slice(&second);
+        octets
+    }
+}

@@ -1,0 +1,142 @@
+//! What a lane makes of a datagram of its home server, as the rules have it.
+
+use crate::book::{Asked, Book, Out, asked_at, place_of};
+use crate::making::{last_value, make_response, mark_value};
+use crate::rules::Rule;
+use crate::setting::client_secret;
+use rad_auth::{ACCOUNTING_RESPONSE, MESSAGE_AUTHENTICATOR, PROXY_STATE, Secret, check_response};
+use rad_desk::DeskFault;
+use rad_lane::HearFault;
+use rad_packet::{Datagram, PacketRef, read};
+use rad_realms::Endpoint;
+
+/// What a datagram of the home server is.
+#[derive(Clone, Copy, Debug, PartialEq, Eq)]
+pub enum Hearing {
+    Answer(u64),
+    ProbeAnswered,
+    Fault(DeskFault),
+}
+
+impl Book {
+    /// Hears a datagram of the home server that came to a source port.
+    pub fn hear(&mut self, moment: u64, port: u16, datagram: &[u8]) -> Result<Hearing, Rule> {
+        let waiting = self.answers.len().saturating_sub(self.taken);
+        if waiting as u64 >= u64::from(self.limits.ring) {
+            return Ok(Hearing::Fault(DeskFault::RingFull));
+        }
+        let packet = match read(datagram) {
+            Ok(packet) => packet,
+            Err(fault) => return Ok(fault_of(HearFault::Unread(fault))),
+        };
+        match self.check_reply(port, &packet) {
+            Ok(place) => self.heard(moment.max(self.last), place, &packet),
+            Err(fault) => Ok(fault_of(fault)),
+        }
+    }
+
+    /// The place of what a packet of the home server answers.
+    fn check_reply(&self, port: u16, packet: &PacketRef<'_>) -> Result<usize, HearFault> {
+        if packet.code() != ACCOUNTING_RESPONSE {
+            return Err(HearFault::WrongCode);
+        }
+        let pair = u32::from(port)
+            .saturating_mul(256)
+            .saturating_add(u32::from(packet.identifier()));
+        let Some((place, out)) = self.find_out(pair) else {
+            return Err(HearFault::Unknown);
+        };
+        let Ok(sent) = read(out.octets.as_slice()) else {
+            return Err(HearFault::Unknown);
+        };
+        if !check_response(packet, &sent.authenticator(), &self.secret) {
+            return Err(HearFault::BadAuthenticator);
+        }
+        let Some(number) = out.number else {
+            return Ok(place);
+        };
+        if packet.count_of(MESSAGE_AUTHENTICATOR) > 0 {
+            return Err(HearFault::MessageAuthenticatorHere);
+        }
+        let mark = mark_value(self.lane, number);
+        if last_value(packet, PROXY_STATE) != Some(mark.as_slice()) {
+            return Err(HearFault::NoProxyState);
+        }
+        Ok(place)
+    }
+
+    /// What is out under a pair, and its place.
+    pub fn find_out(&self, pair: u32) -> Option<(usize, &Out)> {
+        for (place, out) in self.out.as_slice().iter().enumerate() {
+            if out.pair == pair {
+                return Some((place, out));
+            }
+        }
+        None
+    }
+
+    /// Keeps the reply to what is out at a place.
+    fn heard(&mut self, now: u64, place: usize, reply: &PacketRef<'_>) -> Result<Hearing, Rule> {
+        self.last = now;
+        let heard = match self.number_at(place) {
+            Some(number) => {
+                self.answer(now, number, reply)?;
+                let serial = self.answers.len() as u64;
+                self.answers.push(number)?;
+                if place < self.out.len() {
+                    self.out.remove(place);
+                }
+                Hearing::Answer(serial)
+            }
+            None => Hearing::ProbeAnswered,
+        };
+        if self.down.is_some() {
+            self.go_up(now);
+        }
+        Ok(heard)
+    }
+
+    /// The number of the request that is out at a place.
+    pub fn number_at(&self, place: usize) -> Option<u64> {
+        self.out.as_slice().get(place)?.number
+    }
+
+    /// A request is answered by a reply: its response is made.
+    fn answer(&mut self, now: u64, number: u64, reply: &PacketRef<'_>) -> Result<(), Rule> {
+        let Some(secret) = self.secret_of_client(number) else {
+            return Ok(());
+        };
+        let asked = asked_at(self.asked.as_slice(), number);
+        make_answer(&mut self.draft, asked, reply, &secret);
+        let response = self.draft.bytes().to_vec(self.alloc)?;
+        if let Some(place) = place_of(number)
+            && let Some(asked) = self.asked.as_mut_slice().get_mut(place)
+        {
+            asked.response = response;
+            asked.answered = Some(now);
+        }
+        Ok(())
+    }
+
+    /// The secret of the client that sent a request.
+    fn secret_of_client(&self, number: u64) -> Option<Secret> {
+        let Endpoint { address, .. } = self.client_of(number)?;
+        client_secret(address)
+    }
+}
+
+/// Makes the response to a request after a reply.
+fn make_answer(
+    draft: &mut Datagram,
+    asked: Option<&Asked>,
+    reply: &PacketRef<'_>,
+    secret: &Secret,
+) {
+    if let Some(asked) = asked {
+        make_response(draft, reply, asked.identifier, &asked.authenticator, secret);
+    }
+}
+
+fn fault_of(fault: HearFault) -> Hearing {
+    Hearing::Fault(DeskFault::Lane(fault))
+}

@@ -1,0 +1,189 @@
+//! The NASes: what they send, and send again.
+
+use crate::chance::Chance;
+use crate::making::{
+    ACCT_SESSION_ID, CLASS, USER_NAME, make_status_server, mark_value, push, sign_request,
+};
+use crate::rules::Rule;
+use crate::setting::{Setting, client_address, client_secret, realm_of_home};
+use rad_auth::{ACCOUNTING_REQUEST, MESSAGE_AUTHENTICATOR, PROXY_STATE, Secret};
+use rad_packet::Datagram;
+use rad_realms::Endpoint;
+use std::alloc::Global;
+
+/// Of so many requests that were sent last, one may be sent again.
+const KEPT: usize = 24;
+
+/// What a NAS sent.
+#[derive(Drop)]
+struct Letter {
+    from: Endpoint,
+    octets: Vec<u8>,
+}
+
+/// All NASes.
+#[derive(Drop)]
+pub struct Nases {
+    alloc: Global,
+    /// What was sent, and may be sent again.
+    letters: Vec<Letter>,
+    /// How many requests there were.
+    count: u16,
+    draft: Datagram,
+}
+
+impl Nases {
+    /// Nothing was sent yet.
+    pub fn new(alloc: Global) -> Nases {
+        Nases {
+            alloc,
+            letters: Vec::new(alloc),
+            count: 0,
+            draft: Datagram::new(),
+        }
+    }
+
+    /// What is sent next, and from where.
+    pub fn send(
+        &mut self,
+        chance: &mut Chance,
+        setting: &Setting,
+    ) -> Result<(Endpoint, Vec<u8>), Rule> {
+        let repeats = if setting.is_hurried { 12 } else { 2 };
+        if !self.letters.is_empty() && chance.is_one_in(repeats) {
+            return self.repeat(chance);
+        }
+        let address = client_address(chance.is_one_in(2));
+        let Some(secret) = client_secret(address) else {
+            return Err(Rule::Configuration);
+        };
+        let port = if chance.is_one_in(3) { 40_001 } else { 40_000 };
+        let from = Endpoint { address, port };
+        if chance.is_one_in(20) {
+            let authenticator = chance.authenticator();
+            make_status_server(&mut self.draft, chance.octet(), authenticator, &secret);
+        } else {
+            self.make_request(chance, setting, &secret);
+        }
+        let octets = self.draft.bytes().to_vec(self.alloc)?;
+        self.keep(from, octets.as_slice())?;
+        spoil(chance, from, octets)
+    }
+
+    /// Keeps what was sent.
+    fn keep(&mut self, from: Endpoint, octets: &[u8]) -> Result<(), Rule> {
+        if self.letters.len() >= KEPT {
+            self.letters.remove(0);
+        }
+        let octets = octets.to_vec(self.alloc)?;
+        self.letters.push(Letter { from, octets })?;
+        Ok(())
+    }
+
+    /// A request that was sent before is sent again, seldom from another port.
+    fn repeat(&mut self, chance: &mut Chance) -> Result<(Endpoint, Vec<u8>), Rule> {
+        let Some(letter) = chance.pick(self.letters.as_slice()) else {
+            return Err(Rule::Configuration);
+        };
+        let mut from = letter.from;
+        if chance.is_one_in(10) {
+            from.port = from.port.wrapping_add(1);
+        }
+        let octets = letter.octets.to_vec(self.alloc)?;
+        Ok((from, octets))
+    }
+
+    /// A new request.
+    fn make_request(&mut self, chance: &mut Chance, setting: &Setting, secret: &Secret) {
+        let draft = &mut self.draft;
+        self.count = self.count.wrapping_add(1);
+        draft.begin(ACCOUNTING_REQUEST, (chance.below(5) & 0xff) as u8, [0; 16]);
+        push_name(draft, chance, setting);
+        if !chance.is_one_in(10) {
+            push(draft, ACCT_SESSION_ID, &self.count.to_be_bytes());
+        }
+        push(draft, CLASS, &self.count.to_be_bytes());
+        if chance.is_one_in(6) {
+            push(draft, PROXY_STATE, b"abc");
+        }
+        if chance.is_one_in(12) {
+            push(draft, PROXY_STATE, &mark_value(7, chance.draw()));
+        }
+        if chance.is_one_in(40) {
+            push(draft, MESSAGE_AUTHENTICATOR, &[0; 16]);
+        }
+        if chance.is_one_in(60) {
+            push_much(draft, chance);
+        }
+        sign_request(draft, secret);
+    }
+}
+
+/// The same octets, but for one in a few: cut short, with a bit turned, with padding, or from nobody.
+fn spoil(
+    chance: &mut Chance,
+    from: Endpoint,
+    octets: Vec<u8>,
+) -> Result<(Endpoint, Vec<u8>), Rule> {
+    let mut octets = octets;
+    let mut from = from;
+    match chance.below(60) {
+        0 => turn_a_bit(&mut octets, chance),
+        1 => octets.truncate(chance.below(60) as usize),
+        2 => octets.extend_from_slice(&[0xff; 7])?,
+        3 => from.address = [10, 0, 0, 9],
+        _ => {}
+    }
+    Ok((from, octets))
+}
+
+/// A User-Name: mostly of a realm that leads to a home server.
+fn push_name(draft: &mut Datagram, chance: &mut Chance, setting: &Setting) {
+    match chance.below(40) {
+        0 => push(draft, USER_NAME, b"bob"),
+        1 => push(draft, USER_NAME, b"bob@"),
+        2 => push(draft, USER_NAME, b"bob@nowhere.org"),
+        3 => push(draft, USER_NAME, b"a@other.org@EXAMPLE.org"),
+        4 => {}
+        _ => {
+            let place = chance.below(setting.homes.len() as u64);
+            push_name_in(draft, realm_of_home((place & 3) as u16));
+        }
+    }
+}
+
+/// A User-Name in a realm.
+fn push_name_in(draft: &mut Datagram, realm: &str) {
+    let mut name = [0; 32];
+    let octets = realm.as_bytes();
+    name[..4].copy_from_slice(b"bob@");
+    for (place, octet) in octets.iter().enumerate() {
+        if let Some(kept) = name.get_mut(place.saturating_add(4)) {
+            *kept = *octet;
+        }
+    }
+    if let Some(text) = name.get(..octets.len().saturating_add(4)) {
+        push(draft, USER_NAME, text);
+    }
+}
+
+/// So much that the mark fits behind it just so, or not.
+fn push_much(draft: &mut Datagram, chance: &mut Chance) {
+    for _ in 0..15 {
+        push(draft, CLASS, &[b'A'; 253]);
+    }
+    let length = 4083_usize.saturating_add(chance.below(4) as usize);
+    let missing = length.saturating_sub(draft.len()).saturating_sub(2);
+    if let Some(value) = [b'B'; 253].get(..missing) {
+        push(draft, CLASS, value);
+    }
+}
+
+/// Turns a bit of one octet.
+pub fn turn_a_bit(octets: &mut Vec<u8>, chance: &mut Chance) {
+    let place = chance.below(octets.len() as u64) as usize;
+    let bit = 1_u8.checked_shl((chance.below(8) & 7) as u32).unwrap_or(1);
+    if let Some(octet) = octets.as_mut_slice().get_mut(place) {
+        *octet ^= bit;
+    }
+}

@@ -1,0 +1,104 @@
+//! Who is called next, and what comes meanwhile.
+
+use crate::events::Came;
+use crate::run::Run;
+use crate::trace::Arrival;
+
+/// What is fixed of a call of a worker before it is made.
+#[derive(Drop)]
+pub struct Plan {
+    /// The lane whose worker it is; with none, the front.
+    pub lane: Option<u16>,
+    pub turns: u64,
+    pub arrivals: Vec<Arrival>,
+    /// How many calls its gate lets it make; with none, all.
+    pub calls: Option<u32>,
+    /// How many milliseconds the worker's clock is behind.
+    pub lag: u64,
+}
+
+impl Run {
+    /// Who is called next, for how many turns, and what comes in each.
+    pub fn plan(&mut self) -> Plan {
+        let lanes = self.setting.homes.len() as u64;
+        let lane = match self.chance.below(lanes.saturating_add(1)) {
+            0 => None,
+            other => Some((other.saturating_sub(1) & 0xffff) as u16),
+        };
+        let turns = if self.chance.is_one_in(3) {
+            self.chance.between(2, 4)
+        } else {
+            1
+        };
+        let stops = self.setting.stops;
+        let calls = if stops != 0 && self.chance.is_one_in(stops) {
+            Some((self.chance.below(8) & 0xff) as u32)
+        } else {
+            None
+        };
+        Plan {
+            lane,
+            turns,
+            arrivals: self.arrivals(lane, turns),
+            calls,
+            lag: if self.chance.is_one_in(10) {
+                self.chance.below(4)
+            } else {
+                0
+            },
+        }
+    }
+
+    /// What comes in so many turns, the first one last; nothing where memory is refused.
+    fn arrivals(&mut self, lane: Option<u16>, turns: u64) -> Vec<Arrival> {
+        let mut arrivals = Vec::new(self.alloc);
+        let mut clock = self.clock;
+        for _ in 0..turns {
+            let wait = self.wait(clock);
+            clock = clock.saturating_add(wait);
+            let came = self.came(lane, clock);
+            let _ = arrivals.push(Arrival { wait, came });
+        }
+        arrivals.as_mut_slice().reverse();
+        arrivals
+    }
+
+    fn came(&mut self, lane: Option<u16>, clock: u64) -> Came {
+        let faults = self.setting.faults;
+        if faults != 0 && self.chance.is_one_in(faults) {
+            return Came::Fault;
+        }
+        match self.network.arrive(clock, lane) {
+            Some(mail) => Came::Datagram(mail),
+            None => Came::Nothing,
+        }
+    }
+
+    /// How long a receive waits: not at all, a little, or just until, or just before, something is due.
+    fn wait(&mut self, clock: u64) -> u64 {
+        if self.setting.is_hurried {
+            return self.chance.below(2);
+        }
+        match self.chance.below(40) {
+            0..=19 => 0,
+            20..=29 => self.chance.below(20),
+            30..=36 => self.wait_for_change(clock),
+            37..=38 => self.chance.below(200),
+            _ => self.chance.below(3000),
+        }
+    }
+
+    fn wait_for_change(&mut self, clock: u64) -> u64 {
+        let place = self.chance.below(self.setting.homes.len() as u64) as usize;
+        let Some(book) = self.books.books.as_slice().get(place) else {
+            return 0;
+        };
+        match book.next_change(clock) {
+            Some(moment) => {
+                let wait = moment.saturating_sub(clock).min(5000);
+                wait.saturating_add(self.chance.below(3)).saturating_sub(1)
+            }
+            None => 0,
+        }
+    }
+}

@@ -1,0 +1,220 @@
+//! What stands for a whole run: the home servers with their limits, and how good the network is.
+
+use crate::chance::Chance;
+use crate::rules::Rule;
+use rad_auth::Secret;
+use rad_realms::{Endpoint, LimitNumbers};
+use std::alloc::Global;
+
+/// Both clients.
+const CLIENTS: &str = r#"
+[[client]]
+address = "10.0.0.1"
+secret = "nas-secret"
+[[client]]
+address = "10.0.0.2"
+secret = "second-secret"
+"#;
+
+/// A home server of a run.
+#[derive(Drop)]
+pub struct Home {
+    pub endpoint: Endpoint,
+    pub secret: Secret,
+    pub limits: LimitNumbers,
+}
+
+/// What stands for a whole run.
+#[derive(Drop)]
+pub struct Setting {
+    /// One to three home servers.
+    pub homes: Vec<Home>,
+    /// Whether a request without a realm leads to the first home server.
+    pub has_default: bool,
+    /// Whether requests come as fast as they are answered, so that identifiers go round.
+    pub is_hurried: bool,
+    /// One datagram in so many is lost, and one comes twice; 0 where none is.
+    pub losses: u64,
+    /// One receive and one send in so many fails; 0 where none does.
+    pub faults: u64,
+    /// One call in so many is stopped by its gate; 0 where none is.
+    pub stops: u64,
+    /// A lane is drained after one call in so many; 0 where none is.
+    pub drains: u64,
+    /// How many calls of a worker there are.
+    pub calls: u64,
+}
+
+impl Setting {
+    /// Draws one.
+    pub fn draw(alloc: Global, chance: &mut Chance) -> Result<Setting, Rule> {
+        let is_hurried = chance.is_one_in(8);
+        let is_calm = is_hurried || chance.is_one_in(4);
+        let mut setting = Setting {
+            homes: Vec::new(alloc),
+            has_default: chance.is_one_in(2),
+            is_hurried,
+            losses: if is_calm { 0 } else { chance.between(5, 20) },
+            faults: if is_calm { 0 } else { chance.between(10, 60) },
+            stops: if chance.is_one_in(3) { 20 } else { 0 },
+            drains: if chance.is_one_in(4) { 300 } else { 0 },
+            calls: if is_hurried {
+                1300
+            } else {
+                chance.between(100, 700)
+            },
+        };
+        let homes = if is_hurried { 1 } else { chance.between(1, 3) };
+        for place in 0..homes {
+            setting.add_home((place & 3) as u16, chance)?;
+        }
+        Ok(setting)
+    }
+
+    fn add_home(&mut self, place: u16, chance: &mut Chance) -> Result<(), Rule> {
+        let Ok(secret) = Secret::new(home_secret(place).as_bytes()) else {
+            return Err(Rule::Configuration);
+        };
+        let limits = if self.is_hurried {
+            hurried_limits(chance)
+        } else {
+            limits(chance)
+        };
+        self.homes.push(Home {
+            endpoint: home_endpoint(place),
+            secret,
+            limits,
+        })?;
+        Ok(())
+    }
+
+    /// The configuration's text.
+    pub fn text(&self, alloc: Global) -> Result<String, Rule> {
+        let mut text = String::from_str(alloc, "listen = \"127.0.0.1:1813\"\n")?;
+        if self.has_default {
+            text.push_str("default_home = \"h0\"\n")?;
+        }
+        text.push_str(CLIENTS)?;
+        for (place, home) in self.homes.as_slice().iter().enumerate() {
+            push_home(alloc, &mut text, (place & 3) as u16, home)?;
+        }
+        Ok(text)
+    }
+}
+
+/// Limits of which many are so small that they are come up to.
+fn limits(chance: &mut Chance) -> LimitNumbers {
+    LimitNumbers {
+        window: one_of(chance, &[1, 2, 3, 8, 64, 254]),
+        queue: one_of(chance, &[1, 2, 4, 64]),
+        book: one_of(chance, &[1, 2, 3, 8, 32, 1000]),
+        tries: one_of(chance, &[1, 2, 3, 4]),
+        first_wait: one_of(chance, &[100, 150, 400, 60_000]),
+        probe_every: one_of(chance, &[1000, 1500, 4000]),
+        down_wait: one_of(chance, &[1000, 2500, 6000]),
+        span: one_of(chance, &[0, 50, 300, 2000]),
+        ring: one_of(chance, &[1, 2, 5, 64]),
+        ports: one_of(chance, &[1, 1, 2, 4]),
+    }
+}
+
+/// Limits by which more than 256 requests go through a lane.
+fn hurried_limits(chance: &mut Chance) -> LimitNumbers {
+    LimitNumbers {
+        window: one_of(chance, &[4, 20, 200]),
+        queue: 64,
+        book: one_of(chance, &[40, 300, 1000]),
+        tries: 2,
+        first_wait: 400,
+        probe_every: 1000,
+        down_wait: 2500,
+        span: one_of(chance, &[0, 20, 300]),
+        ring: one_of(chance, &[2, 16, 64]),
+        ports: one_of(chance, &[1, 2, 3]),
+    }
+}
+
+fn one_of(chance: &mut Chance, numbers: &[u32]) -> u32 {
+    chance.pick(numbers).copied().unwrap_or(1)
+}
+
+/// The tables of a home server and of its realm.
+fn push_home(alloc: Global, text: &mut String, place: u16, home: &Home) -> Result<(), Rule> {
+    let (realm, address, secret) = (
+        realm_of_home(place),
+        home_address(place),
+        home_secret(place),
+    );
+    let table = format!(in alloc; "[[realm]]\nname = \"{realm}\"\nhome = \"h{place}\"\n")?;
+    text.push_str(table.as_str())?;
+    let table = format!(in alloc; "[[home]]\nname = \"h{place}\"\naddress = \"{address}\"\n")?;
+    text.push_str(table.as_str())?;
+    let line = format!(in alloc; "secret = \"{secret}\"\n")?;
+    text.push_str(line.as_str())?;
+    let limits = home.limits;
+    push_number(alloc, text, "window", limits.window)?;
+    push_number(alloc, text, "queue", limits.queue)?;
+    push_number(alloc, text, "book", limits.book)?;
+    push_number(alloc, text, "tries", limits.tries)?;
+    push_number(alloc, text, "first_wait", limits.first_wait)?;
+    push_number(alloc, text, "probe_every", limits.probe_every)?;
+    push_number(alloc, text, "down_wait", limits.down_wait)?;
+    push_number(alloc, text, "span", limits.span)?;
+    push_number(alloc, text, "ring", limits.ring)?;
+    push_number(alloc, text, "ports", limits.ports)
+}
+
+fn push_number(alloc: Global, text: &mut String, key: &str, number: u32) -> Result<(), Rule> {
+    let line = format!(in alloc; "{key} = {number}\n")?;
+    text.push_str(line.as_str())?;
+    Ok(())
+}
+
+/// The realm that leads to a home server.
+pub fn realm_of_home(place: u16) -> &'static str {
+    match place {
+        0 => "example.org",
+        1 => "other.org",
+        _ => "third.net",
+    }
+}
+
+/// Two home servers have one port, and two one address.
+fn home_address(place: u16) -> &'static str {
+    match place {
+        0 => "127.0.0.1:2813",
+        1 => "127.0.0.2:2813",
+        _ => "127.0.0.1:2814",
+    }
+}
+
+fn home_endpoint(place: u16) -> Endpoint {
+    Endpoint {
+        address: [127, 0, 0, if place == 1 { 2 } else { 1 }],
+        port: if place == 2 { 2814 } else { 2813 },
+    }
+}
+
+fn home_secret(place: u16) -> &'static str {
+    match place {
+        0 => "home-secret",
+        1 => "other-secret",
+        _ => "third-secret",
+    }
+}
+
+/// The address of a client.
+pub fn client_address(is_first: bool) -> [u8; 4] {
+    [10, 0, 0, if is_first { 1 } else { 2 }]
+}
+
+/// The secret of the client of this address.
+pub fn client_secret(address: [u8; 4]) -> Option<Secret> {
+    if address == client_address(true) {
+        return Secret::new(b"nas-secret").ok();
+    }
+    if address == client_address(false) {
+        return Secret::new(b"second-secret").ok();
+    }
+    None
+}

@@ -1,0 +1,183 @@
+//! What a lane does by itself, as the rules have it.
+
+use crate::book::{Asked, Book, Down, Out, asked_at};
+use crate::making::{make_forwarded, make_status_server, mark_value};
+use crate::rules::Rule;
+use rad_auth::Secret;
+use rad_packet::{Datagram, read};
+
+/// The longest wait for an answer.
+const LONGEST_WAIT: u64 = 120_000;
+
+/// What a lane does next. What it sends stands at a place of what is out.
+#[derive(Clone, Copy, Debug, PartialEq, Eq)]
+pub enum Doing {
+    Send(usize),
+    SendAgain(usize),
+    Probe(usize),
+    GoDown(u64),
+    GoUp,
+    Idle,
+}
+
+impl Book {
+    /// The lane goes up: its probe is forgotten, and what is out is due at once.
+    pub fn go_up(&mut self, now: u64) {
+        self.down = None;
+        self.forget_probe();
+        for out in self.out.as_mut_slice().iter_mut() {
+            out.due = now;
+            out.sendings = 0;
+        }
+    }
+
+    fn forget_probe(&mut self) {
+        self.out.retain(|out| out.number.is_some());
+    }
+
+    /// Does what is next, with these octets as a probe's Authenticator.
+    pub fn step(&mut self, moment: u64, drawn: [u8; 16]) -> Result<Doing, Rule> {
+        let now = moment.max(self.last);
+        self.last = now;
+        match self.down {
+            None => self.step_up(now),
+            Some(down) => self.step_down(now, down, drawn),
+        }
+    }
+
+    fn step_up(&mut self, now: u64) -> Result<Doing, Rule> {
+        if let Some(place) = self.least_due(false, now) {
+            self.send_again(place, now);
+            return Ok(Doing::SendAgain(place));
+        }
+        if let Some(place) = self.least_due(true, now) {
+            self.down = Some(Down {
+                until: now.saturating_add(u64::from(self.limits.down_wait)),
+                next_probe: now,
+            });
+            return Ok(Doing::GoDown(self.number_at(place).unwrap_or(0)));
+        }
+        let window = self.limits.window as usize;
+        if self.queued() > 0 && self.outstanding() < window {
+            let place = self.send_first(now)?;
+            return Ok(Doing::Send(place));
+        }
+        Ok(Doing::Idle)
+    }
+
+    /// Of what is due and spent, or not spent, the place of the first one: of least due, and of these of least number.
+    fn least_due(&self, is_spent: bool, now: u64) -> Option<usize> {
+        let mut least: Option<(u64, u64, usize)> = None;
+        for (place, out) in self.out.as_slice().iter().enumerate() {
+            let spent = out.sendings >= self.limits.tries;
+            if let Some(number) = out.number
+                && out.due <= now
+                && spent == is_spent
+                && is_before(out.due, number, least)
+            {
+                least = Some((out.due, number, place));
+            }
+        }
+        Some(least?.2)
+    }
+
+    fn send_again(&mut self, place: usize, now: u64) {
+        let first_wait = self.limits.first_wait;
+        if let Some(out) = self.out.as_mut_slice().get_mut(place) {
+            out.sendings = out.sendings.saturating_add(1);
+            out.due = now.saturating_add(wait_after(first_wait, out.sendings));
+        }
+    }
+
+    fn send_first(&mut self, now: u64) -> Result<usize, Rule> {
+        let number = self.sent;
+        self.take_pair();
+        let identifier = (self.pair % 256) as u8;
+        let mark = mark_value(self.lane, number);
+        let asked = asked_at(self.asked.as_slice(), number);
+        make_first(&mut self.draft, asked, identifier, &mark, &self.secret);
+        self.sent = number.saturating_add(1);
+        let due = now.saturating_add(wait_after(self.limits.first_wait, 1));
+        self.put_out(Some(number), due)
+    }
+
+    /// What was made is out under the pair that was taken last.
+    fn put_out(&mut self, number: Option<u64>, due: u64) -> Result<usize, Rule> {
+        let place = self.out.len();
+        let octets = self.draft.bytes().to_vec(self.alloc)?;
+        self.out.push(Out {
+            pair: self.pair,
+            number,
+            octets,
+            sendings: 1,
+            due,
+        })?;
+        Ok(place)
+    }
+
+    /// Takes the first free pair behind the one that was taken last.
+    fn take_pair(&mut self) {
+        let pairs = self.limits.ports.saturating_mul(256);
+        for _ in 0..pairs {
+            let next = self.pair.saturating_add(1);
+            self.pair = if next < pairs { next } else { 0 };
+            if self.find_out(self.pair).is_none() {
+                return;
+            }
+        }
+    }
+
+    fn step_down(&mut self, now: u64, down: Down, drawn: [u8; 16]) -> Result<Doing, Rule> {
+        if down.until <= now {
+            self.go_up(now);
+            return Ok(Doing::GoUp);
+        }
+        if down.next_probe <= now {
+            self.forget_probe();
+            self.take_pair();
+            let identifier = (self.pair % 256) as u8;
+            make_status_server(&mut self.draft, identifier, drawn, &self.secret);
+            let place = self.put_out(None, 0)?;
+            self.down = Some(Down {
+                until: down.until,
+                next_probe: now.saturating_add(u64::from(self.limits.probe_every)),
+            });
+            return Ok(Doing::Probe(place));
+        }
+        Ok(Doing::Idle)
+    }
+}
+
+/// Makes what goes to the home server for a request.
+fn make_first(
+    draft: &mut Datagram,
+    asked: Option<&Asked>,
+    identifier: u8,
+    mark: &[u8; 10],
+    secret: &Secret,
+) {
+    let Some(asked) = asked else {
+        return;
+    };
+    if let Ok(request) = read(asked.text.as_slice()) {
+        make_forwarded(draft, &request, identifier, mark, secret);
+    }
+}
+
+/// Whether this one comes before the least so far.
+fn is_before(due: u64, number: u64, least: Option<(u64, u64, usize)>) -> bool {
+    match least {
+        None => true,
+        Some((other_due, other_number, _)) => due < other_due
+            || (due == other_due && number < other_number),
+    }
+}
+
+/// How long to wait after so many sendings of a round: twice as long each time, and two minutes at most.
+fn wait_after(first_wait: u32, sendings: u32) -> u64 {
+    let mut wait = u64::from(first_wait);
+    for _ in 1..sendings {
+        wait = wait.saturating_mul(2);
+    }
+    wait.min(LONGEST_WAIT)
+}

@@ -1,0 +1,320 @@
+//! The gate and the wire of a worker in the simulation: both put down what they are asked and told, in one list.
+
+ghost use Rattle.std.specs.Prelude.{◌≡◌, [], ◌∷◌, ◌++◌};
+ghost use Rattle.rad_desk.specs.Traffic.{Passage, went, Receives};
+
+use crate::chance::Chance;
+use crate::events::{Came, DownBy, Event, Gone, Mail, Telling};
+use rad_desk::{Call, Delivery, Gate, Go, Note, Received, Spent, Traffic, UpReason, Wire, Worker};
+use rad_realms::Endpoint;
+use rad_tables::Moment;
+use std::alloc::Global;
+use std::cell::Cell;
+
+/// The list of what happened.
+#[derive(Drop)]
+pub struct Trace {
+    alloc: Global,
+    events: Cell<Option<Vec<Event>>>,
+}
+
+impl Trace {
+    /// Nothing happened yet.
+    pub fn new(alloc: Global) -> Trace {
+        Trace {
+            alloc,
+            events: Cell::new(Some(Vec::new(alloc))),
+        }
+    }
+
+    /// All that happened, in order; nothing where memory was refused. It is forgotten then.
+    pub fn take(&self) -> Option<Vec<Event>> {
+        self.events.replace(Some(Vec::new(self.alloc)))
+    }
+
+    /// Puts down one event more. Where memory is refused, the list is gone.
+    fn add(&self, event: Event) {
+        let Some(mut events) = self.events.replace(None) else {
+            return;
+        };
+        if events.push(event).is_ok() {
+            self.events.set(Some(events));
+        }
+    }
+
+    fn tell(&self, telling: Telling) {
+        self.add(Event::Told(telling));
+    }
+
+    /// A copy of octets; none where memory is refused, and then the list is gone.
+    fn copy(&self, octets: &[u8]) -> Option<Vec<u8>> {
+        match octets.to_vec(self.alloc) {
+            Ok(copy) => Some(copy),
+            Err(_) => {
+                self.events.set(None);
+                None
+            }
+        }
+    }
+}
+
+/// The gate of a worker for one call, which may stop it.
+#[derive(Drop)]
+pub struct TraceGate<'a> {
+    trace: &'a Trace,
+    worker: Worker,
+    /// How many calls it lets the worker make; with none, all.
+    calls: Cell<Option<u32>>,
+}
+
+impl<'a> TraceGate<'a> {
+    /// It stops the worker before the call that is one too many.
+    pub fn new(trace: &'a Trace, worker: Worker, calls: Option<u32>) -> TraceGate<'a> {
+        TraceGate {
+            trace,
+            worker,
+            calls: Cell::new(calls),
+        }
+    }
+
+    /// What it is told, in whose name.
+    fn tell(&self, worker: Worker, telling: Telling) {
+        if worker == self.worker {
+            self.trace.tell(telling);
+        } else {
+            self.trace.tell(Telling::OfAnother);
+        }
+    }
+
+    /// Whether one call more is let.
+    fn lets(&self) -> Go {
+        match self.calls.get() {
+            None => Go::On,
+            Some(0) => Go::Stop,
+            Some(more) => {
+                self.calls.set(Some(more.saturating_sub(1)));
+                Go::On
+            }
+        }
+    }
+}
+
+impl<'a> Gate for TraceGate<'a> {
+    fn before(&self, worker: Worker, call: Call) -> Go {
+        let go = self.lets();
+        self.tell(worker, Telling::Before(call, go));
+        go
+    }
+
+    fn after(&self, worker: Worker, call: Call) {
+        self.tell(worker, Telling::After(call));
+    }
+
+    fn note(&self, worker: Worker, note: Note) {
+        self.tell(worker, Telling::Note(note));
+    }
+
+    fn received(&self, _worker: Worker, from: Endpoint, octets: &[u8]) {
+        if let Some(copy) = self.trace.copy(octets) {
+            self.trace.add(Event::ToldReceived(from, copy));
+        }
+    }
+
+    fn sends(&self, _worker: Worker, to: Endpoint, octets: &[u8]) {
+        if let Some(copy) = self.trace.copy(octets) {
+            self.trace.add(Event::ToldSends(to, copy));
+        }
+    }
+
+    fn accepted(&self, lane: u16, number: u64) {
+        self.trace.tell(Telling::Accepted(lane, number));
+    }
+
+    fn answered(&self, lane: u16, serial: u64) {
+        self.trace.tell(Telling::Answered(lane, serial));
+    }
+
+    fn went_down(&self, lane: u16, spent: &Spent) {
+        let session = match &spent.session {
+            Some(session) => self.trace.copy(session.octets()),
+            None => None,
+        };
+        self.trace.add(Event::ToldDown(DownBy {
+            lane,
+            number: spent.number,
+            client: spent.client,
+            session,
+            age: spent.age,
+        }));
+    }
+
+    fn went_up(&self, lane: u16, reason: UpReason) {
+        self.trace.tell(Telling::WentUp(lane, reason));
+    }
+
+    fn no_realm(&self, packet: &[u8]) {
+        if let Some(copy) = self.trace.copy(packet) {
+            self.trace.add(Event::ToldNoRealm(copy));
+        }
+    }
+
+    fn came_marked(&self, lane: u16, from: Endpoint, marks: u64) {
+        self.trace.tell(Telling::Marked(lane, from, marks));
+    }
+}
+
+/// What the next receive gives, and how many milliseconds it waits.
+#[derive(Drop)]
+pub struct Arrival {
+    pub wait: u64,
+    pub came: Came,
+}
+
+/// The wire of a worker for one call: what is to come is known before.
+#[derive(Drop)]
+pub struct TraceWire<'a> {
+    trace: &'a Trace,
+    /// What comes, the next one last.
+    pub arrivals: Vec<Arrival>,
+    /// The moment.
+    pub clock: u64,
+    /// How many milliseconds this worker's clock is behind.
+    lag: u64,
+    /// What the octets are drawn by, and which send fails.
+    chance: Chance,
+    /// One send in so many fails.
+    sends_a_fault: u64,
+    traffic: Traffic,
+}
+
+impl<'a> TraceWire<'a> {
+    /// It gives what is to come, turn by turn.
+    pub fn new(
+        trace: &'a Trace,
+        arrivals: Vec<Arrival>,
+        clock: u64,
+        lag: u64,
+        chance: Chance,
+        sends_a_fault: u64,
+    ) -> TraceWire<'a> {
+        TraceWire {
+            trace,
+            arrivals,
+            clock,
+            lag,
+            chance,
+            sends_a_fault,
+            traffic: Traffic::new(),
+        }
+    }
+
+    /// What was to come, and did not.
+    pub fn into_arrivals(self) -> Vec<Arrival> {
+        let TraceWire { arrivals, .. } = self;
+        arrivals
+    }
+
+    /// What comes next.
+    fn arrive(&mut self) -> Came
+        ensures { self.new.traffic ≡ self.old.traffic }
+    {
+        match self.arrivals.pop() {
+            Some(arrival) => {
+                self.clock = self.clock.saturating_add(arrival.wait);
+                arrival.came
+            }
+            None => Came::Nothing,
+        }
+    }
+
+    /// Whether a send fails.
+    fn fails(&mut self) -> bool
+        ensures { self.new.traffic ≡ self.old.traffic }
+    {
+        self.sends_a_fault != 0 && self.chance.is_one_in(self.sends_a_fault)
+    }
+
+    /// The moment of this worker's clock.
+    fn moment(&self) -> u64 {
+        self.clock.saturating_sub(self.lag)
+    }
+
+    fn add_received(&self, came: Came) {
+        self.trace.add(Event::Received(self.moment(), came));
+    }
+}
+
+/// The moment of so many milliseconds; the first, where there is none.
+fn moment_of(milliseconds: u64) -> Moment {
+    match Moment::new(milliseconds) {
+        Some(moment) => moment,
+        None => Moment::new(0).unwrap(),
+    }
+}
+
+impl<'a> Wire for TraceWire<'a> {
+    ghost log = { λ w. w.traffic.passed };
+
+    fn now(&mut self) -> Moment {
+        moment_of(self.moment())
+    }
+
+    fn random(&mut self) -> [u8; 16] {
+        let octets = self.chance.authenticator();
+        self.trace.add(Event::Drew(octets));
+        octets
+    }
+
+    fn receive(&mut self, datagram: &mut [u8; 4096]) -> Received {
+        match self.arrive() {
+            Came::Datagram(mail) => {
+                let Mail {
+                    from,
+                    socket,
+                    octets,
+                } = mail;
+                let Endpoint { address, port } = from;
+                let count = octets.len().min(4096);
+                datagram[..count].copy_from_slice(&octets.as_slice()[..count]);
+                self.traffic.came(socket, address, port, &datagram[..count]);
+                self.add_received(Came::Datagram(Mail {
+                    from,
+                    socket,
+                    octets,
+                }));
+                Received::Got {
+                    address,
+                    port,
+                    socket,
+                    count,
+                }
+            }
+            Came::Nothing => {
+                self.add_received(Came::Nothing);
+                Received::Nothing
+            }
+            Came::Fault => {
+                self.add_received(Came::Fault);
+                Received::Fault
+            }
+        }
+    }
+
+    fn send(&mut self, socket: u16, address: [u8; 4], port: u16, octets: &[u8]) -> Delivery {
+        self.traffic.went(socket, address, port, octets);
+        let is_handed_over = !self.fails();
+        if let Some(copy) = self.trace.copy(octets) {
+            self.trace.add(Event::Went(Gone {
+                socket,
+                to: Endpoint { address, port },
+                octets: copy,
+                is_handed_over,
+            }));
+        }
+        if is_handed_over {
+            Delivery::Sent
+        } else {
+            Delivery::Fault
+        }
+    }
+}
