@@ -3,6 +3,7 @@
 use rad_packet::{
     AttributePlace, Datagram, PacketRef, ReadFault, WriteFault, authenticator_of, read,
 };
+use std::fmt::Debug;
 use std::process::Abort;
 use std::test::Fail;
 
@@ -22,10 +23,20 @@ const CHANGED: [u8; 30] = [
     98,
 ];
 
+/// Compares what there is with what is wanted.
+fn same<T: PartialEq + Debug + Copy>(rt: &impl Abort, given: T, wanted: T) {
+    assert_eq!(rt; given, wanted);
+}
+
+/// That something is as it should be.
+fn holds(rt: &impl Abort, is_right: bool) {
+    assert!(rt; is_right);
+}
+
 /// Checks that a datagram has these octets.
 fn has(rt: &impl Abort, datagram: &Datagram, octets: &[u8]) {
-    assert!(rt; datagram.bytes() == octets);
-    assert_eq!(rt; datagram.len(), octets.len());
+    holds(rt, datagram.bytes() == octets);
+    same(rt, datagram.len(), octets.len());
 }
 
 /// The request, as it is written.
@@ -33,7 +44,7 @@ fn written(rt: &impl Abort) -> Datagram {
     let mut datagram = Datagram::new();
     has(rt, &datagram, &NOTHING);
     datagram.begin(4, 7, AUTHENTICATOR);
-    assert!(rt; datagram.push(1, b"bob").is_ok());
+    holds(rt, datagram.push(1, b"bob").is_ok());
     datagram
 }
 
@@ -41,7 +52,7 @@ fn written(rt: &impl Abort) -> Datagram {
 fn a_request_is_written(rt: HostRuntime) {
     let datagram = written(&rt);
     has(&rt, &datagram, &REQUEST);
-    assert!(rt; datagram.packet().octets() == REQUEST.as_slice());
+    holds(&rt, datagram.packet().octets() == REQUEST.as_slice());
 }
 
 /// Checks what is told of the request's attributes.
@@ -50,18 +61,18 @@ fn attributes_are_told(rt: &impl Abort, packet: &PacketRef<'_>) {
         place: 20,
         length: 5,
     };
-    assert_eq!(rt; packet.first_of(1), Some(place));
-    assert_eq!(rt; packet.last_of(1), Some(place));
-    assert_eq!(rt; packet.first_of(2), None);
-    assert_eq!(rt; packet.count_of(1), 1);
+    same(rt, packet.first_of(1), Some(place));
+    same(rt, packet.last_of(1), Some(place));
+    same(rt, packet.first_of(2), None);
+    same(rt, packet.count_of(1), 1);
 }
 
 #[test]
 fn a_request_is_read(rt: HostRuntime) -> Result<(), Fail> {
     let packet = read(&REQUEST)?;
-    assert_eq!(rt; (packet.code(), packet.identifier()), (4, 7));
-    assert!(rt; packet.authenticator() == AUTHENTICATOR);
-    assert!(rt; authenticator_of(&REQUEST) == AUTHENTICATOR);
+    same(&rt, (packet.code(), packet.identifier()), (4, 7));
+    holds(&rt, packet.authenticator() == AUTHENTICATOR);
+    holds(&rt, authenticator_of(&REQUEST) == AUTHENTICATOR);
     attributes_are_told(&rt, &packet);
     Ok(())
 }
@@ -73,7 +84,7 @@ fn changed(rt: &impl Abort, packet: &PacketRef<'_>) -> Datagram {
     let mut copy = loaded.copy();
     copy.set_identifier(8);
     copy.set_authenticator([9; 16]);
-    assert!(rt; copy.push_all(&packet.octets()[20..]).is_ok());
+    holds(rt, copy.push_all(&packet.octets()[20..]).is_ok());
     has(rt, &loaded, packet.octets());
     copy
 }
@@ -104,18 +115,18 @@ fn refuses_what_does_not_fit(rt: HostRuntime) {
         push_gives(&rt, &mut datagram, &value[..253], None);
     }
     push_gives(&rt, &mut datagram, &value[..249], None);
-    assert_eq!(rt; datagram.len(), 4096);
+    same(&rt, datagram.len(), 4096);
     for length in 0..254usize {
         let fault = Some(WriteFault::PacketTooLong);
         push_gives(&rt, &mut datagram, &value[..length], fault);
     }
     push_gives(&rt, &mut datagram, &value, Some(WriteFault::ValueTooLong));
-    assert_eq!(rt; datagram.len(), 4096);
+    same(&rt, datagram.len(), 4096);
 }
 
 /// Checks with which fault octets are read, if any.
 fn reads(rt: &impl Abort, octets: &[u8], fault: Option<ReadFault>) {
-    assert_eq!(rt; read(octets).err(), fault);
+    same(rt, read(octets).err(), fault);
 }
 
 /// Fills a packet of this Length with attributes of no value, and reads 4097 octets of it.
@@ -159,7 +170,7 @@ const READ_FAULTS: [(ReadFault, &str); 5] = [
 #[test]
 fn faults_of_reading_print_their_names(rt: HostRuntime) -> Result<(), Fail> {
     for (fault, text) in READ_FAULTS {
-        assert_eq!(rt; fault.to_string(rt.alloc())?.as_str(), text);
+        holds(&rt, fault.to_string(rt.alloc())?.as_str() == text);
     }
     Ok(())
 }
@@ -167,8 +178,8 @@ fn faults_of_reading_print_their_names(rt: HostRuntime) -> Result<(), Fail> {
 #[test]
 fn faults_of_writing_print_their_names(rt: HostRuntime) -> Result<(), Fail> {
     let value = WriteFault::ValueTooLong.to_string(rt.alloc())?;
-    assert_eq!(rt; value.as_str(), "ValueTooLong");
+    holds(&rt, value.as_str() == "ValueTooLong");
     let packet = WriteFault::PacketTooLong.to_string(rt.alloc())?;
-    assert_eq!(rt; packet.as_str(), "PacketTooLong");
+    holds(&rt, packet.as_str() == "PacketTooLong");
     Ok(())
 }

@@ -6,6 +6,11 @@ use std::process::Abort;
 use std::sync::atomic::{AtomicU64, Ordering};
 use std::test::Fail;
 
+/// That something is as it should be.
+fn holds(rt: &impl Abort, is_right: bool) {
+    assert!(rt; is_right);
+}
+
 /// Pushes the numbers from `first` up to `end`.
 fn push_each<Q: Fifo<u64>>(
     rt: &impl Abort,
@@ -30,22 +35,22 @@ fn push<Q: Fifo<u64>>(rt: &impl Abort, queue: &mut Q, number: u64) -> Result<(),
 /// Pops the numbers from `first` up to `end`.
 fn pop_each<Q: Fifo<u64>>(rt: &impl Abort, queue: &mut Q, first: u64, end: u64) {
     for number in first..end {
-        assert!(rt; queue.front() == Some(&number));
-        assert!(rt; queue.pop_front() == Some(number));
+        holds(rt, queue.front() == Some(&number));
+        holds(rt, queue.pop_front() == Some(number));
     }
 }
 
 fn has_none<Q: Fifo<u64>>(rt: &impl Abort, queue: &mut Q) {
-    assert!(rt; queue.front().is_none());
-    assert!(rt; queue.pop_front().is_none());
-    assert!(rt; queue.is_empty());
+    holds(rt, queue.front().is_none());
+    holds(rt, queue.pop_front().is_none());
+    holds(rt, queue.is_empty());
 }
 
 /// Pushes the numbers up to `end` into an empty queue, and pops them.
 fn is_in_order<Q: Fifo<u64>>(rt: &impl Abort, queue: &mut Q, end: u64) -> Result<(), AllocError> {
     has_none(rt, queue);
     push_each(rt, queue, 0, end)?;
-    assert!(rt; queue.len() as u64 == end);
+    holds(rt, queue.len() as u64 == end);
     pop_each(rt, queue, 0, end);
     has_none(rt, queue);
     Ok(())
@@ -87,13 +92,13 @@ fn append(rt: &impl Abort, queue: &mut BlockQueue<u64>, other: BlockQueue<u64>) 
 
 /// Checks that a queue has the numbers up to `end`, and pops them.
 fn has_each(rt: &impl Abort, queue: &mut BlockQueue<u64>, end: u64) {
-    assert!(rt; queue.len() as u64 == end);
+    holds(rt, queue.len() as u64 == end);
     let mut expected = 0u64;
     for number in queue.iter() {
-        assert!(rt; *number == expected);
+        holds(rt, *number == expected);
         expected = expected.wrapping_add(1);
     }
-    assert!(rt; expected == end);
+    holds(rt, expected == end);
     pop_each(rt, queue, 0, end);
     has_none(rt, queue);
 }
@@ -183,8 +188,8 @@ fn shortened_queues_follow_one_another(rt: HostRuntime) -> Result<(), Fail> {
 fn pop_with_room(rt: &impl Abort, queue: &mut BlockQueue<u64>, end: u64) {
     for number in 0..end {
         let room = queue.spare();
-        assert!(rt; queue.pop_front() == Some(number));
-        assert!(rt; queue.spare() >= room);
+        holds(rt, queue.pop_front() == Some(number));
+        holds(rt, queue.spare() >= room);
     }
 }
 
@@ -326,12 +331,12 @@ fn each_item_is_dropped_once(rt: HostRuntime) -> Result<(), Fail> {
     let drops = AtomicU64::new(0);
     let mut queue = counted_items(rt.alloc(), &drops)?;
     let kept = take(rt.alloc(), &mut queue)?;
-    assert!(rt; (queue.len(), kept.len()) == (25, 40));
-    assert!(rt; drops.load(Ordering::SeqCst) == 0);
+    holds(&rt, (queue.len(), kept.len()) == (25, 40));
+    holds(&rt, drops.load(Ordering::SeqCst) == 0);
     drop(queue);
-    assert!(rt; drops.load(Ordering::SeqCst) == 25);
+    holds(&rt, drops.load(Ordering::SeqCst) == 25);
     drop(kept);
-    assert!(rt; drops.load(Ordering::SeqCst) == 65);
+    holds(&rt, drops.load(Ordering::SeqCst) == 65);
     Ok(())
 }
 
@@ -359,13 +364,13 @@ impl Both {
     }
 
     fn pop(&mut self, rt: &impl Abort) {
-        assert!(rt; self.blocks.pop_front() == self.plain.pop_front());
+        holds(rt, self.blocks.pop_front() == self.plain.pop_front());
     }
 
     fn compare(&self, rt: &impl Abort) {
-        assert!(rt; self.blocks.front() == self.plain.front());
-        assert!(rt; self.blocks.len() == self.plain.len());
-        assert!(rt; self.blocks.is_empty() == self.plain.is_empty());
+        holds(rt, self.blocks.front() == self.plain.front());
+        holds(rt, self.blocks.len() == self.plain.len());
+        holds(rt, self.blocks.is_empty() == self.plain.is_empty());
     }
 
     /// Pushes or pops 20,000 times, as the bits of a generator say.
@@ -407,7 +412,7 @@ fn push_where_granted(rt: &impl Abort, queue: &mut BlockQueue<u64>, number: u64)
             true
         }
         Err(_) => {
-            assert!(rt; (queue.len(), queue.spare()) == before);
+            holds(rt, (queue.len(), queue.spare()) == before);
             false
         }
     }
@@ -423,7 +428,7 @@ fn a_refused_block_leaves_the_queue(rt: HostRuntime) {
             taken = taken.wrapping_add(1);
         }
     }
-    assert!(rt; queue.len() as u64 == taken);
+    holds(&rt, queue.len() as u64 == taken);
 }
 
 /// How many items pass a queue, or are appended to, in a test of what that takes.

@@ -54,23 +54,59 @@ where
     let Ok(log) = open_log(rt, alloc) else {
         return Err(Fault::Memory);
     };
-    let config = load(rt, alloc, &log, path)?;
-    let Ok(file) = find_counter_file(rt, &log) else {
-        return Err(Fault::Memory);
-    };
-    let Ok(texts) = Arc::new(alloc, CounterTexts::new(alloc)) else {
-        return Err(Fault::Memory);
-    };
-    let Ok(telemetry) = Telemetry::new(alloc, &config, &log) else {
+    serve_logged(rt, files, addresses, alloc, path, &log)
+}
+
+/// The same, where this is the log.
+fn serve_logged<R, F, A>(
+    rt: &R,
+    files: F,
+    addresses: &A,
+    alloc: Global,
+    path: &str,
+    log: &Logged<(), ErrorLines>,
+) -> Result<EndLine, Fault>
+where
+    R: Runtime + AllocGlobal + Net + RandomSource + Threads + Wait + Sync + Copy + Send + 'static,
+    R::File: Drop,
+    F: ReplaceFile + Drop + Send + 'static,
+    A: LocalAddresses + Sync,
+{
+    let config = load(rt, alloc, log, path)?;
+    serve_config(rt, files, addresses, alloc, &config, log)
+}
+
+/// Serves a configuration, while what is left of the counters is written.
+fn serve_config<R, F, A>(
+    rt: &R,
+    files: F,
+    addresses: &A,
+    alloc: Global,
+    config: &Config,
+    log: &Logged<(), ErrorLines>,
+) -> Result<EndLine, Fault>
+where
+    R: Runtime + AllocGlobal + Net + RandomSource + Threads + Wait + Sync + Copy + Send + 'static,
+    R::File: Drop,
+    F: ReplaceFile + Drop + Send + 'static,
+    A: LocalAddresses + Sync,
+{
+    let Ok(file) = find_counter_file(rt, log) else {
         return Err(Fault::Memory);
     };
     let is_reported = file.is_some();
-    if !start_writers(rt, alloc, &log, &texts, file, files) {
-        return Err(fault_told(&log, ServeFault::Threads));
+    let Ok(texts) = Arc::new(alloc, CounterTexts::new(alloc)) else {
+        return Err(Fault::Memory);
+    };
+    let Ok(telemetry) = Telemetry::new(alloc, config, log) else {
+        return Err(Fault::Memory);
+    };
+    if !start_writers(rt, alloc, log, &texts, file, files) {
+        return Err(fault_told(log, ServeFault::Threads));
     }
     let left = if is_reported { Some(&*texts) } else { None };
-    let outcome = serve_told(rt, addresses, alloc, &config, &telemetry, left, &log);
-    end_writers(rt, &log, &texts);
+    let outcome = serve_told(rt, addresses, alloc, config, &telemetry, left, log);
+    end_writers(rt, log, &texts);
     outcome
 }
 

@@ -6,7 +6,7 @@ use crate::printing::{Output, Progress};
 use crate::working::Service;
 use rad_console::{Command, Commands, obey};
 use rad_desk::Gate;
-use std::io::{ErrorKind, Read, Write};
+use std::io::{self, ErrorKind, Read, Write};
 use std::sync::{Wait, WaitMethods};
 use std::time::{Clock, Instant};
 
@@ -43,7 +43,7 @@ fn end_of_input<O: Write + Drop>(
     }
 }
 
-/// Obeys the commands of a reader to its end. One that is interrupted is read again, where all workers go on.
+/// Obeys the commands of a reader to its end.
 fn obey_each<R: Clock + Wait, G, I: Read + Drop, O: Write + Drop>(
     service: Service<'_, R, G>,
     reader: I,
@@ -51,16 +51,28 @@ fn obey_each<R: Clock + Wait, G, I: Read + Drop, O: Write + Drop>(
 ) -> Result<(), ServeFault> {
     let mut commands = Commands::new(reader);
     for _ in service.rt.forever() {
-        let command = commands.next();
-        check_workers(service)?;
-        match command {
-            Ok(Some(command)) => answer(service, command, output)?,
-            Ok(None) => return Ok(()),
-            Err(error) if error.kind() == ErrorKind::Interrupted => {}
-            Err(_) => return Err(ServeFault::Input),
+        if !obey_next(service, commands.next(), output)? {
+            return Ok(());
         }
     }
     unreachable!()
+}
+
+/// Obeys the next command, where all workers go on and there is one, and answers whether the reader is to be read again: so is
+/// one that was interrupted.
+fn obey_next<R: Clock + Wait, G, O: Write + Drop>(
+    service: Service<'_, R, G>,
+    command: io::Result<Option<Command>>,
+    output: &mut Output<O>,
+) -> Result<bool, ServeFault> {
+    check_workers(service)?;
+    match command {
+        Ok(Some(command)) => answer(service, command, output)?,
+        Ok(None) => return Ok(false),
+        Err(error) if error.kind() == ErrorKind::Interrupted => {}
+        Err(_) => return Err(ServeFault::Input),
+    }
+    Ok(true)
 }
 
 /// Obeys a command. What it answers goes out before the next one is read.

@@ -1,16 +1,22 @@
 //! What no clause says of a worker that ends by itself: the others end too, it is told, and no input is waited for.
 
 use crate::gates::Ending;
+use crate::serving::ran;
 use crate::streams::Narrow;
-use crate::wires::{LOOKS, TWO_HOMES, pause, quiet};
+use crate::wires::{LOOKS, pause, quiet_wires, served};
+use rad_console::EndLine;
 use rad_desk::Worker;
-use rad_realms::read_config;
-use rad_server::{Descriptors, Notifiers, RuntimeAddresses, ServeFault, Wires, run, serve};
+use rad_server::{Descriptors, LocalAddresses, RuntimeAddresses, ServeFault};
+use std::alloc::Global;
 use std::io::{self, Error, ErrorKind, Read};
+use std::net::Net;
 use std::os::fd::AsRawFd;
 use std::os::unix::net::UnixStream;
+use std::random::RandomSource;
+use std::sync::Wait;
 use std::sync::atomic::AtomicU64;
 use std::test::Fail;
+use std::thread::Threads;
 use std::time::Clock;
 
 /// A client and a home server of this machine.
@@ -46,72 +52,83 @@ impl<R: Clock> Read for Silent<'_, R> {
     }
 }
 
+/// Whether it is told that this worker ended.
+fn is_told(ran: Result<EndLine, ServeFault>, worker: Worker) -> bool {
+    matches!(ran, Err(ServeFault::Ended(ended)) if ended == worker)
+}
+
+/// Whether it is told that a worker ended, and nothing is printed, where wires on which nothing comes are served.
+fn ends_the_service<R: Clock + Threads + Wait + Sync>(
+    rt: &R,
+    alloc: Global,
+    worker: Worker,
+) -> Result<bool, Fail> {
+    let sent = AtomicU64::new(0);
+    let mut taken = Vec::new(alloc);
+    let reader = Silent {
+        clock: rt,
+        looks: LOOKS,
+    };
+    let writer = Narrow {
+        taken: &mut taken,
+        room: 1000,
+    };
+    let wires = quiet_wires(alloc, rt, &sent)?;
+    let served = served(rt, alloc, wires, &Ending(worker), reader, writer)?;
+    Ok(is_told(served, worker) && taken.is_empty())
+}
+
 #[test]
 fn a_worker_that_ends_ends_the_service(rt: HostRuntime) -> Result<(), Fail> {
-    let alloc = rt.alloc();
-    let config = read_config(alloc, TWO_HOMES)?;
-    let sent = AtomicU64::new(0);
     for worker in [Worker::Front, Worker::Lane(0), Worker::Lane(1)] {
-        let mut taken = Vec::new(alloc);
-        let mut lanes = Vec::new(alloc);
-        lanes.push(quiet(&rt, &sent))?;
-        lanes.push(quiet(&rt, &sent))?;
-        let served = serve(
-            &rt,
-            alloc,
-            &config,
-            Wires {
-                front: quiet(&rt, &sent),
-                lanes,
-            },
-            &Notifiers::none(alloc),
-            &Ending(worker),
-            Silent {
-                clock: &rt,
-                looks: LOOKS,
-            },
-            Narrow {
-                taken: &mut taken,
-                room: 1000,
-            },
-        );
-        let is_told = matches!(served, Err(ServeFault::Ended(ended)) if ended == worker);
-        assert!(rt; is_told, "{worker:?}");
-        assert!(rt; taken.is_empty(), "{worker:?}");
+        assert!(rt; ends_the_service(&rt, rt.alloc(), worker)?, "{worker:?}");
     }
     Ok(())
 }
 
-#[test]
-fn a_worker_that_ends_ends_the_wait_for_input(rt: HostRuntime) -> Result<(), Fail> {
-    let alloc = rt.alloc();
-    let addresses = RuntimeAddresses::new(rt);
-    let config = read_config(alloc, ONE_HOME)?;
-    let (reader, _silent) = UnixStream::pair(&rt)?;
+/// Whether it is told that a worker ended, and only printed where the program listens, while a reader waits.
+fn ends_the_wait<R, A>(
+    rt: &R,
+    addresses: &A,
+    alloc: Global,
+    worker: Worker,
+    reader: &UnixStream,
+) -> Result<bool, Fail>
+where
+    R: Clock + Net + RandomSource + Threads + Wait + Sync,
+    A: LocalAddresses + Sync,
+{
+    let mut taken = Vec::new(alloc);
+    let writer = Narrow {
+        taken: &mut taken,
+        room: 1000,
+    };
     let descriptors = Descriptors {
         input: Some(reader.as_raw_fd()),
         output: None,
     };
+    let gate = Ending(worker);
+    let ran = ran(
+        rt,
+        addresses,
+        alloc,
+        ONE_HOME,
+        &gate,
+        reader,
+        writer,
+        descriptors,
+    )?;
+    let is_right = taken.as_slice() == b"listening 127.0.0.1:1816\n".as_slice();
+    Ok(is_told(ran, worker) && is_right)
+}
+
+#[test]
+fn a_worker_that_ends_ends_the_wait_for_input(rt: HostRuntime) -> Result<(), Fail> {
+    let addresses = RuntimeAddresses::new(rt);
+    let (reader, _silent) = UnixStream::pair(&rt)?;
     for worker in [Worker::Front, Worker::Lane(0)] {
-        let mut taken = Vec::new(alloc);
-        let writer = Narrow {
-            taken: &mut taken,
-            room: 1000,
-        };
-        let gate = Ending(worker);
-        let ran = run(
-            &rt,
-            &addresses,
-            alloc,
-            &config,
-            &gate,
-            &reader,
-            writer,
-            descriptors,
-        );
-        let is_told = matches!(ran, Err(ServeFault::Ended(ended)) if ended == worker);
-        assert!(rt; is_told, "{worker:?}");
-        assert_eq!(rt; taken.as_slice(), b"listening 127.0.0.1:1816\n".as_slice());
+        let is_right = ends_the_wait(&rt, &addresses, rt.alloc(), worker, &reader)?;
+        assert!(rt; is_right, "{worker:?}");
     }
     Ok(())
 }

@@ -1,30 +1,49 @@
 //! That a notification interrupts a read.
 
+use crate::comparing::same;
 use rad_server::Interruptible;
-use std::io::{ErrorKind, Read, Write};
+use std::alloc::Global;
+use std::io::{self, ErrorKind, Read, Write};
+use std::net::Net;
 use std::os::fd::AsRawFd;
 use std::os::unix::net::UnixStream;
 use std::test::Fail;
 
+/// A reader whose wait others can end.
+fn interruptible(
+    net: &impl Net,
+    alloc: Global,
+    reader: UnixStream,
+) -> io::Result<Interruptible<UnixStream>> {
+    let input = Some(reader.as_raw_fd());
+    Interruptible::new(net, alloc, reader, input)
+}
+
+/// Has the reader notified.
+fn notify(reader: &Interruptible<UnixStream>) -> Result<(), Fail> {
+    reader.notifier()?.notify();
+    Ok(())
+}
+
+/// How many octets are read, or why none.
+fn read(reader: &mut Interruptible<UnixStream>) -> Result<usize, ErrorKind> {
+    match reader.read(&mut [0; 8]) {
+        Ok(count) => Ok(count),
+        Err(error) => Err(error.kind()),
+    }
+}
+
 #[test]
 fn a_notification_interrupts_a_read(rt: HostRuntime) -> Result<(), Fail> {
-    let alloc = rt.alloc();
     let (reader, mut given) = UnixStream::pair(&rt)?;
-    let input = Some(reader.as_raw_fd());
-    let mut reader = Interruptible::new(&rt, alloc, reader, input)?;
-    let notifier = reader.notifier()?;
-    let mut room = [0; 8];
+    let mut reader = interruptible(&rt, rt.alloc(), reader)?;
     given.write_all(b"state\n")?;
-    assert_eq!(rt; reader.read(&mut room)?, 6);
-    notifier.notify();
-    let error = reader.read(&mut room).err();
-    assert_eq!(rt;
-        error.map(|error| error.kind()),
-        Some(ErrorKind::Interrupted)
-    );
+    same(&rt, read(&mut reader), Ok(6));
+    notify(&reader)?;
+    same(&rt, read(&mut reader), Err(ErrorKind::Interrupted));
     given.write_all(b"drain\n")?;
-    assert_eq!(rt; reader.read(&mut room)?, 6);
+    same(&rt, read(&mut reader), Ok(6));
     drop(given);
-    assert_eq!(rt; reader.read(&mut room)?, 0);
+    same(&rt, read(&mut reader), Ok(0));
     Ok(())
 }

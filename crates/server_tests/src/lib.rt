@@ -5,6 +5,8 @@
 #[cfg(test)]
 mod addresses;
 #[cfg(test)]
+mod comparing;
+#[cfg(test)]
 mod ending;
 #[cfg(test)]
 mod gates;

@@ -1,10 +1,20 @@
 //! What no clause says of `run`: what it prints, and that a failed read ends it.
 
+use crate::comparing::holds;
 use crate::gates::Open;
 use crate::streams::{Narrow, Slow};
+use rad_console::EndLine;
+use rad_desk::Gate;
 use rad_realms::read_config;
-use rad_server::{Descriptors, RuntimeAddresses, ServeFault, run};
+use rad_server::{Descriptors, LocalAddresses, RuntimeAddresses, ServeFault, run};
+use std::alloc::Global;
+use std::io::{Read, Write};
+use std::net::Net;
+use std::random::RandomSource;
+use std::sync::Wait;
 use std::test::Fail;
+use std::thread::Threads;
+use std::time::Clock;
 
 /// A configuration of one client, two home servers and three realms.
 const CONFIGURATION: &str =
@@ -31,69 +41,93 @@ name = "example.org"
 home = "h1"
 "#;
 
+/// How it ends where the configuration of a text is served over UDP.
+pub fn ran<R, A, G, I, O>(
+    rt: &R,
+    addresses: &A,
+    alloc: Global,
+    text: &str,
+    gate: &G,
+    reader: I,
+    writer: O,
+    descriptors: Descriptors,
+) -> Result<Result<EndLine, ServeFault>, Fail>
+where
+    R: Clock + Net + RandomSource + Threads + Wait + Sync,
+    A: LocalAddresses + Sync,
+    G: Gate + Sync,
+    I: Read + Drop,
+    O: Write + Drop,
+{
+    let config = read_config(alloc, text)?;
+    Ok(run(
+        rt,
+        addresses,
+        alloc,
+        &config,
+        gate,
+        reader,
+        writer,
+        descriptors,
+    ))
+}
+
+/// The same where all workers go on, and nobody waits for the reader. What is printed is added to a text.
+fn ran_open<R, A>(
+    rt: &R,
+    addresses: &A,
+    alloc: Global,
+    text: &str,
+    reader: Slow<'_>,
+    taken: &mut Vec<u8>,
+) -> Result<Result<EndLine, ServeFault>, Fail>
+where
+    R: Clock + Net + RandomSource + Threads + Wait + Sync,
+    A: LocalAddresses + Sync,
+{
+    let writer = Narrow { taken, room: 1000 };
+    let none = Descriptors::none();
+    ran(rt, addresses, alloc, text, &Open, reader, writer, none)
+}
+
 #[test]
 fn commands_are_answered(rt: HostRuntime) -> Result<(), Fail> {
-    let alloc = rt.alloc();
     let addresses = RuntimeAddresses::new(rt);
-    let config = read_config(alloc, CONFIGURATION)?;
-    let mut taken = Vec::new(alloc);
+    let mut taken = Vec::new(rt.alloc());
     let reader = Slow {
         rest: b"state\nturn\n",
         most: 3,
         fails: false,
     };
-    let writer = Narrow {
-        taken: &mut taken,
-        room: 1000,
-    };
-    let end = run(
+    let ran = ran_open(
         &rt,
         &addresses,
-        alloc,
-        &config,
-        &Open,
+        rt.alloc(),
+        CONFIGURATION,
         reader,
-        writer,
-        Descriptors::none(),
+        &mut taken,
     )?;
-    assert!(rt; end.is_clean());
+    holds(&rt, matches!(ran, Ok(end) if end.is_clean()));
     let printed = "listening 127.0.0.1:1813\n\
          lane 0 h1 up open accepted 0 queued 0 outstanding 0 answered 0 opening 0\n\
          lane 1 h2 up open accepted 0 queued 0 outstanding 0 answered 0 opening 0\n\
          unknown\nend: queued 0 outstanding 0 untaken 0\n";
-    assert_eq!(rt; taken.as_slice(), printed.as_bytes());
+    holds(&rt, taken.as_slice() == printed.as_bytes());
     Ok(())
 }
 
 #[test]
 fn a_failed_read_ends_the_service(rt: HostRuntime) -> Result<(), Fail> {
-    let alloc = rt.alloc();
     let addresses = RuntimeAddresses::new(rt);
-    let config = read_config(alloc, NO_LINGER)?;
-    let mut taken = Vec::new(alloc);
+    let mut taken = Vec::new(rt.alloc());
     let reader = Slow {
         rest: b"turn\n",
         most: 64,
         fails: true,
     };
-    let writer = Narrow {
-        taken: &mut taken,
-        room: 1000,
-    };
-    let ran = run(
-        &rt,
-        &addresses,
-        alloc,
-        &config,
-        &Open,
-        reader,
-        writer,
-        Descriptors::none(),
-    );
-    assert!(rt; matches!(ran, Err(ServeFault::Input)));
-    assert_eq!(rt;
-        taken.as_slice(),
-        b"listening 127.0.0.1:1815\nunknown\n".as_slice()
-    );
+    let ran = ran_open(&rt, &addresses, rt.alloc(), NO_LINGER, reader, &mut taken)?;
+    holds(&rt, matches!(ran, Err(ServeFault::Input)));
+    let printed = "listening 127.0.0.1:1815\nunknown\n";
+    holds(&rt, taken.as_slice() == printed.as_bytes());
     Ok(())
 }

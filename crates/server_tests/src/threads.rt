@@ -1,10 +1,12 @@
 //! That the lanes have threads of their own.
 
+use crate::comparing::{holds, same};
 use crate::streams::Narrow;
-use crate::wires::{LOOKS, Scripted, TWO_HOMES, pause};
+use crate::wires::{LOOKS, Scripted, pause, served};
 use rad_desk::{Call, Gate, Go, Traffic, Worker};
-use rad_realms::{Endpoint, read_config};
-use rad_server::{Notifiers, Wires, serve};
+use rad_realms::Endpoint;
+use rad_server::Wires;
+use std::alloc::{AllocError, Global};
 use std::io::{self, Read};
 use std::sync::atomic::{AtomicBool, AtomicU64, Ordering};
 use std::test::Fail;
@@ -75,39 +77,64 @@ impl<R: Clock> Gate for Crossing<'_, R> {
     fn after(&self, _worker: Worker, _call: Call) {}
 }
 
-#[test]
-fn lanes_have_threads_of_their_own(rt: HostRuntime) -> Result<(), Fail> {
-    let alloc = rt.alloc();
-    let config = read_config(alloc, TWO_HOMES)?;
-    let sent = [AtomicU64::new(0), AtomicU64::new(0), AtomicU64::new(0)];
-    let [of_front, of_first, of_second] = &sent;
-    let scripted = |from, gives, waits_for, sent| Scripted {
-        clock: &rt,
+const CLIENT: Endpoint = Endpoint {
+    address: [10, 0, 0, 1],
+    port: 40000,
+};
+
+/// The home server of a lane.
+fn home(lane: u16) -> Endpoint {
+    Endpoint {
+        address: [127, 0, 0, 1],
+        port: 2813_u16.saturating_add(lane),
+    }
+}
+
+/// A wire in memory that gives these once it sent as many as it waits for.
+fn scripted<'a, R: Clock>(
+    clock: &'a R,
+    from: Endpoint,
+    gives: &'a [&'a [u8]],
+    waits_for: u64,
+    sent: &'a AtomicU64,
+) -> Scripted<'a, R> {
+    Scripted {
+        clock,
         from,
         gives,
         next: 0,
         waits_for,
         sent,
         traffic: Traffic::new(),
-    };
-    let requests = [SEVENTH.as_slice(), NAME_ONLY_REQUEST.as_slice()];
-    let replies = [[SEVENTH_REPLY.as_slice()], [NAME_ONLY_REPLY.as_slice()]];
-    let client = Endpoint {
-        address: [10, 0, 0, 1],
-        port: 40000,
-    };
-    let mut lanes = Vec::new(alloc);
-    for (lane, sent) in [of_first, of_second].into_iter().enumerate() {
-        let home = Endpoint {
-            address: [127, 0, 0, 1],
-            port: 2813 + lane as u16,
-        };
-        lanes.push(scripted(home, replies[lane].as_slice(), 1, sent))?;
     }
-    let wires = Wires {
-        front: scripted(client, requests.as_slice(), 0, of_front),
+}
+
+/// A request for each lane comes to the front, and each lane has a reply once it sent its request. How many each sent is
+/// counted.
+fn wires_of<'a, R: Clock>(
+    alloc: Global,
+    clock: &'a R,
+    sent: &'a [AtomicU64; 3],
+) -> Result<Wires<Scripted<'a, R>>, AllocError> {
+    let [of_front, of_first, of_second] = sent;
+    let mut lanes = Vec::new(alloc);
+    lanes.push(scripted(clock, home(0), &REPLIES[..1], 1, of_first))?;
+    lanes.push(scripted(clock, home(1), &REPLIES[1..], 1, of_second))?;
+    Ok(Wires {
+        front: scripted(clock, CLIENT, &REQUESTS, 0, of_front),
         lanes,
-    };
+    })
+}
+
+/// A request for each of two lanes.
+const REQUESTS: [&[u8]; 2] = [&SEVENTH, &NAME_ONLY_REQUEST];
+
+/// The replies to them.
+const REPLIES: [&[u8]; 2] = [&SEVENTH_REPLY, &NAME_ONLY_REPLY];
+
+#[test]
+fn lanes_have_threads_of_their_own(rt: HostRuntime) -> Result<(), Fail> {
+    let sent = [AtomicU64::new(0), AtomicU64::new(0), AtomicU64::new(0)];
     let gate = Crossing {
         clock: &rt,
         heard: [AtomicBool::new(false), AtomicBool::new(false)],
@@ -116,27 +143,19 @@ fn lanes_have_threads_of_their_own(rt: HostRuntime) -> Result<(), Fail> {
     };
     let reader = Asking {
         clock: &rt,
-        sent: of_front,
+        sent: &sent[0],
         enough: 2,
         looks: LOOKS,
     };
-    let mut taken = Vec::new(alloc);
+    let mut taken = Vec::new(rt.alloc());
     let writer = Narrow {
         taken: &mut taken,
         room: usize::MAX,
     };
-    let end = serve(
-        &rt,
-        alloc,
-        &config,
-        wires,
-        &Notifiers::none(alloc),
-        &gate,
-        reader,
-        writer,
-    )?;
-    assert!(rt; end.is_clean());
-    assert!(rt; !gate.gave_up.load(Ordering::SeqCst));
-    assert_eq!(rt; of_front.load(Ordering::SeqCst), 2);
+    let wires = wires_of(rt.alloc(), &rt, &sent)?;
+    let served = served(&rt, rt.alloc(), wires, &gate, reader, writer)?;
+    holds(&rt, matches!(served, Ok(end) if end.is_clean()));
+    holds(&rt, !gate.gave_up.load(Ordering::SeqCst));
+    same(&rt, sent[0].load(Ordering::SeqCst), 2);
     Ok(())
 }

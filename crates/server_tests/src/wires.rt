@@ -1,17 +1,23 @@
 //! Wires in memory.
 
-use rad_desk::{Delivery, Received, Traffic, Wire};
-use rad_realms::Endpoint;
+use rad_console::EndLine;
+use rad_desk::{Delivery, Gate, Received, Traffic, Wire};
+use rad_realms::{Endpoint, read_config};
+use rad_server::{Notifiers, ServeFault, Wires, serve};
 use rad_tables::Moment;
+use std::alloc::{AllocError, Global};
+use std::io::{Read, Write};
+use std::sync::Wait;
 use std::sync::atomic::{AtomicU64, Ordering};
-use std::thread;
+use std::test::Fail;
+use std::thread::{self, Threads};
 use std::time::{Clock, Duration};
 
 /// The most looks at what another thread does, a millisecond apart.
 pub const LOOKS: u32 = 10_000;
 
 /// One client and two home servers.
-pub const TWO_HOMES: &str = r#"
+const TWO_HOMES: &str = r#"
 listen = "127.0.0.1:1813"
 [[client]]
 address = "10.0.0.1"
@@ -90,7 +96,7 @@ impl<R: Clock> Wire for Scripted<'_, R> {
 }
 
 /// A wire in memory on which nothing comes.
-pub fn quiet<'a, R: Clock>(clock: &'a R, sent: &'a AtomicU64) -> Scripted<'a, R> {
+fn quiet<'a, R: Clock>(clock: &'a R, sent: &'a AtomicU64) -> Scripted<'a, R> {
     Scripted {
         clock,
         from: Endpoint {
@@ -103,4 +109,41 @@ pub fn quiet<'a, R: Clock>(clock: &'a R, sent: &'a AtomicU64) -> Scripted<'a, R>
         sent,
         traffic: Traffic::new(),
     }
+}
+
+/// Such wires for the clients and for two home servers.
+pub fn quiet_wires<'a, R: Clock>(
+    alloc: Global,
+    clock: &'a R,
+    sent: &'a AtomicU64,
+) -> Result<Wires<Scripted<'a, R>>, AllocError> {
+    let mut lanes = Vec::new(alloc);
+    for _ in 0..2 {
+        lanes.push(quiet(clock, sent))?;
+    }
+    Ok(Wires {
+        front: quiet(clock, sent),
+        lanes,
+    })
+}
+
+/// How it ends where one client and two home servers are served over these wires.
+pub fn served<R, W, G, I, O>(
+    rt: &R,
+    alloc: Global,
+    wires: Wires<W>,
+    gate: &G,
+    reader: I,
+    writer: O,
+) -> Result<Result<EndLine, ServeFault>, Fail>
+where
+    R: Clock + Threads + Wait + Sync,
+    W: Wire + Send + Drop,
+    G: Gate + Sync,
+    I: Read + Drop,
+    O: Write + Drop,
+{
+    let config = read_config(alloc, TWO_HOMES)?;
+    let notifiers = Notifiers::none(alloc);
+    Ok(serve(rt, alloc, &config, wires, &notifiers, gate, reader, writer))
 }

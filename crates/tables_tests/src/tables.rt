@@ -50,6 +50,11 @@ impl Change<Note> for Renewal {
     }
 }
 
+/// That something is as it should be.
+fn holds(rt: &impl Abort, is_right: bool) {
+    assert!(rt; is_right);
+}
+
 fn unspent(due: u64, number: u64) -> Note {
     Note {
         due,
@@ -83,44 +88,44 @@ fn put_next(slots: &mut Slots<Note>, entry: Note) -> Option<Slot> {
 
 #[test]
 fn moments_end_below_two_to_62(rt: HostRuntime) -> Result<(), Fail> {
-    assert!(rt; Moment::new(1 << 62).is_none());
-    assert!(rt; Moment::new(u64::MAX).is_none());
+    holds(&rt, Moment::new(1 << 62).is_none());
+    holds(&rt, Moment::new(u64::MAX).is_none());
     let last = Moment::new((1 << 62) - 1).ok_or("the last moment")?;
-    assert!(rt; last.get() == 4_611_686_018_427_387_903);
+    holds(&rt, last.get() == 4_611_686_018_427_387_903);
     let first = Moment::new(0).ok_or("the first moment")?;
-    assert!(rt; first.get() == 0);
-    assert!(rt; first < last);
+    holds(&rt, first.get() == 0);
+    holds(&rt, first < last);
     Ok(())
 }
 
 #[test]
 fn waits_double_up_to_two_minutes(rt: HostRuntime) {
-    assert!(rt; wait_after(2000, 1) == 2000);
-    assert!(rt; wait_after(2000, 3) == 8000);
-    assert!(rt; wait_after(100, 10) == 51_200);
-    assert!(rt; wait_after(1000, 7) == 64_000);
-    assert!(rt; wait_after(1000, 8) == 120_000);
-    assert!(rt; wait_after(60_000, 10) == 120_000);
-    assert!(rt; wait_after(100, 1) == 100);
-    assert!(rt; wait_after(60_000, 1) == 60_000);
+    holds(&rt, wait_after(2000, 1) == 2000);
+    holds(&rt, wait_after(2000, 3) == 8000);
+    holds(&rt, wait_after(100, 10) == 51_200);
+    holds(&rt, wait_after(1000, 7) == 64_000);
+    holds(&rt, wait_after(1000, 8) == 120_000);
+    holds(&rt, wait_after(60_000, 10) == 120_000);
+    holds(&rt, wait_after(100, 1) == 100);
+    holds(&rt, wait_after(60_000, 1) == 60_000);
 }
 
 /// Checks which pair is allotted next.
 fn allots(rt: &impl Abort, slots: &Slots<Note>, wanted: Option<Slot>) {
-    assert!(rt; slots.allot() == wanted);
+    holds(rt, slots.allot() == wanted);
 }
 
 /// Puts an entry at each pair of a port up to an identifier, as they are allotted.
 fn fill(rt: &impl Abort, slots: &mut Slots<Note>, port: u16, end: u16) {
     for identifier in 0..end {
         let wanted = pair(port, (identifier % 256) as u8);
-        assert!(rt; put_next(slots, unspent(1, 1)) == Some(wanted));
+        holds(rt, put_next(slots, unspent(1, 1)) == Some(wanted));
     }
 }
 
 /// Checks what is taken from a pair.
 fn takes(rt: &impl Abort, slots: &mut Slots<Note>, slot: Slot, wanted: Option<Note>) {
-    assert!(rt; slots.take(slot) == wanted);
+    holds(rt, slots.take(slot) == wanted);
 }
 
 fn are_allotted_in_cyclic_order(rt: &impl Abort, slots: &mut Slots<Note>)
@@ -132,9 +137,9 @@ fn are_allotted_in_cyclic_order(rt: &impl Abort, slots: &mut Slots<Note>)
     put_at(slots, pair(0, 0), unspent(2, 2));
     allots(rt, slots, Some(pair(0, 1)));
     for _ in 0..254 {
-        assert!(rt; put_next(slots, unspent(3, 3)).is_some());
+        holds(rt, put_next(slots, unspent(3, 3)).is_some());
     }
-    assert!(rt; slots.used() == 256);
+    holds(rt, slots.used() == 256);
     allots(rt, slots, None);
     takes(rt, slots, pair(0, 7), Some(unspent(3, 3)));
     allots(rt, slots, Some(pair(0, 7)));
@@ -152,7 +157,7 @@ fn the_second_port_follows_the_first(rt: HostRuntime) -> Result<(), Fail> {
     let mut slots = Slots::new(rt.alloc(), 2)?;
     fill(&rt, &mut slots, 0, 256);
     fill(&rt, &mut slots, 1, 44);
-    assert!(rt; slots.used() == 300);
+    holds(&rt, slots.used() == 300);
     Ok(())
 }
 
@@ -164,8 +169,8 @@ fn four_ports_are_the_most(rt: HostRuntime) -> Result<(), Fail> {
 
 /// Checks which entries are due next: of those that are not spent, and of those that are.
 fn are_due(rt: &impl Abort, slots: &Slots<Note>, unspent: Option<Slot>, spent: Option<Slot>) {
-    assert!(rt; slots.least_due(false) == unspent);
-    assert!(rt; slots.least_due(true) == spent);
+    holds(rt, slots.least_due(false) == unspent);
+    holds(rt, slots.least_due(true) == spent);
 }
 
 /// Has the entry of a pair spent.
@@ -188,7 +193,7 @@ fn are_due_by_number(rt: &impl Abort, slots: &mut Slots<Note>)
     slots.change_each(&Renewal { now: 8 });
     are_due(rt, slots, Some(pair(0, 2)), None);
     takes(rt, slots, pair(0, 1), Some(unspent(8, 3)));
-    assert!(rt; slots.used() == 2);
+    holds(rt, slots.used() == 2);
 }
 
 #[test]
@@ -200,8 +205,8 @@ fn the_least_due_goes_by_number_at_one_due(rt: HostRuntime) -> Result<(), Fail> 
 
 /// Checks that nothing is found at a pair.
 fn has_nothing(rt: &impl Abort, slots: &mut Slots<Note>, slot: Slot) {
-    assert!(rt; slots.get(slot).is_none());
-    assert!(rt; slots.get_mut(slot).is_none());
+    holds(rt, slots.get(slot).is_none());
+    holds(rt, slots.get_mut(slot).is_none());
     takes(rt, slots, slot, None);
 }
 
@@ -209,16 +214,17 @@ fn answers_none(rt: &impl Abort, slots: &mut Slots<Note>)
     requires { slots.old.ports ≡ 1 }
 {
     put_at(slots, pair(0, 255), unspent(1, 7));
-    assert!(rt;
+    holds(
+        rt,
         slots
             .get(pair(0, 255))
-            .is_some_and(|entry| entry.number == 7)
+            .is_some_and(|entry| entry.number == 7),
     );
     has_nothing(rt, slots, pair(1, 0));
     has_nothing(rt, slots, pair(1, 255));
     has_nothing(rt, slots, pair(u16::MAX, 255));
     takes(rt, slots, pair(0, 255), Some(unspent(1, 7)));
-    assert!(rt; slots.used() == 0);
+    holds(rt, slots.used() == 0);
 }
 
 #[test]
@@ -240,7 +246,7 @@ fn key(identifier: u8) -> Key {
 
 /// Checks the last number of a key.
 fn finds(rt: &impl Abort, duplicates: &Duplicates, key: &Key, number: Option<u64>) {
-    assert!(rt; duplicates.find(key) == number);
+    holds(rt, duplicates.find(key) == number);
 }
 
 #[test]
@@ -267,7 +273,7 @@ fn replaces(
     last: Option<u64>,
 ) -> Result<(), Fail> {
     let before = duplicates.replace(key, number)?;
-    assert!(rt; before == last);
+    holds(rt, before == last);
     finds(rt, duplicates, &key, Some(number));
     duplicates.restore(&key, last);
     finds(rt, duplicates, &key, last);

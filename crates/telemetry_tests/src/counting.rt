@@ -1,5 +1,6 @@
 //! What no clause says of counting: what is counted of whom, and that a delta is given once.
 
+use crate::comparing::{holds, same};
 use crate::shared::NAS;
 use rad_desk::{DeskFault, Note, Worker};
 use rad_realms::Dropped;
@@ -16,7 +17,7 @@ const RING_FULL: EventKind = EventKind::Unheard(DeskFault::RingFull);
 #[test]
 fn each_kind_stands_in_its_place(rt: HostRuntime) {
     for (place, kind) in EVENT_KINDS.iter().enumerate() {
-        assert_eq!(rt; kind.place(), place);
+        same(&rt, kind.place(), place);
     }
 }
 
@@ -29,15 +30,15 @@ fn a_delta_is_given_once(rt: HostRuntime) -> Result<(), Fail> {
     let Some(delta) = counters.take_delta(Worker::Front, NO_REALM) else {
         return Err(Fail::from("no delta"));
     };
-    assert_eq!(rt; delta.count, 3);
-    assert!(rt; delta.last == NAS);
-    assert!(rt; counters.take_delta(Worker::Front, NO_REALM).is_none());
+    same(&rt, delta.count, 3);
+    holds(&rt, delta.last == NAS);
+    holds(&rt, counters.take_delta(Worker::Front, NO_REALM).is_none());
     counters.count(Worker::Front, Note::Dropped(Dropped::NoRealm), NAS);
     let Some(delta) = counters.take_delta(Worker::Front, NO_REALM) else {
         return Err(Fail::from("no delta"));
     };
-    assert_eq!(rt; delta.count, 1);
-    assert_eq!(rt; counters.get(Worker::Front, NO_REALM), 4);
+    same(&rt, delta.count, 1);
+    same(&rt, counters.get(Worker::Front, NO_REALM), 4);
     Ok(())
 }
 
@@ -47,9 +48,9 @@ fn each_worker_has_its_own(rt: HostRuntime) -> Result<(), Fail> {
     counters.count(Worker::Lane(1), Note::Unheard(DeskFault::RingFull), NAS);
     counters.count(Worker::Lane(2), Note::WentDown, NAS);
     counters.count(Worker::Front, Note::Took(0, 0), NAS);
-    assert_eq!(rt; counters.get(Worker::Lane(0), RING_FULL), 0);
-    assert_eq!(rt; counters.get(Worker::Lane(1), RING_FULL), 1);
-    assert_eq!(rt; counters.get(Worker::Front, RING_FULL), 0);
-    assert_eq!(rt; counters.get(Worker::Lane(2), EventKind::WentDown), 0);
+    same(&rt, counters.get(Worker::Lane(0), RING_FULL), 0);
+    same(&rt, counters.get(Worker::Lane(1), RING_FULL), 1);
+    same(&rt, counters.get(Worker::Front, RING_FULL), 0);
+    same(&rt, counters.get(Worker::Lane(2), EventKind::WentDown), 0);
     Ok(())
 }

@@ -1,5 +1,6 @@
 //! What no clause says of the level: the variable of the environment that names it.
 
+use crate::comparing::holds;
 use rad_telemetry::{LevelFilter, level_of, read_level};
 use std::env::{Env, FillError};
 use std::result::Result;
@@ -31,17 +32,23 @@ impl Env for Given<'_> {
 
 #[test]
 fn a_word_names_a_level(rt: HostRuntime) {
-    assert!(rt; level_of("off") == Some(LevelFilter::Off));
-    assert!(rt; level_of("trace") == Some(LevelFilter::Trace));
-    assert!(rt; level_of("Debug") == Some(LevelFilter::Debug));
-    assert!(rt; level_of("verbose").is_none());
-    assert!(rt; level_of("").is_none());
+    holds(&rt, level_of("off") == Some(LevelFilter::Off));
+    holds(&rt, level_of("trace") == Some(LevelFilter::Trace));
+    holds(&rt, level_of("Debug") == Some(LevelFilter::Debug));
+    holds(&rt, level_of("verbose").is_none());
+    holds(&rt, level_of("").is_none());
 }
 
 #[test]
 fn the_environment_names_a_level(rt: HostRuntime) {
-    assert!(rt; read_level(&Given(None)) == Some(LevelFilter::Info));
-    assert!(rt; read_level(&Given(Some("warn"))) == Some(LevelFilter::Warn));
-    assert!(rt; read_level(&Given(Some("loud"))).is_none());
-    assert!(rt; read_level(&Given(Some("a word of more than sixteen"))).is_none());
+    holds(&rt, read_level(&Given(None)) == Some(LevelFilter::Info));
+    holds(
+        &rt,
+        read_level(&Given(Some("warn"))) == Some(LevelFilter::Warn),
+    );
+    holds(&rt, read_level(&Given(Some("loud"))).is_none());
+    holds(
+        &rt,
+        read_level(&Given(Some("a word of more than sixteen"))).is_none(),
+    );
 }

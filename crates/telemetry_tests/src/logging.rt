@@ -1,7 +1,8 @@
 //! What no clause says of the log: the line of each note and its level, and what it tells of the datagram that the note is about.
 
+use crate::comparing::holds;
 use crate::packets::SHORT;
-use crate::shared::{HOME, MemoryLog, NAS, Setup, TWO_HOMES};
+use crate::shared::{HOME, MemoryLog, NAS, Story, logs};
 use rad_desk::{DeskFault, Gate, Note, Session, Spent, UpReason, Worker};
 use rad_lane::{HearFault, Refusal};
 use rad_packet::read;
@@ -100,15 +101,6 @@ fn tell_of_lanes(telemetry: &Telemetry<'_, MemoryLog>) {
     telemetry.note(Worker::Lane(0), Note::Unheard(DeskFault::RingFull));
 }
 
-#[test]
-fn each_note_tells_of_what_its_lane_received(rt: HostRuntime) -> Result<(), Fail> {
-    let alloc = rt.alloc();
-    let setup = Setup::new(alloc, TWO_HOMES, LevelFilter::Trace)?;
-    tell_of_lanes(&setup.telemetry(alloc)?);
-    assert!(rt; setup.has_logged(NOTES_OF_LANES));
-    Ok(())
-}
-
 /// Tells of what came to the front.
 fn tell_of_the_front(telemetry: &Telemetry<'_, MemoryLog>) {
     telemetry.received(Worker::Front, NAS, &SEVENTH);
@@ -118,27 +110,59 @@ fn tell_of_the_front(telemetry: &Telemetry<'_, MemoryLog>) {
     telemetry.sends(Worker::Front, NAS, &NAME_ONLY_REQUEST);
 }
 
+/// What the tests below tell of.
+#[derive(Clone, Copy)]
+enum Told {
+    Lanes,
+    Front,
+    Events,
+    /// A drop, and the datagram that is dropped.
+    Drop,
+}
+
+impl Story for Told {
+    fn tell<'x>(&'x self, telemetry: &'x Telemetry<'_, MemoryLog>) {
+        match self {
+            Told::Lanes => tell_of_lanes(telemetry),
+            Told::Front => tell_of_the_front(telemetry),
+            Told::Events => tell_events(telemetry),
+            Told::Drop => tell_of_a_drop(telemetry),
+        }
+    }
+}
+
+/// Tells of a datagram that the front dropped.
+fn tell_of_a_drop(telemetry: &Telemetry<'_, MemoryLog>) {
+    telemetry.received(Worker::Front, NAS, &SEVENTH);
+    telemetry.note(Worker::Front, Note::Dropped(Dropped::NoRealm));
+}
+
+#[test]
+fn each_note_tells_of_what_its_lane_received(rt: HostRuntime) -> Result<(), Fail> {
+    let trace = LevelFilter::Trace;
+    holds(&rt, logs(rt.alloc(), trace, &Told::Lanes, NOTES_OF_LANES)?);
+    Ok(())
+}
+
 #[test]
 fn each_note_tells_of_what_the_front_received(rt: HostRuntime) -> Result<(), Fail> {
-    let alloc = rt.alloc();
-    let setup = Setup::new(alloc, TWO_HOMES, LevelFilter::Trace)?;
-    tell_of_the_front(&setup.telemetry(alloc)?);
-    assert!(rt; setup.has_logged(NOTES_OF_THE_FRONT));
+    let trace = LevelFilter::Trace;
+    holds(
+        &rt,
+        logs(rt.alloc(), trace, &Told::Front, NOTES_OF_THE_FRONT)?,
+    );
     Ok(())
 }
 
 #[test]
 fn each_event_has_its_line(rt: HostRuntime) -> Result<(), Fail> {
-    let alloc = rt.alloc();
-    let setup = Setup::new(alloc, TWO_HOMES, LevelFilter::Trace)?;
-    tell_events(&setup.telemetry(alloc)?);
-    assert!(rt; setup.has_logged(EVENTS));
+    let trace = LevelFilter::Trace;
+    holds(&rt, logs(rt.alloc(), trace, &Told::Events, EVENTS)?);
     Ok(())
 }
 
 #[test]
 fn each_event_has_its_level(rt: HostRuntime) -> Result<(), Fail> {
-    let alloc = rt.alloc();
     for (level, expected) in [
         (LevelFilter::Off, ""),
         (LevelFilter::Error, ERRORS),
@@ -146,21 +170,15 @@ fn each_event_has_its_level(rt: HostRuntime) -> Result<(), Fail> {
         (LevelFilter::Info, INFOS),
         (LevelFilter::Debug, DETAILS),
     ] {
-        let setup = Setup::new(alloc, TWO_HOMES, level)?;
-        tell_events(&setup.telemetry(alloc)?);
-        assert!(rt; setup.has_logged(expected), "{level:?}");
+        let is_right = logs(rt.alloc(), level, &Told::Events, expected)?;
+        assert!(rt; is_right, "{level:?}");
     }
     Ok(())
 }
 
 #[test]
 fn nothing_of_a_datagram_is_kept_above_debug(rt: HostRuntime) -> Result<(), Fail> {
-    let alloc = rt.alloc();
-    let setup = Setup::new(alloc, TWO_HOMES, LevelFilter::Info)?;
-    let telemetry = setup.telemetry(alloc)?;
-    telemetry.received(Worker::Front, NAS, &SEVENTH);
-    telemetry.note(Worker::Front, Note::Dropped(Dropped::NoRealm));
-    assert!(rt; setup.has_logged(""));
+    holds(&rt, logs(rt.alloc(), LevelFilter::Info, &Told::Drop, "")?);
     Ok(())
 }
 
@@ -168,9 +186,9 @@ fn nothing_of_a_datagram_is_kept_above_debug(rt: HostRuntime) -> Result<(), Fail
 fn odd_octets_are_escaped(rt: HostRuntime) -> Result<(), Fail> {
     let packet = read(&ODD)?;
     let text = format!(in rt.alloc(); "{}", PacketWords::of(&packet))?;
-    assert_eq!(rt;
-        text.as_str(),
-        " identifier=1 session=S%201%ff@ realm=e%25x%20%3d%22%7f."
+    holds(
+        &rt,
+        text.as_str() == " identifier=1 session=S%201%ff@ realm=e%25x%20%3d%22%7f.",
     );
     Ok(())
 }

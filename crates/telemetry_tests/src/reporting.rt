@@ -1,13 +1,14 @@
 //! What no clause says of a report: the text of the counters, how it comes into its file, and the lines of sums.
 
-use crate::shared::{HOME, MemoryLog, NAS, Setup, TWO_HOMES};
+use crate::comparing::holds;
+use crate::shared::{HOME, MemoryLog, NAS, Setup, Story, TWO_HOMES, logs};
 use rad_desk::{Gate, Note, Worker};
 use rad_lane::Refusal;
 use rad_realms::{Dropped, Endpoint};
 use rad_telemetry::{
     CounterFile, CounterTexts, FileFault, LevelFilter, ReplaceFile, Reporter, Telemetry,
 };
-use std::alloc::{AllocError, Global};
+use std::alloc::Global;
 use std::result::Result;
 use std::sync::{Mutex, Wait};
 use std::test::Fail;
@@ -144,6 +145,19 @@ fn tell_sums(telemetry: &Telemetry<'_, MemoryLog>) {
     telemetry.sends(Worker::Lane(1), HOME, &[4]);
 }
 
+/// Tells of what is summed up above, and has it logged twice.
+#[derive(Clone, Copy)]
+struct Sums;
+
+impl Story for Sums {
+    fn tell<'x>(&'x self, telemetry: &'x Telemetry<'_, MemoryLog>) {
+        tell_sums(telemetry);
+        for _ in 0..2 {
+            telemetry.reporter(None).log_deltas();
+        }
+    }
+}
+
 /// Whether the text of all counters begins and ends like this.
 fn writes(
     alloc: Global,
@@ -156,19 +170,66 @@ fn writes(
     Ok(text.starts_with(head.as_bytes()) && text.ends_with(tail.as_bytes()))
 }
 
-/// Leaves a text of the counters, and has it written as the last one.
-fn write_last(
+/// Texts of the counters that are left, and a file in memory for them.
+#[derive(Drop)]
+struct Texts<'a, R> {
+    rt: &'a R,
+    alloc: Global,
+    texts: CounterTexts,
+    file: CounterFile,
+    memory: &'a Memory,
+    /// How many of them are written, each as the last one.
+    written: u32,
+    /// How many are left after that, which nobody takes.
+    untaken: u32,
+}
+
+impl<R: Wait> Texts<'_, R> {
+    /// Leaves a text, and has it written as the last one.
+    fn write_last(&self, reporter: Reporter<'_, MemoryLog>) {
+        reporter.leave_text(self.rt, &mut Vec::new(self.alloc));
+        self.texts.end();
+        self.texts
+            .write_all(self.rt, self.alloc, &self.file, self.memory);
+    }
+}
+
+impl<R: Wait> Story for Texts<'_, R> {
+    fn tell<'x>(&'x self, telemetry: &'x Telemetry<'_, MemoryLog>) {
+        for _ in 0..self.written {
+            self.write_last(telemetry.reporter(Some(&self.texts)));
+        }
+        let mut text = Vec::new(self.alloc);
+        for _ in 0..self.untaken {
+            telemetry
+                .reporter(Some(&self.texts))
+                .leave_text(self.rt, &mut text);
+        }
+    }
+}
+
+/// Whether a file is given a text that begins like this, and these lines are logged, where so many texts are written and then so
+/// many left. The file may have a fault.
+fn gives(
     rt: &impl Wait,
     alloc: Global,
-    reporter: Reporter<'_, MemoryLog>,
-    texts: &CounterTexts,
-    memory: &Memory,
-) -> Result<(), AllocError> {
-    let file = CounterFile::new(String::from_str(alloc, "some/file")?);
-    reporter.leave_text(rt, &mut Vec::new(alloc));
-    texts.end();
-    texts.write_all(rt, alloc, &file, memory);
-    Ok(())
+    fault: Option<FileFault>,
+    (written, untaken): (u32, u32),
+    given: &str,
+    expected: &str,
+) -> Result<bool, Fail> {
+    let memory = Memory::new(alloc, fault);
+    let story = Texts {
+        rt,
+        alloc,
+        texts: CounterTexts::new(alloc),
+        file: CounterFile::new(String::from_str(alloc, "some/file")?),
+        memory: &memory,
+        written,
+        untaken,
+    };
+    let is_logged = logs(alloc, LevelFilter::Warn, &story, expected)?;
+    Ok(is_logged && memory.begins_with(given))
 }
 
 #[test]
@@ -178,74 +239,34 @@ fn counters_are_written(rt: HostRuntime) -> Result<(), Fail> {
     let telemetry = setup.telemetry(alloc)?;
     tell_all(&telemetry);
     let is_right = writes(alloc, &telemetry, HEAD, TAIL)?;
-    assert!(rt; is_right);
+    holds(&rt, is_right);
     Ok(())
 }
 
 #[test]
 fn a_file_is_replaced(rt: HostRuntime) -> Result<(), Fail> {
-    let alloc = rt.alloc();
-    let setup = Setup::new(alloc, TWO_HOMES, LevelFilter::Warn)?;
-    let telemetry = setup.telemetry(alloc)?;
-    let (texts, memory) = (CounterTexts::new(alloc), Memory::new(alloc, None));
-    write_last(
-        &rt,
-        alloc,
-        telemetry.reporter(Some(&texts)),
-        &texts,
-        &memory,
-    )?;
-    assert!(rt; memory.begins_with(GIVEN));
-    telemetry
-        .reporter(Some(&texts))
-        .leave_text(&rt, &mut Vec::new(alloc));
-    assert!(rt; setup.has_logged(""));
+    let is_right = gives(&rt, rt.alloc(), None, (1, 1), GIVEN, "")?;
+    holds(&rt, is_right);
     Ok(())
 }
 
 #[test]
 fn a_file_that_is_not_replaced_is_logged_once(rt: HostRuntime) -> Result<(), Fail> {
-    let alloc = rt.alloc();
-    let setup = Setup::new(alloc, TWO_HOMES, LevelFilter::Warn)?;
-    let telemetry = setup.telemetry(alloc)?;
-    let texts = CounterTexts::new(alloc);
-    let memory = Memory::new(alloc, Some(FileFault::NotRegular));
-    for _ in 0..3 {
-        write_last(
-            &rt,
-            alloc,
-            telemetry.reporter(Some(&texts)),
-            &texts,
-            &memory,
-        )?;
-    }
-    assert!(rt; setup.has_logged("event=counters-fault reason=\"no regular file\"\n"));
+    let fault = Some(FileFault::NotRegular);
+    let expected = "event=counters-fault reason=\"no regular file\"\n";
+    holds(&rt, gives(&rt, rt.alloc(), fault, (3, 0), "", expected)?);
     Ok(())
 }
 
 #[test]
 fn a_text_that_is_not_taken_is_logged(rt: HostRuntime) -> Result<(), Fail> {
-    let alloc = rt.alloc();
-    let setup = Setup::new(alloc, TWO_HOMES, LevelFilter::Warn)?;
-    let telemetry = setup.telemetry(alloc)?;
-    let texts = CounterTexts::new(alloc);
-    let mut text = Vec::new(alloc);
-    for _ in 0..4 {
-        telemetry.reporter(Some(&texts)).leave_text(&rt, &mut text);
-    }
-    assert!(rt; setup.has_logged("event=counters-fault reason=\"takes longer than a second\"\n"));
+    let expected = "event=counters-fault reason=\"takes longer than a second\"\n";
+    holds(&rt, gives(&rt, rt.alloc(), None, (0, 4), "", expected)?);
     Ok(())
 }
 
 #[test]
 fn sums_are_logged_once(rt: HostRuntime) -> Result<(), Fail> {
-    let alloc = rt.alloc();
-    let setup = Setup::new(alloc, TWO_HOMES, LevelFilter::Info)?;
-    let telemetry = setup.telemetry(alloc)?;
-    tell_sums(&telemetry);
-    for _ in 0..2 {
-        telemetry.reporter(None).log_deltas();
-    }
-    assert!(rt; setup.has_logged(SUMS));
+    holds(&rt, logs(rt.alloc(), LevelFilter::Info, &Sums, SUMS)?);
     Ok(())
 }

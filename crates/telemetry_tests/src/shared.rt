@@ -84,6 +84,23 @@ impl Setup {
     }
 }
 
+/// What a telemetry is told.
+pub trait Story {
+    fn tell<'x>(&'x self, telemetry: &'x Telemetry<'_, MemoryLog>);
+}
+
+/// Whether these lines are logged, up to a level, where a telemetry over two home servers is told this.
+pub fn logs<S: Story>(
+    alloc: Global,
+    level: LevelFilter,
+    story: &S,
+    expected: &str,
+) -> Result<bool, Fail> {
+    let setup = Setup::new(alloc, TWO_HOMES, level)?;
+    story.tell(&setup.telemetry(alloc)?);
+    Ok(setup.has_logged(expected))
+}
+
 impl Kept {
     fn new(alloc: Global) -> Kept {
         Kept {

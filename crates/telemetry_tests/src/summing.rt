@@ -1,7 +1,8 @@
 //! What no clause says of sums: which realm a sum of drops names, what the sum of cuts counts, and how many Proxy-States a loop
 //! makes.
 
-use crate::shared::{MemoryLog, NAS, Setup, TWO_HOMES};
+use crate::comparing::holds;
+use crate::shared::{MemoryLog, NAS, Story, logs};
 use rad_desk::{Gate, Note, Worker};
 use rad_realms::{Dropped, Endpoint};
 use rad_telemetry::{LevelFilter, Telemetry};
@@ -82,35 +83,52 @@ fn tell_marks(telemetry: &Telemetry<'_, MemoryLog>) {
     log_deltas(telemetry);
 }
 
+/// Tells of two cuts, and has them logged.
+fn tell_cuts(telemetry: &Telemetry<'_, MemoryLog>) {
+    telemetry.note(Worker::Lane(1), Note::Cut(3));
+    telemetry.note(Worker::Lane(1), Note::Cut(5));
+    log_deltas(telemetry);
+    log_deltas(telemetry);
+}
+
+/// What the tests below tell of.
+#[derive(Clone, Copy)]
+enum Told {
+    Drops,
+    Cuts,
+    Marks,
+}
+
+impl Story for Told {
+    fn tell<'x>(&'x self, telemetry: &'x Telemetry<'_, MemoryLog>) {
+        match self {
+            Told::Drops => tell_drops(telemetry),
+            Told::Cuts => tell_cuts(telemetry),
+            Told::Marks => tell_marks(telemetry),
+        }
+    }
+}
+
 #[test]
 fn the_last_realm_is_named(rt: HostRuntime) -> Result<(), Fail> {
-    let alloc = rt.alloc();
-    let setup = Setup::new(alloc, TWO_HOMES, LevelFilter::Info)?;
-    tell_drops(&setup.telemetry(alloc)?);
-    assert!(rt; setup.has_logged(DROPS));
+    holds(
+        &rt,
+        logs(rt.alloc(), LevelFilter::Info, &Told::Drops, DROPS)?,
+    );
     Ok(())
 }
 
 #[test]
 fn cuts_are_summed_up(rt: HostRuntime) -> Result<(), Fail> {
-    let alloc = rt.alloc();
-    let setup = Setup::new(alloc, TWO_HOMES, LevelFilter::Info)?;
-    let telemetry = setup.telemetry(alloc)?;
-    telemetry.note(Worker::Lane(1), Note::Cut(3));
-    telemetry.note(Worker::Lane(1), Note::Cut(5));
-    log_deltas(&telemetry);
-    log_deltas(&telemetry);
-    assert!(rt; setup.has_logged(CUTS));
+    holds(&rt, logs(rt.alloc(), LevelFilter::Info, &Told::Cuts, CUTS)?);
     Ok(())
 }
 
 #[test]
 fn marks_are_summed_up(rt: HostRuntime) -> Result<(), Fail> {
-    let alloc = rt.alloc();
     for (level, expected) in [(LevelFilter::Info, MARKS), (LevelFilter::Warn, LOOPS)] {
-        let setup = Setup::new(alloc, TWO_HOMES, level)?;
-        tell_marks(&setup.telemetry(alloc)?);
-        assert!(rt; setup.has_logged(expected), "{level:?}");
+        let is_right = logs(rt.alloc(), level, &Told::Marks, expected)?;
+        assert!(rt; is_right, "{level:?}");
     }
     Ok(())
 }

@@ -1,5 +1,6 @@
 //! What no clause says of the gate beside the workers: that the lines of a drop tell of its datagram.
 
+use crate::comparing::holds;
 use crate::packets::SHORT;
 use crate::shared::{MemoryLog, NAS, Setup};
 use rad_desk::{Delivery, Received, Traffic, Wire, front_worker, open};
@@ -111,6 +112,6 @@ fn a_drop_tells_of_its_datagram(rt: HostRuntime) -> Result<(), Fail> {
     let alloc = rt.alloc();
     let setup = Setup::new(alloc, OTHER_REALMS, LevelFilter::Debug)?;
     work(&rt, alloc, setup.config(), &setup.telemetry(alloc)?, 4)?;
-    assert!(rt; setup.has_logged(DROPS));
+    holds(&rt, setup.has_logged(DROPS));
     Ok(())
 }

@@ -1,5 +1,6 @@
 //! What no clause says of the log's lines on their way: which find room, and what comes after a write that was cut short.
 
+use crate::comparing::holds;
 use rad_telemetry::{LineOutput, LineRoom, LineWriter};
 use std::alloc::{AllocError, Global};
 use std::result::Result;
@@ -58,12 +59,18 @@ fn has_written(alloc: Global, takes: &[usize], expected: &str) -> Result<bool, A
 fn lines_that_find_no_room_are_counted(rt: HostRuntime) -> Result<(), Fail> {
     let alloc = rt.alloc();
     let mut room = room_of(alloc, 8, &["one\n", "four\n", "two\n"])?;
-    assert!(rt; room.lines() == b"one\n".as_slice() && room.dropped() == 2);
+    holds(
+        &rt,
+        room.lines() == b"one\n".as_slice() && room.dropped() == 2,
+    );
     room.clear();
-    assert!(rt; room.lines().is_empty() && room.dropped() == 0);
+    holds(&rt, room.lines().is_empty() && room.dropped() == 0);
     room.put(b"one\n");
     room.put(b"two\n");
-    assert!(rt; room.lines() == b"one\ntwo\n".as_slice() && room.dropped() == 0);
+    holds(
+        &rt,
+        room.lines() == b"one\ntwo\n".as_slice() && room.dropped() == 0,
+    );
     Ok(())
 }
 
@@ -72,7 +79,7 @@ fn lines_are_written_in_order(rt: HostRuntime) -> Result<(), Fail> {
     let whole = "one\ntwo\none\ntwo\none\ntwo\n";
     let is_right = has_written(rt.alloc(), &[], whole)?
         && has_written(rt.alloc(), &[1, 2, 3], whole)?;
-    assert!(rt; is_right);
+    holds(&rt, is_right);
     Ok(())
 }
 
@@ -80,7 +87,7 @@ fn lines_are_written_in_order(rt: HostRuntime) -> Result<(), Fail> {
 fn a_part_of_a_line_stands_alone(rt: HostRuntime) -> Result<(), Fail> {
     let expected = "one\ntw\nlevel=warn event=lines-dropped count=1\none\ntwo\none\ntwo\n";
     let is_right = has_written(rt.alloc(), &[6, 0], expected)?;
-    assert!(rt; is_right);
+    holds(&rt, is_right);
     Ok(())
 }
 
@@ -88,7 +95,7 @@ fn a_part_of_a_line_stands_alone(rt: HostRuntime) -> Result<(), Fail> {
 fn behind_a_whole_line_comes_no_line_end(rt: HostRuntime) -> Result<(), Fail> {
     let expected = "one\nlevel=warn event=lines-dropped count=1\none\ntwo\none\ntwo\n";
     let is_right = has_written(rt.alloc(), &[4, 0], expected)?;
-    assert!(rt; is_right);
+    holds(&rt, is_right);
     Ok(())
 }
 
@@ -96,7 +103,7 @@ fn behind_a_whole_line_comes_no_line_end(rt: HostRuntime) -> Result<(), Fail> {
 fn lines_are_counted_until_that_is_told(rt: HostRuntime) -> Result<(), Fail> {
     let expected = "level=warn event=lines-dropped count=4\none\ntwo\n";
     let is_right = has_written(rt.alloc(), &[0, 0, 0], expected)?;
-    assert!(rt; is_right);
+    holds(&rt, is_right);
     Ok(())
 }
 
@@ -104,6 +111,6 @@ fn lines_are_counted_until_that_is_told(rt: HostRuntime) -> Result<(), Fail> {
 fn what_is_told_of_them_may_be_cut_too(rt: HostRuntime) -> Result<(), Fail> {
     let expected = "level\nlevel=warn event=lines-dropped count=2\none\ntwo\none\ntwo\n";
     let is_right = has_written(rt.alloc(), &[0, 5, 0], expected)?;
-    assert!(rt; is_right);
+    holds(&rt, is_right);
     Ok(())
 }
