@@ -1,6 +1,7 @@
 //! Gates that let every worker pass, or stop one.
 
 use rad_desk::{Call, Gate, Go, Worker};
+use std::sync::atomic::{AtomicBool, Ordering};
 
 /// Lets every worker pass.
 #[derive(Clone, Copy)]
@@ -21,6 +22,22 @@ pub struct Ending(pub Worker);
 impl Gate for Ending {
     fn before(&self, worker: Worker, _call: Call) -> Go {
         if worker == self.0 { Go::Stop } else { Go::On }
+    }
+
+    fn after(&self, _worker: Worker, _call: Call) {}
+}
+
+/// Has the first lane's worker end by itself once this is set.
+#[derive(Clone, Copy)]
+pub struct EndingLate<'a>(pub &'a AtomicBool);
+
+impl Gate for EndingLate<'_> {
+    fn before(&self, worker: Worker, _call: Call) -> Go {
+        if worker == Worker::Lane(0) && self.0.load(Ordering::SeqCst) {
+            Go::Stop
+        } else {
+            Go::On
+        }
     }
 
     fn after(&self, _worker: Worker, _call: Call) {}

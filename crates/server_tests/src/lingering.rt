@@ -1,14 +1,16 @@
-//! That what lingers too long is left over.
+//! That what lingers too long is left over, and that a worker that ends meanwhile is told.
 
 use crate::comparing::holds;
-use crate::gates::Open;
+use crate::gates::{EndingLate, Open};
 use crate::serving::{NO_LINGER, ran};
 use crate::wires::{LOOKS, pause};
 use rad_console::EndLine;
+use rad_desk::Worker;
 use rad_server::{Descriptors, RuntimeAddresses, ServeFault};
 use std::cell::Cell;
 use std::io::{self, Read, Write};
 use std::net::{Ipv4Addr, SocketAddr, UdpSocket};
+use std::sync::atomic::{AtomicBool, Ordering};
 use std::test::Fail;
 use std::time::Clock;
 use test_octets::nas::SEVENTH;
@@ -95,5 +97,70 @@ fn what_lingers_is_left_over(rt: HostRuntime) -> Result<(), Fail> {
     )?;
     holds(&rt, is_accepted.get());
     holds(&rt, is_one_left(ran));
+    Ok(())
+}
+
+/// The same configuration, but that it waits for a minute at the end.
+const LONG_LINGER: &str = r#"
+listen = "127.0.0.1:1815"
+linger = 60000
+[[client]]
+address = "127.0.0.1"
+secret = "nas-secret"
+[[home]]
+name = "h1"
+address = "127.0.0.1:2815"
+secret = "home-secret"
+[[realm]]
+name = "example.org"
+home = "h1"
+"#;
+
+/// Reads as another reader does, and marks when that one ends.
+#[derive(Drop)]
+struct Marking<'a, I: Drop> {
+    reader: I,
+    has_ended: &'a AtomicBool,
+}
+
+impl<I: Read + Drop> Read for Marking<'_, I> {
+    fn read(&mut self, buf: &mut [u8]) -> io::Result<usize> {
+        let count = self.reader.read(buf)?;
+        if count == 0 {
+            self.has_ended.store(true, Ordering::SeqCst);
+        }
+        Ok(count)
+    }
+}
+
+#[test]
+fn a_worker_that_ends_while_lanes_linger_is_told(rt: HostRuntime) -> Result<(), Fail> {
+    let any = SocketAddr::from((Ipv4Addr::LOCALHOST, 0));
+    let (is_accepted, has_ended) = (Cell::new(false), AtomicBool::new(false));
+    let reader = Marking {
+        reader: Sending {
+            clock: &rt,
+            socket: UdpSocket::bind(&rt, any)?,
+            is_sent: false,
+            is_accepted: &is_accepted,
+            looks: LOOKS,
+        },
+        has_ended: &has_ended,
+    };
+    let writer = Looking {
+        is_accepted: &is_accepted,
+    };
+    let ran = ran(
+        &rt,
+        &RuntimeAddresses::new(rt),
+        rt.alloc(),
+        LONG_LINGER,
+        &EndingLate(&has_ended),
+        reader,
+        writer,
+        Descriptors::none(),
+    )?;
+    holds(&rt, is_accepted.get());
+    holds(&rt, matches!(ran, Err(ServeFault::Ended(Worker::Lane(0)))));
     Ok(())
 }
