@@ -8,7 +8,6 @@ than half of the book is cut off. calls.c looks how long a worker works between 
 longer than for two calls of a lane. No more than FEW of these times may be longer than LONGEST milliseconds: the host may have done
 something else meanwhile. The last line is `N passed, M failed`.
 """
-import contextlib
 import pathlib
 import subprocess
 import sys
@@ -41,15 +40,7 @@ class Watched(memory.Proxy):
 def watched(program, work, library):
     """The longest time and how many were too long, with a book that is filled and then cut off."""
     load = memory.Load("a long book", BOOK + BOOK // 10, SPAN, [200])
-    with tempfile.TemporaryDirectory(dir=work) as folder, contextlib.ExitStack() as stack:
-        home = memory.free_port()
-        stack.enter_context(memory.started([work / "home", str(home), memory.HOME_SECRET, "600"], stdout=subprocess.DEVNULL))
-        proxy = Watched(program, pathlib.Path(folder), load, home, library)
-        stack.callback(proxy.ran.wait)
-        stack.callback(proxy.ran.kill)
-        if not proxy.line().startswith("listening "):
-            raise memory.Failed("the program does not listen")
-        nas = memory.Nas(work, proxy)
+    with memory.serving(program, work, load, library, Watched) as (proxy, nas):
         nas.ask_until(200, BOOK)
         time.sleep(SPAN / 1000)
         nas.ask_until(8, BOOK // 10)

@@ -35,7 +35,8 @@ from growths import Refuser  # noqa: E402
 from proxies import CLIENT_SECRET, HOME_SECRET, end, end_with_parent  # noqa: E402
 from readings import resident_kilobytes  # noqa: E402
 
-MOST = 1_000_000
+MOST = 500_000
+LEAST = 250
 REQUESTS, MOST_REQUESTS = 10_000, 2**32 - 1
 PATIENCE, GIVEN_UP = 120, 300
 OUT_OF_A_SOCKET = 200
@@ -59,6 +60,11 @@ LOADS = [
     Load("a cut takes less than stays", 400, 0, [220, 220, 220, 220]),
     Load("a cut takes now more and now less", 400, 5, [8, 220, 200, 40]),
 ]
+
+
+# A book of which first a part is answered, and then, a while after it, a larger part.
+FIRST_PART, SECOND_PART, PAUSE = 8_000, 10_000, 8
+PARTS = Load("a cut takes the smaller part", FIRST_PART + SECOND_PART + 1_000, 20_000, [200])
 
 
 class Failed(Exception):
@@ -123,11 +129,13 @@ class Proxy:
         accepted, queued, outstanding, opening = self.counts()
         return queued == outstanding == 0 and 2 * (accepted - opening) < self.load.book
 
+    def live_octets(self):
+        return int.from_bytes(self.live.read_bytes(), sys.byteorder, signed=True)
+
     def octets(self):
         """What is live and what is resident, once the program is at rest."""
         until("the program is at rest", self.is_at_rest)
-        live = int.from_bytes(self.live.read_bytes(), sys.byteorder, signed=True)
-        return {"live": live, "resident": 1024 * resident_kilobytes(self.ran.pid)}
+        return {"live": self.live_octets(), "resident": 1024 * resident_kilobytes(self.ran.pid)}
 
     def end(self):
         """Ends its input, and sees that it ends well."""
@@ -175,18 +183,54 @@ class Nas:
         return accepted
 
 
-def grown(program, work, load, library, seconds):
-    """How many octets more there are of each kind after the second load than after the first one. That one takes so many
-    seconds for each of its parts, or where there are none REQUESTS each."""
+@contextlib.contextmanager
+def serving(program, work, load, library, kind=Proxy):
+    """The program under `run`, as a proxy of this kind, behind which a home server answers, and its NAS."""
     with tempfile.TemporaryDirectory(dir=work) as folder, contextlib.ExitStack() as stack:
         home = free_port()
         stack.enter_context(started([work / "home", str(home), HOME_SECRET, "86400"], stdout=subprocess.DEVNULL))
-        proxy = Proxy(program, pathlib.Path(folder), load, home, library)
+        proxy = kind(program, pathlib.Path(folder), load, home, library)
         stack.callback(proxy.ran.wait)
         stack.callback(proxy.ran.kill)
         if not proxy.line().startswith("listening "):
             raise Failed("the program does not listen")
-        nas, began = Nas(work, proxy), time.monotonic()
+        yield proxy, Nas(work, proxy)
+
+
+def given_back(program, work, library):
+    """How many octets are live no more, for each request of the smaller part of a book, once that part is cut off."""
+    with serving(program, work, PARTS, library) as (proxy, nas):
+        nas.ask_until(200, FIRST_PART)
+        time.sleep(PAUSE)
+        nas.ask_until(200, SECOND_PART)
+        *_, opening = proxy.counts()
+        before = proxy.live_octets()
+        if opening:
+            raise Failed(f"{opening} requests were cut off before the second part was answered")
+        until("the first part is cut off", lambda: list(proxy.counts())[3] >= FIRST_PART)
+        *_, opening = proxy.counts()
+        after = proxy.live_octets()
+    print(f"{PARTS.name}, {opening:,} of {FIRST_PART + SECOND_PART:,} requests: octets live {before:,} and then {after:,}", flush=True)
+    return (before - after) / opening
+
+
+def is_given_back(program, work, library):
+    """Whether as much is given back as should be."""
+    try:
+        octets = given_back(program, work, library)
+    except (Failed, OSError, subprocess.SubprocessError) as failed:
+        print(f"{PARTS.name}: {failed}")
+        return False
+    if octets < LEAST:
+        print(f"{PARTS.name}: of each request {octets:.0f} octets are given back, and not {LEAST}")
+    return octets >= LEAST
+
+
+def grown(program, work, load, library, seconds):
+    """How many octets more there are of each kind after the second load than after the first one. That one takes so many
+    seconds for each of its parts, or where there are none REQUESTS each."""
+    with serving(program, work, load, library) as (proxy, nas):
+        began = time.monotonic()
         parts = (nas.ask(out, MOST_REQUESTS, seconds) if seconds else nas.ask_until(out, REQUESTS) for out in load.out)
         accepted = list(parts)
         before = proxy.octets()
@@ -227,7 +271,9 @@ def main():
         work = pathlib.Path(folder)
         compile_all(work, ["generator", "home"])
         library = Refuser(work).library
-        passed, failed = map(sum, zip(*(tried(program, work, load, library, seconds) for load in LOADS)))
+        counts = [tried(program, work, load, library, seconds) for load in LOADS]
+        is_right = is_given_back(program, work, library)
+    passed, failed = map(sum, zip(*counts, (is_right, not is_right)))
     print(f"{passed} passed, {failed} failed")
     sys.exit(1 if failed else 0)
 
