@@ -24,9 +24,10 @@ FIRST ?= 1
 STAMP = out/rad_proxy.stamp
 KIT = $(dir $(shell $(RT) doc))
 
-# Whether the program is there, and nothing that it is made of is newer.
-IS_BUILT = test -x $(PROGRAM) && test -f $(STAMP) && \
+# Whether nothing that programs are made of is newer than that, and whether the program is there and as new.
+IS_NEW = test -f $(STAMP) && \
 	test -z "$$(find crates/*/src crates/*/specs crates/*/proofs crates.txt $(KIT)bin -newer $(STAMP) -print -quit)"
+IS_BUILT = test -x $(PROGRAM) && $(IS_NEW)
 
 # Proves and builds the program, over what earlier checks kept, and runs it as stored.
 build:
@@ -55,10 +56,12 @@ test:
 edits:
 	@python3 tests/edits.py $(if $(ALONE),--alone) $(CRATES)
 
-# The simulation of the whole proxy: proved and built over what earlier checks kept, and run with so many seeds.
+# The simulation of the whole proxy, run with so many seeds. Where the gate did not leave it, it is proved and built first.
 simulate:
 	@mkdir -p out
-	@cd crates/rad_simulation && python3 ../../tests/progress.py ../../out/simulation.txt $(RT) run -- $(FIRST) 1
+	@if ! { test -x $(SIMULATION) && $(IS_NEW); }; then \
+		cd crates/rad_simulation && python3 ../../tests/progress.py ../../out/simulation.txt $(RT) run -- $(FIRST) 1; \
+	fi
 	@python3 tests/hostile/simulate.py $(SIMULATION) $(SEEDS) $(FIRST)
 
 # Each growth refused in turn, in the program that was built and in the tests that were; the gate does it in the program.
