@@ -53,6 +53,7 @@ SCRIPTS = {
     "service": ("service/run.py", "PROGRAM"),
     "soak": ("hostile/soak.py", "PROGRAM"),
     "memory": ("hostile/memory.py", "PROGRAM"),
+    "locks": ("hostile/locks.py", "PROGRAM"),
 }
 COUNTS = re.compile(r"(\d+) passed, (\d+) failed")
 

@@ -89,17 +89,21 @@ def free_port():
 class Proxy:
     """The program under `run`, whose live octets are counted in a file."""
 
-    def __init__(self, program, folder, load, home, library):
+    def __init__(self, program, folder, load, homes, library):
         self.port, self.load = free_port(), load
         file = folder / "proxy.toml"
         file.write_text(
             f'listen = "127.0.0.1:{self.port}"\n[[client]]\naddress = "127.0.0.1"\nsecret = "{CLIENT_SECRET}"\n'
-            f'[[home]]\nname = "h0"\naddress = "127.0.0.1:{home}"\nsecret = "{HOME_SECRET}"\nwindow = 254\n'
-            f'book = {load.book}\nspan = {load.span}\n[[realm]]\nname = "r00.bench"\nhome = "h0"\n', "utf-8")
+            + "".join(map(self.lane, range(len(homes)), homes)), "utf-8")
         more = self.settings(library, folder)
         how = {"stdin": subprocess.PIPE, "stdout": subprocess.PIPE, "bufsize": 0, "preexec_fn": end_with_parent}
         with (folder / "log").open("wb") as log:
             self.ran = subprocess.Popen([program, "run", str(file)], env={**os.environ, **more}, stderr=log, **how)
+
+    def lane(self, number, port):
+        """A home server at a port, and its realm, in the configuration."""
+        return (f'[[home]]\nname = "h{number}"\naddress = "127.0.0.1:{port}"\nsecret = "{HOME_SECRET}"\nwindow = 254\n'
+                f'book = {self.load.book}\nspan = {self.load.span}\n[[realm]]\nname = "r{number:02}.bench"\nhome = "h{number}"\n')
 
     def settings(self, library, folder):
         """The library that is loaded before the program's own, and what it is told."""
@@ -113,7 +117,7 @@ class Proxy:
         return self.ran.stdout.readline().decode("utf-8", "replace").strip()
 
     def counts(self):
-        """How many requests it has accepted, how many wait, how many are out, and how many are cut off."""
+        """How many requests the first lane has accepted, how many wait, how many are out, and how many are cut off."""
         self.ran.stdin.write(b"state\n")
         line = self.line()
         found = STATE.fullmatch(line)
@@ -158,14 +162,14 @@ def started(words, **pipes):
 class Nas:
     """Gives loads to the proxy, each time under other sessions."""
 
-    def __init__(self, work, proxy):
-        self.work, self.proxy, self.series = work, proxy, itertools.count()
+    def __init__(self, work, proxy, realms=1):
+        self.work, self.proxy, self.realms, self.series = work, proxy, realms, itertools.count()
 
     def ask(self, out, count, seconds):
         """Sends so many requests, as far as there is time, with so many out at once, and gives how many were accepted."""
         before = self.proxy.accepted()
         options = {"port": self.proxy.port, "secret": CLIENT_SECRET, "window": out, "count": count, "seconds": seconds}
-        options |= {"timeout": GIVEN_UP, "sockets": math.ceil(out / OUT_OF_A_SOCKET), "series": next(self.series)}
+        options |= {"realms": self.realms, "timeout": GIVEN_UP, "sockets": math.ceil(out / OUT_OF_A_SOCKET), "series": next(self.series)}
         words = [self.work / "generator", *(word for name, value in options.items() for word in (f"--{name}", str(value)))]
         with started(words, stdout=subprocess.DEVNULL) as process:
             if process.wait() != 0:
@@ -184,17 +188,18 @@ class Nas:
 
 
 @contextlib.contextmanager
-def serving(program, work, load, library, kind=Proxy):
-    """The program under `run`, as a proxy of this kind, behind which a home server answers, and its NAS."""
+def serving(program, work, load, library, kind=Proxy, count=1):
+    """The program under `run`, as a proxy of this kind, behind which so many home servers answer, and its NAS."""
     with tempfile.TemporaryDirectory(dir=work) as folder, contextlib.ExitStack() as stack:
-        home = free_port()
-        stack.enter_context(started([work / "home", str(home), HOME_SECRET, "86400"], stdout=subprocess.DEVNULL))
-        proxy = kind(program, pathlib.Path(folder), load, home, library)
+        homes = [free_port() for _ in range(count)]
+        for home in homes:
+            stack.enter_context(started([work / "home", str(home), HOME_SECRET, "86400"], stdout=subprocess.DEVNULL))
+        proxy = kind(program, pathlib.Path(folder), load, homes, library)
         stack.callback(proxy.ran.wait)
         stack.callback(proxy.ran.kill)
         if not proxy.line().startswith("listening "):
             raise Failed("the program does not listen")
-        yield proxy, Nas(work, proxy)
+        yield proxy, Nas(work, proxy, count)
 
 
 def given_back(program, work, library):
