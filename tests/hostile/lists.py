@@ -19,7 +19,7 @@ from model import rows
 from vectors import mark
 
 QUEUE = 65_536
-KEPT, CUTS = 40_000, 3_000
+KEPT, CUTS = 80_000, 6_000
 SPAN = 100_000
 TRIES = 3
 CONFIGURATION = (rows.ROWS / "default-home.toml").read_text("utf-8")
