@@ -16,6 +16,7 @@ import tempfile
 sys.dont_write_bytecode = True
 
 from growths import MOST_ALLOCATIONS, Refuser
+from trying import try_each
 
 PASSES, APPENDS = "what_passes_takes_no_block", "what_is_appended_empty_takes_no_room"
 # A block for each 32 of the 20,000 items would be more than 600.
@@ -50,15 +51,8 @@ def takes_little(program):
 def main():
     if len(sys.argv) != 2:
         sys.exit(__doc__)
-    program, failed = str(pathlib.Path(sys.argv[1]).resolve()), 0
-    tests = [takes_few, takes_little]
-    for test in tests:
-        fault = test(program)
-        if fault is not None:
-            failed += 1
-            print(f"failed: {test.__name__}: {fault}", flush=True)
-    print(f"{len(tests) - failed} passed, {failed} failed")
-    sys.exit(1 if failed else 0)
+    program = str(pathlib.Path(sys.argv[1]).resolve())
+    try_each([takes_few, takes_little], lambda test: test(program))
 
 
 if __name__ == "__main__":

@@ -16,6 +16,7 @@ import sys
 sys.dont_write_bytecode = True
 
 from model import rows
+from trying import try_each
 from vectors import mark
 
 QUEUE = 65_536
@@ -104,22 +105,19 @@ def times_are_linear(program):
     return None if times[1] < 2.7 * times[0] else f"{times[0]:.2f} s and then {times[1]:.2f} s"
 
 
+def fault_of(test, program):
+    """What is wrong, where something is."""
+    try:
+        return test(program)
+    except (Failed, subprocess.SubprocessError) as failure:
+        return str(failure)
+
+
 def main():
     if len(sys.argv) != 2:
         sys.exit(__doc__)
     program = str(pathlib.Path(sys.argv[1]).resolve())
-    tests = [a_full_queue, cuts_cost_what_they_cut, times_are_linear]
-    failed = 0
-    for test in tests:
-        try:
-            fault = test(program)
-        except (Failed, subprocess.SubprocessError) as failure:
-            fault = str(failure)
-        if fault is not None:
-            failed += 1
-            print(f"failed: {test.__name__}: {fault}", flush=True)
-    print(f"{len(tests) - failed} passed, {failed} failed")
-    sys.exit(1 if failed else 0)
+    try_each([a_full_queue, cuts_cost_what_they_cut, times_are_linear], lambda test: fault_of(test, program))
 
 
 if __name__ == "__main__":

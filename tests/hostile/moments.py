@@ -23,6 +23,7 @@ sys.dont_write_bytecode = True
 
 from model import read
 from telling import HERE, SECRET, Home, Proxy, bound, is_so
+from trying import try_each
 from vectors import STATUS_SERVER, TOP, answer, request, user_name
 
 TRIES = 5
@@ -608,14 +609,7 @@ def main():
         sys.exit(__doc__)
     program, names = str(pathlib.Path(sys.argv[1]).resolve()), sys.argv[2:]
     tests = [test for test in TESTS if not names or test.__name__ in names]
-    failed = 0
-    for test in tests:
-        fault = fault_of(test, program)
-        if fault is not None:
-            failed += 1
-            print(f"failed: {test.__name__}: {fault}", flush=True)
-    print(f"{len(tests) - failed} passed, {failed} failed")
-    sys.exit(1 if failed else 0)
+    try_each(tests, lambda test: fault_of(test, program))
 
 
 if __name__ == "__main__":

@@ -15,13 +15,14 @@ use std::test::Fail;
 use std::time::Clock;
 use test_octets::nas::SEVENTH;
 
-/// Sends a request, asks how the lane stands until the request is accepted, and then ends.
+/// Sends a request, asks how the lane stands until the request is accepted, and then ends, which it marks.
 #[derive(Drop)]
 struct Sending<'a, R> {
     clock: &'a R,
     socket: UdpSocket,
     is_sent: bool,
     is_accepted: &'a Cell<bool>,
+    has_ended: &'a AtomicBool,
     looks: u32,
 }
 
@@ -33,6 +34,7 @@ impl<R: Clock> Read for Sending<'_, R> {
             self.socket.send_to(&SEVENTH, listen)?;
         }
         if self.looks == 0 || self.is_accepted.get() {
+            self.has_ended.store(true, Ordering::SeqCst);
             return Ok(0);
         }
         self.looks -= 1;
@@ -75,11 +77,13 @@ fn is_one_left(ran: Result<EndLine, ServeFault>) -> bool {
 fn what_lingers_is_left_over(rt: HostRuntime) -> Result<(), Fail> {
     let any = SocketAddr::from((Ipv4Addr::LOCALHOST, 0));
     let is_accepted = Cell::new(false);
+    let has_ended = AtomicBool::new(false);
     let reader = Sending {
         clock: &rt,
         socket: UdpSocket::bind(&rt, any)?,
         is_sent: false,
         is_accepted: &is_accepted,
+        has_ended: &has_ended,
         looks: LOOKS,
     };
     let writer = Looking {
@@ -116,36 +120,18 @@ name = "example.org"
 home = "h1"
 "#;
 
-/// Reads as another reader does, and marks when that one ends.
-#[derive(Drop)]
-struct Marking<'a, I: Drop> {
-    reader: I,
-    has_ended: &'a AtomicBool,
-}
-
-impl<I: Read + Drop> Read for Marking<'_, I> {
-    fn read(&mut self, buf: &mut [u8]) -> io::Result<usize> {
-        let count = self.reader.read(buf)?;
-        if count == 0 {
-            self.has_ended.store(true, Ordering::SeqCst);
-        }
-        Ok(count)
-    }
-}
-
 #[test]
 fn a_worker_that_ends_while_lanes_linger_is_told(rt: HostRuntime) -> Result<(), Fail> {
     let any = SocketAddr::from((Ipv4Addr::LOCALHOST, 0));
-    let (is_accepted, has_ended) = (Cell::new(false), AtomicBool::new(false));
-    let reader = Marking {
-        reader: Sending {
-            clock: &rt,
-            socket: UdpSocket::bind(&rt, any)?,
-            is_sent: false,
-            is_accepted: &is_accepted,
-            looks: LOOKS,
-        },
+    let is_accepted = Cell::new(false);
+    let has_ended = AtomicBool::new(false);
+    let reader = Sending {
+        clock: &rt,
+        socket: UdpSocket::bind(&rt, any)?,
+        is_sent: false,
+        is_accepted: &is_accepted,
         has_ended: &has_ended,
+        looks: LOOKS,
     };
     let writer = Looking {
         is_accepted: &is_accepted,
