@@ -167,7 +167,10 @@ impl Two {
         );
         same(rt, openings, (1287, 0));
         self.stamps.extend_from_slice(self.cut.lane.accepted())?;
-        holds(rt, are_equal(self.stamps.as_slice(), self.whole.lane.accepted()));
+        holds(
+            rt,
+            are_equal(self.stamps.as_slice(), self.whole.lane.accepted()),
+        );
         let (kept, all) = (self.cut.lane.answered(), self.whole.lane.answered());
         holds(rt, are_among(kept, all));
         same(rt, kept.len().saturating_add(1287), all.len());
