@@ -1,6 +1,7 @@
 //! What no contract says of packets that are signed: the octets of another implementation, the digests of the standards,
 //! and that calls succeed.
 
+mod comparing;
 mod digests;
 mod forwarding;
 mod replies;

@@ -5,6 +5,7 @@
 mod again;
 mod ample;
 mod closing;
+mod comparing;
 mod details;
 mod failing;
 mod homes;

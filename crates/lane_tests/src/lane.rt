@@ -3,6 +3,7 @@
 //! implementation.
 
 mod accepting;
+mod comparing;
 mod cutting;
 mod hearing;
 mod leaving;

@@ -1,5 +1,6 @@
 //! What no clause says of the console: how lines are cut into commands however they are read, and what is printed.
 
+use crate::comparing::{holds, same};
 use crate::streams::{Narrow, Slow};
 use rad_console::{Command, Commands, EndLine, close, obey};
 use rad_desk::{Proxy, open};
@@ -60,15 +61,15 @@ fn each_line_is_a_command(rt: HostRuntime) -> Result<(), Fail> {
     text.extend_from_slice(b"state\nstate\nstate")?;
     for most in [1, 7, 64, 4096] {
         let mut commands = commands(text.as_slice(), most);
-        assert_eq!(rt; commands.next()?, Some(Command::Drain));
+        same(&rt, commands.next()?, Some(Command::Drain));
         for _ in 0..5 {
-            assert_eq!(rt; commands.next()?, Some(Command::Unknown));
+            same(&rt, commands.next()?, Some(Command::Unknown));
         }
         for _ in 0..2 {
-            assert_eq!(rt; commands.next()?, Some(Command::State));
+            same(&rt, commands.next()?, Some(Command::State));
         }
-        assert_eq!(rt; commands.next()?, None);
-        assert_eq!(rt; commands.next()?, None);
+        same(&rt, commands.next()?, None);
+        same(&rt, commands.next()?, None);
     }
     Ok(())
 }
@@ -110,8 +111,8 @@ fn each_command_is_obeyed(rt: HostRuntime) -> Result<(), Fail> {
     let config = read_config(alloc, TWO_HOMES)?;
     let mut taken = Vec::new(alloc);
     let end = end_of(&rt, alloc, &config, &mut taken)?;
-    assert_eq!(rt; taken.as_slice(), PRINTED.as_bytes());
-    assert!(rt; end.is_clean());
+    holds(&rt, taken.as_slice() == PRINTED.as_bytes());
+    holds(&rt, end.is_clean());
     Ok(())
 }
 

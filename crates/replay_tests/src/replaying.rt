@@ -1,5 +1,6 @@
 //! What no clause says of a replay: the octets that it writes, whatever reads and writes do.
 
+use crate::comparing::{holds, same};
 use crate::streams::{Narrow, Padded, Slow, Starved};
 use rad_console::EndLine;
 use rad_replay::{ReplayFault, replay};
@@ -61,9 +62,9 @@ fn forwards_one_request(rt: HostRuntime) -> Result<(), Fail> {
         };
         let end = run(&rt, alloc, reader, 1000, &mut taken)?;
         assert_eq!(rt; taken.as_slice(), ANSWERS.as_bytes(), "read by {most}");
-        assert_eq!(rt; end.queued, 0);
-        assert_eq!(rt; end.outstanding, 1);
-        assert_eq!(rt; end.untaken, Some(0));
+        same(&rt, end.queued, 0);
+        same(&rt, end.outstanding, 1);
+        same(&rt, end.untaken, Some(0));
     }
     Ok(())
 }
@@ -105,8 +106,8 @@ fn a_failed_read_ends_the_replay(rt: HostRuntime) -> Result<(), Fail> {
         fails: true,
     };
     let ran = run(&rt, alloc, reader, 1000, &mut taken);
-    assert!(rt; matches!(ran, Err(ReplayFault::Input)));
-    assert!(rt; taken.is_empty());
+    holds(&rt, matches!(ran, Err(ReplayFault::Input)));
+    holds(&rt, taken.is_empty());
     Ok(())
 }
 
@@ -118,13 +119,14 @@ fn refused_memory_ends_the_replay(rt: HostRuntime) -> Result<(), Fail> {
         taken: &mut taken,
         room: 1000,
     };
-    assert!(rt;
+    holds(
+        &rt,
         matches!(
             replay(&rt, alloc, Starved, narrow),
             Err(ReplayFault::Memory)
-        )
+        ),
     );
-    assert!(rt; taken.is_empty());
+    holds(&rt, taken.is_empty());
     Ok(())
 }
 
@@ -146,10 +148,10 @@ fn the_longest_input_is_read(rt: HostRuntime) -> Result<(), Fail> {
         let ran = replay(&rt, alloc, padded, narrow);
         assert_eq!(rt; ran.is_ok(), is_read, "{count} octets");
         if is_read {
-            assert_eq!(rt; taken.as_slice(), ANSWERS.as_bytes());
+            holds(&rt, taken.as_slice() == ANSWERS.as_bytes());
         } else {
-            assert!(rt; matches!(ran, Err(ReplayFault::Input)));
-            assert!(rt; taken.is_empty());
+            holds(&rt, matches!(ran, Err(ReplayFault::Input)));
+            holds(&rt, taken.is_empty());
         }
     }
     Ok(())
@@ -172,6 +174,6 @@ fn lines_of_a_configuration_end_in_cr_lf_too(rt: HostRuntime) -> Result<(), Fail
         fails: false,
     };
     run(&rt, alloc, reader, 1000, &mut taken)?;
-    assert_eq!(rt; taken.as_slice(), ANSWERS.as_bytes());
+    holds(&rt, taken.as_slice() == ANSWERS.as_bytes());
     Ok(())
 }

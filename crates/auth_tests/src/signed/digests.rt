@@ -1,5 +1,6 @@
 //! Digests, and the secrets that they are over.
 
+use super::comparing::{holds, same};
 use super::secret_of;
 use super::vectors::REQUEST;
 use md5::{Digest, Md5};
@@ -20,7 +21,7 @@ const SHORT: &[u8] = b"Test Using Larger Than Block-Size Key - Hash Key First";
 const LONG: &[u8] = b"Test Using Larger Than Block-Size Key and Larger Than One Block-Size Data";
 
 fn hmac_is(rt: &impl Abort, key: &[u8], text: &[u8], digest: u128) {
-    assert!(rt; hmac_md5(key, text) == digest.to_be_bytes());
+    holds(rt, hmac_md5(key, text) == digest.to_be_bytes());
 }
 
 /// RFC 2202 section 2, all seven.
@@ -58,7 +59,7 @@ fn hmac_md5_of_rfc_2202(rt: HostRuntime) {
 }
 
 fn md5_is(rt: &impl Abort, text: &[u8], digest: u128) {
-    assert!(rt; Md5::digest(text) == digest.to_be_bytes());
+    holds(rt, Md5::digest(text) == digest.to_be_bytes());
 }
 
 /// RFC 1321 section A.5.
@@ -69,11 +70,11 @@ fn md5_of_rfc_1321(rt: HostRuntime) {
 }
 
 fn is_refused(rt: &impl Abort, octets: &[u8], fault: SecretFault) {
-    assert_eq!(rt; Secret::new(octets).err(), Some(fault));
+    same(rt, Secret::new(octets).err(), Some(fault));
 }
 
 fn is_kept(rt: &impl Abort, octets: &[u8]) -> Result<(), Fail> {
-    assert!(rt; secret_of(octets)?.octets() == octets);
+    holds(rt, secret_of(octets)?.octets() == octets);
     Ok(())
 }
 
@@ -90,7 +91,7 @@ fn secrets_have_1_to_128_octets(rt: HostRuntime) -> Result<(), Fail> {
 fn signs(rt: &impl Abort, octets: &[u8], digest: u128) -> Result<(), Fail> {
     is_kept(rt, octets)?;
     let authenticator = request_authenticator(&read(&REQUEST)?, &secret_of(octets)?);
-    assert!(rt; authenticator == digest.to_be_bytes());
+    holds(rt, authenticator == digest.to_be_bytes());
     Ok(())
 }
 

@@ -1,5 +1,6 @@
 //! Requests that are checked and forwarded.
 
+use super::comparing::{holds, same};
 use super::vectors::{FORWARDED, LONG_AUTHENTICATOR, REQUEST};
 use super::{CLIENT, HOME, MARK, secret_of};
 use rad_auth::{ACCOUNTING_REQUEST, Secret, check_request, forward, sign};
@@ -11,8 +12,8 @@ use std::test::Fail;
 #[test]
 fn requests_are_checked(rt: HostRuntime) -> Result<(), Fail> {
     let request = read(&REQUEST)?;
-    assert!(rt; check_request(&request, &secret_of(CLIENT)?));
-    assert!(rt; !check_request(&request, &secret_of(HOME)?));
+    holds(&rt, check_request(&request, &secret_of(CLIENT)?));
+    holds(&rt, !check_request(&request, &secret_of(HOME)?));
     Ok(())
 }
 
@@ -31,7 +32,7 @@ fn forwarded(identifier: u8, secret: &[u8]) -> Result<Datagram, Fail> {
 
 #[test]
 fn requests_are_forwarded(rt: HostRuntime) -> Result<(), Fail> {
-    assert!(rt; forwarded(0xa5, HOME)?.bytes() == FORWARDED.as_slice());
+    holds(&rt, forwarded(0xa5, HOME)?.bytes() == FORWARDED.as_slice());
     Ok(())
 }
 
@@ -49,7 +50,10 @@ fn is_signed(alloc: Global, request: &[u8], home: &Secret) -> Result<bool, Fail>
 #[test]
 fn requests_are_signed(rt: HostRuntime) -> Result<(), Fail> {
     let other = forwarded(0x5a, CLIENT)?;
-    assert!(rt; is_signed(rt.alloc(), other.bytes(), &secret_of(HOME)?)?);
+    holds(
+        &rt,
+        is_signed(rt.alloc(), other.bytes(), &secret_of(HOME)?)?,
+    );
     Ok(())
 }
 
@@ -86,11 +90,11 @@ fn has_long_authenticator(packet: &PacketRef<'_>) -> bool {
 fn the_longest_request_fits(rt: HostRuntime) -> Result<(), Fail> {
     let home = secret_of(HOME)?;
     let mut datagram = Datagram::new();
-    assert_eq!(rt; forward_with(210, &home, &mut datagram)?, Ok(()));
-    assert!(rt; has_long_authenticator(&datagram.packet()));
+    same(&rt, forward_with(210, &home, &mut datagram)?, Ok(()));
+    holds(&rt, has_long_authenticator(&datagram.packet()));
     let before = datagram.copy();
     let refused = forward_with(211, &home, &mut datagram)?;
-    assert_eq!(rt; refused, Err(WriteFault::PacketTooLong));
-    assert!(rt; datagram.bytes() == before.bytes());
+    same(&rt, refused, Err(WriteFault::PacketTooLong));
+    holds(&rt, datagram.bytes() == before.bytes());
     Ok(())
 }

@@ -1,5 +1,6 @@
 //! Replies to FORWARDED, and the responses to REQUEST after them.
 
+use super::comparing::{holds, same};
 use super::vectors::{FORWARDED, REPLY, REQUEST, RESPONSE};
 use super::{CLIENT, HOME, MARK, secret_of};
 use rad_auth::{
@@ -87,11 +88,11 @@ impl Pair {
 
 /// Checks a reply to FORWARDED that gave RESPONSE.
 fn is_kept_whole(rt: &impl Abort, reply: &Reply) {
-    assert_eq!(rt; reply.head().identifier, REQUEST[1]);
-    assert!(rt; reply.head().authenticator == authenticator_of(&REQUEST));
-    assert!(rt; reply.sending() == FORWARDED.as_slice());
-    assert!(rt; reply.reply() == REPLY.as_slice());
-    assert!(rt; reply.response() == RESPONSE.as_slice());
+    same(rt, reply.head().identifier, REQUEST[1]);
+    holds(rt, reply.head().authenticator == authenticator_of(&REQUEST));
+    holds(rt, reply.sending() == FORWARDED.as_slice());
+    holds(rt, reply.reply() == REPLY.as_slice());
+    holds(rt, reply.response() == RESPONSE.as_slice());
 }
 
 #[test]
@@ -107,7 +108,7 @@ fn spoiled_replies_give_none(rt: HostRuntime) -> Result<(), Fail> {
     let mut spoiled = REPLY;
     spoiled[41] = 0;
     let refused = response_after(rt.alloc(), &spoiled)?;
-    assert_eq!(rt; refused.err(), Some(ReplyFault::BadAuthenticator));
+    same(&rt, refused.err(), Some(ReplyFault::BadAuthenticator));
     Ok(())
 }
 
@@ -139,6 +140,6 @@ fn the_last_of_nine_proxy_states_is_taken_out(rt: HostRuntime) -> Result<(), Fai
     }
     pair.push_mark()?;
     pair.push(25, b"class")?;
-    assert!(rt; pair.is_right(rt.alloc())?);
+    holds(&rt, pair.is_right(rt.alloc())?);
     Ok(())
 }

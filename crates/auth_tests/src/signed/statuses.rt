@@ -1,5 +1,6 @@
 //! Status-Servers, and the answers to them.
 
+use super::comparing::holds;
 use super::vectors::{
     REQUEST, STATUS, STATUS_AMONG_OTHERS, STATUS_ANSWER, TWO_MESSAGE_AUTHENTICATORS,
 };
@@ -17,7 +18,7 @@ fn status_servers_are_made(rt: HostRuntime) -> Result<(), Fail> {
         &secret_of(CLIENT)?,
         &mut datagram,
     );
-    assert!(rt; datagram.bytes() == STATUS.as_slice());
+    holds(&rt, datagram.bytes() == STATUS.as_slice());
     Ok(())
 }
 
@@ -38,7 +39,7 @@ const ROWS: [(&[u8], &[u8], bool); 5] = [
 #[test]
 fn status_servers_have_one_message_authenticator(rt: HostRuntime) -> Result<(), Fail> {
     for (packet, secret, wanted) in ROWS {
-        assert!(rt; is_right(packet, secret)? == wanted);
+        holds(&rt, is_right(packet, secret)? == wanted);
     }
     Ok(())
 }
@@ -56,6 +57,6 @@ fn answer_to(status: &PacketRef<'_>, client: &Secret) -> Option<Datagram> {
 #[test]
 fn status_servers_are_answered(rt: HostRuntime) -> Result<(), Fail> {
     let answer = answer_to(&read(&STATUS)?, &secret_of(CLIENT)?).ok_or("no answer")?;
-    assert!(rt; answer.bytes() == STATUS_ANSWER.as_slice());
+    holds(&rt, answer.bytes() == STATUS_ANSWER.as_slice());
     Ok(())
 }

@@ -1,10 +1,11 @@
 //! Calls that are made again where memory was refused: nothing had changed, and they answer as ever.
 
+use super::comparing::{holds, same};
 use super::test_desk::slot;
-use super::test_proxy::TestProxy;
+use super::test_proxy::{TestProxy, close};
 use super::works::counts;
-use rad_desk::{CloseFault, DeskFault, LaneEnd, Report, Rest, Told};
-use rad_lane::{Action, HearFault, Refusal, Taken, TurnFault};
+use rad_desk::{CloseFault, DeskFault, Inlet, LaneEnd, Proxy, Report, Rest, Told};
+use rad_lane::{Action, HearFault, Refusal, Series, Taken, TurnFault};
 use std::alloc::Global;
 use std::process::Abort;
 use std::sync::Wait;
@@ -18,7 +19,7 @@ fn accept<R: Wait + Abort>(rt: &R, proxy: &TestProxy) -> Option<Result<Taken, Re
     if taken != Some(Err(Refusal::OutOfMemory)) {
         return taken;
     }
-    assert_eq!(rt; proxy.counts(rt, 0), counts(0, 0, 0, 0));
+    same(rt, proxy.counts(rt, 0), counts(0, 0, 0, 0));
     proxy.accept(rt, &REQUEST)
 }
 
@@ -28,7 +29,7 @@ fn hear<R: Wait + Abort>(rt: &R, proxy: &TestProxy) -> Option<Result<Told, DeskF
     if told != Some(Err(DeskFault::Lane(HearFault::OutOfMemory))) {
         return told;
     }
-    assert_eq!(rt; proxy.counts(rt, 0), counts(1, 0, 1, 0));
+    same(rt, proxy.counts(rt, 0), counts(1, 0, 1, 0));
     proxy.hear(rt, 0, &REPLY)
 }
 
@@ -38,7 +39,7 @@ fn turn<R: Wait + Abort>(rt: &R, proxy: &TestProxy) -> Option<Result<usize, Turn
     if turned != Some(Err(TurnFault::OutOfMemory)) {
         return turned;
     }
-    assert_eq!(rt; proxy.counts(rt, 0), counts(1, 0, 0, 1));
+    same(rt, proxy.counts(rt, 0), counts(1, 0, 0, 1));
     proxy.turn(rt, 0)
 }
 
@@ -46,28 +47,31 @@ fn turn<R: Wait + Abort>(rt: &R, proxy: &TestProxy) -> Option<Result<usize, Turn
 fn closes_served(rt: &impl Abort, alloc: Global, proxy: TestProxy) -> bool {
     match proxy.close() {
         Ok(report) => is_served(&report),
-        Err(CloseFault::OutOfMemory(proxy, inlets)) => {
-            assert_eq!(rt; (proxy.lanes(), inlets.as_slice().len()), (1, 1));
-            match proxy.close(alloc, inlets.into_vec()) {
-                Ok(report) => is_served(&report),
-                Err(_) => false,
-            }
-        }
+        Err(CloseFault::OutOfMemory(proxy, inlets)) => closes_again(rt, alloc, proxy, inlets),
+    }
+}
+
+/// The same of the end where memory was refused before.
+fn closes_again(rt: &impl Abort, alloc: Global, proxy: Proxy, inlets: Series<Inlet>) -> bool {
+    same(rt, (proxy.lanes(), inlets.as_slice().len()), (1, 1));
+    match close(alloc, proxy, inlets.into_vec()) {
+        Ok(report) => is_served(&report),
+        Err(_) => false,
     }
 }
 
 /// Has the request accepted and sent.
 fn send<R: Wait + Abort>(rt: &R, proxy: &mut TestProxy) {
-    assert_eq!(rt; accept(rt, proxy), Some(Ok(Taken::New(0))));
-    assert_eq!(rt; proxy.counts(rt, 0), counts(1, 1, 0, 0));
-    assert_eq!(rt; proxy.step(rt, 0), Some(Action::Sent(0, slot(0))));
+    same(rt, accept(rt, proxy), Some(Ok(Taken::New(0))));
+    same(rt, proxy.counts(rt, 0), counts(1, 1, 0, 0));
+    same(rt, proxy.step(rt, 0), Some(Action::Sent(0, slot(0))));
 }
 
 /// Has it answered, and cut off.
 fn answer<R: Wait + Abort>(rt: &R, proxy: &TestProxy) {
-    assert_eq!(rt; hear(rt, proxy), Some(Ok(Told::Answer(0))));
-    assert_eq!(rt; proxy.counts(rt, 0), counts(1, 0, 0, 1));
-    assert_eq!(rt; turn(rt, proxy), Some(Ok(1)));
+    same(rt, hear(rt, proxy), Some(Ok(Told::Answer(0))));
+    same(rt, proxy.counts(rt, 0), counts(1, 0, 0, 1));
+    same(rt, turn(rt, proxy), Some(Ok(1)));
 }
 
 /// A proxy that served the request.
@@ -100,6 +104,6 @@ fn is_served(report: &Report) -> bool {
 #[test]
 fn a_call_is_made_again_after_a_refused_growth(rt: HostRuntime) -> Result<(), Fail> {
     let proxy = served(&rt, rt.alloc())?;
-    assert!(rt; closes_served(&rt, rt.alloc(), proxy));
+    holds(&rt, closes_served(&rt, rt.alloc(), proxy));
     Ok(())
 }

@@ -1,5 +1,6 @@
 //! What each call answers where memory is ample and the ring has a place. A body that always refuses meets its contract.
 
+use super::comparing::{holds, same};
 use super::test_desk::{TestDesk, slot};
 use super::test_proxy::TestProxy;
 use rad_desk::{Report, Rest, Told};
@@ -12,11 +13,11 @@ use test_octets::nas::{REQUEST, RESPONSE};
 
 /// A desk takes a request, sends it, hears its reply, gives the response and cuts the request off.
 fn serve(rt: &impl Abort, desk: &mut TestDesk) {
-    assert_eq!(rt; desk.accept(0, &REQUEST), Ok(Taken::New(0)));
-    assert_eq!(rt; desk.step(0), Action::Sent(0, slot(0)));
-    assert_eq!(rt; desk.hear(0, &REPLY), Ok(Told::Answer(0)));
+    same(rt, desk.accept(0, &REQUEST), Ok(Taken::New(0)));
+    same(rt, desk.step(0), Action::Sent(0, slot(0)));
+    same(rt, desk.hear(0, &REPLY), Ok(Told::Answer(0)));
     desk.take(rt, 0, &RESPONSE);
-    assert_eq!(rt; desk.turn(30_000), Ok(1));
+    same(rt, desk.turn(30_000), Ok(1));
 }
 
 #[test]
@@ -30,13 +31,13 @@ fn ample_memory_never_refuses(rt: HostRuntime) -> Result<(), Fail> {
 /// The same through the lock of a lane.
 fn serve_through_lock<R: Wait + Abort>(rt: &R, proxy: &mut TestProxy) {
     let taken = proxy.accept(rt, &REQUEST);
-    assert_eq!(rt; taken, Some(Ok(Taken::New(0))));
-    assert_eq!(rt; proxy.step(rt, 0), Some(Action::Sent(0, slot(0))));
-    assert!(rt; proxy.octets() == FORWARDED.as_slice());
-    assert_eq!(rt; proxy.hear(rt, 0, &REPLY), Some(Ok(Told::Answer(0))));
+    same(rt, taken, Some(Ok(Taken::New(0))));
+    same(rt, proxy.step(rt, 0), Some(Action::Sent(0, slot(0))));
+    holds(rt, proxy.octets() == FORWARDED.as_slice());
+    same(rt, proxy.hear(rt, 0, &REPLY), Some(Ok(Told::Answer(0))));
     let response = proxy.take(0).expect(rt, "a response");
-    assert!(rt; response.reply.response() == RESPONSE.as_slice());
-    assert_eq!(rt; proxy.turn(rt, 0), Some(Ok(1)));
+    holds(rt, response.reply.response() == RESPONSE.as_slice());
+    same(rt, proxy.turn(rt, 0), Some(Ok(1)));
 }
 
 /// Whether the first ring had nothing left.
@@ -52,6 +53,6 @@ fn ample_memory_never_refuses_through_a_lock(rt: HostRuntime) -> Result<(), Fail
     let mut proxy = TestProxy::new(rt.alloc(), "ring = 1\n")?;
     serve_through_lock(&rt, &mut proxy);
     let report = proxy.report()?;
-    assert!(rt; has_nothing_left(&report));
+    holds(&rt, has_nothing_left(&report));
     Ok(())
 }

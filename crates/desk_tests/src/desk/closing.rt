@@ -1,5 +1,6 @@
 //! The end of a proxy.
 
+use super::comparing::{holds, same};
 use super::test_desk::{OTHER_HOME, slot};
 use super::test_proxy::TestProxy;
 use block_queue::Fifo;
@@ -20,7 +21,7 @@ fn left_over<R: Wait + Abort>(rt: &R, alloc: Global) -> Result<TestProxy, Fail> 
     send(rt, &mut proxy, &REQUEST, 0);
     send(rt, &mut proxy, &SECOND_REQUEST, 1);
     let taken = proxy.accept(rt, &OTHER_REQUEST);
-    assert_eq!(rt; taken, Some(Ok(Taken::New(0))));
+    same(rt, taken, Some(Ok(Taken::New(0))));
     answer(rt, &mut proxy);
     Ok(proxy)
 }
@@ -28,17 +29,21 @@ fn left_over<R: Wait + Abort>(rt: &R, alloc: Global) -> Result<TestProxy, Fail> 
 /// Has the first lane send a request, which gets this number.
 fn send<R: Wait + Abort>(rt: &R, proxy: &mut TestProxy, request: &[u8], number: u8) {
     let taken = proxy.accept(rt, request);
-    assert_eq!(rt; taken, Some(Ok(Taken::New(u64::from(number)))));
+    same(rt, taken, Some(Ok(Taken::New(u64::from(number)))));
     let sent = Action::Sent(u64::from(number), slot(number));
-    assert_eq!(rt; proxy.step(rt, 0), Some(sent));
+    same(rt, proxy.step(rt, 0), Some(sent));
 }
 
 /// Has the first lane hear both replies, and takes the first response.
 fn answer<R: Wait + Abort>(rt: &R, proxy: &mut TestProxy) {
-    assert_eq!(rt; proxy.hear(rt, 0, &REPLY), Some(Ok(Told::Answer(0))));
-    assert_eq!(rt; proxy.hear(rt, 0, &SECOND_REPLY), Some(Ok(Told::Answer(1))));
+    same(rt, proxy.hear(rt, 0, &REPLY), Some(Ok(Told::Answer(0))));
+    same(
+        rt,
+        proxy.hear(rt, 0, &SECOND_REPLY),
+        Some(Ok(Told::Answer(1))),
+    );
     let first = proxy.take(0).expect(rt, "a response");
-    assert!(rt; first.reply.response() == RESPONSE.as_slice());
+    holds(rt, first.reply.response() == RESPONSE.as_slice());
 }
 
 /// The responses that a lane's ring still had, where that is known.
@@ -59,26 +64,31 @@ fn are_known(report: &Report) -> Option<(bool, bool)> {
 
 /// Compares what is left of the first lane.
 fn compare_first(rt: &impl Abort, end: &LaneEnd) {
-    assert_eq!(rt;
+    same(
+        rt,
         (end.lane, end.counts.accepted, end.counts.answered),
-        (0, 2, 2)
+        (0, 2, 2),
     );
-    assert_eq!(rt;
+    same(
+        rt,
         (end.accepted.as_slice().len(), end.outstanding.used()),
-        (2, 0)
+        (2, 0),
     );
     let rest = known(end).expect(rt, "the rest of the first lane");
     let answered = end.answered.as_slice();
     assert_eq!(rt; (rest.len(), answered.len()), (1, 2));
-    assert!(rt; rest[0].reply.response() == SECOND_RESPONSE.as_slice());
-    assert!(rt; agrees(&answered[1], &rest[0]) && !agrees(&answered[0], &rest[0]));
+    holds(rt, rest[0].reply.response() == SECOND_RESPONSE.as_slice());
+    holds(
+        rt,
+        agrees(&answered[1], &rest[0]) && !agrees(&answered[0], &rest[0]),
+    );
 }
 
 /// Compares what is left of the second lane.
 fn compare_second(rt: &impl Abort, end: &LaneEnd) {
-    assert_eq!(rt; (end.lane, end.counts.queued), (1, 1));
+    same(rt, (end.lane, end.counts.queued), (1, 1));
     let rest = known(end).expect(rt, "the rest of the second lane");
-    assert!(rt; rest.is_empty());
+    holds(rt, rest.is_empty());
 }
 
 #[test]
@@ -91,18 +101,23 @@ fn close_knows_and_take_gives(rt: HostRuntime) -> Result<(), Fail> {
         }
         _ => assert!(rt; false, "two ends"),
     }
-    assert_eq!(rt; report.queued.len(), 1);
+    same(&rt, report.queued.len(), 1);
     let record = report.queued.front().expect(&rt, "a record");
-    assert!(rt; record.text() == OTHER_REQUEST.as_slice());
+    holds(&rt, record.text() == OTHER_REQUEST.as_slice());
     Ok(())
+}
+
+/// The same of the two lanes of a proxy at its end.
+fn knows(proxy: TestProxy) -> Result<Option<(bool, bool)>, Fail> {
+    let report = proxy.report()?;
+    Ok(are_known(&report))
 }
 
 #[test]
 fn without_inlets_nothing_is_known(rt: HostRuntime) -> Result<(), Fail> {
     let mut proxy = left_over(&rt, rt.alloc())?;
     proxy.inlets.clear();
-    let report = proxy.report()?;
-    assert_eq!(rt; are_known(&report), Some((false, false)));
+    same(&rt, knows(proxy)?, Some((false, false)));
     Ok(())
 }
 
@@ -110,8 +125,7 @@ fn without_inlets_nothing_is_known(rt: HostRuntime) -> Result<(), Fail> {
 fn with_exchanged_inlets_nothing_is_known(rt: HostRuntime) -> Result<(), Fail> {
     let mut proxy = left_over(&rt, rt.alloc())?;
     proxy.inlets.reverse();
-    let report = proxy.report()?;
-    assert_eq!(rt; are_known(&report), Some((false, false)));
+    same(&rt, knows(proxy)?, Some((false, false)));
     Ok(())
 }
 
@@ -127,9 +141,8 @@ fn add_surplus(proxy: &mut TestProxy, other: &mut TestProxy) -> bool {
 fn a_surplus_inlet_is_dropped(rt: HostRuntime) -> Result<(), Fail> {
     let mut other = left_over(&rt, rt.alloc())?;
     let mut proxy = left_over(&rt, rt.alloc())?;
-    assert!(rt; add_surplus(&mut proxy, &mut other));
+    holds(&rt, add_surplus(&mut proxy, &mut other));
     other.end();
-    let report = proxy.report()?;
-    assert_eq!(rt; are_known(&report), Some((true, true)));
+    same(&rt, knows(proxy)?, Some((true, true)));
     Ok(())
 }

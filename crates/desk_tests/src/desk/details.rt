@@ -1,13 +1,12 @@
 //! What a gate is told beside the notes: by which request a home server went down, and why it came up; which packet has a realm
 //! that leads nowhere, and which request bears Proxy-States of this proxy's form.
 
+use super::comparing::{holds, same};
 use super::memory::MemoryWire;
-use super::test_desk::config;
-use super::works::{CLIENT, HOME};
-use rad_desk::{
-    Call, Gate, Go, Inlet, Proxy, Spent, UpReason, Worker, front_worker, lane_worker, open,
-};
-use rad_realms::{Config, Endpoint};
+use super::test_proxy::TestProxy;
+use super::works::{CLIENT, HOME, turn_front, turn_lane};
+use rad_desk::{Call, Gate, Go, Spent, UpReason, Worker};
+use rad_realms::Endpoint;
 use std::alloc::Global;
 use std::cell::Cell;
 use std::process::Abort;
@@ -86,10 +85,7 @@ impl Gate for DetailGate {
 /// The workers of one home server, each with its wire, and the gate of both.
 #[derive(Drop)]
 struct Watched {
-    alloc: Global,
-    config: Config,
-    proxy: Proxy,
-    inlets: Vec<Inlet>,
+    proxy: TestProxy,
     front: MemoryWire,
     lane: MemoryWire,
     gate: DetailGate,
@@ -97,13 +93,8 @@ struct Watched {
 
 impl Watched {
     fn new(alloc: Global) -> Result<Watched, Fail> {
-        let config = config(alloc, MORE)?;
-        let (proxy, inlets) = open(alloc, &config)?;
         Ok(Watched {
-            alloc,
-            config,
-            proxy,
-            inlets,
+            proxy: TestProxy::new(alloc, MORE)?,
             front: MemoryWire::new(alloc),
             lane: MemoryWire::new(alloc),
             gate: DetailGate {
@@ -116,35 +107,13 @@ impl Watched {
     /// A turn of the front, in which this comes from there. It gives what the gate was told.
     fn front(&mut self, rt: &impl Wait, from: Endpoint, octets: &[u8]) -> Option<Detail> {
         self.front.comes(from, octets);
-        let _ = front_worker(
-            rt,
-            self.alloc,
-            &self.proxy,
-            &self.config,
-            self.inlets.as_mut_slice(),
-            &mut self.front,
-            &self.gate,
-            1,
-        );
+        let _ = turn_front(rt, &mut self.proxy, &mut self.front, &self.gate, 1);
         self.gate.told.replace(None)
     }
 
     /// So many turns of the lane, each a second after the one before. It gives what the gate was told last.
     fn lane(&mut self, rt: &impl Wait, turns: u64) -> Option<Detail> {
-        let home = self.config.homes().first()?;
-        if self.proxy.lanes() == 0 {
-            return None;
-        }
-        let _ = lane_worker(
-            rt,
-            self.alloc,
-            &self.proxy,
-            0,
-            home,
-            &mut self.lane,
-            &self.gate,
-            turns,
-        );
+        let _ = turn_lane(rt, &self.proxy, 0, &mut self.lane, &self.gate, turns);
         self.gate.told.replace(None)
     }
 
@@ -154,20 +123,21 @@ impl Watched {
 
 /// Has the request taken, sent and found without an answer.
 fn go_down<R: Wait + Abort>(rt: &R, watched: &mut Watched) {
-    assert_eq!(rt; watched.front(rt, CLIENT, &REQUEST), None);
-    assert_eq!(rt; watched.lane(rt, 2), None);
-    assert_eq!(rt; watched.lane(rt, 1), Some(Detail::Down(0, 0, CLIENT, 2000)));
-    assert!(rt; watched.gate.is_first_session.get());
+    same(rt, watched.front(rt, CLIENT, &REQUEST), None);
+    same(rt, watched.lane(rt, 2), None);
+    let down = Some(Detail::Down(0, 0, CLIENT, 2000));
+    same(rt, watched.lane(rt, 1), down);
+    holds(rt, watched.gate.is_first_session.get());
 }
 
 #[test]
 fn a_probes_answer_is_told_as_the_reason(rt: HostRuntime) -> Result<(), Fail> {
     let mut watched = Watched::new(rt.alloc())?;
     go_down(&rt, &mut watched);
-    assert_eq!(rt; watched.lane(&rt, 1), None);
+    same(&rt, watched.lane(&rt, 1), None);
     watched.lane.comes(HOME, &PROBE_ANSWER);
     let up = Some(Detail::Up(0, UpReason::ProbeAnswered));
-    assert_eq!(rt; watched.lane(&rt, 1), up);
+    same(&rt, watched.lane(&rt, 1), up);
     watched.end();
     Ok(())
 }
@@ -176,9 +146,9 @@ fn a_probes_answer_is_told_as_the_reason(rt: HostRuntime) -> Result<(), Fail> {
 fn the_end_of_the_wait_is_told_as_the_reason(rt: HostRuntime) -> Result<(), Fail> {
     let mut watched = Watched::new(rt.alloc())?;
     go_down(&rt, &mut watched);
-    assert_eq!(rt; watched.lane(&rt, 4), None);
+    same(&rt, watched.lane(&rt, 4), None);
     let up = Some(Detail::Up(0, UpReason::DownWaitOver));
-    assert_eq!(rt; watched.lane(&rt, 1), up);
+    same(&rt, watched.lane(&rt, 1), up);
     watched.end();
     Ok(())
 }
@@ -187,7 +157,7 @@ fn the_end_of_the_wait_is_told_as_the_reason(rt: HostRuntime) -> Result<(), Fail
 fn a_packet_whose_realm_leads_nowhere_is_told(rt: HostRuntime) -> Result<(), Fail> {
     let mut watched = Watched::new(rt.alloc())?;
     let told = watched.front(&rt, CLIENT, &OTHER_REQUEST);
-    assert_eq!(rt; told, Some(Detail::NoRealm(9)));
+    same(&rt, told, Some(Detail::NoRealm(9)));
     watched.end();
     Ok(())
 }
@@ -196,8 +166,8 @@ fn a_packet_whose_realm_leads_nowhere_is_told(rt: HostRuntime) -> Result<(), Fai
 fn a_request_with_a_proxys_mark_is_told(rt: HostRuntime) -> Result<(), Fail> {
     let mut watched = Watched::new(rt.alloc())?;
     let told = watched.front(&rt, OTHER_PROXY, &FORWARDED);
-    assert_eq!(rt; told, Some(Detail::Marked(0, OTHER_PROXY, 1)));
-    assert_eq!(rt; watched.front(&rt, CLIENT, &REQUEST), None);
+    same(&rt, told, Some(Detail::Marked(0, OTHER_PROXY, 1)));
+    same(&rt, watched.front(&rt, CLIENT, &REQUEST), None);
     watched.end();
     Ok(())
 }

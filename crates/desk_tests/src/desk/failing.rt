@@ -1,5 +1,6 @@
 //! What the workers make of wires of which one receive or send fails.
 
+use super::comparing::{holds, same};
 use super::workers::forward;
 use super::works::{
     CLIENT, HOME, Works, accepted, answered, counts, front, lane, note, note_of, tally,
@@ -29,7 +30,7 @@ fn is_answered<R: Wait + Abort>(rt: &R, works: &mut Works) -> bool {
             return works.front.sent(CLIENT, &RESPONSE);
         }
         if works.lane(rt, 1).sent == 1 {
-            assert!(rt; works.lane.sent(HOME, &FORWARDED));
+            holds(rt, works.lane.sent(HOME, &FORWARDED));
             works.lane.comes(HOME, &REPLY);
         }
     }
@@ -69,14 +70,14 @@ fn faults_met<R: Wait + Abort>(rt: &R, alloc: Global, worker: Worker) -> Result<
 #[test]
 fn any_fault_of_the_fronts_wire_is_overcome(rt: HostRuntime) -> Result<(), Fail> {
     let met = faults_met(&rt, rt.alloc(), Worker::Front)?;
-    assert_eq!(rt; met, 4);
+    same(&rt, met, 4);
     Ok(())
 }
 
 #[test]
 fn any_fault_of_the_lanes_wire_is_overcome(rt: HostRuntime) -> Result<(), Fail> {
     let met = faults_met(&rt, rt.alloc(), Worker::Lane(0))?;
-    assert_eq!(rt; met, 3);
+    same(&rt, met, 3);
     Ok(())
 }
 
@@ -89,13 +90,13 @@ fn a_failed_send_is_sent_again(rt: HostRuntime) -> Result<(), Fail> {
         lane(&[], [0, 0, 1], note_of(HOME, Note::SendFault), &FORWARDED),
     ];
     works.play(&rt, &turns);
-    assert_eq!(rt; works.counts(&rt), counts(1, 0, 1, 0));
+    same(&rt, works.counts(&rt), counts(1, 0, 1, 0));
     let turns = [
         lane(&[], [0, 0, 0], None, &[]),
         lane(&[], [0, 1, 0], None, &FORWARDED),
     ];
     works.play(&rt, &turns);
-    assert_eq!(rt; works.counts(&rt), counts(1, 0, 1, 0));
+    same(&rt, works.counts(&rt), counts(1, 0, 1, 0));
     works.end();
     Ok(())
 }
@@ -106,8 +107,8 @@ fn a_failed_send_counts_once(rt: HostRuntime) -> Result<(), Fail> {
     let mut works = Works::new(rt.alloc(), "")?;
     works.play(&rt, &[front(&REQUEST, [1, 0, 0], accepted(0), &[])]);
     works.lane.fail_after(1);
-    assert_eq!(rt; works.lane(&rt, 3), tally(3, [0, 1, 1]));
-    assert!(rt; works.lane.sent(HOME, &FORWARDED));
+    same(&rt, works.lane(&rt, 3), tally(3, [0, 1, 1]));
+    holds(&rt, works.lane.sent(HOME, &FORWARDED));
     works.end();
     Ok(())
 }
@@ -140,7 +141,7 @@ fn a_response_that_is_lost_is_given_again(rt: HostRuntime) -> Result<(), Fail> {
         front(&REQUEST, [1, 1, 0], None, &RESPONSE),
     ];
     works.play(&rt, &turns);
-    assert_eq!(rt; works.counts(&rt), counts(1, 0, 0, 1));
+    same(&rt, works.counts(&rt), counts(1, 0, 0, 1));
     works.end();
     Ok(())
 }

@@ -65,6 +65,11 @@ impl MemoryWire {
         }
     }
 
+    /// Has the next receive be at the first moment again.
+    pub fn start_over(&mut self) {
+        self.receives = 0;
+    }
+
     /// Has the receive or send fail before which so many pass.
     pub fn fail_after(&mut self, passing: u32) {
         self.passing = Some(passing);

@@ -1,5 +1,6 @@
 //! What the workers make of datagrams that are spoiled, come twice or come late.
 
+use super::comparing::{holds, same};
 use super::test_gate::Telling;
 use super::workers::forward;
 use super::works::{CLIENT, HOME, Works, answered, counts, lane, note_of};
@@ -19,9 +20,9 @@ fn drop_for<R: Wait + Abort>(rt: &R, works: &mut Works, octets: &[u8], reason: D
     works.front.comes(CLIENT, octets);
     let _ = works.front(rt, 1);
     let dropped = note_of(CLIENT, Note::Dropped(reason));
-    assert_eq!(rt; works.gate.told(), dropped);
+    same(rt, works.gate.told(), dropped);
     let octets = octets.get(..4096).unwrap_or(octets);
-    assert!(rt; works.gate.has_received(Worker::Front, CLIENT, octets));
+    holds(rt, works.gate.has_received(Worker::Front, CLIENT, octets));
 }
 
 /// The datagram of a lane was dropped for this reason.
@@ -50,7 +51,7 @@ fn drop_cut<R: Wait + Abort>(rt: &R, works: &mut Works) {
 fn short_reads_are_dropped(rt: HostRuntime) -> Result<(), Fail> {
     let mut works = Works::new(rt.alloc(), "")?;
     drop_cut(&rt, &mut works);
-    assert_eq!(rt; works.counts(&rt), counts(0, 0, 0, 0));
+    same(&rt, works.counts(&rt), counts(0, 0, 0, 0));
     works.end();
     Ok(())
 }
@@ -61,7 +62,7 @@ fn the_longest_datagram_is_dropped(rt: HostRuntime) -> Result<(), Fail> {
     let mut works = Works::new(rt.alloc(), "")?;
     let reason = Dropped::Unread(ReadFault::BadLength);
     drop_for(&rt, &mut works, ones.as_slice(), reason);
-    assert_eq!(rt; works.counts(&rt), counts(0, 0, 0, 0));
+    same(&rt, works.counts(&rt), counts(0, 0, 0, 0));
     works.end();
     Ok(())
 }
@@ -91,7 +92,7 @@ fn drop_turned<R: Wait + Abort>(rt: &R, works: &mut Works) {
 fn a_turned_bit_is_dropped(rt: HostRuntime) -> Result<(), Fail> {
     let mut works = Works::new(rt.alloc(), "")?;
     drop_turned(&rt, &mut works);
-    assert_eq!(rt; works.counts(&rt), counts(0, 0, 0, 0));
+    same(&rt, works.counts(&rt), counts(0, 0, 0, 0));
     works.end();
     Ok(())
 }
@@ -102,13 +103,13 @@ fn spoiled_replies_leave_the_sending(rt: HostRuntime) -> Result<(), Fail> {
     forward(&rt, &mut works);
     let short = unheard(Unread(ReadFault::Truncated));
     works.play(&rt, &[lane(&REPLY[..41], [1, 0, 0], short, &[])]);
-    assert_eq!(rt; works.counts(&rt), counts(1, 0, 1, 0));
+    same(&rt, works.counts(&rt), counts(1, 0, 1, 0));
     let turns = [
         lane(&REPLY, [1, 0, 0], answered(0), &[]),
         lane(&REPLY, [1, 0, 0], unheard(Unknown), &[]),
     ];
     works.play(&rt, &turns);
-    assert_eq!(rt; works.counts(&rt), counts(1, 0, 0, 1));
+    same(&rt, works.counts(&rt), counts(1, 0, 0, 1));
     works.end();
     Ok(())
 }
@@ -155,9 +156,9 @@ fn a_late_reply_leaves_another_sending(rt: HostRuntime) -> Result<(), Fail> {
 
 /// Has the lane hear the reply to number 0 while number 256 is outstanding, and then the reply to that.
 fn compare_late<R: Wait + Abort>(rt: &R, works: &mut Works, late: &[u8], reply: &[u8]) {
-    assert_eq!(rt; works.counts(rt), counts(257, 0, 1, 256));
+    same(rt, works.counts(rt), counts(257, 0, 1, 256));
     works.play(rt, &[lane(late, [1, 0, 0], unheard(BadAuthenticator), &[])]);
-    assert_eq!(rt; works.counts(rt), counts(257, 0, 1, 256));
+    same(rt, works.counts(rt), counts(257, 0, 1, 256));
     works.play(rt, &[lane(reply, [1, 0, 0], answered(256), &[])]);
-    assert_eq!(rt; works.counts(rt), counts(257, 0, 0, 257));
+    same(rt, works.counts(rt), counts(257, 0, 0, 257));
 }

@@ -3,6 +3,7 @@
 ghost use Rattle.std.specs.Prelude.{IfOk};
 ghost use Rattle.rad_desk.specs.Inlet.{AreOfOneRing};
 
+use super::comparing::{holds, same};
 use rad_desk::laws::Desk;
 use rad_desk::{DeskFault, Inlet, Told};
 use rad_lane::{Action, Counts, Refusal, Setup, Taken, TurnFault, Volume};
@@ -79,12 +80,12 @@ impl TestDesk {
 
     /// Has both requests accepted and sent, at moment 0.
     pub fn send_both(&mut self, rt: &impl Abort) {
-        assert_eq!(rt; self.accept(0, &REQUEST), Ok(Taken::New(0)));
-        assert_eq!(rt; self.accept(0, &SECOND_REQUEST), Ok(Taken::New(1)));
-        assert_eq!(rt; self.step(0), Action::Sent(0, slot(0)));
-        assert!(rt; self.octets() == FORWARDED.as_slice());
-        assert_eq!(rt; self.step(0), Action::Sent(1, slot(1)));
-        assert!(rt; self.octets() == SECOND_FORWARDED.as_slice());
+        same(rt, self.accept(0, &REQUEST), Ok(Taken::New(0)));
+        same(rt, self.accept(0, &SECOND_REQUEST), Ok(Taken::New(1)));
+        same(rt, self.step(0), Action::Sent(0, slot(0)));
+        holds(rt, self.octets() == FORWARDED.as_slice());
+        same(rt, self.step(0), Action::Sent(1, slot(1)));
+        holds(rt, self.octets() == SECOND_FORWARDED.as_slice());
     }
 
     /// The desk's answer to a datagram of its client; `WrongLane` where that is no request of the lane.
@@ -128,10 +129,10 @@ impl TestDesk {
 
     /// Takes the next response, and compares it.
     pub fn take(&mut self, rt: &impl Abort, serial: u64, response: &[u8]) {
-        assert_eq!(rt; self.inlet.lane(), 0);
+        same(rt, self.inlet.lane(), 0);
         let outgoing = self.inlet.take().expect(rt, "a response");
-        assert_eq!(rt; (outgoing.serial, outgoing.port), (serial, CLIENT_PORT));
-        assert!(rt; outgoing.reply.response() == response);
+        same(rt, (outgoing.serial, outgoing.port), (serial, CLIENT_PORT));
+        holds(rt, outgoing.reply.response() == response);
     }
 
     /// Whether there is no response to take.

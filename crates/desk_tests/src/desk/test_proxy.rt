@@ -41,10 +41,7 @@ impl TestProxy {
 
     /// What a lane does at moment 0.
     pub fn step(&mut self, rt: &impl Wait, lane: u16) -> Option<Action> {
-        if lane >= self.proxy.lanes() {
-            return None;
-        }
-        Some(self.proxy.step(rt, lane, at(0), RANDOM, &mut self.datagram))
+        step(rt, &self.proxy, lane, &mut self.datagram)
     }
 
     /// What the last step put into the datagram.
@@ -54,10 +51,7 @@ impl TestProxy {
 
     /// What a lane hears at moment 0.
     pub fn hear(&self, rt: &impl Wait, lane: u16, reply: &[u8]) -> Option<Result<Told, DeskFault>> {
-        if lane >= self.proxy.lanes() {
-            return None;
-        }
-        Some(self.proxy.hear(rt, self.alloc, lane, at(0), 0, reply))
+        hear(rt, self.alloc, &self.proxy, lane, reply)
     }
 
     /// How many requests a lane cuts off at moment 30,000.
@@ -89,7 +83,7 @@ impl TestProxy {
     }
 
     pub fn close(self) -> Result<Report, CloseFault> {
-        self.proxy.close(self.alloc, self.inlets)
+        close(self.alloc, self.proxy, self.inlets)
     }
 
     /// What is left at the end, where memory is ample.
@@ -119,4 +113,31 @@ pub fn accept(
         }
         _ => None,
     }
+}
+
+/// What a lane of a proxy does at moment 0.
+pub fn step(rt: &impl Wait, proxy: &Proxy, lane: u16, datagram: &mut Datagram) -> Option<Action> {
+    if lane >= proxy.lanes() {
+        return None;
+    }
+    Some(proxy.step(rt, lane, at(0), RANDOM, datagram))
+}
+
+/// What a lane of a proxy hears at moment 0.
+pub fn hear(
+    rt: &impl Wait,
+    alloc: Global,
+    proxy: &Proxy,
+    lane: u16,
+    reply: &[u8],
+) -> Option<Result<Told, DeskFault>> {
+    if lane >= proxy.lanes() {
+        return None;
+    }
+    Some(proxy.hear(rt, alloc, lane, at(0), 0, reply))
+}
+
+/// What is left of a proxy at the end.
+pub fn close(alloc: Global, proxy: Proxy, inlets: Vec<Inlet>) -> Result<Report, CloseFault> {
+    proxy.close(alloc, inlets)
 }

@@ -1,7 +1,7 @@
 //! A lane and the front in threads of their own.
 
-use super::test_desk::{RANDOM, at};
-use super::test_proxy::{TestProxy, accept};
+use super::comparing::{holds, same};
+use super::test_proxy::{TestProxy, accept, hear, step};
 use rad_desk::laws::agrees;
 use rad_desk::{DeskFault, Inlet, LaneEnd, Proxy, Report, Rest, Told};
 use rad_lane::{Action, Answered, Outgoing, Stamp, Taken};
@@ -52,16 +52,13 @@ fn answer_all<R: Wait + Clock>(
 
 /// Sends the first request of the queue and hears its reply, once the ring has a place. It gives the serial.
 fn answer<R: Wait + Clock>(rt: &R, alloc: Global, proxy: &Proxy) -> Option<u64> {
-    if proxy.lanes() == 0 {
-        return None;
-    }
     let mut datagram = Datagram::new();
-    let Action::Sent(..) = proxy.step(rt, 0, at(0), RANDOM, &mut datagram) else {
+    let Action::Sent(..) = step(rt, proxy, 0, &mut datagram)? else {
         return None;
     };
     let reply = reply_to(datagram.bytes(), 0)?;
     for _ in 0..LOOKS {
-        match proxy.hear(rt, alloc, 0, at(0), 0, reply.bytes()) {
+        match hear(rt, alloc, proxy, 0, reply.bytes())? {
             Ok(Told::Answer(serial)) => return Some(serial),
             Err(DeskFault::RingFull) => thread::sleep(rt, Duration::from_millis(1)),
             _ => return None,
@@ -113,7 +110,7 @@ fn compare_responses(
     rest: &[Outgoing],
     answered: &[Answered],
 ) {
-    assert_eq!(rt; answered.len(), usize::from(REQUESTS));
+    same(rt, answered.len(), usize::from(REQUESTS));
     for (serial, answer) in (0..REQUESTS).zip(answered) {
         let response = response_at(taken, rest, usize::from(serial));
         assert!(rt;
@@ -136,7 +133,7 @@ fn is_of(stamp: &Stamp, count: u16) -> bool {
 /// Compares the requests that were accepted with those that were made, and the numbers that they got.
 fn compare_requests(rt: &impl Abort, accepted: &[Stamp], numbers: &[u64]) {
     let lengths = (accepted.len(), numbers.len());
-    assert_eq!(rt; lengths, (usize::from(REQUESTS), usize::from(REQUESTS)));
+    same(rt, lengths, (usize::from(REQUESTS), usize::from(REQUESTS)));
     for (count, stamp) in (0..REQUESTS).zip(accepted) {
         assert!(rt; is_of(stamp, count), "request {count}");
     }
@@ -168,8 +165,8 @@ fn compare(rt: &impl Abort, taken: &[Outgoing], end: &LaneEnd, numbers: &[u64]) 
     match &end.rest {
         Rest::Known(rest) => {
             let rest = rest.as_slice();
-            assert_eq!(rt; taken.len(), TAKEN);
-            assert_eq!(rt; rest.len(), usize::from(REQUESTS) - TAKEN);
+            same(rt, taken.len(), TAKEN);
+            same(rt, rest.len(), usize::from(REQUESTS) - TAKEN);
             compare_responses(rt, taken, rest, end.answered.as_slice());
         }
         Rest::Unknown => assert!(rt; false, "the rest is known"),
@@ -199,7 +196,7 @@ fn give_all<R: Clock + Threads + Wait + Abort + Sync>(
     let inlet = proxy.inlets.pop().expect(rt, "an inlet");
     let (numbers, took) = in_threads(rt, alloc, &proxy.proxy, &proxy.config, inlet);
     let (inlet, taken) = took.expect(rt, "responses");
-    assert!(rt; give_back(proxy, inlet));
+    holds(rt, give_back(proxy, inlet));
     (numbers.expect(rt, "an answer to each request"), taken)
 }
 

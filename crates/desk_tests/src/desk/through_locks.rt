@@ -1,5 +1,6 @@
 //! The calls through the lock of a lane, of which no clause says which lane they reached.
 
+use super::comparing::{holds, same};
 use super::test_desk::{OTHER_HOME, config, slot};
 use super::test_proxy::{TestProxy, accept};
 use rad_desk::{DeskFault, Told};
@@ -23,39 +24,43 @@ fn calls_reach_their_own_lane(rt: HostRuntime) -> Result<(), Fail> {
 
 /// Has the second of two lanes send a request.
 fn send_second<R: Wait + Abort>(rt: &R, proxy: &mut TestProxy) {
-    assert_eq!(rt; (proxy.proxy.lanes(), proxy.inlets.len()), (2, 2));
+    same(rt, (proxy.proxy.lanes(), proxy.inlets.len()), (2, 2));
     let taken = proxy.accept(rt, &OTHER_REQUEST);
-    assert_eq!(rt; taken, Some(Ok(Taken::New(0))));
-    assert_eq!(rt; proxy.step(rt, 0), Some(Action::Idle(None)));
-    assert_eq!(rt; proxy.step(rt, 1), Some(Action::Sent(0, slot(0))));
-    assert!(rt; proxy.octets() == OTHER_FORWARDED.as_slice());
+    same(rt, taken, Some(Ok(Taken::New(0))));
+    same(rt, proxy.step(rt, 0), Some(Action::Idle(None)));
+    same(rt, proxy.step(rt, 1), Some(Action::Sent(0, slot(0))));
+    holds(rt, proxy.octets() == OTHER_FORWARDED.as_slice());
 }
 
 /// Has the second lane answer it.
 fn answer_second<R: Wait + Abort>(rt: &R, proxy: &mut TestProxy) {
     let unknown = DeskFault::Lane(HearFault::Unknown);
-    assert_eq!(rt; proxy.hear(rt, 0, &OTHER_REPLY), Some(Err(unknown)));
-    assert_eq!(rt; proxy.hear(rt, 1, &OTHER_REPLY), Some(Ok(Told::Answer(0))));
-    assert!(rt; proxy.take(0).is_none());
+    same(rt, proxy.hear(rt, 0, &OTHER_REPLY), Some(Err(unknown)));
+    same(
+        rt,
+        proxy.hear(rt, 1, &OTHER_REPLY),
+        Some(Ok(Told::Answer(0))),
+    );
+    holds(rt, proxy.take(0).is_none());
     let response = proxy.take(1).expect(rt, "a response");
-    assert!(rt; response.reply.response() == OTHER_RESPONSE.as_slice());
+    holds(rt, response.reply.response() == OTHER_RESPONSE.as_slice());
 }
 
 /// Drains two lanes, of which the second answered a request.
 fn drain_each<R: Wait + Abort>(rt: &R, proxy: &TestProxy) {
-    assert_eq!(rt; proxy.drain(rt, 0), Some(0));
+    same(rt, proxy.drain(rt, 0), Some(0));
     let (first, second) = (state(rt, proxy, 0), state(rt, proxy, 1));
-    assert_eq!(rt; first, Some((true, 0, 0)));
-    assert_eq!(rt; second, Some((false, 1, 0)));
-    assert_eq!(rt; proxy.drain(rt, 1), Some(1));
+    same(rt, first, Some((true, 0, 0)));
+    same(rt, second, Some((false, 1, 0)));
+    same(rt, proxy.drain(rt, 1), Some(1));
 }
 
 /// Turns them.
 fn turn_each<R: Wait + Abort>(rt: &R, proxy: &TestProxy) {
     let nothing = Err(TurnFault::NothingToTurn);
-    assert_eq!(rt; proxy.turn(rt, 0), Some(nothing));
-    assert_eq!(rt; proxy.turn(rt, 1), Some(Ok(1)));
-    assert_eq!(rt; state(rt, proxy, 1), Some((true, 1, 1)));
+    same(rt, proxy.turn(rt, 0), Some(nothing));
+    same(rt, proxy.turn(rt, 1), Some(Ok(1)));
+    same(rt, state(rt, proxy, 1), Some((true, 1, 1)));
 }
 
 /// Whether a lane is drained, how many requests it answered, and the first that its book still holds.
@@ -76,10 +81,10 @@ fn accept_each<R: Wait + Abort>(rt: &R, proxy: &TestProxy) -> Result<(), Fail> {
     for more in [OTHER_HOME, OTHER_REALM] {
         let other = config(proxy.alloc, more)?;
         let taken = accept(rt, proxy.alloc, &proxy.proxy, &other, &OTHER_REQUEST);
-        assert_eq!(rt; taken, Some(Err(Refusal::WrongLane)));
+        same(rt, taken, Some(Err(Refusal::WrongLane)));
     }
     let taken = proxy.accept(rt, &REQUEST);
-    assert_eq!(rt; taken, Some(Ok(Taken::New(0))));
+    same(rt, taken, Some(Ok(Taken::New(0))));
     Ok(())
 }
 

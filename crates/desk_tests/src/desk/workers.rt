@@ -1,5 +1,6 @@
 //! What the workers do in a turn, over wires in memory: what each counts and tells, and where what it sends goes.
 
+use super::comparing::{holds, same};
 use super::test_desk::OTHER_HOME;
 use super::test_gate::Telling;
 use super::works::{
@@ -94,11 +95,11 @@ fn a_refusal_is_of_what_came_last(rt: HostRuntime) -> Result<(), Fail> {
 fn a_gate_stops_each_worker(rt: HostRuntime) -> Result<(), Fail> {
     let mut works = Works::new(rt.alloc(), "")?;
     works.gate.stops = Some(Call::Take);
-    assert_eq!(rt; works.front(&rt, 9), tally(1, [0, 0, 0]));
+    same(&rt, works.front(&rt, 9), tally(1, [0, 0, 0]));
     works.gate.stops = Some(Call::Step);
     works.play(&rt, &[front(&REQUEST, [1, 0, 0], accepted(0), &[])]);
-    assert_eq!(rt; works.lane(&rt, 9), tally(1, [0, 0, 0]));
-    assert!(rt; works.lane.sent(HOME, &[]));
+    same(&rt, works.lane(&rt, 9), tally(1, [0, 0, 0]));
+    holds(&rt, works.lane.sent(HOME, &[]));
     works.end();
     Ok(())
 }
@@ -135,11 +136,20 @@ fn a_half_full_book_is_cut(rt: HostRuntime) -> Result<(), Fail> {
 
 #[test]
 fn cuts_are_ten_milliseconds_apart_until_the_book_is_full(rt: HostRuntime) -> Result<(), Fail> {
-    assert_eq!(rt; turns_in_31_milliseconds(&rt, rt.alloc(), "book = 3\n")?, 0);
-    assert_eq!(rt; turns_in_31_milliseconds(&rt, rt.alloc(), "book = 2\n")?, 4);
-    assert_eq!(rt;
+    same(
+        &rt,
+        turns_in_31_milliseconds(&rt, rt.alloc(), "book = 3\n")?,
+        0,
+    );
+    same(
+        &rt,
+        turns_in_31_milliseconds(&rt, rt.alloc(), "book = 2\n")?,
+        4,
+    );
+    same(
+        &rt,
         turns_in_31_milliseconds(&rt, rt.alloc(), "book = 1\n")?,
-        31
+        31,
     );
     Ok(())
 }
@@ -160,7 +170,7 @@ fn turns_in_31_milliseconds<R: Wait + Abort>(
             lane(&[], [0, 1, 0], None, &FORWARDED),
         ],
     );
-    assert_eq!(rt; works.lane(rt, 31), tally(31, [0, 0, 0]));
+    same(rt, works.lane(rt, 31), tally(31, [0, 0, 0]));
     let turns = works.gate.turns();
     works.end();
     Ok(turns)

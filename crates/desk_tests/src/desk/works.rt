@@ -1,11 +1,12 @@
 //! The workers of a home server over wires in memory, and the turns that they take in a test.
 
 use super::memory::MemoryWire;
-use super::test_desk::{CLIENT_PORT, config};
+use super::test_desk::CLIENT_PORT;
 use super::test_gate::{Telling, TestGate};
-use rad_desk::{Inlet, Note, Proxy, Tally, Worker, front_worker, lane_worker, open};
+use super::test_proxy::TestProxy;
+use rad_desk::{Gate, Note, Tally, Worker, front_worker, lane_worker};
 use rad_lane::Counts;
-use rad_realms::{Config, Endpoint};
+use rad_realms::Endpoint;
 use std::alloc::Global;
 use std::process::Abort;
 use std::sync::Wait;
@@ -133,13 +134,54 @@ pub fn counts(accepted: u64, queued: usize, outstanding: usize, answered: u64) -
     })
 }
 
-/// The workers of one home server, each with its wire, and the gate of both.
+/// Has the front of a proxy take so many turns over a wire.
+pub fn turn_front<G: Gate>(
+    rt: &impl Wait,
+    proxy: &mut TestProxy,
+    wire: &mut MemoryWire,
+    gate: &G,
+    turns: u64,
+) -> Tally {
+    front_worker(
+        rt,
+        proxy.alloc,
+        &proxy.proxy,
+        &proxy.config,
+        proxy.inlets.as_mut_slice(),
+        wire,
+        gate,
+        turns,
+    )
+}
+
+/// Has the lane of this number take so many turns over a wire; none where there is no such lane.
+pub fn turn_lane<G: Gate>(
+    rt: &impl Wait,
+    proxy: &TestProxy,
+    lane: u16,
+    wire: &mut MemoryWire,
+    gate: &G,
+    turns: u64,
+) -> Tally {
+    match proxy.config.homes().get(usize::from(lane)) {
+        Some(home) if lane < proxy.proxy.lanes() => lane_worker(
+            rt,
+            proxy.alloc,
+            &proxy.proxy,
+            lane,
+            home,
+            wire,
+            gate,
+            turns,
+        ),
+        _ => tally(0, [0, 0, 0]),
+    }
+}
+
+/// The workers of a proxy, each with its wire, and the gate of both.
 #[derive(Drop)]
 pub struct Works {
-    pub alloc: Global,
-    pub config: Config,
-    pub proxy: Proxy,
-    pub inlets: Vec<Inlet>,
+    pub proxy: TestProxy,
     pub front: MemoryWire,
     pub lane: MemoryWire,
     pub gate: TestGate,
@@ -148,13 +190,8 @@ pub struct Works {
 impl Works {
     /// Over the configuration that goes on with these lines.
     pub fn new(alloc: Global, more: &str) -> Result<Works, Fail> {
-        let config = config(alloc, more)?;
-        let (proxy, inlets) = open(alloc, &config)?;
         Ok(Works {
-            alloc,
-            config,
-            proxy,
-            inlets,
+            proxy: TestProxy::new(alloc, more)?,
             front: MemoryWire::new(alloc),
             lane: MemoryWire::new(alloc),
             gate: TestGate::new(alloc),
@@ -163,41 +200,22 @@ impl Works {
 
     /// Turns of the front.
     pub fn front(&mut self, rt: &impl Wait, turns: u64) -> Tally {
-        front_worker(
-            rt,
-            self.alloc,
-            &self.proxy,
-            &self.config,
-            self.inlets.as_mut_slice(),
-            &mut self.front,
-            &self.gate,
-            turns,
-        )
+        turn_front(rt, &mut self.proxy, &mut self.front, &self.gate, turns)
     }
 
-    /// Turns of the lane; none where there is no lane.
+    /// Turns of the first lane.
     pub fn lane(&mut self, rt: &impl Wait, turns: u64) -> Tally {
-        match self.config.homes().first() {
-            Some(home) if self.proxy.lanes() > 0 => lane_worker(
-                rt,
-                self.alloc,
-                &self.proxy,
-                0,
-                home,
-                &mut self.lane,
-                &self.gate,
-                turns,
-            ),
-            _ => tally(0, [0, 0, 0]),
-        }
+        self.turn_lane(rt, 0, turns)
     }
 
-    /// How the lane stands, where there is one.
+    /// Turns of the lane of this number; none where there is no such lane.
+    pub fn turn_lane(&mut self, rt: &impl Wait, lane: u16, turns: u64) -> Tally {
+        turn_lane(rt, &self.proxy, lane, &mut self.lane, &self.gate, turns)
+    }
+
+    /// How the first lane stands, where there is one.
     pub fn counts(&self, rt: &impl Wait) -> Option<Counts> {
-        if self.proxy.lanes() == 0 {
-            return None;
-        }
-        Some(self.proxy.counts(rt, 0))
+        self.proxy.counts(rt, 0)
     }
 
     /// Has the workers take these turns, and compares what each does, tells and sends, and of which datagrams it tells.

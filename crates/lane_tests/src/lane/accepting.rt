@@ -1,5 +1,7 @@
 //! Requests that are taken, and those that are not.
 
+use super::comparing::holds;
+use super::leaving::are_equal;
 use super::requests::request_of_length;
 use super::script::Call::{Accept, Counts as Count, Drain, IsDone, IsDraining};
 use super::script::Gives::{self, Drain as Drained, Is};
@@ -33,7 +35,7 @@ const TWO: [Row<'static>; 4] = [
 fn has_two(lane: &TestLane) -> bool {
     let first = stamp(0, 7, 0xabd474eaa4dc7ff139b7618502f5bcc4, 100);
     let second = stamp(1, 8, 0x91412bcb0370001fd09977f480beb620, 250);
-    lane.lane.accepted() == [first, second].as_slice()
+    are_equal(lane.lane.accepted(), &[first, second])
         && lane.lane.sent().is_empty()
         && lane.lane.answered().is_empty()
 }
@@ -44,7 +46,7 @@ fn new_requests_are_numbered(rt: HostRuntime) -> Result<(), Fail> {
     lane.play(&rt, &TWO);
     let is_right = has_two(&lane);
     lane.end();
-    assert!(rt; is_right);
+    holds(&rt, is_right);
     Ok(())
 }
 
@@ -114,7 +116,7 @@ const LANES: [(u16, Gives); 2] = [(0, TAKEN_0), (1, Gives::Accept(Err(Refusal::W
 fn takes_requests_of_its_own_realms(rt: HostRuntime) -> Result<(), Fail> {
     for (number, gives) in LANES {
         let mut lane = TestLane::of_home(rt.alloc(), OTHER_HOME, number)?;
-        assert!(rt; lane.call(100, Accept(&SEVENTH)) == gives);
+        holds(&rt, lane.call(100, Accept(&SEVENTH)) == gives);
         lane.end();
     }
     Ok(())

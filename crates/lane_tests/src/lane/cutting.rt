@@ -3,12 +3,13 @@
 ghost use Rattle.std.specs.Prelude.{◌<◌};
 ghost use Rattle.rad_lane.specs.Runs.{TakesEach};
 
-use super::leaving::is_same_answer;
+use super::comparing::{holds, same};
+use super::leaving::{are_equal, is_same_answer};
 use super::requests::{reply_to, request};
-use super::running::checked;
+use super::running::{checked, run_on};
 use super::script::moment;
 use super::test_lane::{RANDOM, TestLane};
-use rad_lane::{Action, Answered, Event, Given, GivenAnswer, Heard, Stamp, TurnFault, Volume, run};
+use rad_lane::{Action, Answered, Event, Given, GivenAnswer, Heard, Stamp, TurnFault, Volume};
 use rad_packet::Datagram;
 use rad_realms::Config;
 use std::alloc::Global;
@@ -52,9 +53,9 @@ impl Two {
         requires cut { TakesEach self.old.cut.lane events.now }
         requires whole { TakesEach self.old.whole.lane events.now }
     {
-        let gives = run(self.alloc, &mut self.cut.lane, events)?;
-        let others = run(self.alloc, &mut self.whole.lane, events)?;
-        assert!(rt; are_same(gives.as_slice(), others.as_slice()));
+        let gives = run_on(self.alloc, &mut self.cut.lane, events)?;
+        let others = run_on(self.alloc, &mut self.whole.lane, events)?;
+        holds(rt, are_same(gives.as_slice(), others.as_slice()));
         Ok(gives)
     }
 
@@ -87,7 +88,7 @@ impl Two {
     /// Turns the first lane.
     fn turn(&mut self, milliseconds: u32) -> Result<(), Fail> {
         let events = [Event::Turn(moment(milliseconds))];
-        let gives = run(self.alloc, &mut self.cut.lane, &events)?;
+        let gives = run_on(self.alloc, &mut self.cut.lane, &events)?;
         match gives.first().map(|given| &given.answer) {
             Some(GivenAnswer::Turn(Ok(volume))) => self.add(volume),
             Some(GivenAnswer::Turn(Err(TurnFault::NothingToTurn))) => {
@@ -158,18 +159,21 @@ impl Two {
     /// is answered last, in the next round; so the first turn of a round cuts the fourth round before, and the second
     /// nothing.
     fn compare(&mut self, rt: &impl Abort) -> Result<(), Fail> {
-        assert_eq!(rt; (self.volumes, self.refused), (76, 84));
-        assert_eq!(rt; (self.stamps.len(), self.answers), (1287, 1287));
+        same(rt, (self.volumes, self.refused), (76, 84));
+        same(rt, (self.stamps.len(), self.answers), (1287, 1287));
         let openings = (
             self.cut.lane.counts().opening,
             self.whole.lane.counts().opening,
         );
-        assert_eq!(rt; openings, (1287, 0));
+        same(rt, openings, (1287, 0));
         self.stamps.extend_from_slice(self.cut.lane.accepted())?;
-        assert!(rt; self.stamps.as_slice() == self.whole.lane.accepted());
+        holds(
+            rt,
+            are_equal(self.stamps.as_slice(), self.whole.lane.accepted()),
+        );
         let (kept, all) = (self.cut.lane.answered(), self.whole.lane.answered());
-        assert!(rt; are_among(kept, all));
-        assert_eq!(rt; kept.len().saturating_add(1287), all.len());
+        holds(rt, are_among(kept, all));
+        same(rt, kept.len().saturating_add(1287), all.len());
         Ok(())
     }
 

@@ -1,5 +1,7 @@
 //! What is heard from the home server, and what is not.
 
+use super::comparing::holds;
+use super::leaving::are_equal;
 use super::requests::{reply_to, request};
 use super::script::Call::{Accept, Counts as Count, Hear, Step};
 use super::script::{
@@ -112,7 +114,7 @@ fn answers_are_kept(rt: HostRuntime) -> Result<(), Fail> {
     lane.play(&rt, &KEPT);
     let is_right = keeps_the_answer(&lane);
     lane.end();
-    assert!(rt; is_right);
+    holds(&rt, is_right);
     Ok(())
 }
 
@@ -120,7 +122,7 @@ fn answers_are_kept(rt: HostRuntime) -> Result<(), Fail> {
 fn keeps_the_answer(lane: &TestLane) -> bool {
     let first = stamp(0, 7, 0x59746c12d56942a4d434f016a0112511, 100);
     let answered = lane.lane.answered();
-    lane.lane.sent() == [first].as_slice()
+    are_equal(lane.lane.sent(), &[first])
         && answered.len() == 1
         && answered.iter().all(|kept| {
             kept.stamp() == first && kept.moment() == moment(1700) && kept.serial() == 0
@@ -167,10 +169,10 @@ fn answer_each_identifier(rt: &impl Abort, lane: &mut TestLane) -> Result<(), Fa
     for count in 1..256 {
         let number = u64::from(count);
         let request = request(count)?;
-        assert!(rt; lane.call(0, Accept(request.bytes())) == taken(number));
-        assert!(rt; lane.call(0, Step) == sent(count));
+        holds(rt, lane.call(0, Accept(request.bytes())) == taken(number));
+        holds(rt, lane.call(0, Step) == sent(count));
         let reply = reply_to(lane.octets(), 0)?;
-        assert!(rt; lane.call(0, Hear(0, reply.bytes())) == answer(number));
+        holds(rt, lane.call(0, Hear(0, reply.bytes())) == answer(number));
     }
     Ok(())
 }

@@ -1,12 +1,13 @@
 //! What a closed lane leaves, and whether two left the same.
 
+use super::comparing::{holds, same};
 use super::requests::reply_to;
 use super::script::Call::{Hear, Step};
 use super::script::{ANSWERED_0, NOTHING, PROBED_AS_2, Row, SENT_0, WENT_DOWN, pair, sent};
 use super::test_lane::TestLane;
 use super::waiting::accept_each;
 use block_queue::{BlockQueue, Fifo};
-use rad_lane::{Answered, Entry, Leftover, Record};
+use rad_lane::{Answered, Entry, Leftover, Record, Stamp};
 use rad_tables::Slots;
 use std::process::Abort;
 use std::test::Fail;
@@ -27,8 +28,13 @@ fn are_same_stamps(
 ) -> bool {
     one.lane() == other.lane()
         && one.opening() == other.opening()
-        && one.accepted() == other.accepted()
-        && one.sent() == other.sent()
+        && are_equal(one.accepted(), other.accepted())
+        && are_equal(one.sent(), other.sent())
+}
+
+/// Whether these are the same stamps, in order.
+pub fn are_equal(one: &[Stamp], other: &[Stamp]) -> bool {
+    one == other
 }
 
 fn are_same_entries(one: &Slots<Entry>, other: &Slots<Entry>) -> bool {
@@ -93,10 +99,10 @@ const PROBED: [Row<'static>; 2] = [
 /// One request is answered, one sent, with the home server down and a probe out, and one queued.
 fn have_one_of_each(rt: &impl Abort, lane: &mut TestLane) -> Result<(), Fail> {
     accept_each(rt, lane, 0, 3)?;
-    assert!(rt; lane.call(0, Step) == SENT_0);
+    holds(rt, lane.call(0, Step) == SENT_0);
     let reply = reply_to(lane.octets(), 0)?;
-    assert!(rt; lane.call(0, Hear(0, reply.bytes())) == ANSWERED_0);
-    assert!(rt; lane.call(0, Step) == sent(1));
+    holds(rt, lane.call(0, Hear(0, reply.bytes())) == ANSWERED_0);
+    holds(rt, lane.call(0, Step) == sent(1));
     lane.play(rt, &PROBED);
     Ok(())
 }
@@ -110,6 +116,6 @@ fn a_closed_lane_leaves_no_probe(rt: HostRuntime) -> Result<(), Fail> {
     let others = [left.queued().len(), left.outstanding().used()];
     let answered = left.answered().len();
     had?;
-    assert_eq!(rt; (stamps, others, answered), ([3, 2], [1, 1], 1));
+    same(&rt, (stamps, others, answered), ([3, 2], [1, 1], 1));
     Ok(())
 }

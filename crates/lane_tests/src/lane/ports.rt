@@ -1,7 +1,8 @@
 //! A lane of several source ports.
 
+use super::comparing::holds;
 use super::requests::{reply_to, request};
-use super::running::{checked, did};
+use super::running::{checked, did, run_on};
 use super::script::Call::{Accept, Hear, Step};
 use super::script::Gives::{self, Step as Did};
 use super::script::{
@@ -10,7 +11,7 @@ use super::script::{
 };
 use super::test_lane::{RANDOM, TestLane};
 use super::waiting::{NO_ROOM, accept_each};
-use rad_lane::{Action, Event, Given, run};
+use rad_lane::{Action, Event, Given};
 use rad_packet::Datagram;
 use rad_tables::Slot;
 use std::alloc::Global;
@@ -36,7 +37,7 @@ impl TestLane {
             Event::Accept(&request, moment(0)),
             Event::Step(moment(0), RANDOM),
         ];
-        Ok(run(self.alloc, &mut self.lane, &events)?)
+        run_on(self.alloc, &mut self.lane, &events)
     }
 }
 
@@ -67,10 +68,13 @@ fn sendings_go_on_to_the_second_port(rt: HostRuntime) -> Result<(), Fail> {
 fn serve_each(rt: &impl Abort, lane: &mut TestLane) -> Result<(), Fail> {
     for count in 0..770 {
         accept_each(rt, lane, count, count + 1)?;
-        assert!(rt; lane.call(0, Step) == Did(sent_under(count, count % 768)));
+        holds(
+            rt,
+            lane.call(0, Step) == Did(sent_under(count, count % 768)),
+        );
         let reply = reply_to(lane.octets(), 0)?;
         let gives = lane.call(0, Hear(pair(count % 768).port, reply.bytes()));
-        assert!(rt; gives == answer(u64::from(count)));
+        holds(rt, gives == answer(u64::from(count)));
     }
     Ok(())
 }
@@ -93,7 +97,7 @@ fn replies_to(
 ) -> Result<Vec<Datagram>, Fail> {
     let mut replies = Vec::new(alloc);
     for number in 0..count {
-        assert!(rt; lane.call(0, Step) == Did(sent_under(number, number)));
+        holds(rt, lane.call(0, Step) == Did(sent_under(number, number)));
         replies.push(reply_to(lane.octets(), 0)?)?;
     }
     Ok(replies)
@@ -110,13 +114,13 @@ fn hears(lane: &mut TestLane, port: u16, replies: &[Datagram], number: usize) ->
 fn hear_on_each_port(rt: &impl Abort, alloc: Global, lane: &mut TestLane) -> Result<(), Fail> {
     accept_each(rt, lane, 0, 1022)?;
     let replies = replies_to(rt, alloc, lane, 1022)?;
-    assert!(rt; hears(lane, 1, replies.as_slice(), 7) == WRONG);
-    assert!(rt; hears(lane, 0, replies.as_slice(), 263) == WRONG);
-    assert!(rt; hears(lane, 4, replies.as_slice(), 7) == UNKNOWN);
-    assert!(rt; hears(lane, 1, replies.as_slice(), 263) == ANSWERED_0);
-    assert!(rt; hears(lane, 1, replies.as_slice(), 263) == UNKNOWN);
-    assert!(rt; hears(lane, 3, replies.as_slice(), 1021) == answer(1));
-    assert!(rt; hears(lane, 0, replies.as_slice(), 7) == answer(2));
+    holds(rt, hears(lane, 1, replies.as_slice(), 7) == WRONG);
+    holds(rt, hears(lane, 0, replies.as_slice(), 263) == WRONG);
+    holds(rt, hears(lane, 4, replies.as_slice(), 7) == UNKNOWN);
+    holds(rt, hears(lane, 1, replies.as_slice(), 263) == ANSWERED_0);
+    holds(rt, hears(lane, 1, replies.as_slice(), 263) == UNKNOWN);
+    holds(rt, hears(lane, 3, replies.as_slice(), 1021) == answer(1));
+    holds(rt, hears(lane, 0, replies.as_slice(), 7) == answer(2));
     Ok(())
 }
 
@@ -147,7 +151,7 @@ fn ports_that_are_not_are_unknown(rt: HostRuntime) -> Result<(), Fail> {
 fn send_each(rt: &impl Abort, lane: &mut TestLane, count: u16) -> Result<(), Fail> {
     accept_each(rt, lane, 0, count)?;
     for number in 0..count {
-        assert!(rt; lane.call(0, Step) == Did(sent_under(number, number)));
+        holds(rt, lane.call(0, Step) == Did(sent_under(number, number)));
     }
     Ok(())
 }

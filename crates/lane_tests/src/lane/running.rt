@@ -1,19 +1,35 @@
 //! Runs of events.
 
+ghost use Rattle.rad_lane.specs.Runs.{TakesEach};
+
+use super::comparing::holds;
 use super::script::{moment, slot};
 use super::test_lane::{CLIENT, CLIENT_PORT, RANDOM, TestLane};
-use rad_lane::{Action, Event, Given, GivenAnswer, Heard, Taken, run};
+use block_queue::BlockQueue;
+use rad_lane::{Action, Event, Given, GivenAnswer, Heard, Lane, Record, Taken, run};
 use rad_packet::Datagram;
 use rad_realms::{Checked, Config, Incoming, check_in};
+use std::alloc::Global;
 use std::process::Abort;
 use std::test::Fail;
 use test_octets::homes::{FORWARDED, REPLY};
 use test_octets::nas::{REQUEST, RESPONSE};
 
+/// Runs these events on a lane.
+pub fn run_on(
+    alloc: Global,
+    lane: &mut Lane<BlockQueue<Record>>,
+    events: &[Event<'_, '_>],
+) -> Result<Vec<Given>, Fail>
+    requires { TakesEach lane.old events.now }
+{
+    Ok(run(alloc, lane, events)?)
+}
+
 impl TestLane {
     /// Runs no event.
     fn run_nothing(&mut self) -> Result<Vec<Given>, Fail> {
-        Ok(run(self.alloc, &mut self.lane, &[])?)
+        run_on(self.alloc, &mut self.lane, &[])
     }
 
     /// Runs the acceptance of REQUEST, and a step.
@@ -26,7 +42,7 @@ impl TestLane {
             Event::Accept(&request, moment(0)),
             Event::Step(moment(0), RANDOM),
         ];
-        Ok(run(self.alloc, &mut self.lane, &events)?)
+        run_on(self.alloc, &mut self.lane, &events)
     }
 
     /// Runs a step, the hearing of REPLY, and the drain.
@@ -36,7 +52,7 @@ impl TestLane {
             Event::Hear(moment(0), 0, &REPLY),
             Event::Drain,
         ];
-        Ok(run(self.alloc, &mut self.lane, &events)?)
+        run_on(self.alloc, &mut self.lane, &events)
     }
 }
 
@@ -93,11 +109,11 @@ fn is_response(answer: &GivenAnswer) -> bool {
 }
 
 fn run_each(rt: &impl Abort, lane: &mut TestLane) -> Result<(), Fail> {
-    assert!(rt; lane.run_nothing()?.is_empty());
+    holds(rt, lane.run_nothing()?.is_empty());
     let two = lane.run_accept_and_step()?;
-    assert!(rt; are_accepted_and_sent(two.as_slice()));
+    holds(rt, are_accepted_and_sent(two.as_slice()));
     let three = lane.run_others()?;
-    assert!(rt; are_idle_answered_and_drained(three.as_slice()));
+    holds(rt, are_idle_answered_and_drained(three.as_slice()));
     Ok(())
 }
 

@@ -1,5 +1,6 @@
 //! Scripts of a lane's calls, each with what it answers.
 
+use super::comparing::holds;
 use super::leaving::is_same;
 use super::test_lane::{CLIENT, CLIENT_PORT, TestLane};
 use block_queue::BlockQueue;
@@ -103,7 +104,7 @@ const THIRD: Slot = Slot {
 /// Plays a script on a new lane, whose home server has these lines more in the configuration. After each call that
 /// is refused the lane has to leave what it leaves without that call, and so it has where a call was refused memory.
 pub fn play(rt: &impl Abort, alloc: Global, more: &str, script: &[Row<'_>]) -> Result<(), Fail> {
-    assert!(rt; leave_same(rt, alloc, more, script, script)?);
+    holds(rt, leave_same(rt, alloc, more, script, script)?);
     for place in 0..script.len() {
         if script[place].2.is_refused() {
             let (before, after) = (&script[..place], &script[..place + 1]);

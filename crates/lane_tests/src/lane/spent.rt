@@ -1,5 +1,6 @@
 //! By which request a lane goes down.
 
+use super::comparing::{holds, same};
 use super::script::Call::{Accept, Step};
 use super::script::{NOTHING, Row, SENT_0, TAKEN_0, TAKEN_1, WENT_DOWN, sent};
 use super::test_lane::{CLIENT, CLIENT_PORT, TestLane};
@@ -22,16 +23,16 @@ fn sent_twice() -> [Row<'static>; 4] {
 /// Compares what a lane goes down by with the first request.
 fn is_the_first(rt: &impl Abort, spent: Option<&Sending>) {
     let request = spent.expect(rt, "a request").request();
-    assert_eq!(rt; request.stamp().number, 0);
-    assert_eq!(rt; request.stamp().client, CLIENT);
-    assert_eq!(rt; request.stamp().port, CLIENT_PORT);
-    assert!(rt; request.session() == Some("S1".as_bytes()));
+    same(rt, request.stamp().number, 0);
+    same(rt, request.stamp().client, CLIENT);
+    same(rt, request.stamp().port, CLIENT_PORT);
+    holds(rt, request.session() == Some("S1".as_bytes()));
 }
 
 #[test]
 fn the_first_that_is_due_is_told(rt: HostRuntime) -> Result<(), Fail> {
     let mut lane = TestLane::new(rt.alloc(), "tries = 1\n")?;
-    assert!(rt; lane.lane.spent().is_none());
+    holds(&rt, lane.lane.spent().is_none());
     lane.play(&rt, &sent_twice());
     is_the_first(&rt, lane.lane.spent());
     lane.play(&rt, &[(2000, Step, WENT_DOWN, NOTHING)]);
@@ -44,7 +45,7 @@ fn the_first_that_is_due_is_told(rt: HostRuntime) -> Result<(), Fail> {
 fn none_is_told_whose_round_goes_on(rt: HostRuntime) -> Result<(), Fail> {
     let mut lane = TestLane::new(rt.alloc(), "tries = 2\n")?;
     lane.play(&rt, &sent_twice());
-    assert!(rt; lane.lane.spent().is_none());
+    holds(&rt, lane.lane.spent().is_none());
     lane.end();
     Ok(())
 }

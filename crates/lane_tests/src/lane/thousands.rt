@@ -1,5 +1,6 @@
 //! A lane that takes some thousands of requests, and replies short and long.
 
+use super::comparing::same;
 use super::requests::{reply_to, request};
 use super::script::Call::{Accept, Hear, Step};
 use super::script::{answer, sent};
@@ -88,7 +89,7 @@ fn serve_all(rt: &impl Abort, alloc: Global, lane: &mut TestLane) -> Result<(), 
         let replies = send_each(rt, alloc, lane, first, end, &mut forwarded)?;
         hear_each(rt, lane, first, replies.as_slice(), &mut responses);
     }
-    assert_eq!(rt; (forwarded.value, responses.value), (SENT, RESPONSES));
+    same(rt, (forwarded.value, responses.value), (SENT, RESPONSES));
     Ok(())
 }
 
