@@ -45,3 +45,7 @@ passes_after P Q event after old mid new one more = record {
   passed = more.passed ∙ ap (λ log. logged log more.events) one ∙ logged-append old (event ∷ []) more.events;
   right = after more.events more.right;
 }
+
+-- One event passed, which is none of a sending.
+pub quiet_one : (event : Event) → IsQuiet (event ∷ []) → (old new : Option (List Event)) → new ≡ logged old (event ∷ []) → Passes IsQuiet old new
+quiet_one event none old new passed = record { events = event ∷ []; passed = passed; right = none }

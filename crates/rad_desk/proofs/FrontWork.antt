@@ -13,10 +13,10 @@ use Rattle.rad_lane.specs.declared.outgoing.Outgoing.{Outgoing}
 use Rattle.rad_desk.specs.declared.inlet.Inlet.{Inlet}
 use Rattle.rad_desk.specs.declared.wire.Delivery.{Delivery}
 use Rattle.rad_desk.specs.Inlet.{taken, SameInlet}
-use Rattle.rad_desk.specs.Traffic.{Event, arrived, told, logged}
+use Rattle.rad_desk.specs.Traffic.{Event, arrived, departed, told, endpoint, logged}
 use Rattle.rad_desk.specs.Calls.{Passes, IsQuiet, IsSent}
 use Rattle.rad_desk.specs.Once.{IsAnswerTo, AnswersWhatCame, GoesBack, SendsBack, AnswerGoes, SendsAnAnswer, HandsOne, Hands, Part, quiet, back, given, events_of, IsRight, given_in, given_by, EachGave, WorksInFront}
-use Rattle.rad_desk.proofs.CallsJoined.{passes_join, passes_widen, passes_after}
+use Rattle.rad_desk.proofs.CallsJoined.{passes_none, passes_join, passes_widen, passes_after}
 
 -- Inlets of the same rings.
 same_refl : (i : Inlet) → SameInlet i i
@@ -134,21 +134,24 @@ module _ (config : Configuration) where
   works_by_taking inlets = passes_widen (SendsBack config) (WorksInFront config inlets inlets) (works_taken inlets)
 
   -- What a look at the inlet at a place does.
-  works_handed : (inlets : List Inlet) (place : ℕ) (other now : Inlet) → place < length inlets → (events : List Event) → Hands (get_or inlets place other) now events → WorksInFront config inlets (set inlets place now) events
-  works_handed inlets place other now within events (same, inl (took, none)) = record {
+  works_handed_by : (inlets : List Inlet) (place : ℕ) (other now : Inlet) → place < length inlets → (events : List Event) → SameInlet (get_or inlets place other) now → ((taken now ≡ taken (get_or inlets place other)) × (events ≡ [])) ⊎ HandsOne (get_or inlets place other) now events → WorksInFront config inlets (set inlets place now) events
+  works_handed_by inlets place other now within events same (inl none) = record {
     parts = [];
-    passed = none;
+    passed = none.1;
     right = All-nil (IsRight config (length inlets));
-    gave = gave_still 0 place inlets other now within same took;
+    gave = gave_still 0 place inlets other now within same none.0;
   }
-  works_handed inlets place other now within events (same, inr one) =
+  works_handed_by inlets place other now within events same (inr one) =
       let part : Part = given place one.outgoing one.delivery in
       record {
         parts = part ∷ [];
         passed = one.is;
         right = All-cons (IsRight config (length inlets)) part [] within (All-nil (IsRight config (length inlets)));
-        gave = gave_one 0 place place one.outgoing one.delivery inlets other now refl within same one.took;
+        gave = gave_one 0 place place one.outgoing one.delivery inlets other now (omega arith) within same one.took;
       }
+
+  works_handed : (inlets : List Inlet) (place : ℕ) (other now : Inlet) → place < length inlets → (events : List Event) → Hands (get_or inlets place other) now events → WorksInFront config inlets (set inlets place now) events
+  works_handed inlets place other now within events hands = works_handed_by inlets place other now within events hands.0 hands.1
 
   pub works_by_handing : (inlets : List Inlet) (place : ℕ) (other now : Inlet) → place < length inlets → (since until : Option (List Event)) → Passes (Hands (get_or inlets place other) now) since until → Passes (WorksInFront config inlets (set inlets place now)) since until
   works_by_handing inlets place other now within =
@@ -180,3 +183,24 @@ answered socket from asked moment octets answers then sent =
 pub answer_after : (socket : ℕ) (from : Endpoint) (asked : Incoming) (moment : ℕ) (octets : List ℕ) → IsAnswerTo asked moment octets → (old mid new : Option (List Event)) → mid ≡ logged old (told moment ∷ []) → Passes (IsSent socket from octets) mid new → Passes (SendsAnAnswer socket from asked) old new
 answer_after socket from asked moment octets answers =
     passes_after (IsSent socket from octets) (SendsAnAnswer socket from asked) (told moment) (answered socket from asked moment octets answers)
+
+-- A look at an inlet that gave nothing, and at one that gave a response, which was sent.
+pub hands_none : (was is : Inlet) → SameInlet was is → taken is ≡ taken was → (old new : Option (List Event)) → new ≡ old → Passes (Hands was is) old new
+hands_none was is same took old new none = passes_none (Hands was is) old new (same, inl (took, refl)) none
+
+pub hands_one : (was is : Inlet) (outgoing : Outgoing) (octets : List ℕ) → SameInlet was is → taken is ≡ taken was ++ outgoing ∷ [] → octets ≡ outgoing.reply.response → (old new : Option (List Event)) → Passes (IsSent 0 (endpoint outgoing.client outgoing.port) octets) old new → Passes (Hands was is) old new
+hands_one was is outgoing octets same took response =
+    passes_widen (IsSent 0 (endpoint outgoing.client outgoing.port) octets) (Hands was is)
+    (λ events sent. (same, inr (record {
+      outgoing = outgoing;
+      delivery = sent.delivery;
+      took = took;
+      is = sent.is ∙ ap (λ l. departed 0 (endpoint outgoing.client outgoing.port) l sent.delivery ∷ []) response;
+    })))
+
+-- Nothing was sent to what came.
+pub unanswered : (socket : ℕ) (from : Endpoint) (asked : Incoming) (old new : Option (List Event)) → Passes IsQuiet old new → Passes (SendsAnAnswer socket from asked) old new
+unanswered socket from asked = passes_widen IsQuiet (SendsAnAnswer socket from asked) (λ events none. inl none)
+
+pub taken_quietly : (config : Configuration) (old new : Option (List Event)) → Passes IsQuiet old new → Passes (SendsBack config) old new
+taken_quietly config = passes_widen IsQuiet (SendsBack config) (λ events none. inl none)

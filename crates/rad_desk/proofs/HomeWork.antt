@@ -44,9 +44,9 @@ module _ (lane : ℕ) (home : HomeEntry) where
   works_sent : (moment : ℕ) (random : List ℕ) (port : ℕ) (octets : List ℕ) → IsGiven lane home.secret moment random port octets → (then : List Event) → IsSentHome home port octets then → WorksForHome lane home (told moment ∷ drew random ∷ then)
   works_sent moment random port octets gives then (inl none) =
       works_part (quiet (told moment ∷ drew random ∷ [])) (told moment ∷ drew random ∷ then) (ap (λ l. told moment ∷ drew random ∷ l) none) tt
-  works_sent moment random port octets gives then (inr (within, sent)) =
-      works_part (stepped moment random port octets sent.delivery) (told moment ∷ drew random ∷ then)
-      (ap (λ l. told moment ∷ drew random ∷ l) sent.is) (within, gives)
+  works_sent moment random port octets gives then (inr sent) =
+      works_part (stepped moment random port octets sent.1.delivery) (told moment ∷ drew random ∷ then)
+      (ap (λ l. told moment ∷ drew random ∷ l) sent.1.is) (sent.0, gives)
 
   pub works_step : (moment : ℕ) (random : List ℕ) (port : ℕ) (octets : List ℕ) → IsGiven lane home.secret moment random port octets → (old after drawn new : Option (List Event)) → after ≡ logged old (told moment ∷ []) → drawn ≡ logged after (drew random ∷ []) → Passes (IsSentHome home port octets) drawn new → Passes (WorksForHome lane home) old new
   works_step moment random port octets gives old after drawn new is_told is_drawn sent =

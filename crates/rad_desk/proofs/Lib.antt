@@ -10,5 +10,6 @@ pub mod Untouched
 pub mod CallsJoined
 pub mod HomeWork
 pub mod FrontWork
+pub mod Responses
 pub mod OutletAfterTurn
 pub mod MarksCounted
