@@ -1,16 +1,11 @@
 -- What passed in a call, put together from what passed in its parts.
-use Rattle.std.proofs.Common.{◌≡◌, ℕ, List, [], ◌∷◌, ◌++◌, Option, Some, None, refl, sym, ap, ◌∙◌, append_assoc}
-use Rattle.std.proofs.lemmas.List.{append-nil}
-use Rattle.rad_desk.specs.Traffic.{Event, arrived, departed, told, drew, logged}
+use Rattle.std.proofs.Common.{◌≡◌, ℕ, List, [], ◌∷◌, ◌++◌, Option, refl, ap, ◌∙◌}
+use Rattle.rad_desk.specs.Traffic.{Event, arrived, departed, told, drew, noted, logged}
 use Rattle.rad_desk.specs.Calls.{Passes, IsQuiet}
 
-pub logged-nil : (log : Option (List Event)) → logged log [] ≡ log
-logged-nil None = refl
-logged-nil (Some before) = ap Some (append-nil before)
-
-pub logged-append : (log : Option (List Event)) (first then : List Event) → logged (logged log first) then ≡ logged log (first ++ then)
-logged-append None first then = refl
-logged-append (Some before) first then = ap Some (append_assoc before first then)
+logged-append : (log : Option (List Event)) (first then : List Event) → logged (logged log first) then ≡ logged log (first ++ then)
+logged-append log [] then = refl
+logged-append log (event ∷ first) then = logged-append (noted log event) first then
 
 pub quiet_append : (first then : List Event) → IsQuiet first → IsQuiet then → IsQuiet (first ++ then)
 quiet_append [] then a b = b
@@ -21,7 +16,7 @@ quiet_append (drew octets ∷ first) then a b = quiet_append first then a b
 
 -- Nothing passed.
 pub passes_none : (Right : List Event → Type 0) (old new : Option (List Event)) → Right [] → new ≡ old → Passes Right old new
-passes_none Right old new none same = record { events = []; passed = same ∙ sym (logged-nil old); right = none }
+passes_none Right old new none same = record { events = []; passed = same; right = none }
 
 -- What passed first, and what passed then.
 pub passes_join : (P Q R : List Event → Type 0) → ((first then : List Event) → P first → Q then → R (first ++ then)) → (old mid new : Option (List Event)) → Passes P old mid → Passes Q mid new → Passes R old new
@@ -39,13 +34,13 @@ pub quiet_join : (old mid new : Option (List Event)) → Passes IsQuiet old mid 
 quiet_join = passes_join IsQuiet IsQuiet IsQuiet quiet_append
 
 -- One event passed, and more.
-pub passes_after : (P Q : List Event → Type 0) (event : Event) → ((then : List Event) → P then → Q (event ∷ then)) → (old mid new : Option (List Event)) → mid ≡ logged old (event ∷ []) → Passes P mid new → Passes Q old new
+pub passes_after : (P Q : List Event → Type 0) (event : Event) → ((then : List Event) → P then → Q (event ∷ then)) → (old mid new : Option (List Event)) → mid ≡ noted old event → Passes P mid new → Passes Q old new
 passes_after P Q event after old mid new one more = record {
   events = event ∷ more.events;
-  passed = more.passed ∙ ap (λ log. logged log more.events) one ∙ logged-append old (event ∷ []) more.events;
+  passed = more.passed ∙ ap (λ log. logged log more.events) one;
   right = after more.events more.right;
 }
 
--- One event passed, which is none of a sending.
-pub quiet_one : (event : Event) → IsQuiet (event ∷ []) → (old new : Option (List Event)) → new ≡ logged old (event ∷ []) → Passes IsQuiet old new
-quiet_one event none old new passed = record { events = event ∷ []; passed = passed; right = none }
+-- One event passed.
+pub passes_one : (Right : List Event → Type 0) (event : Event) (old new : Option (List Event)) → Right (event ∷ []) → new ≡ noted old event → Passes Right old new
+passes_one Right event old new right passed = record { events = event ∷ []; passed = passed; right = right }

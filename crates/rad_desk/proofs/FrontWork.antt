@@ -13,7 +13,7 @@ use Rattle.rad_lane.specs.declared.outgoing.Outgoing.{Outgoing}
 use Rattle.rad_desk.specs.declared.inlet.Inlet.{Inlet}
 use Rattle.rad_desk.specs.declared.wire.Delivery.{Delivery}
 use Rattle.rad_desk.specs.Inlet.{taken, SameInlet}
-use Rattle.rad_desk.specs.Traffic.{Event, arrived, departed, told, endpoint, logged}
+use Rattle.rad_desk.specs.Traffic.{Event, arrived, departed, told, endpoint, noted}
 use Rattle.rad_desk.specs.Calls.{Passes, IsQuiet, IsSent}
 use Rattle.rad_desk.specs.Once.{IsAnswerTo, AnswersWhatCame, GoesBack, SendsBack, AnswerGoes, SendsAnAnswer, HandsOne, Hands, Part, quiet, back, given, events_of, IsRight, given_in, given_by, EachGave, WorksInFront}
 use Rattle.rad_desk.proofs.CallsJoined.{passes_none, passes_join, passes_widen, passes_after}
@@ -171,7 +171,7 @@ module _ (config : Configuration) where
     answers = record { incoming = incoming; right = takes; answers = goes.answers };
   })
 
-  pub back_after : (socket : ℕ) (from : Endpoint) (question : List ℕ) (incoming : Incoming) → Takes config from.address from.port question incoming → (old mid new : Option (List Event)) → mid ≡ logged old (arrived socket from question ∷ []) → Passes (SendsAnAnswer socket from incoming) mid new → Passes (SendsBack config) old new
+  pub back_after : (socket : ℕ) (from : Endpoint) (question : List ℕ) (incoming : Incoming) → Takes config from.address from.port question incoming → (old mid new : Option (List Event)) → mid ≡ noted old (arrived socket from question) → Passes (SendsAnAnswer socket from incoming) mid new → Passes (SendsBack config) old new
   back_after socket from question incoming takes =
       passes_after (SendsAnAnswer socket from incoming) (SendsBack config) (arrived socket from question) (goes_back socket from question incoming takes)
 
@@ -180,7 +180,7 @@ answered : (socket : ℕ) (from : Endpoint) (asked : Incoming) (moment : ℕ) (o
 answered socket from asked moment octets answers then sent =
     inr (record { moment = moment; octets = octets; delivery = sent.delivery; is = ap (λ l. told moment ∷ l) sent.is; answers = answers })
 
-pub answer_after : (socket : ℕ) (from : Endpoint) (asked : Incoming) (moment : ℕ) (octets : List ℕ) → IsAnswerTo asked moment octets → (old mid new : Option (List Event)) → mid ≡ logged old (told moment ∷ []) → Passes (IsSent socket from octets) mid new → Passes (SendsAnAnswer socket from asked) old new
+pub answer_after : (socket : ℕ) (from : Endpoint) (asked : Incoming) (moment : ℕ) (octets : List ℕ) → IsAnswerTo asked moment octets → (old mid new : Option (List Event)) → mid ≡ noted old (told moment) → Passes (IsSent socket from octets) mid new → Passes (SendsAnAnswer socket from asked) old new
 answer_after socket from asked moment octets answers =
     passes_after (IsSent socket from octets) (SendsAnAnswer socket from asked) (told moment) (answered socket from asked moment octets answers)
 

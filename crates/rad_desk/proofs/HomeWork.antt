@@ -6,7 +6,7 @@ use Rattle.std.proofs.lemmas.List.{append-nil}
 use Rattle.std.proofs.lemmas.List.Concat.{flat_map-append}
 use Rattle.std.proofs.lemmas.List.Elements.{All-nil, All-cons, All-append}
 use Rattle.rad_realms.specs.Configuration.{HomeEntry}
-use Rattle.rad_desk.specs.Traffic.{Event, told, drew, logged}
+use Rattle.rad_desk.specs.Traffic.{Event, told, drew, noted}
 use Rattle.rad_desk.specs.Calls.{Passes, IsQuiet}
 use Rattle.rad_desk.specs.Working.{IsGiven, IsSentHome, Part, quiet, stepped, events_of, IsRight, WorksForHome}
 use Rattle.rad_desk.proofs.CallsJoined.{passes_join, passes_widen, passes_after}
@@ -48,14 +48,14 @@ module _ (lane : ℕ) (home : HomeEntry) where
       works_part (stepped moment random port octets sent.1.delivery) (told moment ∷ drew random ∷ then)
       (ap (λ l. told moment ∷ drew random ∷ l) sent.1.is) (sent.0, gives)
 
-  pub works_step : (moment : ℕ) (random : List ℕ) (port : ℕ) (octets : List ℕ) → IsGiven lane home.secret moment random port octets → (old after drawn new : Option (List Event)) → after ≡ logged old (told moment ∷ []) → drawn ≡ logged after (drew random ∷ []) → Passes (IsSentHome home port octets) drawn new → Passes (WorksForHome lane home) old new
+  pub works_step : (moment : ℕ) (random : List ℕ) (port : ℕ) (octets : List ℕ) → IsGiven lane home.secret moment random port octets → (old after drawn new : Option (List Event)) → after ≡ noted old (told moment) → drawn ≡ noted after (drew random) → Passes (IsSentHome home port octets) drawn new → Passes (WorksForHome lane home) old new
   works_step moment random port octets gives old after drawn new is_told is_drawn sent =
       passes_after (λ then. WorksForHome lane home (told moment ∷ then)) (WorksForHome lane home) (told moment) (λ then works. works) old after new is_told
       (passes_after (IsSentHome home port octets) (λ then. WorksForHome lane home (told moment ∷ then)) (drew random)
       (works_sent moment random port octets gives) after drawn new is_drawn sent)
 
   -- The moment was told and octets were drawn, and more passed that sends nothing.
-  pub works_idle : (moment : ℕ) (random : List ℕ) (old after drawn new : Option (List Event)) → after ≡ logged old (told moment ∷ []) → drawn ≡ logged after (drew random ∷ []) → Passes IsQuiet drawn new → Passes (WorksForHome lane home) old new
+  pub works_idle : (moment : ℕ) (random : List ℕ) (old after drawn new : Option (List Event)) → after ≡ noted old (told moment) → drawn ≡ noted after (drew random) → Passes IsQuiet drawn new → Passes (WorksForHome lane home) old new
   works_idle moment random old after drawn new is_told is_drawn more =
       works_by_quiet old new
       (passes_after IsQuiet IsQuiet (told moment) (λ then none. none) old after new is_told

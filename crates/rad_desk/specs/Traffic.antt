@@ -27,14 +27,19 @@ event Drew octets = drew octets
 abbrev pub endpoint : List ℕ → ℕ → Endpoint
 endpoint address port = record { address = address; port = port }
 
--- A log with these events behind it. A wire may keep none.
+-- A log with one event more behind it. A wire may keep none.
+abbrev pub noted : Option (List Event) → Event → Option (List Event)
+noted None event = None
+noted (Some before) event = Some (before ++ event ∷ [])
+
+-- A log with these events behind it, one after the other.
 abbrev pub logged : Option (List Event) → List Event → Option (List Event)
-logged None events = None
-logged (Some before) events = Some (before ++ events)
+logged log [] = log
+logged log (event ∷ more) = logged (noted log event) more
 
 -- What a receive gave came, and is the front of the buffer; where it gave nothing, nothing passed.
 abbrev pub Receives : Option (List Event) → Received → List ℕ → Option (List Event) → Type 0
 Receives old (Got address port socket count) buffer new =
-    (count ≤ 4096) × (new ≡ logged old (arrived socket (endpoint address port) (take count buffer) ∷ []))
+    (count ≤ 4096) × (new ≡ noted old (arrived socket (endpoint address port) (take count buffer)))
 Receives old Nothing buffer new = new ≡ old
 Receives old Fault buffer new = new ≡ old

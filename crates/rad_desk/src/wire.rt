@@ -2,7 +2,7 @@
 
 ghost use Rattle.std.specs.Prelude.{◌≡◌, List, [], ◌∷◌, ◌++◌, Option, None};
 ghost use Rattle.std.specs.Borrow.{ftrue};
-ghost use Rattle.rad_desk.specs.Traffic.{Event, event, arrived, departed, told, drew, endpoint, logged, Receives};
+ghost use Rattle.rad_desk.specs.Traffic.{Event, event, arrived, departed, told, drew, endpoint, noted, Receives};
 
 use rad_realms::Endpoint;
 use rad_tables::Moment;
@@ -46,11 +46,11 @@ pub trait Wire {
 
     /// The moment. It may wait for nothing.
     fn now(&mut self) -> Moment
-        ensures { log self.new ≡ logged (log self.old) (told result ∷ []) };
+        ensures { log self.new ≡ noted (log self.old) (told result) };
 
     /// The Authenticator of a probe (RFC 5997 section 3): octets that nobody can foretell.
     fn random(&mut self) -> [u8; 16]
-        ensures { log self.new ≡ logged (log self.old) (drew result ∷ []) };
+        ensures { log self.new ≡ noted (log self.old) (drew result) };
 
     /// Receives a datagram, or waits for a while.
     fn receive(&mut self, datagram: &mut [u8; 4096]) -> Received
@@ -58,7 +58,7 @@ pub trait Wire {
 
     /// Sends a datagram from a socket to an IPv4 address and a UDP port.
     fn send(&mut self, socket: u16, address: [u8; 4], port: u16, octets: &[u8]) -> Delivery
-        ensures { log self.new ≡ logged (log self.old) (departed socket (endpoint address port) octets.now result ∷ []) };
+        ensures { log self.new ≡ noted (log self.old) (departed socket (endpoint address port) octets.now result) };
 }
 
 /// All that passed over a wire so far, for clauses alone. It takes no memory.
