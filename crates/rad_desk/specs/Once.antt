@@ -1,6 +1,6 @@
 -- What the front does (own), as its wire sees it: one part after the other, each of which sends nothing, or answers the
 -- datagram that came right before it, or sends what an inlet gave. What each inlet gave is sent once, in order.
-use Rattle.std.specs.Prelude.{◌≡◌, ◌+◌, ◌<◌, ◌==◌, ⊤, ℕ, List, [], ◌∷◌, ◌++◌, ◌⊎◌, length, All, if◌then◌else◌, Ok}
+use Rattle.std.specs.Prelude.{◌≡◌, ◌+◌, ◌<◌, ◌==◌, ⊤, ℕ, List, [], ◌∷◌, ◌++◌, ◌⊎◌, length, All, cond, Ok}
 use Rattle.std.specs.List.{flat_map}
 use Rattle.rad_packet.specs.Packet.{identifier_of, authenticator_of}
 use Rattle.rad_auth.specs.Authenticator.{accounting_response, IsRightResponse}
@@ -110,7 +110,7 @@ IsRight config inlets (given place outgoing delivery) = place < inlets
 abbrev pub given_in : ℕ → Part → List Outgoing
 given_in place (quiet events) = []
 given_in place (back socket from question moment octets delivery) = []
-given_in place (given other outgoing delivery) = if other == place then outgoing ∷ [] else []
+given_in place (given other outgoing delivery) = cond (other == place) (outgoing ∷ []) []
 
 abbrev pub given_by : ℕ → List Part → List Outgoing
 given_by place parts = flat_map (given_in place) parts

@@ -134,23 +134,22 @@ fn step<W: Wire, G: Gate>(
     if !shift.may(Call::Step) {
         return false;
     }
-    let moment = wire.now();
-    let random = wire.random();
-    let stepped = proxy.step_for(rt, lane, home.secret(), moment, random, datagram);
+    let secret = home.secret();
+    let stepped = proxy.step_for(rt, lane, secret, wire.now(), wire.random(), datagram);
     shift.made(Call::Step);
     let Some(action) = stepped else {
         return true;
     };
-    let Some(port) = port_of(action) else {
-        return follow(rt, alloc, proxy, lane, home, action, wire, shift);
+    let Some(port) = port_of(&action) else {
+        return follow(rt, alloc, proxy, lane, home, &action, wire, shift);
     };
     send_home(home, port, wire, shift, datagram);
     true
 }
 
 /// The source port from which an action sends, where it does.
-fn port_of(action: Action) -> Option<u16>
-    ensures { MatchOption result (slot_of action ≡ None) (λ port. IsPortOf action port) }
+fn port_of(action: &Action) -> Option<u16>
+    ensures { MatchOption result (slot_of action.now ≡ None) (λ port. IsPortOf action.now port) }
 {
     match action {
         Action::Sent(_, slot) | Action::Resent(_, slot) | Action::Probed(slot) => Some(slot.port),
@@ -166,7 +165,7 @@ fn follow<W: Wire, G: Gate>(
     proxy: &Proxy,
     lane: u16,
     home: &Home,
-    action: Action,
+    action: &Action,
     wire: &mut W,
     shift: &mut Shift<'_, G>,
 ) -> bool

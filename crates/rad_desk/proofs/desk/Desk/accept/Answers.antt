@@ -14,3 +14,13 @@ pub returns-clause-returns : goal.returns-clause-returns
 returns-clause-returns c =
     let datagrams : Datagrams = record { before = c.args.datagram.now; after = c.accept.new.datagram } in
     returns_verified c.args.self.now.lane c.accept.new.self c.args.request.now c.args.moment c.accept.result datagrams c.keep_law.ensures c.accept.ensures
+
+pub returns-clause-lawful : goal.returns-clause-lawful
+returns-clause-lawful c = record {
+  old = c.args.self.now.lane;
+  new = c.accept.new.self;
+  lawful = c.keep_law.ensures;
+  stays = c.accepted.ensures.lawful;
+  taken = c.requires;
+  accepts = c.accept.ensures;
+}

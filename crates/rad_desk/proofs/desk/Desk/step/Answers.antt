@@ -13,3 +13,6 @@ pub returns-clause-departs : goal.returns-clause-departs
 returns-clause-departs c =
     let sixteen : length c.args.random ≡ 16 = omega arith in
     departs _ _ _ _ _ _ sixteen c.keep_law.ensures c.step.ensures.steps
+
+pub returns-clause-lawful : goal.returns-clause-lawful
+returns-clause-lawful c = (c.keep_law.ensures, c.accepted.ensures.lawful)
