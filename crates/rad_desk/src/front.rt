@@ -167,18 +167,19 @@ fn serve<W: Wire, G: Gate>(
     match handled {
         Ok(Handled::Taken(lane, Taken::New(number))) => shift.gate.accepted(lane, number),
         Ok(Handled::Taken(_, Taken::Waiting(_))) => {}
-        Ok(Handled::Taken(_, Taken::Again(_)) | Handled::Answered) => {
+        Ok(Handled::Taken(_, Taken::Again(_))) => {
             if fits(incoming, datagram) {
                 shift.send(wire, socket, from, datagram.bytes());
             }
         }
+        Ok(Handled::Answered) => shift.send(wire, socket, from, datagram.bytes()),
         Err(refusal) => shift.note(Note::Refused(refusal)),
     }
     true
 }
 
 /// Whether a packet has the Identifier of the request that it is to answer, and is right for that by its Response Authenticator,
-/// under the client's secret (RFC 2866 section 4.2). What answers a Status-Server was made for it.
+/// under the client's secret (RFC 2866 section 4.2). It is asked of no Status-Server.
 fn fits(incoming: &Incoming<'_>, datagram: &Datagram) -> bool
     ensures { IsTrue result → Fits incoming.now datagram.now }
 {
