@@ -38,9 +38,9 @@ returns-in-Ok-Answered-clause-sends g c =
     let d : Datagrams = record { before = c.args.datagram.now; after = c.handle-handled.new.written } in
     let is_answered : arm.field-0 ≡ Answered = rw arm.is at arm.field-0-is in
     let answers : IsAnswerTo c.args.incoming.now moment c.handle-handled.new.written = status_handled c.args.incoming.now moment c.args.proxy.now c.handle-handled.result arm.field-0 d arm.is is_answered c.handle-handled.ensures in
-    answer_after c.args.socket c.args.from c.args.incoming.now moment c.bytes.result.now
-    (subst (IsAnswerTo c.args.incoming.now moment) (sym c.bytes.ensures.value) answers)
-    _ _ _ c.now-moment.ensures c.send.ensures.sends
+    answer_after c.args.socket c.args.from c.args.incoming.now moment c.bytes-in-Ok-Answered.result.now
+    (subst (IsAnswerTo c.args.incoming.now moment) (sym c.bytes-in-Ok-Answered.ensures.value) answers)
+    _ _ _ c.now-moment.ensures c.send-in-Ok-Answered.ensures.sends
 
 pub returns-in-Err-clause-sends : goal.returns-in-Err-clause-sends
 returns-in-Err-clause-sends g c = unanswered _ _ _ _ _ (passes_one IsQuiet (told c.now-moment.result) _ _ tt c.now-moment.ensures)
