@@ -46,9 +46,9 @@ gave_append first then place [] [] [] a b = tt
 gave_append first then place (i ∷ old) (j ∷ mid) (k ∷ new) a b = (
   same_then i j k a.0 b.0,
   b.1
-  ∙ ap (λ l. l ++ given_by place then) a.1
-  ∙ append_assoc (taken i) (given_by place first) (given_by place then)
-  ∙ ap (λ l. taken i ++ l) (sym (flat_map-append (given_in place) first then)),
+      ∙ ap (λ l. l ++ given_by place then) a.1
+      ∙ append_assoc (taken i) (given_by place first) (given_by place then)
+      ∙ ap (λ l. taken i ++ l) (sym (flat_map-append (given_in place) first then)),
   gave_append first then (place + 1) old mid new a.2 b.2,
 )
 gave_append first then place [] (j ∷ mid) new a b = absurd a
@@ -72,8 +72,7 @@ of_another at place outgoing delivery other = rw (ne_eqb place at other) refl
 gave_one : (first place at : ℕ) (outgoing : Outgoing) (delivery : Delivery) (inlets : List Inlet) (other now : Inlet) → at ≡ first + place → place < length inlets → SameInlet (get_or inlets place other) now → taken now ≡ taken (get_or inlets place other) ++ outgoing ∷ [] → EachGave (given at outgoing delivery ∷ []) first inlets (set inlets place now)
 gave_one first place at outgoing delivery [] other now is within same took = absurd (omega (arith, within))
 gave_one first zero at outgoing delivery (i ∷ rest) other now is within same took =
-    let here : at ≡ first = omega (arith, is) in
-    (
+    let here : at ≡ first = omega (arith, is) in (
       same,
       took ∙ ap (λ l. taken i ++ l) (sym (subst (λ n. given_by n (given at outgoing delivery ∷ []) ≡ outgoing ∷ []) here (of_one at outgoing delivery))),
       gave_none (given at outgoing delivery ∷ []) (first + 1) rest (λ n from. of_another n at outgoing delivery (λ e. omega (arith, e, from, here))),
@@ -191,12 +190,15 @@ hands_none was is same took old new none = passes_none (Hands was is) old new (s
 pub hands_one : (was is : Inlet) (outgoing : Outgoing) (octets : List ℕ) → SameInlet was is → taken is ≡ taken was ++ outgoing ∷ [] → octets ≡ outgoing.reply.response → (old new : Option (List Event)) → Passes (IsSent 0 (endpoint outgoing.client outgoing.port) octets) old new → Passes (Hands was is) old new
 hands_one was is outgoing octets same took response =
     passes_widen (IsSent 0 (endpoint outgoing.client outgoing.port) octets) (Hands was is)
-    (λ events sent. (same, inr (record {
-      outgoing = outgoing;
-      delivery = sent.delivery;
-      took = took;
-      is = sent.is ∙ ap (λ l. departed 0 (endpoint outgoing.client outgoing.port) l sent.delivery ∷ []) response;
-    })))
+    (λ events sent. (
+      same,
+      inr (record {
+        outgoing = outgoing;
+        delivery = sent.delivery;
+        took = took;
+        is = sent.is ∙ ap (λ l. departed 0 (endpoint outgoing.client outgoing.port) l sent.delivery ∷ []) response;
+      }),
+    ))
 
 -- Nothing was sent to what came.
 pub unanswered : (socket : ℕ) (from : Endpoint) (asked : Incoming) (old new : Option (List Event)) → Passes IsQuiet old new → Passes (SendsAnAnswer socket from asked) old new
