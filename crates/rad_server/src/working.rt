@@ -30,7 +30,7 @@ impl<R, G> Copy for Service<'_, R, G> {}
 impl<R: Wait, G: Gate> Service<'_, R, G> {
     /// Works for the clients until the worker is stopped.
     pub(crate) fn work_in_front<W: Wire>(self, inlets: &mut [Inlet], wire: &mut W)
-        ensures { Passes (WorksInFront self.config.now inlets.old inlets.new) (W.log wire.old) (W.log wire.new) }
+        ensures { Passes (WorksInFront self.entry.config.now inlets.old inlets.new) (W.log wire.old) (W.log wire.new) }
     {
         self.supervisor.begin(self.rt);
         let _ = front_worker(
@@ -48,7 +48,7 @@ impl<R: Wait, G: Gate> Service<'_, R, G> {
 
     /// Works for a lane until the worker is stopped.
     pub(crate) fn work_on_lane<W: Wire>(self, lane: u16, wire: &mut W)
-        ensures { Passes (WorksOnLane self.config.now lane) (W.log wire.old) (W.log wire.new) }
+        ensures { Passes (WorksOnLane self.entry.config.now lane) (W.log wire.old) (W.log wire.new) }
     {
         self.supervisor.begin(self.rt);
         if let Some(home) = self.config.homes().get(usize::from(lane)) {
