@@ -13,6 +13,7 @@ import os
 import pathlib
 import pty
 import re
+import resource
 import shutil
 import signal
 import socket
@@ -439,6 +440,12 @@ def metrics_go_to_no_other_file(service):
     hope("no folder", (done.returncode, done.stderr), (4, f"rad_proxyctl: cannot write {file}\n"))
     done = service.ask("state", str(file))
     hope("state has no file", done.returncode, 1)
+    file = folder / "rad_proxy.prom"
+    file.write_text("old\n")
+    most = lambda: resource.setrlimit(resource.RLIMIT_FSIZE, (100, 100))
+    done = service.ask("metrics", str(file), preexec_fn=most)
+    hope("no room", (done.returncode, done.stderr), (4, f"rad_proxyctl: cannot write {file}\n"))
+    hope("what is left", (os.listdir(folder), file.read_text()), ([file.name], "old\n"))
 
 
 def scraped(service, octets, is_closed=False):
