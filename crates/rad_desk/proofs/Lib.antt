@@ -7,8 +7,9 @@ pub mod Accounting
 pub mod Inlets
 pub mod Endings
 pub mod Untouched
-pub mod Sends
+pub mod CallsJoined
+pub mod HomeWork
+pub mod FrontWork
 pub mod Responses
-pub mod Returning
 pub mod OutletAfterTurn
 pub mod MarksCounted

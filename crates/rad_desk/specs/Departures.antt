@@ -1,15 +1,22 @@
 -- What goes onto a wire (own): whatever the lane, nothing is given to be sent but one of these.
-use Rattle.std.specs.Prelude.{◌≡◌, ℕ, List, length, Result, Ok, Err}
+use Rattle.std.specs.Prelude.{◌≡◌, ⊤, ℕ, List, length, Result, Ok, Err}
 use Rattle.rad_auth.specs.Forwarding.{forwarded}
 use Rattle.rad_auth.specs.Status.{status_server}
 use Rattle.rad_lane.specs.declared.accepting.Taken.{Taken}
 use Rattle.rad_lane.specs.declared.accepting.Taken.TheVariants.{New, Waiting, Again}
 use Rattle.rad_lane.specs.declared.accepting.Refusal.{Refusal}
+use Rattle.rad_lane.specs.declared.accepting.Refusal.TheVariants.{Draining, BookFull, QueueFull, TooLong, OutOfMemory, WrongLane}
 use Rattle.rad_lane.specs.declared.stepping.Action.{Action}
 use Rattle.rad_lane.specs.declared.stepping.Action.TheVariants.{Sent, Resent, Probed, WentDown, WentUp, Idle}
 use Rattle.rad_lane.specs.Stamp.{Recorded, IsRecord}
 use Rattle.rad_lane.specs.Outstanding.{AnswerKept, IsAnswered}
+use Rattle.rad_lane.specs.Setup.{IsOf}
+use Rattle.rad_lane.specs.Book.{Book}
+use Rattle.rad_lane.specs.Accepts.{IsTaken, Accepts}
+use Rattle.rad_lane.specs.Steps.{Steps}
+use Rattle.rad_lane.specs.Lawful.{IsLawful}
 use Rattle.rad_lane.specs.Datagrams.{Datagrams}
+use Rattle.rad_realms.specs.Checking.{Request}
 
 -- The forwarded packet of a right record, with the mark of a lane, under a secret.
 pub record ForwardsARecord (octets : List ℕ) : Type 0 where
@@ -50,3 +57,31 @@ Returns (Ok (Again number)) d = IsVerifiedResponse d.after
 Returns (Ok (New number)) d = d.after ≡ d.before
 Returns (Ok (Waiting number)) d = d.after ≡ d.before
 Returns (Err refusal) d = d.after ≡ d.before
+
+-- A lawful book of this number, whose home server has this secret, does this in one step, and is lawful after it.
+pub record StepsFor (lane : ℕ) (secret : List ℕ) (moment : ℕ) (random : List ℕ) (action : Action) (d : Datagrams) : Type 0 where
+  pub old : Book
+  pub new : Book
+  pub lawful : IsLawful old
+  pub stays : IsLawful new
+  pub is_of : IsOf old.setup lane secret
+  pub steps : Steps old moment random action d new
+
+-- A lawful book to which a request leads answers it like this, and is lawful after it.
+pub record AcceptsLawfully (request : Request) (moment : ℕ) (result : Result Taken Refusal) (d : Datagrams) : Type 0 where
+  pub old : Book
+  pub new : Book
+  pub lawful : IsLawful old
+  pub stays : IsLawful new
+  pub taken : IsTaken old request
+  pub accepts : Accepts old request moment result d new
+
+-- A fact about each answer but that the lane is a wrong one.
+abbrev pub UnlessWrongLane : Result Taken Refusal → Type 0 → Type 0
+UnlessWrongLane (Ok taken) fact = fact
+UnlessWrongLane (Err WrongLane) fact = ⊤
+UnlessWrongLane (Err Draining) fact = fact
+UnlessWrongLane (Err BookFull) fact = fact
+UnlessWrongLane (Err QueueFull) fact = fact
+UnlessWrongLane (Err TooLong) fact = fact
+UnlessWrongLane (Err OutOfMemory) fact = fact

@@ -8,9 +8,9 @@ pub mod Lawful
 pub mod Ending
 pub mod Refusing
 pub mod Traffic
-pub mod Sends
-pub mod Continues
-pub mod Sending
+pub mod Calls
+pub mod Working
+pub mod Once
 pub mod Turned
 pub mod Printed
 pub mod Spent

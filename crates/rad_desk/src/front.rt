@@ -1,9 +1,9 @@
 //! The worker of the clients' side.
 
-ghost use Rattle.std.specs.Prelude.{◌≡◌, ◌≤◌};
-ghost use Rattle.rad_desk.specs.Continues.{Continues, AllContinue};
-ghost use Rattle.rad_desk.specs.Sends.{SendsOnly, Gave, OneGave, IsAnswerTo, GoesBack, LeavesTheFront};
-ghost use Rattle.rad_desk.specs.Sending.{SendsUpToOne, IsFrom};
+ghost use Rattle.std.specs.Prelude.{◌≡◌, ◌≤◌, IsTrue};
+ghost use Rattle.rad_realms.specs.Configuration.{Configuration};
+ghost use Rattle.rad_desk.specs.Calls.{Passes};
+ghost use Rattle.rad_desk.specs.Once.{WorksInFront, SendsBack, SendsAnAnswer, Hands, Fits};
 
 use crate::gate::{Call, Gate, Note, Worker};
 use crate::handling::{Handled, handle};
@@ -12,6 +12,7 @@ use crate::marks::count_marks;
 use crate::proxy::Proxy;
 use crate::tally::{Shift, Tally};
 use crate::wire::{Received, Wire};
+use rad_auth::check_response;
 use rad_lane::Taken;
 use rad_packet::Datagram;
 use rad_realms::{Config, Dropped, Endpoint, Incoming, check_in};
@@ -36,8 +37,7 @@ pub fn front_worker<W: Wire, G: Gate>(
     gate: &G,
     turns: u64,
 ) -> Tally
-    ensures sends { SendsOnly (LeavesTheFront config.now inlets.old inlets.new) (W.log wire.old) (W.log wire.new) }
-    ensures inlets { AllContinue inlets.old inlets.new (W.log wire.old) (W.log wire.new) }
+    ensures works { Passes (WorksInFront config.now inlets.old inlets.new) (W.log wire.old) (W.log wire.new) }
     ensures turns { result.turns ≤ turns }
 {
     let mut shift = Shift::new(Worker::Front, gate);
@@ -45,11 +45,12 @@ pub fn front_worker<W: Wire, G: Gate>(
     let mut datagram = Datagram::new();
     for turn in 0..turns {
         shift.begin_turn(turn);
-        if !take_in(
+        if !take_turn(
             rt,
             alloc,
             proxy,
             config,
+            inlets,
             wire,
             &mut shift,
             &mut octets,
@@ -57,11 +58,30 @@ pub fn front_worker<W: Wire, G: Gate>(
         ) {
             return shift.tally;
         }
-        if !hand_out(inlets, wire, &mut shift) {
-            return shift.tally;
-        }
     }
     shift.tally
+}
+
+/// Takes one turn: what an inlet gives in it goes out before it ends, also where the gate stops the worker. It answers whether
+/// the worker goes on.
+fn take_turn<W: Wire, G: Gate>(
+    rt: &impl Wait,
+    alloc: Global,
+    proxy: &Proxy,
+    config: &Config,
+    inlets: &mut [Inlet],
+    wire: &mut W,
+    shift: &mut Shift<'_, G>,
+    octets: &mut [u8; 4096],
+    datagram: &mut Datagram,
+) -> bool
+    ensures works { Passes (WorksInFront config.now inlets.old inlets.new) (W.log wire.old) (W.log wire.new) }
+    ensures turns { shift.new.tally.turns ≡ shift.old.tally.turns }
+{
+    if !take_in(rt, alloc, proxy, config, wire, shift, octets, datagram) {
+        return false;
+    }
+    hand_out(inlets, wire, shift)
 }
 
 /// Receives once, and does what is to be done with what came. It answers whether the worker goes on.
@@ -75,7 +95,7 @@ fn take_in<W: Wire, G: Gate>(
     octets: &mut [u8; 4096],
     datagram: &mut Datagram,
 ) -> bool
-    ensures sends { SendsOnly (GoesBack config.now) (W.log wire.old) (W.log wire.new) }
+    ensures sends { Passes (SendsBack config.now) (W.log wire.old) (W.log wire.new) }
     ensures turns { shift.new.tally.turns ≡ shift.old.tally.turns }
 {
     let Received::Got {
@@ -131,7 +151,7 @@ fn serve<W: Wire, G: Gate>(
     from: Endpoint,
     datagram: &mut Datagram,
 ) -> bool
-    ensures sends { SendsUpToOne (IsFrom socket from (IsAnswerTo incoming.now)) (W.log wire.old) (W.log wire.new) }
+    ensures sends { Passes (SendsAnAnswer socket from incoming.now) (W.log wire.old) (W.log wire.new) }
     ensures turns { shift.new.tally.turns ≡ shift.old.tally.turns }
 {
     let is_request = matches!(incoming, Incoming::Request(_));
@@ -139,25 +159,44 @@ fn serve<W: Wire, G: Gate>(
         return false;
     }
     tell_marks(shift, incoming, from);
-    let handled = handle(rt, alloc, proxy, incoming, wire.now(), datagram);
+    let moment = wire.now();
+    let handled = handle(rt, alloc, proxy, incoming, moment, datagram);
     if is_request {
         shift.made(Call::Accept);
     }
     match handled {
         Ok(Handled::Taken(lane, Taken::New(number))) => shift.gate.accepted(lane, number),
         Ok(Handled::Taken(_, Taken::Waiting(_))) => {}
-        Ok(Handled::Taken(_, Taken::Again(_)) | Handled::Answered) => {
-            shift.send(wire, socket, from, datagram.bytes());
+        Ok(Handled::Taken(_, Taken::Again(_))) => {
+            if fits(incoming, datagram) {
+                shift.send(wire, socket, from, datagram.bytes());
+            }
         }
+        Ok(Handled::Answered) => shift.send(wire, socket, from, datagram.bytes()),
         Err(refusal) => shift.note(Note::Refused(refusal)),
     }
     true
 }
 
+/// Whether a packet has the Identifier of the request that it is to answer, and is right for that by its Response Authenticator,
+/// under the client's secret (RFC 2866 section 4.2). It is asked of no Status-Server.
+fn fits(incoming: &Incoming<'_>, datagram: &Datagram) -> bool
+    ensures { IsTrue result → Fits incoming.now datagram.now }
+{
+    match incoming {
+        Incoming::Request(request) => {
+            let asked = request.packet();
+            let answer = datagram.packet();
+            answer.identifier() == asked.identifier()
+                && check_response(&answer, &asked.authenticator(), request.secret())
+        }
+        Incoming::Status(_) => true,
+    }
+}
+
 /// Takes from each inlet once at most, and sends what it took. It answers whether the worker goes on.
 fn hand_out<W: Wire, G: Gate>(inlets: &mut [Inlet], wire: &mut W, shift: &mut Shift<'_, G>) -> bool
-    ensures sends { SendsOnly (λ before p. OneGave inlets.old inlets.new p) (W.log wire.old) (W.log wire.new) }
-    ensures inlets { AllContinue inlets.old inlets.new (W.log wire.old) (W.log wire.new) }
+    ensures works { (config : Configuration) → Passes (WorksInFront config inlets.old inlets.new) (W.log wire.old) (W.log wire.new) }
     ensures turns { shift.new.tally.turns ≡ shift.old.tally.turns }
 {
     for place in 0..inlets.len() {
@@ -171,8 +210,7 @@ fn hand_out<W: Wire, G: Gate>(inlets: &mut [Inlet], wire: &mut W, shift: &mut Sh
 
 /// Takes a response where one is there, and sends it.
 fn take<W: Wire, G: Gate>(inlet: &mut Inlet, wire: &mut W, shift: &mut Shift<'_, G>)
-    ensures sends { SendsOnly (λ before p. Gave inlet.old inlet.new p) (W.log wire.old) (W.log wire.new) }
-    ensures inlet { Continues inlet.old inlet.new (W.log wire.old) (W.log wire.new) }
+    ensures hands { Passes (Hands inlet.old inlet.new) (W.log wire.old) (W.log wire.new) }
     ensures turns { shift.new.tally.turns ≡ shift.old.tally.turns }
 {
     let taken = inlet.take();

@@ -35,7 +35,7 @@ pub fn handle(
     moment: Moment,
     written: &mut Datagram,
 ) -> Result<Handled, Refusal>
-    ensures { Handles incoming.now proxy.now result (record { before = written.old; after = written.new }) }
+    ensures { Handles incoming.now moment proxy.now result (record { before = written.old; after = written.new }) }
 {
     match incoming {
         Incoming::Request(request) => {

@@ -1,9 +1,9 @@
 //! The worker of a home server.
 
-ghost use Rattle.std.specs.Prelude.{◌≡◌, ◌<◌, ◌≤◌, ◌+◌, None, false, IfSome};
+ghost use Rattle.std.specs.Prelude.{◌≡◌, ◌<◌, ◌≤◌, ◌+◌, None, false, IfSome, MatchOption};
 ghost use Rattle.std.specs.Bool.{OnTrue, OnFalse};
-ghost use Rattle.rad_desk.specs.Sends.{SendsOnly, IsDeparture, GoesHome};
-ghost use Rattle.rad_desk.specs.Sending.{SendsUpToOne};
+ghost use Rattle.rad_desk.specs.Calls.{Passes, IsQuiet};
+ghost use Rattle.rad_desk.specs.Working.{WorksForHome, IsSentHome, slot_of, IsPortOf};
 
 use crate::gate::{Call, Gate, Note, UpReason, Worker};
 use crate::hearing::Told;
@@ -37,7 +37,7 @@ pub fn lane_worker<W: Wire, G: Gate>(
     turns: u64,
 ) -> Tally
     requires { lane < proxy.now }
-    ensures sends { SendsOnly (GoesHome home.now) (W.log wire.old) (W.log wire.new) }
+    ensures works { Passes (WorksForHome lane home.now) (W.log wire.old) (W.log wire.new) }
     ensures turns { result.turns ≤ turns }
 {
     let mut shift = Shift::new(Worker::Lane(lane), gate);
@@ -86,7 +86,7 @@ fn hear<W: Wire, G: Gate>(
     octets: &mut [u8; 4096],
 ) -> bool
     requires { lane < proxy.now }
-    ensures sends { SendsOnly (GoesHome home.now) (W.log wire.old) (W.log wire.new) }
+    ensures quiet { Passes IsQuiet (W.log wire.old) (W.log wire.new) }
     ensures turns { shift.new.tally.turns ≡ shift.old.tally.turns }
 {
     let Received::Got {
@@ -128,21 +128,56 @@ fn step<W: Wire, G: Gate>(
     datagram: &mut Datagram,
 ) -> bool
     requires { lane < proxy.now }
-    ensures sends { SendsOnly (GoesHome home.now) (W.log wire.old) (W.log wire.new) }
+    ensures works { Passes (WorksForHome lane home.now) (W.log wire.old) (W.log wire.new) }
     ensures turns { shift.new.tally.turns ≡ shift.old.tally.turns }
 {
     if !shift.may(Call::Step) {
         return false;
     }
-    let action = proxy.step(rt, lane, wire.now(), wire.random(), datagram);
+    let secret = home.secret();
+    let stepped = proxy.step_for(rt, lane, secret, wire.now(), wire.random(), datagram);
     shift.made(Call::Step);
+    let Some(action) = stepped else {
+        return true;
+    };
+    let Some(port) = port_of(&action) else {
+        return follow(rt, alloc, proxy, lane, home, &action, wire, shift);
+    };
+    send_home(home, port, wire, shift, datagram);
+    true
+}
+
+/// The source port from which an action sends, where it does.
+fn port_of(action: &Action) -> Option<u16>
+    ensures { MatchOption result (slot_of action.now ≡ None) (λ port. IsPortOf action.now port) }
+{
     match action {
-        Action::Sent(_, slot) | Action::Resent(_, slot) | Action::Probed(slot) => {
-            send_home(home, slot.port, wire, shift, datagram);
-        }
+        Action::Sent(_, slot) | Action::Resent(_, slot) | Action::Probed(slot) => Some(slot.port),
+        Action::WentDown | Action::WentUp | Action::Idle(_) => None,
+    }
+}
+
+/// Does what follows an action that sends nothing: tells that the home server is marked down or up, or has the lane, which is
+/// idle, cut off what is over. It answers whether the worker goes on.
+fn follow<W: Wire, G: Gate>(
+    rt: &impl Wait,
+    alloc: Global,
+    proxy: &Proxy,
+    lane: u16,
+    home: &Home,
+    action: &Action,
+    wire: &mut W,
+    shift: &mut Shift<'_, G>,
+) -> bool
+    requires { lane < proxy.now }
+    ensures quiet { Passes IsQuiet (W.log wire.old) (W.log wire.new) }
+    ensures turns { shift.new.tally.turns ≡ shift.old.tally.turns }
+{
+    match action {
         Action::WentDown => tell_down(rt, proxy, lane, wire.now(), shift),
         Action::WentUp => tell_up(lane, UpReason::DownWaitOver, shift),
         Action::Idle(_) => return cut(rt, alloc, proxy, lane, home, wire, shift),
+        Action::Sent(..) | Action::Resent(..) | Action::Probed(_) => {}
     }
     true
 }
@@ -172,8 +207,7 @@ fn send_home<W: Wire, G: Gate>(
     shift: &mut Shift<'_, G>,
     datagram: &Datagram,
 )
-    requires { IsDeparture datagram.now }
-    ensures sends { SendsUpToOne (GoesHome home.now (W.log wire.old)) (W.log wire.old) (W.log wire.new) }
+    ensures sends { Passes (IsSentHome home.now port datagram.now) (W.log wire.old) (W.log wire.new) }
     ensures turns { shift.new.tally.turns ≡ shift.old.tally.turns }
 {
     let to = endpoint_of(home);
@@ -196,7 +230,7 @@ fn cut<W: Wire, G: Gate>(
     shift: &mut Shift<'_, G>,
 ) -> bool
     requires { lane < proxy.now }
-    ensures sends { W.log wire.new ≡ W.log wire.old }
+    ensures quiet { Passes IsQuiet (W.log wire.old) (W.log wire.new) }
     ensures turns { shift.new.tally.turns ≡ shift.old.tally.turns }
 {
     let now = wire.now();

@@ -1,16 +1,17 @@
 //! The lanes behind their locks.
 
-ghost use Rattle.std.specs.Prelude.{◌≡◌, ◌<◌, ◌≤◌, length, map as each, All, IfOk, [], Err};
+ghost use Rattle.std.specs.Prelude.{◌≡◌, ◌<◌, ◌≤◌, length, map as each, All, IfOk, IfSome, [], Err};
 ghost use Rattle.std.specs.List.{range_with_len};
 ghost use Rattle.rad_lane.specs.declared.accepting.Refusal.TheVariants.{WrongLane};
 ghost use Rattle.rad_lane.specs.Datagrams.{Datagrams};
 ghost use Rattle.rad_desk.specs.Inlet.{lane_of, taken};
-ghost use Rattle.rad_desk.specs.Departures.{Departs, Returns};
+ghost use Rattle.rad_desk.specs.Departures.{Departs, Returns, StepsFor, AcceptsLawfully, UnlessWrongLane};
 ghost use Rattle.rad_desk.specs.Lawful.{AreLawful};
 
 use crate::inlet::Inlet;
 use crate::laws::Desk;
 use crate::{DeskFault, OpenFault, Told};
+use rad_auth::Secret;
 use rad_lane::{Action, Counts, Refusal, Setup, Taken};
 use rad_packet::Datagram;
 use rad_realms::{Checked, Config};
@@ -95,6 +96,7 @@ impl Proxy {
     ) -> Result<Taken, Refusal>
         ensures lane { self.now ≤ request.now.lane → result ≡ Err WrongLane }
         ensures returns { Returns result (record { before = datagram.old; after = datagram.new }) }
+        ensures accepts { UnlessWrongLane result (AcceptsLawfully request.now moment result (record { before = datagram.old; after = datagram.new })) }
     {
         if request.lane() >= self.lanes() {
             return Err(Refusal::WrongLane);
@@ -120,6 +122,27 @@ impl Proxy {
         ensures { Departs result (record { before = datagram.old; after = datagram.new }) }
     {
         self.lock(rt, lane).step(moment, random, datagram)
+    }
+
+    /// Does the same, where the lane is of this number and its home server has this secret, and else nothing.
+    pub(crate) fn step_for(
+        &self,
+        rt: &impl Wait,
+        lane: u16,
+        secret: &Secret,
+        moment: Moment,
+        random: [u8; 16],
+        datagram: &mut Datagram,
+    ) -> Option<Action>
+        requires { lane < self.now }
+        ensures { IfSome result (λ action. StepsFor lane secret.now moment random action (record { before = datagram.old; after = datagram.new })) }
+    {
+        let mut guard = self.lock(rt, lane);
+        let desk = &mut *guard;
+        if !desk.is_of(lane, secret) {
+            return None;
+        }
+        Some(desk.step(moment, random, datagram))
     }
 
     /// Hears a datagram that came to a source port of a lane from its home server.

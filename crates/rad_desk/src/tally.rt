@@ -1,7 +1,8 @@
 //! What a worker did, and whom it tells.
 
-ghost use Rattle.std.specs.Prelude.{◌≡◌, ◌<◌, ◌+◌, ◌∷◌, ◌++◌, []};
-ghost use Rattle.rad_desk.specs.Traffic.{went, Receives};
+ghost use Rattle.std.specs.Prelude.{◌≡◌, ◌<◌, ◌+◌};
+ghost use Rattle.rad_desk.specs.Traffic.{Receives};
+ghost use Rattle.rad_desk.specs.Calls.{Passes, IsSent};
 
 use crate::gate::{Call, Gate, Go, Note, Worker};
 use crate::wire::{Delivery, Received, Wire};
@@ -100,7 +101,7 @@ impl<'a, G: Gate> Shift<'a, G> {
 
     /// Sends a datagram, and counts it. Where that fails, it is lost.
     pub(crate) fn send<W: Wire>(&mut self, wire: &mut W, socket: u16, to: Endpoint, octets: &[u8])
-        ensures sends { W.log wire.new ≡ W.log wire.old ++ went socket to.address to.port octets.now ∷ [] }
+        ensures sends { Passes (IsSent socket to octets.now) (W.log wire.old) (W.log wire.new) }
         ensures turns { self.new.tally.turns ≡ self.old.tally.turns }
     {
         self.gate.sends(self.worker, to, octets);

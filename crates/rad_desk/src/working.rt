@@ -9,9 +9,11 @@ ghost use Rattle.rad_lane.specs.Counting.{counts_of, IsDone};
 ghost use Rattle.rad_lane.specs.Lawful.{IsLawful};
 ghost use Rattle.rad_desk.specs.Outlet.{IsOutlet};
 ghost use Rattle.rad_desk.specs.Desk.{book, given, SameOutlet};
-ghost use Rattle.rad_desk.specs.Departures.{Departs, Returns};
+ghost use Rattle.rad_desk.specs.Departures.{Departs, Returns, AcceptsLawfully};
+ghost use Rattle.rad_lane.specs.Setup.{IsOf};
 
 use crate::laws::Desk;
+use rad_auth::Secret;
 use rad_lane::{Action, Counts, Refusal, Taken};
 use rad_packet::Datagram;
 use rad_realms::Checked;
@@ -24,6 +26,13 @@ impl Desk {
         ensures { IsTrue result ↔ IsTaken (book self.now) request.now }
     {
         self.lane.takes(request)
+    }
+
+    /// Whether it is the lane of this number, and its home server has this secret.
+    pub(crate) fn is_of(&self, number: u16, secret: &Secret) -> bool
+        ensures { IsTrue result ↔ IsOf (book self.now).setup number secret.now }
+    {
+        self.lane.is_of(number, secret)
     }
 
     /// Takes a request that is the lane's, as the lane does.
@@ -42,9 +51,12 @@ impl Desk {
         ensures accepts { Accepts (book self.old) request.now moment result (record { before = datagram.old; after = datagram.new }) (book self.new) }
         ensures outlet { SameOutlet self.old self.new }
         ensures returns { Returns result (record { before = datagram.old; after = datagram.new }) }
+        ensures lawful { AcceptsLawfully request.now moment result (record { before = datagram.old; after = datagram.new }) }
     {
         self.keep_law();
-        self.lane.accept(alloc, request, moment, datagram)
+        let taken = self.lane.accept(alloc, request, moment, datagram);
+        let _ = self.lane.accepted();
+        taken
     }
 
     /// Does what the lane does by itself at this moment, one thing. The octets are a probe's Authenticator.
@@ -53,9 +65,12 @@ impl Desk {
         ensures outlet { SameOutlet self.old self.new }
         ensures departs { Departs result (record { before = datagram.old; after = datagram.new }) }
         ensures another { AllotsAnother (book self.old) result }
+        ensures lawful { IsLawful (book self.old) × IsLawful (book self.new) }
     {
         self.keep_law();
-        self.lane.step(moment, random, datagram)
+        let action = self.lane.step(moment, random, datagram);
+        let _ = self.lane.accepted();
+        action
     }
 
     /// Takes no request from now on. It answers how many had been accepted since the first when it was drained; a

@@ -38,6 +38,11 @@ pub record IsSetUp (config : Configuration) (lane : ℕ) (setup : LaneSetup) : T
     is_default = is_lane lane config.default_lane;
   }
 
+-- The lane has this number, and its home server this secret.
+pub record IsOf (setup : LaneSetup) (lane : ℕ) (secret : List ℕ) : Type 0 where
+  pub number : setup.lane ≡ lane
+  pub home : setup.home_secret ≡ secret
+
 -- Requests of this realm, or of none, are the lane's. An empty realm leads nowhere.
 abbrev pub LeadsHere : LaneSetup → Option (List ℕ) → Type 0
 LeadsHere setup None = IsTrue setup.is_default

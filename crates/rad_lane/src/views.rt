@@ -5,11 +5,20 @@ ghost use Rattle.std.specs.Option.{option_copied};
 ghost use Rattle.rad_lane.specs.Counting.{counts_of, IsDone};
 ghost use Rattle.rad_lane.specs.Dues.{NoneSpent, IsFirstSpent};
 ghost use Rattle.rad_lane.specs.Lawful.{IsLawful};
+ghost use Rattle.rad_lane.specs.Setup.{IsOf};
 
 use crate::{Answered, Counts, Entry, Lane, Record, Sending, Stamp, Watch};
 use block_queue::Fifo;
+use rad_auth::Secret;
 
 impl<Q: Fifo<Record>> Lane<Q> {
+    /// Whether it is the lane of this number, and its home server has this secret. It compares the secrets' octets.
+    pub fn is_of(&self, number: u16, secret: &Secret) -> bool
+        ensures { IsTrue result ↔ IsOf self.now.setup number secret.now }
+    {
+        self.setup.lane() == number && self.setup.home().octets() == secret.octets()
+    }
+
     /// Whether it is drained.
     pub fn is_draining(&self) -> bool
         ensures { IsTrue result ↔ IsSome self.now.drain }

@@ -17,7 +17,7 @@ use Rattle.rad_replay.specs.declared.path.PathFault.TheVariants.{Dropped, Refuse
 pub record IsHandled (config : Configuration) (arrival : Arrival) (lanes : ℕ) (outcome : Result Handled Refusal) (d : Datagrams) : Type 0 where
   pub incoming : Incoming
   pub taken : Takes config arrival.address arrival.port arrival.octets.now incoming
-  pub handled : Handles incoming lanes outcome d
+  pub handled : Handles incoming arrival.moment lanes outcome d
 
 -- What becomes of a NAS's datagram.
 abbrev pub TakesIn : Configuration → Arrival → ℕ → Result Handled PathFault → Datagrams → Type 0

@@ -81,7 +81,13 @@ where
     W: Wire + Send + Drop + 's,
     G: Gate + Sync + 's,
 {
-    match scope.spawn(move || service.work_in_front(inlets, wire)) {
+    let worker = scope.spawn(move || {
+        let mut inlets = inlets;
+        let mut wire = wire;
+        service.work_in_front(inlets.as_mut_slice(), &mut wire);
+        inlets
+    });
+    match worker {
         Ok(worker) => Ok(worker),
         Err(_) => Err(ServeFault::Threads),
     }
@@ -122,6 +128,9 @@ where
         return false;
     };
     scope
-        .spawn(move || service.work_on_lane(lane, wire))
+        .spawn(move || {
+            let mut wire = wire;
+            service.work_on_lane(lane, &mut wire);
+        })
         .is_ok()
 }

@@ -1,5 +1,7 @@
 //! The sockets of a worker as the wire that it works over.
 
+ghost use Rattle.std.specs.Prelude.{Some};
+
 use crate::local_addresses::LocalAddresses;
 use crate::notifying::Notifier;
 use crate::worker_sockets::WorkerSockets;
@@ -55,13 +57,14 @@ impl<'a, R, G, A> UdpWire<'a, R, G, A> {
 }
 
 impl<R: Clock, G: Gate, A: LocalAddresses> Wire for UdpWire<'_, R, G, A> {
-    ghost log = { λ w. w.traffic.passed };
+    ghost log = { λ w. Some w.traffic.passed };
 
     fn now(&mut self) -> Moment {
         if let Ok(passed) = self.start.elapsed(self.clock) {
             let milliseconds = u64::try_from(passed.as_millis()).unwrap_or(u64::MAX);
             self.moment = Moment::new(milliseconds).unwrap_or(self.moment);
         }
+        self.traffic.told(self.moment);
         self.moment
     }
 
@@ -69,6 +72,7 @@ impl<R: Clock, G: Gate, A: LocalAddresses> Wire for UdpWire<'_, R, G, A> {
         let mut octets = [0; 16];
         octets[..8].copy_from_slice(&self.random.next_u64().to_be_bytes());
         octets[8..].copy_from_slice(&self.random.next_u64().to_be_bytes());
+        self.traffic.drew(&octets);
         octets
     }
 
@@ -80,7 +84,8 @@ impl<R: Clock, G: Gate, A: LocalAddresses> Wire for UdpWire<'_, R, G, A> {
                 socket,
                 count,
             } => {
-                self.traffic.came(socket, address, port, &datagram[..count]);
+                self.traffic
+                    .arrived(socket, address, port, &datagram[..count]);
                 Received::Got {
                     address,
                     port,
@@ -94,8 +99,11 @@ impl<R: Clock, G: Gate, A: LocalAddresses> Wire for UdpWire<'_, R, G, A> {
     }
 
     fn send(&mut self, socket: u16, address: [u8; 4], port: u16, octets: &[u8]) -> Delivery {
-        self.traffic.went(socket, address, port, octets);
-        self.sockets
-            .send(socket, Endpoint { address, port }, octets)
+        let delivery = self
+            .sockets
+            .send(socket, Endpoint { address, port }, octets);
+        self.traffic
+            .departed(socket, address, port, octets, delivery);
+        delivery
     }
 }

@@ -1,5 +1,9 @@
 //! What each worker does in its thread.
 
+ghost use Rattle.rad_desk.specs.Calls.{Passes};
+ghost use Rattle.rad_desk.specs.Once.{WorksInFront};
+ghost use Rattle.rad_desk.specs.Working.{WorksForHome, WorksOnLane};
+
 use crate::supervising::Supervisor;
 use rad_desk::{Gate, Inlet, Proxy, Wire, Worker, front_worker, lane_worker};
 use rad_realms::{Config, Home};
@@ -24,38 +28,39 @@ impl<R, G> Clone for Service<'_, R, G> {
 impl<R, G> Copy for Service<'_, R, G> {}
 
 impl<R: Wait, G: Gate> Service<'_, R, G> {
-    /// Works for the clients until the worker is stopped, and gives back the inlets.
-    pub(crate) fn work_in_front<W: Wire + Drop>(
-        self,
-        mut inlets: Vec<Inlet>,
-        mut wire: W,
-    ) -> Vec<Inlet> {
+    /// Works for the clients until the worker is stopped.
+    pub(crate) fn work_in_front<W: Wire>(self, inlets: &mut [Inlet], wire: &mut W)
+        ensures { Passes (WorksInFront self.entry.config.now inlets.old inlets.new) (W.log wire.old) (W.log wire.new) }
+    {
         self.supervisor.begin(self.rt);
         let _ = front_worker(
             self.rt,
             self.alloc,
             self.proxy,
             self.config,
-            inlets.as_mut_slice(),
-            &mut wire,
+            inlets,
+            wire,
             self.supervisor,
             u64::MAX,
         );
         self.supervisor.end(Worker::Front);
-        inlets
     }
 
     /// Works for a lane until the worker is stopped.
-    pub(crate) fn work_on_lane<W: Wire + Drop>(self, lane: u16, mut wire: W) {
+    pub(crate) fn work_on_lane<W: Wire>(self, lane: u16, wire: &mut W)
+        ensures { Passes (WorksOnLane self.entry.config.now lane) (W.log wire.old) (W.log wire.new) }
+    {
         self.supervisor.begin(self.rt);
         if let Some(home) = self.config.homes().get(usize::from(lane)) {
-            self.work_for(lane, home, &mut wire);
+            self.work_for(lane, home, wire);
         }
         self.supervisor.end(Worker::Lane(lane));
     }
 
     /// Works for a lane and its home server, where there is such a lane.
-    fn work_for<W: Wire>(self, lane: u16, home: &Home, wire: &mut W) {
+    fn work_for<W: Wire>(self, lane: u16, home: &Home, wire: &mut W)
+        ensures { Passes (WorksForHome lane home.now) (W.log wire.old) (W.log wire.new) }
+    {
         let Self {
             rt,
             alloc,

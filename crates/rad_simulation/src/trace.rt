@@ -1,11 +1,8 @@
 //! The gate and the wire of a worker in the simulation: both put down what they are asked and told, in one list.
 
-ghost use Rattle.std.specs.Prelude.{◌≡◌, [], ◌∷◌, ◌++◌};
-ghost use Rattle.rad_desk.specs.Traffic.{Passage, went, Receives};
-
 use crate::chance::Chance;
 use crate::events::{Came, DownBy, Event, Gone, Mail, Telling};
-use rad_desk::{Call, Delivery, Gate, Go, Note, Received, Spent, Traffic, UpReason, Wire, Worker};
+use rad_desk::{Call, Delivery, Gate, Go, Note, Received, Spent, UpReason, Wire, Worker};
 use rad_realms::Endpoint;
 use rad_tables::Moment;
 use std::alloc::Global;
@@ -184,7 +181,6 @@ pub struct TraceWire<'a> {
     chance: Chance,
     /// One send in so many fails.
     sends_a_fault: u64,
-    traffic: Traffic,
 }
 
 impl<'a> TraceWire<'a> {
@@ -204,7 +200,6 @@ impl<'a> TraceWire<'a> {
             lag,
             chance,
             sends_a_fault,
-            traffic: Traffic::new(),
         }
     }
 
@@ -215,9 +210,7 @@ impl<'a> TraceWire<'a> {
     }
 
     /// What comes next.
-    fn arrive(&mut self) -> Came
-        ensures { self.new.traffic ≡ self.old.traffic }
-    {
+    fn arrive(&mut self) -> Came {
         match self.arrivals.pop() {
             Some(arrival) => {
                 self.clock = self.clock.saturating_add(arrival.wait);
@@ -228,9 +221,7 @@ impl<'a> TraceWire<'a> {
     }
 
     /// Whether a send fails.
-    fn fails(&mut self) -> bool
-        ensures { self.new.traffic ≡ self.old.traffic }
-    {
+    fn fails(&mut self) -> bool {
         self.sends_a_fault != 0 && self.chance.is_one_in(self.sends_a_fault)
     }
 
@@ -253,8 +244,6 @@ fn moment_of(milliseconds: u64) -> Moment {
 }
 
 impl<'a> Wire for TraceWire<'a> {
-    ghost log = { λ w. w.traffic.passed };
-
     fn now(&mut self) -> Moment {
         moment_of(self.moment())
     }
@@ -276,7 +265,6 @@ impl<'a> Wire for TraceWire<'a> {
                 let Endpoint { address, port } = from;
                 let count = octets.len().min(4096);
                 datagram[..count].copy_from_slice(&octets.as_slice()[..count]);
-                self.traffic.came(socket, address, port, &datagram[..count]);
                 self.add_received(Came::Datagram(Mail {
                     from,
                     socket,
@@ -301,7 +289,6 @@ impl<'a> Wire for TraceWire<'a> {
     }
 
     fn send(&mut self, socket: u16, address: [u8; 4], port: u16, octets: &[u8]) -> Delivery {
-        self.traffic.went(socket, address, port, octets);
         let is_handed_over = !self.fails();
         if let Some(copy) = self.trace.copy(octets) {
             self.trace.add(Event::Went(Gone {

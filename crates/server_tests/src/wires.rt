@@ -1,5 +1,7 @@
 //! Wires in memory.
 
+ghost use Rattle.std.specs.Prelude.{Some};
+
 use rad_console::EndLine;
 use rad_desk::{Delivery, Gate, Received, Traffic, Wire};
 use rad_realms::{Endpoint, read_config};
@@ -56,14 +58,18 @@ pub struct Scripted<'a, R> {
 }
 
 impl<R: Clock> Wire for Scripted<'_, R> {
-    ghost log = { λ w. w.traffic.passed };
+    ghost log = { λ w. Some w.traffic.passed };
 
     fn now(&mut self) -> Moment {
-        Moment::new(0).unwrap()
+        let moment = Moment::new(0).unwrap();
+        self.traffic.told(moment);
+        moment
     }
 
     fn random(&mut self) -> [u8; 16] {
-        [0x5a; 16]
+        let octets = [0x5a; 16];
+        self.traffic.drew(&octets);
+        octets
     }
 
     fn receive(&mut self, datagram: &mut [u8; 4096]) -> Received {
@@ -79,7 +85,7 @@ impl<R: Clock> Wire for Scripted<'_, R> {
         let count = given.len().min(4096);
         datagram[..count].copy_from_slice(&given[..count]);
         let Endpoint { address, port } = self.from;
-        self.traffic.came(0, address, port, &datagram[..count]);
+        self.traffic.arrived(0, address, port, &datagram[..count]);
         Received::Got {
             address,
             port,
@@ -89,8 +95,9 @@ impl<R: Clock> Wire for Scripted<'_, R> {
     }
 
     fn send(&mut self, socket: u16, address: [u8; 4], port: u16, octets: &[u8]) -> Delivery {
-        self.traffic.went(socket, address, port, octets);
         self.sent.fetch_add(1, Ordering::SeqCst);
+        self.traffic
+            .departed(socket, address, port, octets, Delivery::Sent);
         Delivery::Sent
     }
 }

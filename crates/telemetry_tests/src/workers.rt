@@ -1,5 +1,7 @@
 //! What no clause says of the gate beside the workers: that the lines of a drop tell of its datagram.
 
+ghost use Rattle.std.specs.Prelude.{Some};
+
 use crate::comparing::holds;
 use crate::packets::SHORT;
 use crate::shared::{MemoryLog, NAS, Setup};
@@ -44,14 +46,18 @@ struct Scripted<'a> {
 }
 
 impl Wire for Scripted<'_> {
-    ghost log = { λ w. w.traffic.passed };
+    ghost log = { λ w. Some w.traffic.passed };
 
     fn now(&mut self) -> Moment {
-        Moment::new(0).unwrap()
+        let moment = Moment::new(0).unwrap();
+        self.traffic.told(moment);
+        moment
     }
 
     fn random(&mut self) -> [u8; 16] {
-        [0x5a; 16]
+        let octets = [0x5a; 16];
+        self.traffic.drew(&octets);
+        octets
     }
 
     fn receive(&mut self, datagram: &mut [u8; 4096]) -> Received {
@@ -63,7 +69,7 @@ impl Wire for Scripted<'_> {
         let count = given.len().min(4096);
         datagram[..count].copy_from_slice(&given[..count]);
         let Endpoint { address, port } = NAS;
-        self.traffic.came(0, address, port, &datagram[..count]);
+        self.traffic.arrived(0, address, port, &datagram[..count]);
         Received::Got {
             address,
             port,
@@ -73,7 +79,8 @@ impl Wire for Scripted<'_> {
     }
 
     fn send(&mut self, socket: u16, address: [u8; 4], port: u16, octets: &[u8]) -> Delivery {
-        self.traffic.went(socket, address, port, octets);
+        self.traffic
+            .departed(socket, address, port, octets, Delivery::Sent);
         Delivery::Sent
     }
 }

@@ -1,7 +1,6 @@
 //! A wire in memory, for workers that take their turns in a test.
 
-ghost use Rattle.std.specs.Prelude.{◌≡◌, [], ◌∷◌, ◌++◌};
-ghost use Rattle.rad_desk.specs.Traffic.{Passage, went, Receives};
+ghost use Rattle.std.specs.Prelude.{◌≡◌, Some};
 
 use super::test_desk::{RANDOM, at};
 use rad_desk::{Delivery, Received, Traffic, Wire};
@@ -99,14 +98,17 @@ impl MemoryWire {
 }
 
 impl Wire for MemoryWire {
-    ghost log = { λ w. w.traffic.passed };
+    ghost log = { λ w. Some w.traffic.passed };
 
     /// A tick after the receive before.
     fn now(&mut self) -> Moment {
-        at(self.receives.saturating_sub(1).saturating_mul(self.tick))
+        let moment = at(self.receives.saturating_sub(1).saturating_mul(self.tick));
+        self.traffic.told(moment);
+        moment
     }
 
     fn random(&mut self) -> [u8; 16] {
+        self.traffic.drew(&RANDOM);
         RANDOM
     }
 
@@ -121,7 +123,7 @@ impl Wire for MemoryWire {
         let Endpoint { address, port } = from;
         let count = octets.len().min(4096);
         datagram[..count].copy_from_slice(&octets.as_slice()[..count]);
-        self.traffic.came(0, address, port, &datagram[..count]);
+        self.traffic.arrived(0, address, port, &datagram[..count]);
         Received::Got {
             address,
             port,
@@ -131,14 +133,16 @@ impl Wire for MemoryWire {
     }
 
     fn send(&mut self, socket: u16, address: [u8; 4], port: u16, octets: &[u8]) -> Delivery {
-        self.traffic.went(socket, address, port, octets);
         if let Ok(copy) = octets.to_vec(self.alloc) {
             self.gone = Some((Endpoint { address, port }, copy));
         }
-        if self.fails() {
+        let delivery = if self.fails() {
             Delivery::Fault
         } else {
             Delivery::Sent
-        }
+        };
+        self.traffic
+            .departed(socket, address, port, octets, delivery);
+        delivery
     }
 }

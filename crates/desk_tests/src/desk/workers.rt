@@ -13,8 +13,12 @@ use std::alloc::Global;
 use std::process::Abort;
 use std::sync::Wait;
 use std::test::Fail;
-use test_octets::homes::{FORWARDED, REPLY, SECOND_FORWARDED, SECOND_PROBE, SECOND_PROBE_ANSWER};
-use test_octets::nas::{OTHER_REQUEST, REQUEST, RESPONSE, SECOND_REQUEST, STATUS, STATUS_ANSWER};
+use test_octets::homes::{
+    FORWARDED, REPLY, SECOND_FORWARDED, SECOND_PROBE, SECOND_PROBE_ANSWER, SECOND_REPLY,
+};
+use test_octets::nas::{
+    OTHER_REQUEST, REQUEST, RESPONSE, SECOND_REQUEST, SECOND_RESPONSE, STATUS, STATUS_ANSWER,
+};
 
 #[test]
 fn each_worker_does_its_part(rt: HostRuntime) -> Result<(), Fail> {
@@ -27,6 +31,32 @@ fn each_worker_does_its_part(rt: HostRuntime) -> Result<(), Fail> {
         lane(&[], [0, 0, 0], None, &[]),
     ];
     play(&rt, rt.alloc(), "", &turns)
+}
+
+#[test]
+fn the_front_holds_no_response_back(rt: HostRuntime) -> Result<(), Fail> {
+    let mut works = Works::new(rt.alloc(), "")?;
+    works.lane.tick = 1;
+    answer_both(&rt, &mut works);
+    assert_eq!(rt; works.front(&rt, 1), tally(1, [0, 1, 0]));
+    assert!(rt; works.front.sent(CLIENT, &RESPONSE));
+    assert_eq!(rt; works.front(&rt, 3), tally(3, [0, 1, 0]));
+    assert!(rt; works.front.sent(CLIENT, &SECOND_RESPONSE));
+    works.end();
+    Ok(())
+}
+
+/// Both requests are taken, and both are answered.
+fn answer_both<R: Wait + Abort>(rt: &R, works: &mut Works) {
+    let turns = [
+        front(&REQUEST, [1, 0, 0], accepted(0), &[]),
+        lane(&[], [0, 1, 0], None, &FORWARDED),
+        front(&SECOND_REQUEST, [1, 0, 0], accepted(1), &[]),
+        lane(&[], [0, 1, 0], None, &SECOND_FORWARDED),
+        lane(&REPLY, [1, 0, 0], answered(0), &[]),
+        lane(&SECOND_REPLY, [1, 0, 0], answered(1), &[]),
+    ];
+    works.play(rt, &turns);
 }
 
 #[test]

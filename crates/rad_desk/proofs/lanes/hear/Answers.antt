@@ -1,12 +1,30 @@
-use Rattle.std.proofs.Common.{◌∙◌}
-use Rattle.rad_desk.proofs.Sends.{sends_came}
+use Rattle.std.proofs.Common.{take}
+use Rattle.rad_desk.specs.Traffic.{arrived, told, endpoint}
+use Rattle.rad_desk.specs.Calls.{IsQuiet}
+use Rattle.rad_desk.proofs.CallsJoined.{passes_one, passes_after}
 use Rattle.rad_desk.proofs.lanes.hear.Goals as goal
 
-pub returns-in-Ok-Answer-clause-sends : goal.returns-in-Ok-Answer-clause-sends
-returns-in-Ok-Answer-clause-sends g c = sends_came _ _ _ _ _ _ _ (c.now.ensures ∙ c.in-Got.ensures.receives.1)
+pub returns-then-ne-clause-quiet : goal.returns-then-ne-clause-quiet
+returns-then-ne-clause-quiet g c =
+    let event = arrived c.in-Got.socket (endpoint c.in-Got.address c.in-Got.port) (take c.in-Got.count c.receive.new.datagram) in
+    passes_one IsQuiet event _ _ tt c.in-Got.ensures.receives.1
 
-pub returns-in-Ok-ProbeAnswered-clause-sends : goal.returns-in-Ok-ProbeAnswered-clause-sends
-returns-in-Ok-ProbeAnswered-clause-sends g c = sends_came _ _ _ _ _ _ _ (c.now.ensures ∙ c.in-Got.ensures.receives.1)
+pub returns-then-not-may-clause-quiet : goal.returns-then-not-may-clause-quiet
+returns-then-not-may-clause-quiet g c =
+    let event = arrived c.in-Got.socket (endpoint c.in-Got.address c.in-Got.port) (take c.in-Got.count c.receive.new.datagram) in
+    passes_one IsQuiet event _ _ tt c.in-Got.ensures.receives.1
 
-pub returns-in-Err-clause-sends : goal.returns-in-Err-clause-sends
-returns-in-Err-clause-sends g c = sends_came _ _ _ _ _ _ _ (c.now.ensures ∙ c.in-Got.ensures.receives.1)
+pub returns-in-Ok-Answer-clause-quiet : goal.returns-in-Ok-Answer-clause-quiet
+returns-in-Ok-Answer-clause-quiet g c =
+    let event = arrived c.in-Got.socket (endpoint c.in-Got.address c.in-Got.port) (take c.in-Got.count c.receive.new.datagram) in
+    passes_after IsQuiet IsQuiet event (λ later none. none) _ _ _ c.in-Got.ensures.receives.1 (passes_one IsQuiet (told c.now.result) _ _ tt c.now.ensures)
+
+pub returns-in-Ok-ProbeAnswered-clause-quiet : goal.returns-in-Ok-ProbeAnswered-clause-quiet
+returns-in-Ok-ProbeAnswered-clause-quiet g c =
+    let event = arrived c.in-Got.socket (endpoint c.in-Got.address c.in-Got.port) (take c.in-Got.count c.receive.new.datagram) in
+    passes_after IsQuiet IsQuiet event (λ later none. none) _ _ _ c.in-Got.ensures.receives.1 (passes_one IsQuiet (told c.now.result) _ _ tt c.now.ensures)
+
+pub returns-in-Err-clause-quiet : goal.returns-in-Err-clause-quiet
+returns-in-Err-clause-quiet g c =
+    let event = arrived c.in-Got.socket (endpoint c.in-Got.address c.in-Got.port) (take c.in-Got.count c.receive.new.datagram) in
+    passes_after IsQuiet IsQuiet event (λ later none. none) _ _ _ c.in-Got.ensures.receives.1 (passes_one IsQuiet (told c.now.result) _ _ tt c.now.ensures)

@@ -1,4 +1,4 @@
--- It takes no octets, and the list is the earlier one with the datagram behind it.
+-- It takes no octets, and the list is the earlier one with the event behind it.
 use mathlib.Core.Path.{refl}
 use mathlib.Core.List.{[], ◌∷◌, ◌++◌}
 use seplogic.Ra.Ura.{Ura}
@@ -30,7 +30,7 @@ use denote.Triple.Table.{entered}
 use denote.Triple.Walked.{says, stay_none_ref, stay_none_slice, Stays, walk_of, ends_at, walked, Goes-none_ref, Goes-none_slice, walk_Meets}
 use Rattle.std.proofs.Common.{◌<◌, ◌^◌, length}
 use Rattle.rad_desk.specs.declared.wire.Traffic.{Traffic}
-use Rattle.rad_desk.specs.Traffic.{passage}
+use Rattle.rad_desk.specs.Traffic.{event}
 use Rattle.rad_desk.specs.contracts.wire.Traffic.with.Key.{name as key}
 use Rattle.rad_desk.specs.contracts.wire.Traffic.with as made
 use Rattle.rad_desk.specs.contracts.wire.Traffic as traffic
@@ -61,7 +61,7 @@ module _ {M : Type 1} {𝓤 : Ura M} (𝓛 : Logic 𝓤) (mem : Memory → SProp
     octets = slice_val a.1.1.0.ref_ptr (length a.1.1.0.now)
 
     abbrev more : Traffic
-    more = record { passed = a.0.now.passed ++ passage a.1.0.now a.1.1.0.now ∷ [] }
+    more = record { passed = a.0.now.passed ++ event a.1.0.now a.1.1.0.now ∷ [] }
 
     abbrev bound : (walk_of 𝓛 made.ended stayed (made.clauses 𝓛 mem run)).Ghost
     bound = ((κs, qs, tt, a, (before ∷ [], (ends ∷ [], (octets ∷ [], tt)))), tt)

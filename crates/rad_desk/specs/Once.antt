@@ -1,0 +1,130 @@
+-- What the front does (own), as its wire sees it: one part after the other, each of which sends nothing, or answers the
+-- datagram that came right before it, or sends what an inlet gave. What each inlet gave is sent once, in order.
+use Rattle.std.specs.Prelude.{◌≡◌, ◌+◌, ◌<◌, ◌==◌, ⊤, ℕ, List, [], ◌∷◌, ◌++◌, ◌⊎◌, length, All, cond, Ok}
+use Rattle.std.specs.List.{flat_map}
+use Rattle.rad_packet.specs.Packet.{identifier_of, authenticator_of}
+use Rattle.rad_auth.specs.Authenticator.{accounting_response, IsRightResponse}
+use Rattle.rad_realms.specs.declared.reading.address.Endpoint.{Endpoint}
+use Rattle.rad_realms.specs.declared.checking.Incoming.{Incoming}
+use Rattle.rad_realms.specs.declared.checking.Incoming.TheVariants as incoming
+use Rattle.rad_realms.specs.Checking.{Request as Checked}
+use Rattle.rad_realms.specs.Configuration.{Configuration}
+use Rattle.rad_realms.specs.Incoming.{Takes}
+use Rattle.rad_lane.specs.declared.outgoing.Outgoing.{Outgoing}
+use Rattle.rad_lane.specs.declared.accepting.Taken.TheVariants.{Again}
+use Rattle.rad_desk.specs.declared.inlet.Inlet.{Inlet}
+use Rattle.rad_desk.specs.declared.wire.Delivery.{Delivery}
+use Rattle.rad_desk.specs.Departures.{AcceptsLawfully, IsVerifiedResponse}
+use Rattle.rad_desk.specs.Inlet.{taken, SameInlet}
+use Rattle.rad_desk.specs.Traffic.{Event, arrived, departed, told, endpoint}
+use Rattle.rad_desk.specs.Calls.{IsQuiet}
+
+-- The octets answer a request once more (RFC 2866 section 4.2): a lawful book, asked for this very request at this moment, gave
+-- them as the answer to its repeat. They are a response after a verified reply, have the request's Identifier, and are right for
+-- its Authenticator, under the client's secret.
+pub record AnswersAgain (request : Checked) (moment : ℕ) (octets : List ℕ) : Type 0 where
+  pub number : ℕ
+  pub before : List ℕ
+  pub accepts : AcceptsLawfully request moment (Ok (Again number)) (record { before = before; after = octets })
+  pub verified : IsVerifiedResponse octets
+  pub identifier : identifier_of octets ≡ identifier_of request.text
+  pub right : IsRightResponse request.secret (authenticator_of request.text) octets
+
+-- They answer a datagram that was taken at this moment: a request that is answered once more, or a Status-Server (RFC 5997
+-- section 4.2).
+abbrev pub IsAnswerTo : Incoming → ℕ → List ℕ → Type 0
+IsAnswerTo (incoming.Request r) moment octets = AnswersAgain r moment octets
+IsAnswerTo (incoming.Status s) moment octets = octets ≡ accounting_response (identifier_of s.text) (authenticator_of s.text) [] s.secret
+
+-- A packet has the Identifier of the request that it answers, and is right for that under the client's secret.
+abbrev pub Fits : Incoming → List ℕ → Type 0
+Fits (incoming.Request r) octets =
+    (identifier_of octets ≡ identifier_of r.text) × IsRightResponse r.secret (authenticator_of r.text) octets
+Fits (incoming.Status s) octets = ⊤
+
+-- A datagram from there is a right one of a client of this configuration, and the octets answer it.
+pub record AnswersWhatCame (config : Configuration) (from : Endpoint) (question : List ℕ) (moment : ℕ) (octets : List ℕ) : Type 0 where
+  pub incoming : Incoming
+  pub right : Takes config from.address from.port question incoming
+  pub answers : IsAnswerTo incoming moment octets
+
+-- A part of the work: one in which these events passed and nothing was sent; one in which a datagram came to a socket, from
+-- there, the wire told a moment, and these octets went back; or one in which the response went that the inlet at a place gave.
+pub data Part : Type 0 where
+  quiet : List Event → Part
+  back : ℕ → Endpoint → List ℕ → ℕ → List ℕ → Delivery → Part
+  given : ℕ → Outgoing → Delivery → Part
+
+-- An answer goes back from the socket that its question came to, to where that came from. A response goes from the first socket,
+-- to its client and port.
+abbrev pub events_of : Part → List Event
+events_of (quiet events) = events
+events_of (back socket from question moment octets delivery) =
+    arrived socket from question ∷ told moment ∷ departed socket from octets delivery ∷ []
+events_of (given place outgoing delivery) =
+    departed 0 (endpoint outgoing.client outgoing.port) outgoing.reply.response delivery ∷ []
+
+-- What a turn takes in: nothing is sent, or an answer goes back.
+pub record GoesBack (config : Configuration) (events : List Event) : Type 0 where
+  pub socket : ℕ
+  pub from : Endpoint
+  pub question : List ℕ
+  pub moment : ℕ
+  pub octets : List ℕ
+  pub delivery : Delivery
+  pub is : events ≡ events_of (back socket from question moment octets delivery)
+  pub answers : AnswersWhatCame config from question moment octets
+
+abbrev pub SendsBack : Configuration → List Event → Type 0
+SendsBack config events = IsQuiet events ⊎ GoesBack config events
+
+-- What serving a datagram does that came to a socket, from there: nothing is sent, or the wire tells the moment, and what then
+-- answers it goes back.
+pub record AnswerGoes (socket : ℕ) (from : Endpoint) (asked : Incoming) (events : List Event) : Type 0 where
+  pub moment : ℕ
+  pub octets : List ℕ
+  pub delivery : Delivery
+  pub is : events ≡ told moment ∷ departed socket from octets delivery ∷ []
+  pub answers : IsAnswerTo asked moment octets
+
+abbrev pub SendsAnAnswer : ℕ → Endpoint → Incoming → List Event → Type 0
+SendsAnAnswer socket from asked events = IsQuiet events ⊎ AnswerGoes socket from asked events
+
+-- What a look at an inlet does: it gives nothing and nothing passes, or its response goes out.
+pub record HandsOne (old new : Inlet) (events : List Event) : Type 0 where
+  pub outgoing : Outgoing
+  pub delivery : Delivery
+  pub took : taken new ≡ taken old ++ outgoing ∷ []
+  pub is : events ≡ events_of (given 0 outgoing delivery)
+
+abbrev pub Hands : Inlet → Inlet → List Event → Type 0
+Hands old new events = SameInlet old new × (((taken new ≡ taken old) × (events ≡ [])) ⊎ HandsOne old new events)
+
+-- Of so many inlets one gave it.
+abbrev pub IsRight : Configuration → ℕ → Part → Type 0
+IsRight config inlets (quiet events) = IsQuiet events
+IsRight config inlets (back socket from question moment octets delivery) = AnswersWhatCame config from question moment octets
+IsRight config inlets (given place outgoing delivery) = place < inlets
+
+-- The responses that the inlet at a place gave, in order.
+abbrev pub given_in : ℕ → Part → List Outgoing
+given_in place (quiet events) = []
+given_in place (back socket from question moment octets delivery) = []
+given_in place (given other outgoing delivery) = cond (other == place) (outgoing ∷ []) []
+
+abbrev pub given_by : ℕ → List Part → List Outgoing
+given_by place parts = flat_map (given_in place) parts
+
+-- Each inlet, from this place on, is that of the same ring and lane, and took what it gave, each once, in order.
+abbrev pub EachGave : List Part → ℕ → List Inlet → List Inlet → Type 0
+EachGave parts place [] [] = ⊤
+EachGave parts place (a ∷ then) (b ∷ now) =
+    SameInlet a b × (taken b ≡ taken a ++ given_by place parts) × EachGave parts (place + 1) then now
+EachGave parts place [] (b ∷ now) = ⊥
+EachGave parts place (a ∷ then) [] = ⊥
+
+pub record WorksInFront (config : Configuration) (old new : List Inlet) (events : List Event) : Type 0 where
+  pub parts : List Part
+  pub passed : events ≡ flat_map events_of parts
+  pub right : All (IsRight config (length old)) parts
+  pub gave : EachGave parts 0 old new
