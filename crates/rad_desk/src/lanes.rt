@@ -199,7 +199,7 @@ fn tell_up<G: Gate>(lane: u16, reason: UpReason, shift: &Shift<'_, G>) {
 }
 
 /// Sends a datagram to the home server, from the socket of a source port. One of a port that the home server does not
-/// have, as where it is another lane's, is lost.
+/// have, as where it is another lane's, is not sent.
 fn send_home<W: Wire, G: Gate>(
     home: &Home,
     port: u16,
@@ -210,11 +210,8 @@ fn send_home<W: Wire, G: Gate>(
     ensures sends { Passes (IsSentHome home.now port datagram.now) (W.log wire.old) (W.log wire.new) }
     ensures turns { shift.new.tally.turns ≡ shift.old.tally.turns }
 {
-    let to = endpoint_of(home);
     if u32::from(port) < home.limits().numbers().ports {
-        shift.send(wire, port, to, datagram.bytes());
-    } else {
-        shift.lose();
+        shift.send(wire, port, endpoint_of(home), datagram.bytes());
     }
 }
 
