@@ -210,8 +210,9 @@ fn send_home<W: Wire, G: Gate>(
     ensures sends { Passes (IsSentHome home.now port datagram.now) (W.log wire.old) (W.log wire.new) }
     ensures turns { shift.new.tally.turns ≡ shift.old.tally.turns }
 {
+    let to = endpoint_of(home);
     if u32::from(port) < home.limits().numbers().ports {
-        shift.send(wire, port, endpoint_of(home), datagram.bytes());
+        shift.send(wire, port, to, datagram.bytes());
     }
 }
 
