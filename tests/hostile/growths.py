@@ -20,7 +20,6 @@ failed`.
 import os
 import pathlib
 import signal
-import socket
 import subprocess
 import sys
 import tempfile
@@ -31,6 +30,8 @@ from typing import Callable
 sys.dont_write_bytecode = True
 
 from model import answers, rows
+from trying import conclude
+from waiting import free_port
 
 HERE = pathlib.Path(__file__).resolve().parent
 QUIET = "refusals/what-takes-no-memory"
@@ -158,9 +159,7 @@ def subjects(program, folder):
         script = rows.Row(name).streams["<"]
         quiet = answers(script.decode())[0][:-1] if name == QUIET else None
         yield Subject(name, [program, "replay"], script, partial(fault_of_replay, script.decode()), quiet=quiet)
-    with socket.socket(socket.AF_INET, socket.SOCK_DGRAM) as free:
-        free.bind(("127.0.0.1", 0))
-        listen = f"127.0.0.1:{free.getsockname()[1]}"
+    listen = f"127.0.0.1:{free_port()}"
     file = pathlib.Path(folder, "one-home.toml")
     file.write_text((rows.ROWS / "one-home.toml").read_text("utf-8").replace("127.0.0.1:1813", listen), "utf-8")
     yield Subject("check", [program, "check", str(file)], b"", partial(fault_of_run, ["clients 1 homes 1 realms 1"]))
@@ -227,8 +226,7 @@ def main():
     if unseen:
         print(f"no refused growth ended in {', '.join(sorted(unseen))}")
     passed, failed = map(sum, zip(*counts))
-    print(f"{passed} passed, {failed + len(unseen)} failed")
-    sys.exit(1 if failed or unseen else 0)
+    conclude(passed, failed + len(unseen))
 
 
 if __name__ == "__main__":

@@ -22,9 +22,10 @@ import time
 sys.dont_write_bytecode = True
 
 from model import read
-from telling import HERE, SECRET, Home, Proxy, bound, is_so
+from telling import SECRET, Home, Proxy
 from trying import try_each
 from vectors import STATUS_SERVER, TOP, answer, request, user_name
+from waiting import bound, is_so
 
 TRIES = 5
 PATIENCE = 30
