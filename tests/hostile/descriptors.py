@@ -18,6 +18,7 @@ import time
 sys.dont_write_bytecode = True
 
 import trying
+from starting import configuration, environment
 from waiting import HERE, bound, free_port
 
 PATIENCE, APART = 60, 0.005
@@ -27,17 +28,6 @@ NOTHING_LEFT = "end: queued 0 outstanding 0 untaken 0"
 CLOSE_ON_EXEC, ACCESS = 0o2000000, 0o3
 READ, WRITE = 0, 1
 NULL_DEVICE = {0: WRITE, 1: READ, 2: WRITE}
-
-
-def configuration(port):
-    return (f'listen = "{HERE}:{port}"\nlinger = 0\n[[client]]\naddress = "192.0.2.1"\nsecret = "nas-secret"\n'
-            f'[[home]]\nname = "h1"\naddress = "{HERE}:9"\nsecret = "home-secret"\n'
-            '[[realm]]\nname = "example.org"\nhome = "h1"\n')
-
-
-def environment():
-    """That of this process, without what changes what the program tells."""
-    return {name: value for name, value in os.environ.items() if not name.startswith("RAD_PROXY_")}
 
 
 def without(closed):

@@ -20,10 +20,10 @@ import time
 sys.dont_write_bytecode = True
 
 from packets import answered, request
+from starting import built
 from trying import hope, try_named
-from waiting import bound, until
+from waiting import bound, free_port, until
 
-HERE = pathlib.Path(__file__).resolve().parent
 PATIENCE = 60
 # How much later than it should the end may come, on a machine that has much else to do.
 MARGIN = 15
@@ -39,8 +39,7 @@ class Proxy:
     def __init__(self, program, room):
         self.program, self.room = program, room
         self.home, self.nas = bound(patience=PATIENCE), bound(patience=PATIENCE)
-        with bound() as free:
-            self.port = free.getsockname()[1]
+        self.port = free_port()
         self.file, self.log = room / "two.toml", room / "log"
         self.configure(LINGER)
         self.environment = os.environ | {"RAD_PROXY_COUNTERS": str(room / "counters")}
@@ -107,14 +106,6 @@ def close(proxy, descriptor):
     proxy.open.remove(descriptor)
 
 
-def built(proxy, name):
-    """A library of a file in C beside this one."""
-    library = proxy.room / f"{name}.so"
-    compiler = os.environ.get("CC", "cc").split()
-    subprocess.run([*compiler, "-O2", "-shared", "-fPIC", "-o", library, HERE / f"{name}.c"], check=True)
-    return str(library)
-
-
 def read_all(descriptor):
     text = b""
     while part := os.read(descriptor, 65536):
@@ -141,7 +132,7 @@ def fill(descriptor):
 
 def says_nothing_without_a_thread(proxy):
     """Each thread refused in turn: nothing is printed on standard output, and the end is `threads: failed` and status 4."""
-    library = built(proxy, "refuse")
+    library = built(proxy.room, "refuse")
     for thread in (1, 2, 3, 4):
         given, ours = os.pipe()
         reading, taken = os.pipe()
@@ -154,7 +145,7 @@ def says_nothing_without_a_thread(proxy):
 
 def listens_once_all_threads_run(proxy):
     """Where each thread begins late, `listening` comes later still; it is the first line, though commands were there before."""
-    library = built(proxy, "delay")
+    library = built(proxy.room, "delay")
     given, ours = os.pipe()
     reading, taken = os.pipe()
     proxy.kept([reading])

@@ -20,6 +20,7 @@ import tempfile
 sys.dont_write_bytecode = True
 
 import trying
+from starting import built, configuration, environment
 from waiting import HERE, bound, free_port
 
 ELSEWHERE = "192.0.2.1"
@@ -31,18 +32,6 @@ ABSENT = "there is no such file"
 TOO_MANY = "Too many open files (os error 24)"
 # With less than this one the system can't load the program.
 FEWEST_FILES, MOST_FILES = 4, 40
-
-
-def configuration(port, address=HERE):
-    return (f'listen = "{address}:{port}"\nlinger = 0\n[[client]]\naddress = "192.0.2.7"\nsecret = "nas-secret"\n'
-            f'[[home]]\nname = "h1"\naddress = "{HERE}:9"\nsecret = "home-secret"\n'
-            '[[realm]]\nname = "example.org"\nhome = "h1"\n')
-
-
-def environment(level=None):
-    """That of this process, and how much is logged."""
-    kept = {name: value for name, value in os.environ.items() if not name.startswith("RAD_PROXY_")}
-    return kept if level is None else kept | {"RAD_PROXY_LOG": level}
 
 
 def at_most(files):
@@ -206,12 +195,9 @@ class Trial(trying.Trial):
 
     def see_clock(self):
         """A clock that fails at the start, and one that fails after some calls, whenever that is."""
-        library = self.folder / "clock.so"
-        compiler = os.environ.get("CC", "cc").split()
-        source = pathlib.Path(__file__).parent / "clock.c"
-        subprocess.run([*compiler, "-O2", "-shared", "-fPIC", "-o", library, source], check=True)
+        library = built(self.folder, "clock")
         for calls in (0, 1, 2, 5):
-            given = environment() | {"LD_PRELOAD": str(library), "CLOCK_CALLS": str(calls)}
+            given = environment() | {"LD_PRELOAD": library, "CLOCK_CALLS": str(calls)}
             done = self.ended("run", self.file, env=given)
             told = done.stderr.decode().splitlines()
             if calls == 0:

@@ -21,11 +21,11 @@ import time
 sys.dont_write_bytecode = True
 
 from packets import answered, request
+from starting import built, configuration
 from trying import LeftOut, hope, try_named
 from vectors import ACCOUNTING_RESPONSE
-from waiting import bound, until
+from waiting import HERE, bound, free_port, until
 
-HERE = pathlib.Path(__file__).resolve().parent
 PATIENCE = 30
 NOTHING_LEFT = "end: queued 0 outstanding 0 untaken 0"
 FAULT = 'level=warn event=counters-fault reason="{}"'
@@ -43,20 +43,13 @@ class Trial:
         self.folder.mkdir()
         self.counters, self.log, self.printed = self.folder / "counters", room / "log", room / "printed"
         self.home, self.nas, self.process = bound(), bound(), None
-        with bound() as free:
-            self.port = free.getsockname()[1]
+        self.port = free_port()
         self.file = room / "one.toml"
-        self.file.write_text(
-            f'listen = "127.0.0.1:{self.port}"\nlinger = 1000\n[[client]]\naddress = "127.0.0.1"\nsecret = "nas-secret"\n'
-            f'[[home]]\nname = "h1"\naddress = "127.0.0.1:{self.home.getsockname()[1]}"\nsecret = "home-secret"\n'
-            '[[realm]]\nname = "example.org"\nhome = "h1"\n')
+        self.file.write_text(configuration(self.port, client=HERE, home_port=self.home.getsockname()[1], linger=1000))
 
     def slowed(self, **numbers):
         """The environment in which files are slow."""
-        library = self.room / "slow.so"
-        compiler = os.environ.get("CC", "cc").split()
-        subprocess.run([*compiler, "-O2", "-shared", "-fPIC", "-o", library, HERE / "slow.c"], check=True)
-        return {"LD_PRELOAD": str(library)} | {name: str(value) for name, value in numbers.items()}
+        return {"LD_PRELOAD": built(self.room, "slow")} | {name: str(value) for name, value in numbers.items()}
 
     def start(self, before=None, **variables):
         """Starts the program, and waits until it listens."""

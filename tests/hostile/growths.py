@@ -30,10 +30,10 @@ from typing import Callable
 sys.dont_write_bytecode = True
 
 from model import answers, rows
+from starting import built
 from trying import conclude
 from waiting import free_port
 
-HERE = pathlib.Path(__file__).resolve().parent
 QUIET = "refusals/what-takes-no-memory"
 ROWS = ["lane/answers-one-request", "draining/drains", "responses/untaken-of-two-homes", "watch/comes-up-by-probe"]
 ROWS += ["refusals/each-call-is-made-twice", QUIET]
@@ -54,14 +54,12 @@ class Refuser:
     """Runs programs with allocations refused, by a library that it builds from refuse.c."""
 
     def __init__(self, folder):
-        self.library, self.note = pathlib.Path(folder, "refuse.so"), pathlib.Path(folder, "note")
-        compiler = os.environ.get("CC", "cc").split()
-        subprocess.run([*compiler, "-O2", "-shared", "-fPIC", "-o", self.library, HERE / "refuse.c"], check=True)
+        self.library, self.note = built(folder, "refuse"), pathlib.Path(folder, "note")
 
     def settings(self, numbers):
         """The environment in which what has these numbers is refused; `run` logs so much that it takes all its memory."""
         texts = {f"REFUSE_{name}": str(number) for name, number in numbers.items()}
-        more = {"REFUSE_NOTE": str(self.note), "LD_PRELOAD": str(self.library), "RAD_PROXY_LOG": "debug"}
+        more = {"REFUSE_NOTE": str(self.note), "LD_PRELOAD": self.library, "RAD_PROXY_LOG": "debug"}
         return {**os.environ, **texts, **more}
 
     def has_refused(self):

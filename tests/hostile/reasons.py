@@ -18,6 +18,7 @@ import time
 sys.dont_write_bytecode = True
 
 import trying
+from starting import environment
 from waiting import HERE, bound, free_port
 
 PATIENCE = 60
@@ -31,12 +32,6 @@ def configuration(listen="127.0.0.1:1", home="192.0.2.9:1813", more="", top=""):
     return (f'listen = "{listen}"\nlinger = 0\n{top}[[client]]\naddress = "192.0.2.1"\nsecret = "nas-secret"\n'
             '[[realm]]\nname = "example.org"\nhome = "h1"\n'
             f'[[home]]\nname = "h1"\naddress = "{home}"\nsecret = "home-secret"\n{more}').encode()
-
-
-def environment(log=None):
-    """That of this process, without what changes what the program tells but this."""
-    kept = {name: value for name, value in os.environ.items() if not name.startswith("RAD_PROXY_")}
-    return kept if log is None else kept | {"RAD_PROXY_LOG": log}
 
 
 class Trial(trying.Trial):
