@@ -2,6 +2,7 @@
 import pathlib
 import sys
 
+# The folder of vectors.py.
 sys.path.insert(0, str(pathlib.Path(__file__).resolve().parent.parent))
 
 import vectors  # noqa: E402

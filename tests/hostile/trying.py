@@ -10,7 +10,7 @@ class LeftOut(Exception):
 
 
 def hope(text, found, wanted):
-    """A test fails where something is not what it should be."""
+    """Fails a test, where what was found is not what was wanted."""
     if found != wanted:
         raise AssertionError(f"{text}: {found!r}, and not {wanted!r}")
 
@@ -71,12 +71,14 @@ class Trial:
         self.passed, self.failed = 0, 0
 
     def see(self, what, is_right, found=None):
+        """Counts whether something is so, and where it is not tells what was found."""
         self.passed += bool(is_right)
         self.failed += not is_right
         if not is_right:
             print(f"not so: {what}" if found is None else f"not so: {what}: {found}", flush=True)
 
     def compare(self, what, found, wanted):
+        """The same of what has to be what is wanted."""
         self.see(what, found == wanted, f"{found!r}, and not {wanted!r}")
 
     def write(self, name, text):
