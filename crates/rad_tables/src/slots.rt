@@ -136,6 +136,7 @@ impl<T: Drop> Slots<T> {
     pub fn get_mut(&mut self, slot: Slot) -> Option<&mut T>
         ensures* writes_back { sem 𝓛 (LendsEntryIf T.row self.entry slot result) }
         ensures value { option_copied_mut result ≡ map.get self.old.entries slot }
+        ensures in_range { IsSome result → IsInRange self.old.ports slot }
     {
         if self.get(slot).is_some() {
             Some(self.entry_mut(slot))
@@ -165,6 +166,7 @@ impl<T: Drop> Slots<T> {
     /// Takes the entry at a pair out, and with it the pair out of use.
     pub fn take(&mut self, slot: Slot) -> Option<T>
         ensures value { result ≡ map.get self.old.entries slot }
+        ensures in_range { IsSome result → IsInRange self.old.ports slot }
         ensures taken { self.new ≡ record self.old { entries = map.remove self.old.entries slot } }
     {
         let place = place_of(slot);
