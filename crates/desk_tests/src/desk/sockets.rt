@@ -1,9 +1,8 @@
 //! By which sockets the workers send, and of which they hear, where there are two.
 
 use super::comparing::same;
-use super::works::{
-    HOME, Works, accepted, answered, forward, front, lane, note, note_of, play, tally,
-};
+use super::workers::forward;
+use super::works::{HOME, Works, accepted, answered, front, lane, note, note_of, play, tally};
 use rad_desk::{DeskFault, Note};
 use rad_lane::HearFault;
 use std::process::Abort;
