@@ -10,7 +10,7 @@ use rad_realms::Endpoint;
 const LONGEST_REQUEST: usize = 4084;
 
 /// How a request is taken.
-#[derive(Clone, Copy, Debug, PartialEq, Eq)]
+#[derive(Clone, Copy)]
 pub enum Taking {
     New(u64),
     Waiting,
@@ -22,16 +22,13 @@ impl Book {
     /// The last request with this key.
     fn last_of(&self, from: Endpoint, packet: &PacketRef<'_>) -> Option<u64> {
         let (identifier, authenticator) = (packet.identifier(), packet.authenticator());
-        let mut last = None;
-        for (place, asked) in self.asked.as_slice().iter().enumerate() {
-            if asked.authenticator == authenticator
+        let asked = self.asked.as_slice();
+        let last = asked.iter().rposition(|asked| {
+            asked.authenticator == authenticator
                 && asked.identifier == identifier
                 && asked.from == from
-            {
-                last = Some(place as u64);
-            }
-        }
-        last
+        })?;
+        Some(last as u64)
     }
 
     /// Takes a request of the lane.

@@ -5,7 +5,7 @@ use crate::making::{ACCT_SESSION_ID, first_value};
 use crate::setting::Home;
 use rad_auth::Secret;
 use rad_lane::Counts;
-use rad_packet::{Datagram, read};
+use rad_packet::read;
 use rad_realms::{Endpoint, LimitNumbers};
 use std::alloc::Global;
 
@@ -23,6 +23,16 @@ pub struct Asked {
     pub response: Vec<u8>,
 }
 
+impl Asked {
+    /// Its Acct-Session-Id, where it has one.
+    pub fn session(&self) -> Option<&[u8]> {
+        match read(self.text.as_slice()) {
+            Ok(packet) => first_value(&packet, ACCT_SESSION_ID),
+            Err(_) => None,
+        }
+    }
+}
+
 /// What is out under a pair: a request, or a probe, which has no number.
 #[derive(Drop)]
 pub struct Out {
@@ -35,7 +45,7 @@ pub struct Out {
 }
 
 /// What a lane that is down waits for.
-#[derive(Clone, Copy, Debug, PartialEq, Eq)]
+#[derive(Clone, Copy)]
 pub struct Down {
     pub until: u64,
     pub next_probe: u64,
@@ -67,8 +77,6 @@ pub struct Book {
     pub last: u64,
     /// The pair that was taken last.
     pub pair: u32,
-    /// Where packets are made.
-    pub draft: Datagram,
 }
 
 impl Book {
@@ -90,7 +98,6 @@ impl Book {
             is_drained: false,
             last: 0,
             pair: home.limits.ports.saturating_mul(256).saturating_sub(1),
-            draft: Datagram::new(),
         }
     }
 
@@ -111,13 +118,13 @@ impl Book {
 
     /// How many requests are out; a probe is none.
     pub fn outstanding(&self) -> usize {
-        let mut count: usize = 0;
-        for out in self.out.as_slice() {
-            if out.number.is_some() {
-                count = count.saturating_add(1);
-            }
-        }
-        count
+        let out = self.out.as_slice();
+        out.iter().filter(|out| out.number.is_some()).count()
+    }
+
+    /// How many responses wait to be taken.
+    pub fn untaken(&self) -> usize {
+        self.answers.len().saturating_sub(self.taken)
     }
 
     /// What the counts of the lane have to be.
@@ -135,7 +142,7 @@ impl Book {
 
     /// The request of a number.
     pub fn at(&self, number: u64) -> Option<&Asked> {
-        asked_at(self.asked.as_slice(), number)
+        self.asked.as_slice().get(place_of(number)?)
     }
 
     /// The response of a request; no octets where it has none.
@@ -152,27 +159,6 @@ impl Book {
         let number = self.answers.as_slice().get(serial).copied()?;
         self.taken = serial.saturating_add(1);
         Some((serial as u64, number))
-    }
-
-    /// Who sent a request.
-    pub fn client_of(&self, number: u64) -> Option<Endpoint> {
-        Some(self.at(number)?.from)
-    }
-
-    /// When a request was accepted.
-    pub fn moment_of(&self, number: u64) -> Option<u64> {
-        Some(self.at(number)?.moment)
-    }
-
-    /// Whether the session of a request is this one.
-    pub fn is_session(&self, number: u64, session: Option<&[u8]>) -> bool {
-        let Some(asked) = self.at(number) else {
-            return false;
-        };
-        match read(asked.text.as_slice()) {
-            Ok(packet) => first_value(&packet, ACCT_SESSION_ID) == session,
-            Err(_) => false,
-        }
     }
 
     /// The lane is drained. It gives how many requests were accepted until it was drained first.
@@ -237,11 +223,6 @@ fn earlier(least: Option<u64>, moment: u64, now: u64) -> Option<u64> {
         Some(other) => Some(other.min(moment)),
         None => Some(moment),
     }
-}
-
-/// The request of a number, among all.
-pub fn asked_at(asked: &[Asked], number: u64) -> Option<&Asked> {
-    asked.get(place_of(number)?)
 }
 
 /// The place of a number in a list.

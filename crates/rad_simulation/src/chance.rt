@@ -1,7 +1,7 @@
 //! Chance of a given seed: the same seed gives the same numbers.
 
 /// Where a row of numbers stands (Steele, Lea and Flood: SplitMix64).
-#[derive(Clone, Copy, Debug, PartialEq, Eq)]
+#[derive(Clone, Copy)]
 pub struct Chance {
     state: u64,
 }
@@ -35,6 +35,11 @@ impl Chance {
     /// Whether what comes once in so many times does.
     pub fn is_one_in(&mut self, times: u64) -> bool {
         self.below(times) == 0
+    }
+
+    /// Whether what comes once in so many times does; never, where the number is 0.
+    pub fn strikes(&mut self, odds: u64) -> bool {
+        odds != 0 && self.is_one_in(odds)
     }
 
     /// One of these; none of an empty list.

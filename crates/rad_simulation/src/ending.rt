@@ -1,6 +1,6 @@
 //! The comparison of what a closed proxy leaves.
 
-use crate::book::{Asked, Book, Out};
+use crate::book::{Book, Out};
 use crate::rules::Rule;
 use block_queue::Fifo;
 use rad_desk::{LaneEnd, Report, Rest};
@@ -11,9 +11,7 @@ use rad_tables::Slot;
 /// Compares what is left of all lanes.
 pub fn compare_end(report: &mut Report, books: &[Book]) -> Result<(), Rule> {
     let ends = report.ends.as_slice();
-    if ends.len() != books.len() {
-        return Err(Rule::Close);
-    }
+    Rule::CLOSE.unless(ends.len() == books.len())?;
     for (end, book) in ends.iter().zip(books.iter()) {
         compare_lane(end, book)?;
     }
@@ -22,34 +20,28 @@ pub fn compare_end(report: &mut Report, books: &[Book]) -> Result<(), Rule> {
 
 /// Compares what is left of a lane.
 fn compare_lane(end: &LaneEnd, book: &Book) -> Result<(), Rule> {
-    if end.lane != book.lane || end.counts != book.counts() {
-        return Err(Rule::CloseCounts);
-    }
-    compare_accepted(end.accepted.as_slice(), book)?;
-    compare_answered(end.answered.as_slice(), book)?;
-    compare_outstanding(end, book)?;
-    match &end.rest {
-        Rest::Known(rest) => compare_rest(rest.as_slice(), book),
-        Rest::Unknown => Err(Rule::CloseRest),
-    }
+    Rule::CLOSE_COUNTS.unless(end.lane == book.lane && end.counts == book.counts())?;
+    Rule::CLOSE_ACCEPTED.unless(are_accepted(end.accepted.as_slice(), book))?;
+    Rule::CLOSE_ANSWERED.unless(are_answered(end.answered.as_slice(), book))?;
+    Rule::CLOSE_OUTSTANDING.unless(are_outstanding(end, book))?;
+    Rule::CLOSE_REST.unless(are_untaken(&end.rest, book))
 }
 
-fn compare_accepted(stamps: &[Stamp], book: &Book) -> Result<(), Rule> {
-    if stamps.len() as u64 != book.held() {
-        return Err(Rule::CloseAccepted);
-    }
-    let mut number = book.opening;
-    for stamp in stamps {
-        match book.at(number) {
-            Some(asked) if is_stamp(stamp, number, asked) => {}
-            _ => return Err(Rule::CloseAccepted),
-        }
-        number = number.saturating_add(1);
-    }
-    Ok(())
+/// Whether these are the requests that the book holds, in order of accepting.
+fn are_accepted(stamps: &[Stamp], book: &Book) -> bool {
+    let numbers = book.opening..book.accepted();
+    stamps.len() as u64 == book.held()
+        && stamps
+            .iter()
+            .zip(numbers)
+            .all(|(stamp, number)| is_stamp(stamp, number, book))
 }
 
-fn is_stamp(stamp: &Stamp, number: u64, asked: &Asked) -> bool {
+/// Whether a stamp is that of the request of a number.
+fn is_stamp(stamp: &Stamp, number: u64, book: &Book) -> bool {
+    let Some(asked) = book.at(number) else {
+        return false;
+    };
     let from = Endpoint {
         address: stamp.client,
         port: stamp.port,
@@ -61,21 +53,18 @@ fn is_stamp(stamp: &Stamp, number: u64, asked: &Asked) -> bool {
         && stamp.moment.get() == asked.moment
 }
 
-/// Compares the answers: those of the requests that the book holds, in order of answering.
-fn compare_answered(answered: &[Answered], book: &Book) -> Result<(), Rule> {
+/// Whether these are the answers to the requests that the book holds, in order of answering.
+fn are_answered(answered: &[Answered], book: &Book) -> bool {
     let mut left = answered.iter();
     for (serial, number) in book.answers.as_slice().iter().enumerate() {
         if *number >= book.opening {
             match left.next() {
                 Some(answer) if is_answer(answer, serial as u64, *number, book) => {}
-                _ => return Err(Rule::CloseAnswered),
+                _ => return false,
             }
         }
     }
-    match left.next() {
-        None => Ok(()),
-        Some(_) => Err(Rule::CloseAnswered),
-    }
+    left.next().is_none()
 }
 
 fn is_answer(answer: &Answered, serial: u64, number: u64, book: &Book) -> bool {
@@ -83,86 +72,79 @@ fn is_answer(answer: &Answered, serial: u64, number: u64, book: &Book) -> bool {
         return false;
     };
     answer.serial() == serial
-        && is_stamp(&answer.stamp(), number, asked)
+        && is_stamp(&answer.stamp(), number, book)
         && Some(answer.moment().get()) == asked.answered
         && answer.reply().response() == asked.response.as_slice()
 }
 
-fn compare_outstanding(end: &LaneEnd, book: &Book) -> Result<(), Rule> {
-    let mut count: usize = 0;
-    for out in book.out.as_slice() {
-        let Some(number) = out.number else {
-            continue;
-        };
-        count = count.saturating_add(1);
-        let slot = Slot {
-            port: ((out.pair / 256) & 0xff) as u16,
-            identifier: (out.pair % 256) as u8,
-        };
-        match end.outstanding.get(slot) {
-            Some(Entry::Sending(sending))
-                if sending.request().stamp().number == number
-                    && sending.octets() == out.octets.as_slice()
-                    && sending.sendings() == out.sendings
-                    && sending.due() == out.due => {}
-            _ => return Err(Rule::CloseOutstanding),
-        }
-    }
-    if end.outstanding.used() == count {
-        Ok(())
-    } else {
-        Err(Rule::CloseOutstanding)
+/// Whether what is outstanding is what is out in the book, each under its pair.
+fn are_outstanding(end: &LaneEnd, book: &Book) -> bool {
+    let out = book.out.as_slice();
+    end.outstanding.used() == book.outstanding() && out.iter().all(|out| is_outstanding(end, out))
+}
+
+fn is_outstanding(end: &LaneEnd, out: &Out) -> bool {
+    let Some(number) = out.number else {
+        return true;
+    };
+    let slot = Slot {
+        port: ((out.pair / 256) & 0xff) as u16,
+        identifier: (out.pair % 256) as u8,
+    };
+    match end.outstanding.get(slot) {
+        Some(Entry::Sending(sending)) => sending.request().stamp().number == number
+            && sending.octets() == out.octets.as_slice()
+            && sending.sendings() == out.sendings
+            && sending.due() == out.due,
+        _ => false,
     }
 }
 
-/// Compares the responses that nobody took.
-fn compare_rest(rest: &[Outgoing], book: &Book) -> Result<(), Rule> {
-    let mut serial = book.taken;
-    for outgoing in rest {
-        match book.answers.as_slice().get(serial) {
-            Some(number) if is_outgoing(outgoing, serial as u64, *number, book) => {}
-            _ => return Err(Rule::CloseRest),
-        }
-        serial = serial.saturating_add(1);
-    }
-    if serial == book.answers.len() {
-        Ok(())
-    } else {
-        Err(Rule::CloseRest)
-    }
+/// Whether these are the responses that nobody took, in order.
+fn are_untaken(rest: &Rest, book: &Book) -> bool {
+    let Rest::Known(rest) = rest else {
+        return false;
+    };
+    let rest = rest.as_slice();
+    let serials = book.taken..book.answers.len();
+    rest.len() == book.untaken()
+        && rest
+            .iter()
+            .zip(serials)
+            .all(|(outgoing, serial)| is_outgoing(outgoing, serial, book))
 }
 
-fn is_outgoing(outgoing: &Outgoing, serial: u64, number: u64, book: &Book) -> bool {
+fn is_outgoing(outgoing: &Outgoing, serial: usize, book: &Book) -> bool {
+    let Some(number) = book.answers.as_slice().get(serial) else {
+        return false;
+    };
+    let Some(asked) = book.at(*number) else {
+        return false;
+    };
     let client = Endpoint {
         address: outgoing.client,
         port: outgoing.port,
     };
-    outgoing.serial == serial
-        && Some(client) == book.client_of(number)
-        && outgoing.reply.response() == book.response_of(number)
+    outgoing.serial == serial as u64
+        && client == asked.from
+        && outgoing.reply.response() == asked.response.as_slice()
 }
 
 /// Compares what was never sent: of the first lane in order, then of the second, and so on.
 fn compare_queued(report: &mut Report, books: &[Book]) -> Result<(), Rule> {
     for book in books {
         for number in book.sent..book.accepted() {
-            if !is_next_queued(report, number, book) {
-                return Err(Rule::CloseQueued);
-            }
+            Rule::CLOSE_QUEUED.unless(is_next_queued(report, number, book))?;
         }
     }
-    if report.queued.is_empty() {
-        Ok(())
-    } else {
-        Err(Rule::CloseQueued)
-    }
+    Rule::CLOSE_QUEUED.unless(report.queued.is_empty())
 }
 
 /// Whether the next record of the queue is the request of this number.
 fn is_next_queued(report: &mut Report, number: u64, book: &Book) -> bool {
     match (report.queued.pop_front(), book.at(number)) {
         (Some(record), Some(asked)) => {
-            is_stamp(&record.stamp(), number, asked) && record.text() == asked.text.as_slice()
+            is_stamp(&record.stamp(), number, book) && record.text() == asked.text.as_slice()
         }
         _ => false,
     }

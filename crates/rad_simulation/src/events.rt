@@ -2,6 +2,7 @@
 
 use rad_desk::{Call, Go, Note, UpReason};
 use rad_realms::Endpoint;
+use std::alloc::{AllocError, Global};
 
 /// What came to a wire.
 #[derive(Drop)]
@@ -24,6 +25,17 @@ pub struct Mail {
     pub octets: Vec<u8>,
 }
 
+impl Mail {
+    /// The same once more.
+    pub fn copy(&self, alloc: Global) -> Result<Mail, AllocError> {
+        Ok(Mail {
+            from: self.from,
+            socket: self.socket,
+            octets: self.octets.to_vec(alloc)?,
+        })
+    }
+}
+
 /// A datagram that was sent.
 #[derive(Drop)]
 pub struct Gone {
@@ -35,18 +47,31 @@ pub struct Gone {
     pub is_handed_over: bool,
 }
 
-/// What a gate is told that has no octets.
-#[derive(Clone, Copy, Debug, PartialEq, Eq)]
+/// What a gate is told of a lane, by its number.
+#[derive(Clone, Copy)]
 pub enum Telling {
-    Before(Call, Go),
-    After(Call),
-    Note(Note),
     Accepted(u16, u64),
     Answered(u16, u64),
     WentUp(u16, UpReason),
     Marked(u16, Endpoint, u64),
-    /// It is told in the name of another worker.
-    OfAnother,
+}
+
+impl Telling {
+    /// Whether it is this one.
+    pub fn is(self, other: Telling) -> bool {
+        match (self, other) {
+            (Telling::Accepted(lane, number), Telling::Accepted(of, its)) => lane == of
+                && number == its,
+            (Telling::Answered(lane, serial), Telling::Answered(of, its)) => lane == of
+                && serial == its,
+            (Telling::WentUp(lane, reason), Telling::WentUp(of, its)) => lane == of
+                && reason == its,
+            (Telling::Marked(lane, from, marks), Telling::Marked(of, its, count)) => {
+                lane == of && from == its && marks == count
+            }
+            _ => false,
+        }
+    }
 }
 
 /// By which request a home server went down, as a gate is told.
@@ -68,7 +93,14 @@ pub enum Event {
     Drew([u8; 16]),
     /// The wire sent this.
     Went(Gone),
+    /// The gate is asked before a call.
+    Before(Call, Go),
+    /// The gate is told that a call was made.
+    After(Call),
+    Noted(Note),
     Told(Telling),
+    /// The gate is asked or told in the name of another worker.
+    OfAnother,
     /// The gate is told of a datagram that came from there.
     ToldReceived(Endpoint, Vec<u8>),
     /// The gate is told of a datagram that is to go there.

@@ -2,257 +2,201 @@
 
 use crate::accepting::Taking;
 use crate::book::Book;
-use crate::events::Telling;
-use crate::making::{USER_NAME, first_value, make_plain_answer};
+use crate::events::{Mail, Telling};
+use crate::making::{USER_NAME, first_value, plain_answer};
 use crate::rules::Rule;
 use crate::setting::{client_secret, realm_of_home};
-use crate::shift::{Coming, Destination, Shift, Socket};
 use crate::walk::Walk;
 use rad_auth::{
     ACCOUNTING_REQUEST, MESSAGE_AUTHENTICATOR, PROXY_STATE, STATUS_SERVER, Secret, check_request,
     check_status,
 };
 use rad_desk::{Call, Note};
-use rad_packet::{Datagram, PacketRef, read};
+use rad_packet::{PacketRef, read};
 use rad_realms::{Dropped, Endpoint};
 
 /// The length of the value of a mark.
 const MARK_LENGTH: usize = 10;
 
+/// What a right datagram of a client is.
+#[derive(Drop)]
+enum Kind<'a> {
+    /// A request that leads to the lane at this place.
+    Request(usize, PacketRef<'a>),
+    /// A Status-Server, under this secret.
+    Status(PacketRef<'a>, Secret),
+}
+
 /// The books of all lanes, and what the front knows beside them.
 #[derive(Drop)]
 pub struct Books {
     pub books: Vec<Book>,
-    /// Whether a request without a realm leads to the first lane.
-    pub has_default: bool,
-    /// Where answers to Status-Servers are made.
-    pub draft: Datagram,
-}
-
-/// What a right datagram of a client is.
-enum Kind {
-    /// A request that leads to the lane at this place.
-    Request(usize),
-    Status,
+    /// The place of the lane that a request without a realm leads to.
+    pub default: Option<usize>,
 }
 
 impl Books {
     /// Compares a turn. It gives whether the front goes on.
-    pub fn front_turn(&mut self, shift: &mut Shift, walk: &mut Walk<'_>) -> Result<bool, Rule> {
-        let beginning = shift.begin(walk)?;
-        let goes_on = match &beginning.coming {
-            Some(coming) => self.take_in(coming, shift, walk)?,
+    pub fn front_turn(&mut self, walk: &mut Walk<'_>) -> Result<bool, Rule> {
+        let (moment, coming) = walk.begins()?;
+        let goes_on = match coming {
+            Some(mail) => self.take_in(moment, mail, walk)?,
             None => true,
         };
         if !goes_on {
             return Ok(false);
         }
-        self.hand_out(shift, walk)
+        self.hand_out(walk)
     }
 
     /// What came is dropped, answered, or led to its lane.
-    fn take_in(
-        &mut self,
-        coming: &Coming<'_>,
-        shift: &mut Shift,
-        walk: &mut Walk<'_>,
-    ) -> Result<bool, Rule> {
-        let Some(secret) = client_secret(coming.from.address) else {
-            walk.notes(Note::Dropped(Dropped::UnknownClient), Rule::Dropped)?;
-            return Ok(true);
-        };
-        let packet = match read(coming.octets) {
-            Ok(packet) => packet,
-            Err(fault) => {
-                walk.notes(Note::Dropped(Dropped::Unread(fault)), Rule::Dropped)?;
-                return Ok(true);
+    fn take_in(&mut self, moment: u64, mail: &Mail, walk: &mut Walk<'_>) -> Result<bool, Rule> {
+        match self.kind_of(mail) {
+            Ok(Kind::Request(place, packet)) => {
+                return self.accept(place, moment, mail, &packet, walk);
             }
-        };
-        match self.kind_of(&packet, &secret) {
-            Ok(Kind::Request(place)) => self.accept(place, coming, &packet, shift, walk),
-            Ok(Kind::Status) => {
-                make_plain_answer(
-                    &mut self.draft,
-                    packet.identifier(),
-                    &packet.authenticator(),
-                    &secret,
-                );
-                let octets = self.draft.bytes();
-                answer(
-                    coming.socket,
-                    coming.from,
-                    octets,
-                    Rule::Status,
-                    shift,
-                    walk,
-                )?;
-                Ok(true)
+            Ok(Kind::Status(packet, secret)) => {
+                let made = plain_answer(packet.identifier(), &packet.authenticator(), &secret);
+                answer(mail.socket, mail.from, made.bytes(), Rule::STATUS, walk)?;
             }
             Err(reason) => {
                 if reason == Dropped::NoRealm {
-                    walk.told_no_realm(coming.octets)?;
+                    walk.told_no_realm(mail.octets.as_slice())?;
                 }
-                walk.notes(Note::Dropped(reason), Rule::Dropped)?;
-                Ok(true)
+                walk.notes(Note::Dropped(reason), Rule::DROPPED)?;
             }
+        }
+        Ok(true)
+    }
+
+    /// What came, or why it is dropped.
+    fn kind_of<'a>(&self, mail: &'a Mail) -> Result<Kind<'a>, Dropped> {
+        let Some(secret) = client_secret(mail.from.address) else {
+            return Err(Dropped::UnknownClient);
+        };
+        let packet = match read(mail.octets.as_slice()) {
+            Ok(packet) => packet,
+            Err(fault) => return Err(Dropped::Unread(fault)),
+        };
+        match packet.code() {
+            STATUS_SERVER if check_status(&packet, &secret) => Ok(Kind::Status(packet, secret)),
+            STATUS_SERVER => Err(Dropped::BadMessageAuthenticator),
+            ACCOUNTING_REQUEST => self.request_of(packet, &secret),
+            _ => Err(Dropped::WrongCode),
         }
     }
 
-    /// What a packet of a client is.
-    fn kind_of(&self, packet: &PacketRef<'_>, secret: &Secret) -> Result<Kind, Dropped> {
-        match packet.code() {
-            STATUS_SERVER if check_status(packet, secret) => Ok(Kind::Status),
-            STATUS_SERVER => Err(Dropped::BadMessageAuthenticator),
-            ACCOUNTING_REQUEST => {
-                if !check_request(packet, secret) {
-                    return Err(Dropped::BadAuthenticator);
-                }
-                if packet.count_of(MESSAGE_AUTHENTICATOR) > 0 {
-                    return Err(Dropped::MessageAuthenticatorHere);
-                }
-                match self.lane_of(packet) {
-                    Some(place) => Ok(Kind::Request(place)),
-                    None => Err(Dropped::NoRealm),
-                }
-            }
-            _ => Err(Dropped::WrongCode),
+    fn request_of<'a>(&self, packet: PacketRef<'a>, secret: &Secret) -> Result<Kind<'a>, Dropped> {
+        if !check_request(&packet, secret) {
+            return Err(Dropped::BadAuthenticator);
+        }
+        if packet.count_of(MESSAGE_AUTHENTICATOR) > 0 {
+            return Err(Dropped::MessageAuthenticatorHere);
+        }
+        match self.lane_of(&packet) {
+            Some(place) => Ok(Kind::Request(place, packet)),
+            None => Err(Dropped::NoRealm),
         }
     }
 
     /// The place of the lane that a request leads to.
     fn lane_of(&self, packet: &PacketRef<'_>) -> Option<usize> {
-        let realm = match first_value(packet, USER_NAME) {
-            Some(name) => realm_of(name),
-            None => None,
+        let Some(realm) = realm_of(first_value(packet, USER_NAME).unwrap_or(&[])) else {
+            return self.default;
         };
-        let Some(realm) = realm else {
-            return if self.has_default { Some(0) } else { None };
-        };
-        for (place, book) in self.books.as_slice().iter().enumerate() {
-            if is_same_realm(realm, realm_of_home(book.lane).as_bytes()) {
-                return Some(place);
-            }
-        }
-        None
+        let books = self.books.as_slice();
+        books.iter().position(|book| realm.eq_ignore_ascii_case(realm_of_home(
+            book.lane,
+        ).as_bytes()))
     }
 
     /// A request comes to its lane.
     fn accept(
         &mut self,
         place: usize,
-        coming: &Coming<'_>,
+        moment: u64,
+        mail: &Mail,
         packet: &PacketRef<'_>,
-        shift: &mut Shift,
         walk: &mut Walk<'_>,
     ) -> Result<bool, Rule> {
         let Some(book) = self.books.as_mut_slice().get_mut(place) else {
-            return Err(Rule::Accept);
+            return Err(Rule::ACCEPT);
         };
-        if !walk.asks(Call::Accept, Rule::Accept)? {
+        if !walk.asks(Call::Accept, Rule::ACCEPT)? {
             return Ok(false);
         }
         let marks = marks_of(packet);
         if marks > 0 {
-            walk.tells(Telling::Marked(book.lane, coming.from, marks), Rule::Marked)?;
+            walk.tells(Telling::Marked(book.lane, mail.from, marks), Rule::MARKED)?;
         }
-        walk.tells(Telling::After(Call::Accept), Rule::Accept)?;
-        match book.accept(coming.from, packet, coming.moment)? {
+        walk.made(Call::Accept, Rule::ACCEPT)?;
+        match book.accept(mail.from, packet, moment)? {
             Taking::New(number) => {
-                walk.tells(Telling::Accepted(book.lane, number), Rule::Accepted)?;
+                walk.tells(Telling::Accepted(book.lane, number), Rule::ACCEPTED)?;
             }
             Taking::Waiting => {}
             Taking::Again(number) => {
                 let octets = book.response_of(number);
-                answer(coming.socket, coming.from, octets, Rule::Again, shift, walk)?;
+                answer(mail.socket, mail.from, octets, Rule::AGAIN, walk)?;
             }
-            Taking::Refused(refusal) => walk.notes(Note::Refused(refusal), Rule::Refused)?,
+            Taking::Refused(refusal) => walk.notes(Note::Refused(refusal), Rule::REFUSED)?,
         }
         Ok(true)
     }
 
     /// The front takes from each inlet once, and sends what it took.
-    fn hand_out(&mut self, shift: &mut Shift, walk: &mut Walk<'_>) -> Result<bool, Rule> {
+    fn hand_out(&mut self, walk: &mut Walk<'_>) -> Result<bool, Rule> {
         for book in self.books.as_mut_slice().iter_mut() {
-            if !walk.asks(Call::Take, Rule::Take)? {
+            if !walk.asks(Call::Take, Rule::TAKE)? {
                 return Ok(false);
             }
-            walk.tells(Telling::After(Call::Take), Rule::Take)?;
-            take(book, shift, walk)?;
+            walk.made(Call::Take, Rule::TAKE)?;
+            take(book, walk)?;
         }
         Ok(true)
     }
 }
 
 /// The next response of a lane, where there is one, goes to its client.
-fn take(book: &mut Book, shift: &mut Shift, walk: &mut Walk<'_>) -> Result<(), Rule> {
+fn take(book: &mut Book, walk: &mut Walk<'_>) -> Result<(), Rule> {
     let Some((serial, number)) = book.take() else {
         return Ok(());
     };
-    let Some(client) = book.client_of(number) else {
-        return Err(Rule::Client);
+    let Some(asked) = book.at(number) else {
+        return Err(Rule::CLIENT);
     };
-    answer(
-        0,
-        client,
-        book.response_of(number),
-        Rule::Response,
-        shift,
-        walk,
-    )?;
-    walk.notes(Note::Took(book.lane, serial), Rule::Took)
+    let response = asked.response.as_slice();
+    answer(0, asked.from, response, Rule::RESPONSE, walk)?;
+    walk.notes(Note::Took(book.lane, serial), Rule::TOOK)
 }
 
-/// These octets answer a client.
+/// These octets answer a client, from a socket.
 fn answer(
     socket: u16,
     client: Endpoint,
     octets: &[u8],
     rule: Rule,
-    shift: &mut Shift,
     walk: &mut Walk<'_>,
 ) -> Result<(), Rule> {
-    let from = Socket {
-        socket,
-        rule: Rule::ListenSocket,
-    };
-    let to = Destination {
-        endpoint: client,
-        rule: Rule::Client,
-    };
-    shift.send(walk, from, to, octets, rule)
+    let gone = walk.sends(octets, rule)?;
+    Rule::CLIENT.unless(gone.to == client)?;
+    Rule::LISTEN_SOCKET.unless(gone.socket == socket)?;
+    walk.counts(gone)
 }
 
 /// What follows the last `@` of a name.
 fn realm_of(name: &[u8]) -> Option<&[u8]> {
-    let mut realm = None;
-    for (place, octet) in name.iter().enumerate() {
-        if *octet == b'@' {
-            realm = name.get(place.saturating_add(1)..);
-        }
-    }
-    realm
-}
-
-/// Whether two names of realms are one, without the case of ASCII letters.
-fn is_same_realm(one: &[u8], other: &[u8]) -> bool {
-    if one.len() != other.len() {
-        return false;
-    }
-    for (left, right) in one.iter().zip(other.iter()) {
-        if left.to_ascii_lowercase() != right.to_ascii_lowercase() {
-            return false;
-        }
-    }
-    true
+    let place = name.iter().rposition(|octet| *octet == b'@')?;
+    name.get(place.saturating_add(1)..)
 }
 
 /// How many Proxy-States of a mark's form a packet has.
 fn marks_of(packet: &PacketRef<'_>) -> u64 {
-    let mut count: u64 = 0;
-    for attribute in packet.attributes() {
-        if attribute.kind == PROXY_STATE && attribute.value.len() == MARK_LENGTH {
-            count = count.saturating_add(1);
+    let mut marks = 0_u64;
+    for it in packet.attributes() {
+        if it.kind == PROXY_STATE && it.value.len() == MARK_LENGTH {
+            marks = marks.saturating_add(1);
         }
     }
-    count
+    marks
 }

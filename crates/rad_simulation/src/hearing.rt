@@ -1,17 +1,17 @@
 //! What a lane makes of a datagram of its home server, as the rules have it.
 
-use crate::book::{Asked, Book, Out, asked_at, place_of};
-use crate::making::{last_value, make_response, mark_value};
+use crate::book::{Book, Out, place_of};
+use crate::making::{last_value, response};
 use crate::rules::Rule;
 use crate::setting::client_secret;
-use rad_auth::{ACCOUNTING_RESPONSE, MESSAGE_AUTHENTICATOR, PROXY_STATE, Secret, check_response};
+use rad_auth::{ACCOUNTING_RESPONSE, MESSAGE_AUTHENTICATOR, PROXY_STATE, check_response};
 use rad_desk::DeskFault;
 use rad_lane::HearFault;
-use rad_packet::{Datagram, PacketRef, read};
-use rad_realms::Endpoint;
+use rad_packet::{PacketRef, read};
+use test_octets::mark_value;
 
 /// What a datagram of the home server is.
-#[derive(Clone, Copy, Debug, PartialEq, Eq)]
+#[derive(Clone, Copy)]
 pub enum Hearing {
     Answer(u64),
     ProbeAnswered,
@@ -21,8 +21,7 @@ pub enum Hearing {
 impl Book {
     /// Hears a datagram of the home server that came to a source port.
     pub fn hear(&mut self, moment: u64, port: u16, datagram: &[u8]) -> Result<Hearing, Rule> {
-        let waiting = self.answers.len().saturating_sub(self.taken);
-        if waiting as u64 >= u64::from(self.limits.ring) {
+        if self.untaken() as u64 >= u64::from(self.limits.ring) {
             return Ok(Hearing::Fault(DeskFault::RingFull));
         }
         let packet = match read(datagram) {
@@ -67,12 +66,8 @@ impl Book {
 
     /// What is out under a pair, and its place.
     pub fn find_out(&self, pair: u32) -> Option<(usize, &Out)> {
-        for (place, out) in self.out.as_slice().iter().enumerate() {
-            if out.pair == pair {
-                return Some((place, out));
-            }
-        }
-        None
+        let out = self.out.as_slice();
+        out.iter().enumerate().find(|(_, out)| out.pair == pair)
     }
 
     /// Keeps the reply to what is out at a place.
@@ -103,37 +98,16 @@ impl Book {
 
     /// A request is answered by a reply: its response is made.
     fn answer(&mut self, now: u64, number: u64, reply: &PacketRef<'_>) -> Result<(), Rule> {
-        let Some(secret) = self.secret_of_client(number) else {
-            return Ok(());
-        };
-        let asked = asked_at(self.asked.as_slice(), number);
-        make_answer(&mut self.draft, asked, reply, &secret);
-        let response = self.draft.bytes().to_vec(self.alloc)?;
+        let alloc = self.alloc;
         if let Some(place) = place_of(number)
             && let Some(asked) = self.asked.as_mut_slice().get_mut(place)
+            && let Some(secret) = client_secret(asked.from.address)
         {
-            asked.response = response;
+            let made = response(reply, asked.identifier, &asked.authenticator, &secret);
+            asked.response = made.bytes().to_vec(alloc)?;
             asked.answered = Some(now);
         }
         Ok(())
-    }
-
-    /// The secret of the client that sent a request.
-    fn secret_of_client(&self, number: u64) -> Option<Secret> {
-        let Endpoint { address, .. } = self.client_of(number)?;
-        client_secret(address)
-    }
-}
-
-/// Makes the response to a request after a reply.
-fn make_answer(
-    draft: &mut Datagram,
-    asked: Option<&Asked>,
-    reply: &PacketRef<'_>,
-    secret: &Secret,
-) {
-    if let Some(asked) = asked {
-        make_response(draft, reply, asked.identifier, &asked.authenticator, secret);
     }
 }
 

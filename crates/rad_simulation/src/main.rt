@@ -2,8 +2,8 @@
 //! scheduler of a given seed, in one thread, over wires in memory, with one virtual clock and a network that loses, doubles,
 //! delays and reorders. NASes repeat, home servers die, come back and answer late, twice, wrongly or never, receives and sends
 //! fail, gates stop, lanes are drained, and the proxy is closed at the end. After each call all that the worker did is compared
-//! with what the rules say, by a flat model of them (`book.rt` and
-//! what it names, `front_turn.rt`, `lane_turn.rt`) that calls nothing of the lanes.
+//! with what the rules say, by a flat model of them (`book.rt` and what it names, `front_turn.rt`, `lane_turn.rt`) that calls
+//! nothing of the lanes.
 //!
 //! It is called with the first seed and how many seeds there are. Where a seed fails, it prints that seed, its turn and the rule
 //! that was broken, and ends with status 1; the same seed fails again.
@@ -24,7 +24,6 @@ mod planning;
 mod rules;
 mod run;
 mod setting;
-mod shift;
 mod stepping;
 mod trace;
 mod walk;
@@ -77,20 +76,7 @@ fn run_all<R: AllocGlobal + Print + Wait>(rt: &R, first: u64, count: u64) -> u8 
 fn seeds<R: Env + AllocGlobal>(rt: &R) -> Option<(u64, u64)> {
     let arguments = env::args(rt).ok()?;
     let words: Vec<String> = arguments.collect(rt.alloc()).ok()?;
-    let first = words.as_slice().get(1)?;
-    let count = words.as_slice().get(2)?;
-    Some((number(first.as_str())?, number(count.as_str())?))
-}
-
-/// The number that a word is.
-fn number(word: &str) -> Option<u64> {
-    let mut number: u64 = 0;
-    for octet in word.as_bytes() {
-        let digit = octet.checked_sub(b'0')?;
-        if digit > 9 {
-            return None;
-        }
-        number = number.checked_mul(10_u64)?.checked_add(u64::from(digit))?;
-    }
-    Some(number)
+    let first = words.as_slice().get(1)?.as_str().parse::<u64>().ok()?;
+    let count = words.as_slice().get(2)?.as_str().parse::<u64>().ok()?;
+    Some((first, count))
 }

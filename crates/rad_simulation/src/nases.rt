@@ -1,35 +1,27 @@
 //! The NASes: what they send, and send again.
 
 use crate::chance::Chance;
-use crate::making::{
-    ACCT_SESSION_ID, CLASS, USER_NAME, make_status_server, mark_value, push, sign_request,
-};
+use crate::events::Mail;
+use crate::making::{ACCT_SESSION_ID, CLASS, USER_NAME, begun, push, status_server};
 use crate::rules::Rule;
 use crate::setting::{Setting, client_address, client_secret, realm_of_home};
 use rad_auth::{ACCOUNTING_REQUEST, MESSAGE_AUTHENTICATOR, PROXY_STATE, Secret};
 use rad_packet::Datagram;
 use rad_realms::Endpoint;
 use std::alloc::Global;
+use test_octets::{mark_value, sign_request};
 
 /// Of so many requests that were sent last, one may be sent again.
 const KEPT: usize = 24;
-
-/// What a NAS sent.
-#[derive(Drop)]
-struct Letter {
-    from: Endpoint,
-    octets: Vec<u8>,
-}
 
 /// All NASes.
 #[derive(Drop)]
 pub struct Nases {
     alloc: Global,
     /// What was sent, and may be sent again.
-    letters: Vec<Letter>,
+    letters: Vec<Mail>,
     /// How many requests there were.
     count: u16,
-    draft: Datagram,
 }
 
 impl Nases {
@@ -39,102 +31,98 @@ impl Nases {
             alloc,
             letters: Vec::new(alloc),
             count: 0,
-            draft: Datagram::new(),
         }
     }
 
-    /// What is sent next, and from where.
-    pub fn send(
-        &mut self,
-        chance: &mut Chance,
-        setting: &Setting,
-    ) -> Result<(Endpoint, Vec<u8>), Rule> {
+    /// What is sent next.
+    pub fn send(&mut self, chance: &mut Chance, setting: &Setting) -> Result<Mail, Rule> {
         let repeats = if setting.is_hurried { 12 } else { 2 };
         if !self.letters.is_empty() && chance.is_one_in(repeats) {
             return self.repeat(chance);
         }
+        let mut mail = self.letter(chance, setting)?;
+        self.keep(mail.copy(self.alloc)?)?;
+        spoil(&mut mail, chance)?;
+        Ok(mail)
+    }
+
+    /// A new request, or seldom a Status-Server.
+    fn letter(&mut self, chance: &mut Chance, setting: &Setting) -> Result<Mail, Rule> {
         let address = client_address(chance.is_one_in(2));
         let Some(secret) = client_secret(address) else {
-            return Err(Rule::Configuration);
+            return Err(Rule::CONFIGURATION);
         };
         let port = if chance.is_one_in(3) { 40_001 } else { 40_000 };
-        let from = Endpoint { address, port };
-        if chance.is_one_in(20) {
+        let made = if chance.is_one_in(20) {
             let authenticator = chance.authenticator();
-            make_status_server(&mut self.draft, chance.octet(), authenticator, &secret);
+            status_server(chance.octet(), authenticator, &secret)
         } else {
-            self.make_request(chance, setting, &secret);
-        }
-        let octets = self.draft.bytes().to_vec(self.alloc)?;
-        self.keep(from, octets.as_slice())?;
-        spoil(chance, from, octets)
+            self.request(chance, setting, &secret)
+        };
+        Ok(Mail {
+            from: Endpoint { address, port },
+            socket: 0,
+            octets: made.bytes().to_vec(self.alloc)?,
+        })
     }
 
     /// Keeps what was sent.
-    fn keep(&mut self, from: Endpoint, octets: &[u8]) -> Result<(), Rule> {
+    fn keep(&mut self, letter: Mail) -> Result<(), Rule> {
         if self.letters.len() >= KEPT {
             self.letters.remove(0);
         }
-        let octets = octets.to_vec(self.alloc)?;
-        self.letters.push(Letter { from, octets })?;
+        self.letters.push(letter)?;
         Ok(())
     }
 
-    /// A request that was sent before is sent again, seldom from another port.
-    fn repeat(&mut self, chance: &mut Chance) -> Result<(Endpoint, Vec<u8>), Rule> {
+    /// What was sent before is sent again, seldom from another port.
+    fn repeat(&self, chance: &mut Chance) -> Result<Mail, Rule> {
         let Some(letter) = chance.pick(self.letters.as_slice()) else {
-            return Err(Rule::Configuration);
+            return Err(Rule::CONFIGURATION);
         };
-        let mut from = letter.from;
+        let mut mail = letter.copy(self.alloc)?;
         if chance.is_one_in(10) {
-            from.port = from.port.wrapping_add(1);
+            mail.from.port = mail.from.port.wrapping_add(1);
         }
-        let octets = letter.octets.to_vec(self.alloc)?;
-        Ok((from, octets))
+        Ok(mail)
     }
 
-    /// A new request.
-    fn make_request(&mut self, chance: &mut Chance, setting: &Setting, secret: &Secret) {
-        let draft = &mut self.draft;
+    fn request(&mut self, chance: &mut Chance, setting: &Setting, secret: &Secret) -> Datagram {
         self.count = self.count.wrapping_add(1);
-        draft.begin(ACCOUNTING_REQUEST, (chance.below(5) & 0xff) as u8, [0; 16]);
-        push_name(draft, chance, setting);
+        let count = self.count.to_be_bytes();
+        let mut made = begun(ACCOUNTING_REQUEST, (chance.below(5) & 0xff) as u8, [0; 16]);
+        push_name(&mut made, chance, setting);
         if !chance.is_one_in(10) {
-            push(draft, ACCT_SESSION_ID, &self.count.to_be_bytes());
+            push(&mut made, ACCT_SESSION_ID, &count);
         }
-        push(draft, CLASS, &self.count.to_be_bytes());
+        push(&mut made, CLASS, &count);
         if chance.is_one_in(6) {
-            push(draft, PROXY_STATE, b"abc");
+            push(&mut made, PROXY_STATE, b"abc");
         }
         if chance.is_one_in(12) {
-            push(draft, PROXY_STATE, &mark_value(7, chance.draw()));
+            push(&mut made, PROXY_STATE, &mark_value(7, chance.draw()));
         }
         if chance.is_one_in(40) {
-            push(draft, MESSAGE_AUTHENTICATOR, &[0; 16]);
+            push(&mut made, MESSAGE_AUTHENTICATOR, &[0; 16]);
         }
         if chance.is_one_in(60) {
-            push_much(draft, chance);
+            push_much(&mut made, chance);
         }
-        sign_request(draft, secret);
+        sign_request(&mut made, secret);
+        made
     }
 }
 
-/// The same octets, but for one in a few: cut short, with a bit turned, with padding, or from nobody.
-fn spoil(
-    chance: &mut Chance,
-    from: Endpoint,
-    octets: Vec<u8>,
-) -> Result<(Endpoint, Vec<u8>), Rule> {
-    let mut octets = octets;
-    let mut from = from;
+/// One in a few is cut short, has a bit turned or padding behind it, or comes from nobody.
+fn spoil(mail: &mut Mail, chance: &mut Chance) -> Result<(), Rule> {
     match chance.below(60) {
-        0 => turn_a_bit(&mut octets, chance),
-        1 => octets.truncate(chance.below(60) as usize),
-        2 => octets.extend_from_slice(&[0xff; 7])?,
-        3 => from.address = [10, 0, 0, 9],
+        0 => turn_a_bit(&mut mail.octets, chance),
+        1 => mail.octets.truncate(chance.below(60) as usize),
+        2 => mail.octets.extend_from_slice(&[0xff; 7])?,
+        3 => mail.from.address = [10, 0, 0, 9],
         _ => {}
     }
-    Ok((from, octets))
+    Ok(())
 }
 
 /// A User-Name: mostly of a realm that leads to a home server.

@@ -2,7 +2,7 @@
 
 use crate::chance::Chance;
 use crate::events::{Came, Gone, Mail};
-use crate::making::{CLASS, push, sign_response};
+use crate::making::{CLASS, begun, push};
 use crate::nases::turn_a_bit;
 use crate::rules::Rule;
 use crate::setting::{Home, Setting};
@@ -11,6 +11,7 @@ use rad_auth::{ACCOUNTING_RESPONSE, MESSAGE_AUTHENTICATOR, PROXY_STATE, STATUS_S
 use rad_packet::{Datagram, PacketRef, read};
 use rad_realms::Endpoint;
 use std::alloc::Global;
+use test_octets::sign_response;
 
 /// A datagram on its way to the proxy.
 #[derive(Drop)]
@@ -29,7 +30,6 @@ pub struct Network {
     flying: Vec<Flying>,
     /// Whether each home server is dead.
     dead: [bool; 3],
-    draft: Datagram,
 }
 
 impl Network {
@@ -39,7 +39,6 @@ impl Network {
             alloc,
             flying: Vec::new(alloc),
             dead: [false; 3],
-            draft: Datagram::new(),
         }
     }
 
@@ -60,23 +59,17 @@ impl Network {
         lane: Option<u16>,
         mail: Mail,
     ) -> Result<(), Rule> {
-        if setting.losses != 0 && chance.is_one_in(setting.losses) {
+        if chance.strikes(setting.losses) {
             return Ok(());
         }
-        if setting.losses != 0 && chance.is_one_in(setting.losses) {
-            let twice = Mail {
-                from: mail.from,
-                socket: mail.socket,
-                octets: mail.octets.to_vec(self.alloc)?,
-            };
-            let at = now.saturating_add(chance.below(300));
-            self.flying.push(Flying {
-                at,
-                lane,
-                mail: twice,
-            })?;
+        if chance.strikes(setting.losses) {
+            let twice = mail.copy(self.alloc)?;
+            self.fly(now.saturating_add(chance.below(300)), lane, twice)?;
         }
-        let at = now.saturating_add(delay(chance, setting));
+        self.fly(now.saturating_add(delay(chance, setting)), lane, mail)
+    }
+
+    fn fly(&mut self, at: u64, lane: Option<u16>, mail: Mail) -> Result<(), Rule> {
         self.flying.push(Flying { at, lane, mail })?;
         Ok(())
     }
@@ -92,12 +85,8 @@ impl Network {
     }
 
     fn find(&self, now: u64, lane: Option<u16>) -> Option<usize> {
-        for (place, flying) in self.flying.as_slice().iter().enumerate() {
-            if flying.at <= now && flying.lane == lane {
-                return Some(place);
-            }
-        }
-        None
+        let flying = self.flying.as_slice();
+        flying.iter().position(|it| it.at <= now && it.lane == lane)
     }
 
     /// What a worker did not receive flies on.
@@ -110,11 +99,7 @@ impl Network {
         for arrival in arrivals {
             let Arrival { came, .. } = arrival;
             if let Came::Datagram(mail) = came {
-                self.flying.push(Flying {
-                    at: now,
-                    lane,
-                    mail,
-                })?;
+                self.fly(now, lane, mail)?;
             }
         }
         Ok(())
@@ -130,7 +115,7 @@ impl Network {
         gone: &Gone,
     ) -> Result<(), Rule> {
         let is_dead = self.dead.get(usize::from(lane)).copied().unwrap_or(false);
-        let is_lost = setting.losses != 0 && chance.is_one_in(setting.losses);
+        let is_lost = chance.strikes(setting.losses);
         if (is_dead && !setting.is_hurried) || is_lost {
             return Ok(());
         }
@@ -140,62 +125,59 @@ impl Network {
         let Ok(sent) = read(gone.octets.as_slice()) else {
             return Ok(());
         };
-        self.make_reply(chance, setting, home, &sent);
-        let mut octets = self.draft.bytes().to_vec(self.alloc)?;
-        let mut from = gone.to;
-        let mut socket = gone.socket;
-        if !setting.is_hurried {
-            match chance.below(50) {
-                0 => turn_a_bit(&mut octets, chance),
-                1 => octets.truncate(chance.below(40) as usize),
-                2 => from = nobody(from, chance),
-                3 => socket = (chance.below(4) & 3) as u16,
-                4 => octets.extend_from_slice(&[0x21; 3])?,
-                _ => {}
-            }
-        }
-        let mail = Mail {
-            from,
-            socket,
-            octets,
+        let reply = reply_to(&sent, home, chance, setting);
+        let mut mail = Mail {
+            from: gone.to,
+            socket: gone.socket,
+            octets: reply.bytes().to_vec(self.alloc)?,
         };
+        if !setting.is_hurried {
+            spoil(&mut mail, chance)?;
+        }
         self.carry(chance, setting, now, Some(lane), mail)
     }
+}
 
-    /// Makes the reply to what was sent: mostly with each Proxy-State in its order.
-    fn make_reply(
-        &mut self,
-        chance: &mut Chance,
-        setting: &Setting,
-        home: &Home,
-        sent: &PacketRef<'_>,
-    ) {
-        let fault = if setting.is_hurried {
-            99
-        } else {
-            chance.below(40)
-        };
-        let code = if fault == 0 {
-            STATUS_SERVER
-        } else {
-            ACCOUNTING_RESPONSE
-        };
-        let draft = &mut self.draft;
-        draft.begin(code, sent.identifier(), [0; 16]);
-        if chance.is_one_in(3) {
-            push(draft, CLASS, b"before");
-        }
-        if fault != 1 {
-            push_states(draft, sent);
-        }
-        match fault {
-            2 => push(draft, MESSAGE_AUTHENTICATOR, &[0; 16]),
-            3 => push(draft, PROXY_STATE, b"later"),
-            4..=9 => push(draft, CLASS, b"behind"),
-            _ => {}
-        }
-        sign_response(draft, &sent.authenticator(), &home.secret);
+/// The reply to what was sent: mostly with each Proxy-State in its order.
+fn reply_to(sent: &PacketRef<'_>, home: &Home, chance: &mut Chance, setting: &Setting) -> Datagram {
+    let fault = if setting.is_hurried {
+        99
+    } else {
+        chance.below(40)
+    };
+    let code = if fault == 0 {
+        STATUS_SERVER
+    } else {
+        ACCOUNTING_RESPONSE
+    };
+    let mut reply = begun(code, sent.identifier(), [0; 16]);
+    if chance.is_one_in(3) {
+        push(&mut reply, CLASS, b"before");
     }
+    if fault != 1 {
+        push_states(&mut reply, sent);
+    }
+    match fault {
+        2 => push(&mut reply, MESSAGE_AUTHENTICATOR, &[0; 16]),
+        3 => push(&mut reply, PROXY_STATE, b"later"),
+        4..=9 => push(&mut reply, CLASS, b"behind"),
+        _ => {}
+    }
+    sign_response(&mut reply, &sent.authenticator(), &home.secret);
+    reply
+}
+
+/// One reply in a few has a bit turned, is cut short, comes from nobody or to another socket, or has more behind it.
+fn spoil(mail: &mut Mail, chance: &mut Chance) -> Result<(), Rule> {
+    match chance.below(50) {
+        0 => turn_a_bit(&mut mail.octets, chance),
+        1 => mail.octets.truncate(chance.below(40) as usize),
+        2 => mail.from = nobody(mail.from, chance),
+        3 => mail.socket = (chance.below(4) & 3) as u16,
+        4 => mail.octets.extend_from_slice(&[0x21; 3])?,
+        _ => {}
+    }
+    Ok(())
 }
 
 /// Adds the Proxy-States of a packet, in their order.
@@ -209,14 +191,13 @@ fn push_states(draft: &mut Datagram, sent: &PacketRef<'_>) {
 
 /// An endpoint that differs from a home server's in its address, or in its port.
 fn nobody(home: Endpoint, chance: &mut Chance) -> Endpoint {
-    let Endpoint { address, port } = home;
+    let mut nobody = home;
     if chance.is_one_in(2) {
-        let address = [127, 0, 0, 3];
-        Endpoint { address, port }
+        nobody.address = [127, 0, 0, 3];
     } else {
-        let port = 2815;
-        Endpoint { address, port }
+        nobody.port = 2815;
     }
+    nobody
 }
 
 /// How long a datagram is on its way.

@@ -30,22 +30,23 @@ impl Run {
         } else {
             1
         };
-        let stops = self.setting.stops;
-        let calls = if stops != 0 && self.chance.is_one_in(stops) {
+        let calls = if self.chance.strikes(self.setting.stops) {
             Some((self.chance.below(8) & 0xff) as u32)
         } else {
             None
         };
+        let arrivals = self.arrivals(lane, turns);
+        let lag = if self.chance.is_one_in(10) {
+            self.chance.below(4)
+        } else {
+            0
+        };
         Plan {
             lane,
             turns,
-            arrivals: self.arrivals(lane, turns),
+            arrivals,
             calls,
-            lag: if self.chance.is_one_in(10) {
-                self.chance.below(4)
-            } else {
-                0
-            },
+            lag,
         }
     }
 
@@ -64,8 +65,7 @@ impl Run {
     }
 
     fn came(&mut self, lane: Option<u16>, clock: u64) -> Came {
-        let faults = self.setting.faults;
-        if faults != 0 && self.chance.is_one_in(faults) {
+        if self.chance.strikes(self.setting.faults) {
             return Came::Fault;
         }
         match self.network.arrive(clock, lane) {
@@ -89,8 +89,7 @@ impl Run {
     }
 
     fn wait_for_change(&mut self, clock: u64) -> u64 {
-        let place = self.chance.below(self.setting.homes.len() as u64) as usize;
-        let Some(book) = self.books.books.as_slice().get(place) else {
+        let Some(book) = self.chance.pick(self.books.books.as_slice()) else {
             return 0;
         };
         match book.next_change(clock) {

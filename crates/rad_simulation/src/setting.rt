@@ -73,7 +73,7 @@ impl Setting {
 
     fn add_home(&mut self, place: u16, chance: &mut Chance) -> Result<(), Rule> {
         let Ok(secret) = Secret::new(home_secret(place).as_bytes()) else {
-            return Err(Rule::Configuration);
+            return Err(Rule::CONFIGURATION);
         };
         let limits = if self.is_hurried {
             hurried_limits(chance)
@@ -151,23 +151,27 @@ fn push_home(alloc: Global, text: &mut String, place: u16, home: &Home) -> Resul
     text.push_str(table.as_str())?;
     let line = format!(in alloc; "secret = \"{secret}\"\n")?;
     text.push_str(line.as_str())?;
-    let limits = home.limits;
-    push_number(alloc, text, "window", limits.window)?;
-    push_number(alloc, text, "queue", limits.queue)?;
-    push_number(alloc, text, "book", limits.book)?;
-    push_number(alloc, text, "tries", limits.tries)?;
-    push_number(alloc, text, "first_wait", limits.first_wait)?;
-    push_number(alloc, text, "probe_every", limits.probe_every)?;
-    push_number(alloc, text, "down_wait", limits.down_wait)?;
-    push_number(alloc, text, "span", limits.span)?;
-    push_number(alloc, text, "ring", limits.ring)?;
-    push_number(alloc, text, "ports", limits.ports)
+    for (key, number) in keys(&home.limits) {
+        let line = format!(in alloc; "{key} = {number}\n")?;
+        text.push_str(line.as_str())?;
+    }
+    Ok(())
 }
 
-fn push_number(alloc: Global, text: &mut String, key: &str, number: u32) -> Result<(), Rule> {
-    let line = format!(in alloc; "{key} = {number}\n")?;
-    text.push_str(line.as_str())?;
-    Ok(())
+/// The keys of a home server's limits, and their numbers.
+fn keys(limits: &LimitNumbers) -> [(&'static str, u32); 10] {
+    [
+        ("window", limits.window),
+        ("queue", limits.queue),
+        ("book", limits.book),
+        ("tries", limits.tries),
+        ("first_wait", limits.first_wait),
+        ("probe_every", limits.probe_every),
+        ("down_wait", limits.down_wait),
+        ("span", limits.span),
+        ("ring", limits.ring),
+        ("ports", limits.ports),
+    ]
 }
 
 /// The realm that leads to a home server.

@@ -1,16 +1,16 @@
 //! What a lane does by itself, as the rules have it.
 
-use crate::book::{Asked, Book, Down, Out, asked_at};
-use crate::making::{make_forwarded, make_status_server, mark_value};
+use crate::book::{Book, Down, Out};
+use crate::making::{forwarded, status_server};
 use crate::rules::Rule;
-use rad_auth::Secret;
-use rad_packet::{Datagram, read};
+use rad_packet::read;
+use test_octets::mark_value;
 
 /// The longest wait for an answer.
 const LONGEST_WAIT: u64 = 120_000;
 
 /// What a lane does next. What it sends stands at a place of what is out.
-#[derive(Clone, Copy, Debug, PartialEq, Eq)]
+#[derive(Clone, Copy)]
 pub enum Doing {
     Send(usize),
     SendAgain(usize),
@@ -92,19 +92,29 @@ impl Book {
     fn send_first(&mut self, now: u64) -> Result<usize, Rule> {
         let number = self.sent;
         self.take_pair();
-        let identifier = (self.pair % 256) as u8;
-        let mark = mark_value(self.lane, number);
-        let asked = asked_at(self.asked.as_slice(), number);
-        make_first(&mut self.draft, asked, identifier, &mark, &self.secret);
+        let octets = self.first_sending(number)?;
         self.sent = number.saturating_add(1);
         let due = now.saturating_add(wait_after(self.limits.first_wait, 1));
-        self.put_out(Some(number), due)
+        self.put_out(Some(number), octets, due)
     }
 
-    /// What was made is out under the pair that was taken last.
-    fn put_out(&mut self, number: Option<u64>, due: u64) -> Result<usize, Rule> {
+    /// What goes to the home server for a request, under the pair that was taken last.
+    fn first_sending(&self, number: u64) -> Result<Vec<u8>, Rule> {
+        let text = match self.at(number) {
+            Some(asked) => asked.text.as_slice(),
+            None => &[],
+        };
+        let Ok(request) = read(text) else {
+            return Err(Rule::FIRST_SENDING);
+        };
+        let mark = mark_value(self.lane, number);
+        let made = forwarded(&request, (self.pair % 256) as u8, &mark, &self.secret);
+        Ok(made.bytes().to_vec(self.alloc)?)
+    }
+
+    /// These octets are out under the pair that was taken last.
+    fn put_out(&mut self, number: Option<u64>, octets: Vec<u8>, due: u64) -> Result<usize, Rule> {
         let place = self.out.len();
-        let octets = self.draft.bytes().to_vec(self.alloc)?;
         self.out.push(Out {
             pair: self.pair,
             number,
@@ -135,9 +145,9 @@ impl Book {
         if down.next_probe <= now {
             self.forget_probe();
             self.take_pair();
-            let identifier = (self.pair % 256) as u8;
-            make_status_server(&mut self.draft, identifier, drawn, &self.secret);
-            let place = self.put_out(None, 0)?;
+            let probe = status_server((self.pair % 256) as u8, drawn, &self.secret);
+            let octets = probe.bytes().to_vec(self.alloc)?;
+            let place = self.put_out(None, octets, 0)?;
             self.down = Some(Down {
                 until: down.until,
                 next_probe: now.saturating_add(u64::from(self.limits.probe_every)),
@@ -145,22 +155,6 @@ impl Book {
             return Ok(Doing::Probe(place));
         }
         Ok(Doing::Idle)
-    }
-}
-
-/// Makes what goes to the home server for a request.
-fn make_first(
-    draft: &mut Datagram,
-    asked: Option<&Asked>,
-    identifier: u8,
-    mark: &[u8; 10],
-    secret: &Secret,
-) {
-    let Some(asked) = asked else {
-        return;
-    };
-    if let Ok(request) = read(asked.text.as_slice()) {
-        make_forwarded(draft, &request, identifier, mark, secret);
     }
 }
 

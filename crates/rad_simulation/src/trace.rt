@@ -39,10 +39,6 @@ impl Trace {
         }
     }
 
-    fn tell(&self, telling: Telling) {
-        self.add(Event::Told(telling));
-    }
-
     /// A copy of octets; none where memory is refused, and then the list is gone.
     fn copy(&self, octets: &[u8]) -> Option<Vec<u8>> {
         match octets.to_vec(self.alloc) {
@@ -58,29 +54,24 @@ impl Trace {
 /// The gate of a worker for one call, which may stop it.
 #[derive(Drop)]
 pub struct TraceGate<'a> {
-    trace: &'a Trace,
-    worker: Worker,
-    /// How many calls it lets the worker make; with none, all.
-    calls: Cell<Option<u32>>,
+    pub trace: &'a Trace,
+    pub worker: Worker,
+    /// How many calls it lets the worker make, which it stops before the next one; with none, all.
+    pub calls: Cell<Option<u32>>,
 }
 
 impl<'a> TraceGate<'a> {
-    /// It stops the worker before the call that is one too many.
-    pub fn new(trace: &'a Trace, worker: Worker, calls: Option<u32>) -> TraceGate<'a> {
-        TraceGate {
-            trace,
-            worker,
-            calls: Cell::new(calls),
+    /// What it is asked or told, in whose name.
+    fn add(&self, worker: Worker, event: Event) {
+        if worker == self.worker {
+            self.trace.add(event);
+        } else {
+            self.trace.add(Event::OfAnother);
         }
     }
 
-    /// What it is told, in whose name.
-    fn tell(&self, worker: Worker, telling: Telling) {
-        if worker == self.worker {
-            self.trace.tell(telling);
-        } else {
-            self.trace.tell(Telling::OfAnother);
-        }
+    fn tell(&self, telling: Telling) {
+        self.trace.add(Event::Told(telling));
     }
 
     /// Whether one call more is let.
@@ -99,16 +90,16 @@ impl<'a> TraceGate<'a> {
 impl<'a> Gate for TraceGate<'a> {
     fn before(&self, worker: Worker, call: Call) -> Go {
         let go = self.lets();
-        self.tell(worker, Telling::Before(call, go));
+        self.add(worker, Event::Before(call, go));
         go
     }
 
     fn after(&self, worker: Worker, call: Call) {
-        self.tell(worker, Telling::After(call));
+        self.add(worker, Event::After(call));
     }
 
     fn note(&self, worker: Worker, note: Note) {
-        self.tell(worker, Telling::Note(note));
+        self.add(worker, Event::Noted(note));
     }
 
     fn received(&self, _worker: Worker, from: Endpoint, octets: &[u8]) {
@@ -124,11 +115,11 @@ impl<'a> Gate for TraceGate<'a> {
     }
 
     fn accepted(&self, lane: u16, number: u64) {
-        self.trace.tell(Telling::Accepted(lane, number));
+        self.tell(Telling::Accepted(lane, number));
     }
 
     fn answered(&self, lane: u16, serial: u64) {
-        self.trace.tell(Telling::Answered(lane, serial));
+        self.tell(Telling::Answered(lane, serial));
     }
 
     fn went_down(&self, lane: u16, spent: &Spent) {
@@ -146,7 +137,7 @@ impl<'a> Gate for TraceGate<'a> {
     }
 
     fn went_up(&self, lane: u16, reason: UpReason) {
-        self.trace.tell(Telling::WentUp(lane, reason));
+        self.tell(Telling::WentUp(lane, reason));
     }
 
     fn no_realm(&self, packet: &[u8]) {
@@ -156,7 +147,7 @@ impl<'a> Gate for TraceGate<'a> {
     }
 
     fn came_marked(&self, lane: u16, from: Endpoint, marks: u64) {
-        self.trace.tell(Telling::Marked(lane, from, marks));
+        self.tell(Telling::Marked(lane, from, marks));
     }
 }
 
@@ -170,82 +161,43 @@ pub struct Arrival {
 /// The wire of a worker for one call: what is to come is known before.
 #[derive(Drop)]
 pub struct TraceWire<'a> {
-    trace: &'a Trace,
+    pub trace: &'a Trace,
     /// What comes, the next one last.
     pub arrivals: Vec<Arrival>,
     /// The moment.
     pub clock: u64,
     /// How many milliseconds this worker's clock is behind.
-    lag: u64,
+    pub lag: u64,
     /// What the octets are drawn by, and which send fails.
-    chance: Chance,
-    /// One send in so many fails.
-    sends_a_fault: u64,
+    pub chance: Chance,
+    /// One send in so many fails; 0 where none does.
+    pub faults: u64,
 }
 
 impl<'a> TraceWire<'a> {
-    /// It gives what is to come, turn by turn.
-    pub fn new(
-        trace: &'a Trace,
-        arrivals: Vec<Arrival>,
-        clock: u64,
-        lag: u64,
-        chance: Chance,
-        sends_a_fault: u64,
-    ) -> TraceWire<'a> {
-        TraceWire {
-            trace,
-            arrivals,
-            clock,
-            lag,
-            chance,
-            sends_a_fault,
-        }
-    }
-
-    /// What was to come, and did not.
-    pub fn into_arrivals(self) -> Vec<Arrival> {
-        let TraceWire { arrivals, .. } = self;
-        arrivals
-    }
-
     /// What comes next.
     fn arrive(&mut self) -> Came {
         match self.arrivals.pop() {
-            Some(arrival) => {
-                self.clock = self.clock.saturating_add(arrival.wait);
-                arrival.came
+            Some(Arrival { wait, came }) => {
+                self.clock = self.clock.saturating_add(wait);
+                came
             }
             None => Came::Nothing,
         }
-    }
-
-    /// Whether a send fails.
-    fn fails(&mut self) -> bool {
-        self.sends_a_fault != 0 && self.chance.is_one_in(self.sends_a_fault)
     }
 
     /// The moment of this worker's clock.
     fn moment(&self) -> u64 {
         self.clock.saturating_sub(self.lag)
     }
-
-    fn add_received(&self, came: Came) {
-        self.trace.add(Event::Received(self.moment(), came));
-    }
-}
-
-/// The moment of so many milliseconds; the first, where there is none.
-fn moment_of(milliseconds: u64) -> Moment {
-    match Moment::new(milliseconds) {
-        Some(moment) => moment,
-        None => Moment::new(0).unwrap(),
-    }
 }
 
 impl<'a> Wire for TraceWire<'a> {
     fn now(&mut self) -> Moment {
-        moment_of(self.moment())
+        match Moment::new(self.moment()) {
+            Some(moment) => moment,
+            None => Moment::new(0).unwrap(),
+        }
     }
 
     fn random(&mut self) -> [u8; 16] {
@@ -255,41 +207,30 @@ impl<'a> Wire for TraceWire<'a> {
     }
 
     fn receive(&mut self, datagram: &mut [u8; 4096]) -> Received {
-        match self.arrive() {
+        let mut came = self.arrive();
+        let received = match &mut came {
             Came::Datagram(mail) => {
-                let Mail {
-                    from,
-                    socket,
-                    octets,
-                } = mail;
-                let Endpoint { address, port } = from;
+                mail.octets.truncate(4096);
+                let octets = mail.octets.as_slice();
                 let count = octets.len().min(4096);
-                datagram[..count].copy_from_slice(&octets.as_slice()[..count]);
-                self.add_received(Came::Datagram(Mail {
-                    from,
-                    socket,
-                    octets,
-                }));
+                datagram[..count].copy_from_slice(&octets[..count]);
+                let Endpoint { address, port } = mail.from;
                 Received::Got {
                     address,
                     port,
-                    socket,
+                    socket: mail.socket,
                     count,
                 }
             }
-            Came::Nothing => {
-                self.add_received(Came::Nothing);
-                Received::Nothing
-            }
-            Came::Fault => {
-                self.add_received(Came::Fault);
-                Received::Fault
-            }
-        }
+            Came::Nothing => Received::Nothing,
+            Came::Fault => Received::Fault,
+        };
+        self.trace.add(Event::Received(self.moment(), came));
+        received
     }
 
     fn send(&mut self, socket: u16, address: [u8; 4], port: u16, octets: &[u8]) -> Delivery {
-        let is_handed_over = !self.fails();
+        let is_handed_over = !self.chance.strikes(self.faults);
         if let Some(copy) = self.trace.copy(octets) {
             self.trace.add(Event::Went(Gone {
                 socket,

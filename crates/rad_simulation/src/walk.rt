@@ -1,20 +1,18 @@
 //! The walk over what happened in one call of a worker, which compares each event with what should have been.
 
-use crate::events::{Came, DownBy, Event, Gone, Telling};
+use crate::events::{Came, DownBy, Event, Gone, Mail, Telling};
 use crate::rules::Rule;
-use rad_desk::{Call, Go, Note};
-use rad_realms::Endpoint;
+use rad_desk::{Call, Go, Note, Tally};
 
-/// Where a walk stands, and what was drawn last.
+/// Where a walk stands, and what the worker should have done so far.
 #[derive(Clone, Copy)]
 pub struct Walk<'a> {
     events: &'a [Event],
     /// How many events were looked at.
     place: usize,
-    /// The octets that the wire drew last in this turn.
-    drawn: Option<[u8; 16]>,
     /// Whether the worker began all its turns, by what it says itself.
     began_all: bool,
+    pub tally: Tally,
 }
 
 impl<'a> Walk<'a> {
@@ -23,23 +21,19 @@ impl<'a> Walk<'a> {
         Walk {
             events,
             place: 0,
-            drawn: None,
             began_all,
+            tally: Tally {
+                turns: 0,
+                received: 0,
+                sent: 0,
+                faults: 0,
+            },
         }
     }
 
-    /// The next event, but for what was drawn, which is remembered; none at the end.
-    fn peek(&mut self) -> Option<&'a Event> {
-        for _ in 0..self.events.len() {
-            match self.events.get(self.place) {
-                Some(Event::Drew(octets)) => {
-                    self.drawn = Some(*octets);
-                    self.place = self.place.saturating_add(1);
-                }
-                other => return other,
-            }
-        }
-        None
+    /// The next event; none at the end.
+    fn peek(&self) -> Option<&'a Event> {
+        self.events.get(self.place)
     }
 
     /// The next event. Where there is none, this rule is broken, or the worker did not go on.
@@ -50,51 +44,64 @@ impl<'a> Walk<'a> {
                 Ok(event)
             }
             None if self.began_all => Err(rule),
-            None => Err(Rule::GoesOn),
+            None => Err(Rule::GOES_ON),
         }
     }
 
-    /// The octets that were drawn last.
-    pub fn drawn(&self) -> Option<[u8; 16]> {
-        self.drawn
+    /// A turn begins with a receive. It gives its moment, and the datagram that came.
+    pub fn begins(&mut self) -> Result<(u64, Option<&'a Mail>), Rule> {
+        self.tally.turns = self.tally.turns.saturating_add(1);
+        let (moment, came) = self.receives()?;
+        match came {
+            Came::Nothing => Ok((moment, None)),
+            Came::Fault => {
+                self.fails(Note::ReceiveFault, Rule::RECEIVE_FAULT)?;
+                Ok((moment, None))
+            }
+            Came::Datagram(mail) => {
+                self.told_received(mail)?;
+                Ok((moment, Some(mail)))
+            }
+        }
     }
 
-    /// A turn begins: what came, and at which moment.
-    pub fn receives(&mut self) -> Result<(u64, &'a Came), Rule> {
-        self.drawn = None;
-        match self.next(Rule::Receive)? {
+    fn receives(&mut self) -> Result<(u64, &'a Came), Rule> {
+        match self.next(Rule::RECEIVE)? {
             Event::Received(moment, came) => Ok((*moment, came)),
-            other => Err(rule_of(other, Rule::Receive)),
+            other => Err(rule_of(other, Rule::RECEIVE)),
+        }
+    }
+
+    /// A receive or a send fails, and that is noted.
+    fn fails(&mut self, note: Note, rule: Rule) -> Result<(), Rule> {
+        self.tally.faults = self.tally.faults.saturating_add(1);
+        self.notes(note, rule)
+    }
+
+    /// The gate is told of what came.
+    fn told_received(&mut self, mail: &Mail) -> Result<(), Rule> {
+        self.tally.received = self.tally.received.saturating_add(1);
+        match self.next(Rule::TOLD_RECEIVED)? {
+            Event::ToldReceived(from, octets)
+                if *from == mail.from && octets.as_slice() == mail.octets.as_slice() => { Ok(()) }
+            _ => Err(Rule::TOLD_RECEIVED),
         }
     }
 
     /// Nothing more happens.
-    pub fn ends(&mut self, rule: Rule) -> Result<(), Rule> {
+    pub fn ends(&self, rule: Rule) -> Result<(), Rule> {
         match self.peek() {
             None => Ok(()),
             Some(event) => Err(rule_of(event, rule)),
         }
     }
 
-    /// The gate is told this.
-    pub fn tells(&mut self, telling: Telling, rule: Rule) -> Result<(), Rule> {
-        match self.next(rule)? {
-            Event::Told(told) if *told == telling => Ok(()),
-            other => Err(rule_of(other, rule)),
-        }
-    }
-
-    /// The gate is told this note.
-    pub fn notes(&mut self, note: Note, rule: Rule) -> Result<(), Rule> {
-        self.tells(Telling::Note(note), rule)
-    }
-
     /// The gate is asked before a call. It gives whether the call is made, and where it is not, that nothing more happens.
     pub fn asks(&mut self, call: Call, rule: Rule) -> Result<bool, Rule> {
         match self.next(rule)? {
-            Event::Told(Telling::Before(asked, Go::On)) if *asked == call => Ok(true),
-            Event::Told(Telling::Before(asked, Go::Stop)) if *asked == call => {
-                self.ends(Rule::Stops)?;
+            Event::Before(asked, Go::On) if *asked == call => Ok(true),
+            Event::Before(asked, Go::Stop) if *asked == call => {
+                self.ends(Rule::STOPS)?;
                 Ok(false)
             }
             other => Err(rule_of(other, rule)),
@@ -102,76 +109,109 @@ impl<'a> Walk<'a> {
     }
 
     /// Whether the gate is asked before this call next.
-    pub fn is_asked(&mut self, call: Call) -> bool {
+    pub fn is_asked(&self, call: Call) -> bool {
         match self.peek() {
-            Some(Event::Told(Telling::Before(asked, _))) => *asked == call,
+            Some(Event::Before(asked, _)) => *asked == call,
             _ => false,
         }
     }
 
     /// Whether the next turn begins here, or nothing more happens.
-    pub fn is_between_turns(&mut self) -> bool {
-        match self.peek() {
-            Some(Event::Received(..)) | None => true,
-            Some(_) => false,
+    pub fn is_between_turns(&self) -> bool {
+        matches!(self.peek(), Some(Event::Received(..)) | None)
+    }
+
+    /// The gate is told that a call was made.
+    pub fn made(&mut self, call: Call, rule: Rule) -> Result<(), Rule> {
+        match self.next(rule)? {
+            Event::After(made) if *made == call => Ok(()),
+            other => Err(rule_of(other, rule)),
         }
     }
 
-    /// The gate is told of what came.
-    pub fn told_received(&mut self, from: Endpoint, octets: &[u8]) -> Result<(), Rule> {
-        match self.next(Rule::ToldReceived)? {
-            Event::ToldReceived(told, text) if *told == from && text.as_slice() == octets => Ok(()),
-            _ => Err(Rule::ToldReceived),
+    /// The gate is told this note.
+    pub fn notes(&mut self, note: Note, rule: Rule) -> Result<(), Rule> {
+        match self.next(rule)? {
+            Event::Noted(noted) if *noted == note => Ok(()),
+            other => Err(rule_of(other, rule)),
+        }
+    }
+
+    /// The gate is told this of a lane.
+    pub fn tells(&mut self, telling: Telling, rule: Rule) -> Result<(), Rule> {
+        match self.next(rule)? {
+            Event::Told(told) if told.is(telling) => Ok(()),
+            other => Err(rule_of(other, rule)),
         }
     }
 
     /// The gate is told of a packet whose realm leads nowhere.
     pub fn told_no_realm(&mut self, octets: &[u8]) -> Result<(), Rule> {
-        match self.next(Rule::NoRealm)? {
+        match self.next(Rule::NO_REALM)? {
             Event::ToldNoRealm(text) if text.as_slice() == octets => Ok(()),
-            _ => Err(Rule::NoRealm),
+            _ => Err(Rule::NO_REALM),
         }
     }
 
     /// The gate is told by which request a lane went down.
     pub fn told_down(&mut self) -> Result<&'a DownBy, Rule> {
-        match self.next(Rule::DownBy)? {
+        match self.next(Rule::DOWN_BY)? {
             Event::ToldDown(down) => Ok(down),
-            _ => Err(Rule::DownBy),
+            _ => Err(Rule::DOWN_BY),
         }
     }
 
-    /// These octets are sent, and the gate is told right before.
+    /// The octets that the wire draws.
+    pub fn draws(&mut self, rule: Rule) -> Result<[u8; 16], Rule> {
+        match self.next(rule)? {
+            Event::Drew(octets) => Ok(*octets),
+            other => Err(rule_of(other, rule)),
+        }
+    }
+
+    /// These octets are sent, and the gate is told right before. With a fault the datagram is lost, and that is noted behind it.
     pub fn sends(&mut self, octets: &[u8], rule: Rule) -> Result<&'a Gone, Rule> {
         let (to, text) = match self.next(rule)? {
             Event::ToldSends(to, text) => (to, text),
             _ => return Err(rule),
         };
-        match self.next(Rule::ToldSends)? {
+        match self.next(Rule::TOLD_SENDS)? {
             Event::Went(gone) => {
-                if gone.octets.as_slice() != octets {
-                    return Err(rule);
-                }
-                if gone.to != *to || text.as_slice() != octets {
-                    return Err(Rule::ToldSends);
-                }
+                rule.unless(gone.octets.as_slice() == octets)?;
+                Rule::TOLD_SENDS.unless(gone.to == *to && text.as_slice() == octets)?;
                 Ok(gone)
             }
-            _ => Err(Rule::ToldSends),
+            _ => Err(Rule::TOLD_SENDS),
         }
+    }
+
+    /// What was sent is counted; where it is lost, that is noted.
+    pub fn counts(&mut self, gone: &Gone) -> Result<(), Rule> {
+        if gone.is_handed_over {
+            self.tally.sent = self.tally.sent.saturating_add(1);
+            return Ok(());
+        }
+        self.fails(Note::SendFault, Rule::SEND_FAULT)
     }
 }
 
 /// The rule that is broken by an event that should not be, where another was to be by this rule: its own, where it has one.
 fn rule_of(event: &Event, rule: Rule) -> Rule {
     match event {
-        Event::Told(Telling::Note(Note::ReceiveFault)) => Rule::ReceiveFault,
-        Event::Told(Telling::Note(Note::SendFault)) => Rule::SendFault,
-        Event::Told(Telling::Note(Note::Took(..))) => Rule::Took,
-        Event::Told(Telling::Note(Note::Cut(_))) => Rule::Cut,
-        Event::Told(Telling::Before(Call::Turn, _)) => Rule::Turn,
-        Event::Told(Telling::OfAnother) => Rule::OwnName,
-        Event::ToldSends(..) | Event::Went(_) => Rule::SendsOnce,
+        Event::Noted(note) => rule_of_note(note, rule),
+        Event::Before(Call::Turn, _) => Rule::TURN,
+        Event::OfAnother => Rule::OWN_NAME,
+        Event::ToldSends(..) | Event::Went(_) => Rule::SENDS_ONCE,
+        _ => rule,
+    }
+}
+
+fn rule_of_note(note: &Note, rule: Rule) -> Rule {
+    match note {
+        Note::ReceiveFault => Rule::RECEIVE_FAULT,
+        Note::SendFault => Rule::SEND_FAULT,
+        Note::Took(..) => Rule::TOOK,
+        Note::Cut(_) => Rule::CUT,
         _ => rule,
     }
 }
