@@ -80,7 +80,8 @@ soak:
 	python3 tests/hostile/memory.py $(PROGRAM) --seconds $(SECONDS) || status=1; \
 	exit $$status
 
-# Measures the program that was built, and radsecproxy and FreeRADIUS where they are installed; docs/performance.md says how.
+# Measures the program that was built, a bare relay, and radsecproxy and FreeRADIUS where they are installed; docs/performance.md
+# says how.
 bench: ROUNDS = 5
 bench: SECONDS = 3
 bench: RATE = 20000

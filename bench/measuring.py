@@ -1,10 +1,11 @@
 """The measures: each takes a subject and a round, starts what it needs, and writes down what it found.
 
     throughput  requests a second by how many are out at once, with one home server; and with four
+    busy        requests a second beside other programs that keep half of the processors at work
     latency     how long an answer takes by how many requests begin each second
     memory      resident: without requests, and for each of 100,000
     start       from exec to the first answer, with 64 home servers, 256 clients and 256 realms
-    idle        processor time and switches a second of a proxy that has nothing to do
+    idle        processor time and switches a second of a proxy that has nothing to do, with few home servers and with many
     growth      time a request of the program, as its book fills to 1,000,000
     steady      how long an answer takes second by second, in a long run at one rate
 """
@@ -12,6 +13,7 @@ import hashlib
 import hmac
 import itertools
 import json
+import os
 import pathlib
 import socket
 import struct
@@ -21,14 +23,17 @@ import time
 from contextlib import ExitStack, contextmanager
 
 import readings
-from proxies import CLIENT_SECRET, HOME_SECRET, Direct, FreeRadius, RadProxy, Radsecproxy, Setting, end, end_with_parent
+from proxies import (CLIENT_SECRET, HOME_SECRET, Direct, FreeRadius, RadProxy, Radsecproxy, Relay, Setting, end,
+                     end_with_parent)
 
 WINDOWS, RATES = [1, 4, 16, 64, 256], [1000, 5000, 10_000, 20_000, 40_000]
 MANY_HOMES, MANY_WINDOW = 4, 256
+BUSY_WINDOW, BUSY_PROCESSORS = 64, max(1, (os.cpu_count() or 2) // 2)
+IDLE_HOMES = [4, 64]
 IDENTIFIERS_A_SOCKET, SOCKETS_OF_A_RATE = 128, 16
 MOST_REQUESTS = 900_000
 WARMING = {"window": 16, "count": 500, "seconds": 10}
-SECONDS_TO_ANSWER, SECONDS_OF_A_HOME = 15, 3600
+SECONDS_TO_ANSWER, SECONDS_OF_A_HOME, SECONDS_BUSY = 15, 3600, 600
 REMEMBERED = 100_000
 LARGE = {"homes": 64, "clients": 256, "realms": 256}
 BOOK, BOOK_BEGINS, BOOK_STEP, GROWTH_WINDOW, GROWTH_ROUNDS = 1_000_000, 1000, 9990, 64, 3
@@ -49,15 +54,12 @@ class Bench:
         self.plan, self.folder, self.work = plan, folder, work
         self.series = itertools.count()
         self.results = []
-        subjects = [Direct(), RadProxy(plan.program), Radsecproxy(), FreeRadius()]
+        subjects = [Direct(), Relay(work / "relay"), RadProxy(plan.program), Radsecproxy(), FreeRadius()]
         wanted = plan.subjects.split(",") if plan.subjects else [subject.name for subject in subjects]
         self.subjects = [subject for subject in subjects if subject.name in wanted and subject.is_there()]
         for subject in subjects:
             if subject.name in wanted and not subject.is_there():
                 print(f"{subject.name} is not there, and is left out")
-
-    def proxies(self):
-        return [subject for subject in self.subjects if subject.is_proxy]
 
     def in_turn(self, subjects, round_number):
         """The subjects, each time beginning with another one."""
@@ -136,6 +138,14 @@ class Bench:
                 told = self.load(subject, process, homes, window=window, sockets=sockets)
             self.keep("throughput", subject.name, round=number, window=window, homes=homes, **told)
 
+    def busy(self, subject, number):
+        with ExitStack() as stack:
+            for _ in range(BUSY_PROCESSORS):
+                stack.enter_context(self.started([self.work / "spin", str(SECONDS_BUSY + self.plan.seconds)]))
+            process = stack.enter_context(self.serving(subject))
+            told = self.load(subject, process, window=BUSY_WINDOW)
+        self.keep("busy", subject.name, round=number, window=BUSY_WINDOW, processors=BUSY_PROCESSORS, **told)
+
     def latency(self, subject, number):
         for rate in RATES:
             with self.serving(subject) as process:
@@ -162,18 +172,19 @@ class Bench:
         self.keep("start", subject.name, round=number, **json.loads(line))
 
     def idle(self, subject, number):
-        with self.serving(subject, MANY_HOMES) as process:
-            self.generate(subject, MANY_HOMES, warming=True, **WARMING)
-            time.sleep(1)
-            meter, before = readings.Meter(process.pid), readings.switches(process.pid)
-            time.sleep(self.plan.seconds)
-            took, switched = meter.seconds(), readings.switches(process.pid) - before
-            count = readings.threads(process.pid)
-        self.keep("idle", subject.name, round=number, homes=MANY_HOMES, threads=count,
-                  cpu_us_a_second=1e6 * took / self.plan.seconds, switches_a_second=switched / self.plan.seconds)
+        for homes in IDLE_HOMES:
+            with self.serving(subject, homes) as process:
+                self.generate(subject, homes, warming=True, **WARMING)
+                time.sleep(1)
+                meter, before = readings.Meter(process.pid), readings.switches(process.pid)
+                time.sleep(self.plan.seconds)
+                took, switched = meter.seconds(), readings.switches(process.pid) - before
+                count = readings.threads(process.pid)
+            self.keep("idle", subject.name, round=number, homes=homes, threads=count,
+                      cpu_us_a_second=1e6 * took / self.plan.seconds, switches_a_second=switched / self.plan.seconds)
 
     def growth(self, subject, number):
-        if subject.name != "rad_proxy" or number >= GROWTH_ROUNDS:
+        if number >= GROWTH_ROUNDS:
             return
         with self.serving(subject, span=600_000, book=BOOK) as process:
             self.generate(subject, warming=True, window=GROWTH_WINDOW, count=BOOK_BEGINS, seconds=10)
@@ -204,15 +215,18 @@ class Bench:
                   cpu_us=1e6 * took / max(1, told["answered"]), **told)
 
     def measures(self):
-        """Each measure, and whether it is also taken where there is no proxy."""
+        """Each measure, and of which subjects it is taken."""
+        proxies = [RadProxy.name, Radsecproxy.name, FreeRadius.name]
+        with_relay = [Relay.name, *proxies]
         return {
-            "throughput": (self.throughput, True),
-            "latency": (self.latency, True),
-            "memory": (self.memory, False),
-            "start": (self.start, False),
-            "idle": (self.idle, False),
-            "growth": (self.growth, False),
-            "steady": (self.steady, False),
+            "throughput": (self.throughput, [Direct.name, *with_relay]),
+            "busy": (self.busy, with_relay),
+            "latency": (self.latency, [Direct.name, *with_relay]),
+            "memory": (self.memory, proxies),
+            "start": (self.start, proxies),
+            "idle": (self.idle, with_relay),
+            "growth": (self.growth, [RadProxy.name]),
+            "steady": (self.steady, with_relay),
         }
 
     def run(self):
@@ -223,8 +237,8 @@ class Bench:
                   **{key: getattr(self.plan, key) for key in keys})
         wanted = self.plan.only.split(",") if self.plan.only else list(self.measures())
         for number, name in itertools.product(range(self.plan.rounds), wanted):
-            measure, is_direct = self.measures()[name]
-            for subject in self.in_turn(self.subjects if is_direct else self.proxies(), number):
+            measure, names = self.measures()[name]
+            for subject in self.in_turn([subject for subject in self.subjects if subject.name in names], number):
                 print(f"round {number + 1} of {self.plan.rounds}: {name}, {subject.name}", flush=True)
                 try:
                     measure(subject, number)

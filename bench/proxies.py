@@ -50,6 +50,25 @@ class Direct:
         return "-"
 
 
+class Relay:
+    """The least that a proxy can do, in one thread of C: `relay.c`, which is the yardstick for the others."""
+
+    name, is_proxy = "relay", True
+
+    def __init__(self, program):
+        self.program = program
+
+    def is_there(self):
+        return True
+
+    def version(self):
+        return "-"
+
+    def words(self, _folder, setting):
+        realms = [f"{realm}={setting.homes[home]}" for realm, home in setting.led()]
+        return [str(self.program), str(setting.listen), CLIENT_SECRET, HOME_SECRET, *realms]
+
+
 class RadProxy:
     """The program that was built. Its standard input stays open, and is ended to end it."""
 

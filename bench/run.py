@@ -1,5 +1,5 @@
 #!/usr/bin/env python3
-"""Measures the program that was built, and radsecproxy and FreeRADIUS where they are installed, in turns.
+"""Measures the program that was built, a bare relay, and radsecproxy and FreeRADIUS where they are installed, in turns.
 
 usage: run.py PROGRAM [--rounds N] [--seconds N] [--long N] [--rate N] [--octets N] [--port N] [--only MEASURE,..]
                       [--subjects NAME,..] [--out FOLDER]
@@ -25,7 +25,7 @@ from pictures import draw
 
 
 def read_plan():
-    parser = argparse.ArgumentParser(description="Measures the program, and radsecproxy and FreeRADIUS beside it.")
+    parser = argparse.ArgumentParser(description="Measures the program, and a bare relay, radsecproxy and FreeRADIUS beside it.")
     parser.add_argument("program")
     parser.add_argument("--rounds", type=int, default=5)
     parser.add_argument("--seconds", type=int, default=3, help="of each load")

@@ -1,6 +1,7 @@
-"""Tries the programs of this folder: digests against hashlib's, the home server and the generator against peers in Python.
+"""Tries the programs of this folder: digests against hashlib's; the home server, the relay and the generator against peers in
+Python.
 
-check(FOLDER, PORT) raises where something isn't as it has to be. FOLDER has the compiled programs; the port and the next one
+check(FOLDER, PORT) raises where something isn't as it has to be. FOLDER has the compiled programs; the port and the next four
 of 127.0.0.1 are used.
 """
 import hashlib
@@ -12,8 +13,9 @@ import subprocess
 import threading
 import time
 
-ACCOUNTING_REQUEST, ACCOUNTING_RESPONSE, STATUS_SERVER, PROXY_STATE = 4, 5, 12, 33
-SECRET = "a secret of the self-test"
+ACCOUNTING_REQUEST, ACCOUNTING_RESPONSE, STATUS_SERVER, PROXY_STATE, ACCT_SESSION_ID = 4, 5, 12, 33, 44
+USER_NAME, MESSAGE_AUTHENTICATOR, MARK_OCTETS = 1, 80, 10
+SECRET, HOME_SECRET = "a secret of the self-test", "another one"
 LENGTHS, PIECES = [*range(200), 255, 4095, 4096, 8000], [1, 7, 63, 64, 65, 8000]
 SECONDS_TO_ANSWER, DELAY, EACH_WRONG = 2, 0.02, 4
 REQUESTS = 200
@@ -24,10 +26,24 @@ def expect(what, is_so):
         raise RuntimeError(f"self-test: {what}")
 
 
-def packet(code, identifier, middle, attributes):
+def packet(code, identifier, middle, attributes, secret=SECRET):
     """A packet whose authenticator is made over `middle` in its place (RFC 2866 section 3)."""
     head = struct.pack("!BBH", code, identifier, 20 + len(attributes))
-    return head + hashlib.md5(head + middle + attributes + SECRET.encode()).digest() + attributes
+    return head + hashlib.md5(head + middle + attributes + secret.encode()).digest() + attributes
+
+
+def attribute(kind, value):
+    return bytes([kind, len(value) + 2]) + value
+
+
+def status_server(identifier):
+    """A Status-Server, whose Message-Authenticator nobody looks at here."""
+    return struct.pack("!BBH", STATUS_SERVER, identifier, 38) + bytes(range(16)) + attribute(MESSAGE_AUTHENTICATOR, bytes(16))
+
+
+def spoiled(octets):
+    """The same with another authenticator."""
+    return octets[:19] + bytes([octets[19] ^ 1]) + octets[20:]
 
 
 def check_digests(folder):
@@ -50,10 +66,9 @@ def ask(asking, octets):
 
 def check_home(folder, port):
     """It answers right requests with their Proxy-States, and Status-Servers, and nothing else."""
-    states = bytes([PROXY_STATE, 5, 1, 2, 3]), bytes([PROXY_STATE, 3, 9])
-    request = packet(ACCOUNTING_REQUEST, 7, bytes(16), states[0] + bytes([44, 4, 65, 66]) + states[1])
-    status = struct.pack("!BBH", STATUS_SERVER, 8, 38) + bytes(range(16)) + bytes([80, 18]) + bytes(16)
-    spoiled = request[:19] + bytes([request[19] ^ 1]) + request[20:]
+    states = attribute(PROXY_STATE, bytes([1, 2, 3])), attribute(PROXY_STATE, bytes([9]))
+    request = packet(ACCOUNTING_REQUEST, 7, bytes(16), states[0] + attribute(ACCT_SESSION_ID, b"AB") + states[1])
+    status = status_server(8)
     with subprocess.Popen([folder / "home", str(port), SECRET, "60"], stdout=subprocess.PIPE, text=True) as home:
         try:
             with socket.socket(socket.AF_INET, socket.SOCK_DGRAM) as asking:
@@ -64,7 +79,7 @@ def check_home(folder, port):
                        ask(asking, request) == packet(ACCOUNTING_RESPONSE, 7, request[4:20], b"".join(states)))
                 expect("a home server answers a Status-Server",
                        ask(asking, status) == packet(ACCOUNTING_RESPONSE, 8, status[4:20], b""))
-                expect("a home server drops a spoiled request", ask(asking, spoiled) is None)
+                expect("a home server drops a spoiled request", ask(asking, spoiled(request)) is None)
                 expect("a home server drops half a packet", ask(asking, request[:30]) is None)
         finally:
             home.terminate()
@@ -73,8 +88,55 @@ def check_home(folder, port):
     expect("a home server counts", (told["answered"], told["dropped"]) == (1, 2))
 
 
+def check_relay(folder, port):
+    """It has right requests go on and right answers go back, and nothing else."""
+    words = [folder / "relay", str(port), SECRET, HOME_SECRET, f"elsewhere.test={port + 2}", f"Realm.Test={port + 1}"]
+    with (subprocess.Popen(words, stdout=subprocess.PIPE, text=True) as relay,
+          socket.socket(socket.AF_INET, socket.SOCK_DGRAM) as asking,
+          socket.socket(socket.AF_INET, socket.SOCK_DGRAM) as home):
+        try:
+            home.bind(("127.0.0.1", port + 1))
+            asking.connect(("127.0.0.1", port))
+            for each in asking, home:
+                each.settimeout(0.2)
+            wait_for(relay, asking, status_server(8))
+            expect("a relay answers a Status-Server",
+                   ask(asking, status_server(9)) == packet(ACCOUNTING_RESPONSE, 9, bytes(range(16)), b""))
+            check_relayed(asking, home)
+        finally:
+            relay.terminate()
+            line = relay.communicate(timeout=10)[0]
+    told = json.loads(line)
+    expect("a relay counts", (told["forwarded"], told["returned"], told["repeated"], told["dropped"]) == (2, 2, 1, 5))
+
+
+def check_relayed(asking, home):
+    """Two requests over a relay, of which one is repeated, among requests and answers that are dropped."""
+    state, name = attribute(PROXY_STATE, b"of the client"), attribute(USER_NAME, b"user@other@rEALM.tEST")
+    request = packet(ACCOUNTING_REQUEST, 200, bytes(16), name + state)
+    nowhere = packet(ACCOUNTING_REQUEST, 201, bytes(16), attribute(USER_NAME, b"user@nowhere.test"))
+    for dropped in spoiled(request), nowhere, packet(ACCOUNTING_REQUEST, 202, bytes(16), state):
+        asking.send(dropped)
+    for identifier in range(2):
+        asking.send(request)
+        came, relay = home.recvfrom(4096)
+        mark = came[-MARK_OCTETS:]
+        expect("a relay adds a Proxy-State", mark[:2] == bytes([PROXY_STATE, MARK_OCTETS]))
+        expect("a relay signs what goes on",
+               came == packet(ACCOUNTING_REQUEST, identifier, bytes(16), name + state + mark, HOME_SECRET))
+        answer = packet(ACCOUNTING_RESPONSE, identifier, came[4:20], state + mark + name, HOME_SECRET)
+        if identifier == 0:
+            asking.send(request)
+            expect("a relay takes what comes in its order", ask(asking, status_server(10)) is not None)
+            home.sendto(spoiled(answer), relay)
+            home.sendto(packet(ACCOUNTING_RESPONSE, identifier, came[4:20], mark + state, HOME_SECRET), relay)
+        home.sendto(answer, relay)
+        expect("a relay takes its Proxy-State out of an answer and signs it",
+               asking.recv(4096) == packet(ACCOUNTING_RESPONSE, 200, request[4:20], state + name))
+
+
 def wait_for(home, asking, octets):
-    """Until a home server answers these octets."""
+    """Until a home server, or whatever it is, answers these octets."""
     until = time.monotonic() + SECONDS_TO_ANSWER
     while time.monotonic() < until and home.poll() is None:
         try:
@@ -82,7 +144,7 @@ def wait_for(home, asking, octets):
                 return
         except ConnectionRefusedError:
             time.sleep(0.01)
-    raise RuntimeError("self-test: a home server does not answer; other ports can be chosen")
+    raise RuntimeError(f"self-test: {home.args[0]} does not answer; other ports can be chosen")
 
 
 def answer_by_turns(answering, seen):
@@ -123,4 +185,5 @@ def check_generator(folder, port):
 def check(folder, port):
     check_digests(folder)
     check_home(folder, port)
-    check_generator(folder, port + 1)
+    check_relay(folder, port + 1)
+    check_generator(folder, port + 4)

@@ -4,9 +4,9 @@ Of several rounds a table has the middle figure. A ratio is taken inside each ro
 """
 from statistics import median
 
-NAMES = ["no proxy", "rad_proxy", "radsecproxy", "FreeRADIUS"]
-OURS, PEER = "rad_proxy", "radsecproxy"
-BETWEEN = f"{OURS} to {PEER}"
+NAMES = ["no proxy", "relay", "rad_proxy", "radsecproxy", "FreeRADIUS"]
+OURS, PEER, LEAST = "rad_proxy", "radsecproxy", "relay"
+BETWEEN, TO_LEAST = f"{OURS} to {PEER}", f"{OURS} to {LEAST}"
 # The times of a load, and which part of the requests each leaves out.
 TIMES = [("p50_us", 0.5), ("p99_us", 0.01), ("p999_us", 0.001)]
 CPU_WINDOW = 64
@@ -40,12 +40,12 @@ class Figures:
         there = {one["subject"] for one in self.of(measure)}
         return [name for name in NAMES if name in there]
 
-    def ratio(self, key, measure, **wanted):
-        """Ours to the peer's, in the same round."""
-        def by_round(subject):
-            return {one["round"]: one[key] for one in self.of(measure, subject=subject, **wanted)}
+    def ratio(self, key, measure, subject=OURS, peer=PEER, **wanted):
+        """A subject's to a peer's, in the same round."""
+        def by_round(name):
+            return {one["round"]: one[key] for one in self.of(measure, subject=name, **wanted)}
 
-        ours, peers = by_round(OURS), by_round(PEER)
+        ours, peers = by_round(subject), by_round(peer)
         found = [ours[number] / peers[number] for number in ours if peers.get(number)]
         return median(found) if found else None
 
@@ -90,9 +90,36 @@ def of_throughput(figures):
             wanted = {"window": window, "homes": homes}
             if figures.of("throughput", **wanted):
                 found = [number(figures.middle("per_second", "throughput", subject=name, **wanted)) for name in subjects]
-                ratio = number(figures.ratio("per_second", "throughput", **wanted), 2)
-                rows.append([f"{window}", f"{homes}", *found, ratio])
-    return table(["out at once", "home servers", *subjects, BETWEEN], rows)
+                ratios = [number(figures.ratio("per_second", "throughput", peer=peer, **wanted), 2) for peer in (LEAST, PEER)]
+                rows.append([f"{window}", f"{homes}", *found, *ratios])
+    return table(["out at once", "home servers", *subjects, TO_LEAST, BETWEEN], rows)
+
+
+def of_busy(figures):
+    rows = []
+    for name in figures.subjects("busy"):
+        keys = ("per_second", 0), ("p50_us", 0), ("p99_us", 0), ("cpu_us", 1)
+        found = [number(figures.middle(key, "busy", subject=name), places) for key, places in keys]
+        rows.append([name, *found, number(figures.ratio("per_second", "busy", name, LEAST), 2)])
+    return table(["", "requests a second", "p50", "p99", "processor time", f"of {LEAST}'s requests a second"], rows)
+
+
+def of_relay(figures):
+    """What is said of a proxy in one figure each, beside the least that one can do."""
+    names = [name for name in figures.subjects("throughput") if name not in (NAMES[0], LEAST)]
+    one_home = {"measure": "throughput", "window": CPU_WINDOW, "homes": 1}
+    lines = [
+        (f"requests a second, {CPU_WINDOW} out at once", "per_second", one_home),
+        (f"processor time a request, {CPU_WINDOW} out at once", "cpu_us", one_home),
+        (f"requests a second, {CPU_WINDOW} out at once, half of the processors busy", "per_second", {"measure": "busy"}),
+        ("requests a second, 256 out at once, 4 home servers", "per_second",
+         {"measure": "throughput", "window": 256, "homes": 4}),
+        ("p50, 1 out at once", "p50_us", {"measure": "throughput", "window": 1, "homes": 1}),
+        ("p50, 5,000 a second", "p50_us", {"measure": "latency", "rate": 5000}),
+    ]
+    rows = [[words, *[number(figures.ratio(key, subject=name, peer=LEAST, **wanted), 2) for name in names]]
+            for words, key, wanted in lines]
+    return table(["", *names], rows)
 
 
 def times_of(figures, name, rate):
@@ -109,9 +136,10 @@ def of_latency(figures):
     for rate in figures.each("rate", "latency"):
         for name in subjects:
             rows.append([number(rate), name, *times_of(figures, name, rate)])
-        if {OURS, PEER} <= set(subjects):
-            ratios = [number(figures.ratio(key, "latency", rate=rate), 2) for key, _ in TIMES]
-            rows.append([number(rate), BETWEEN, *ratios])
+        for words, peer in (TO_LEAST, LEAST), (BETWEEN, PEER):
+            if {OURS, peer} <= set(subjects):
+                ratios = [number(figures.ratio(key, "latency", peer=peer, rate=rate), 2) for key, _ in TIMES]
+                rows.append([number(rate), words, *ratios])
     return table(["a second", "", "p50", "p99", "p99.9"], rows)
 
 
@@ -122,9 +150,10 @@ def of_cpu(figures):
         full = figures.middle("cpu_us", "throughput", subject=name, window=CPU_WINDOW, homes=1)
         rows.append([name, number(full, 1),
                      *[number(figures.middle("cpu_us", "latency", subject=name, rate=rate), 1) for rate in rates]])
-    ratios = [figures.ratio("cpu_us", "throughput", window=CPU_WINDOW, homes=1),
-              *[figures.ratio("cpu_us", "latency", rate=rate) for rate in rates]]
-    rows.append([BETWEEN, *[number(ratio, 2) for ratio in ratios]])
+    for words, peer in (TO_LEAST, LEAST), (BETWEEN, PEER):
+        ratios = [figures.ratio("cpu_us", "throughput", peer=peer, window=CPU_WINDOW, homes=1),
+                  *[figures.ratio("cpu_us", "latency", peer=peer, rate=rate) for rate in rates]]
+        rows.append([words, *[number(ratio, 2) for ratio in ratios]])
     return table(["", f"{CPU_WINDOW} out at once", *[f"{number(rate)} a second" for rate in rates]], rows)
 
 
@@ -149,10 +178,12 @@ def of_start(figures):
 
 def of_idle(figures):
     rows = []
-    for name in figures.subjects("idle"):
-        keys = "threads", "cpu_us_a_second", "switches_a_second"
-        rows.append([name, *[number(figures.middle(key, "idle", subject=name)) for key in keys]])
-    return table(["", "threads", "processor time a second, µs", "switches a second"], rows)
+    for homes in figures.each("homes", "idle"):
+        for name in figures.subjects("idle"):
+            keys = "threads", "cpu_us_a_second", "switches_a_second"
+            found = [number(figures.middle(key, "idle", subject=name, homes=homes)) for key in keys]
+            rows.append([f"{homes}", name, *found])
+    return table(["home servers", "", "threads", "processor time a second, µs", "switches a second"], rows)
 
 
 def of_growth(figures):
@@ -192,7 +223,9 @@ def of_steady(figures):
 # Each table by the measurements that it needs.
 TABLES = {
     "machine": ("run", of_machine),
+    "relay": ("throughput", of_relay),
     "throughput": ("throughput", of_throughput),
+    "busy": ("busy", of_busy),
     "latency": ("latency", of_latency),
     "cpu": ("throughput", of_cpu),
     "memory": ("memory", of_memory),
