@@ -13,6 +13,7 @@ mod beginning;
 mod client_sockets;
 mod faults;
 mod fib_trie;
+mod heap_room;
 mod interrupting;
 mod known_addresses;
 mod lingering;

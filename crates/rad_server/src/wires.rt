@@ -2,6 +2,7 @@
 
 ghost use Rattle.std.specs.Prelude.{Some};
 
+use crate::heap_room::HeapRoom;
 use crate::local_addresses::LocalAddresses;
 use crate::notifying::Notifier;
 use crate::worker_sockets::WorkerSockets;
@@ -10,7 +11,7 @@ use rad_realms::Endpoint;
 use rad_tables::Moment;
 use rand::Rng;
 use rand::rngs::StdRng;
-use std::alloc::AllocError;
+use std::alloc::{AllocError, Global};
 use std::time::{Clock, Instant};
 
 /// The sockets of a worker, its clock and its random octets.
@@ -25,6 +26,7 @@ pub(crate) struct UdpWire<'a, R, G, A> {
     moment: Moment,
     random: StdRng,
     sockets: WorkerSockets<'a, R, G, A>,
+    heap: HeapRoom,
     traffic: Traffic,
 }
 
@@ -32,6 +34,7 @@ impl<'a, R, G, A> UdpWire<'a, R, G, A> {
     /// A wire over these sockets, whose moments count from the start.
     pub(crate) fn new(
         clock: &'a R,
+        alloc: Global,
         start: Instant,
         random: StdRng,
         sockets: WorkerSockets<'a, R, G, A>,
@@ -42,6 +45,7 @@ impl<'a, R, G, A> UdpWire<'a, R, G, A> {
             moment: Moment::new(0).unwrap(),
             random,
             sockets,
+            heap: HeapRoom::new(alloc),
             traffic: Traffic::new(),
         }
     }
@@ -77,6 +81,7 @@ impl<R: Clock, G: Gate, A: LocalAddresses> Wire for UdpWire<'_, R, G, A> {
     }
 
     fn receive(&mut self, datagram: &mut [u8; 4096]) -> Received {
+        self.heap.keep();
         match self.sockets.receive(datagram) {
             Received::Got {
                 address,

@@ -90,7 +90,7 @@ impl<'a, R: Clock + Net + RandomSource, G: Gate, A> WireMaker<'a, R, G, A> {
     ) -> io::Result<UdpWire<'a, R, G, A>> {
         let polled = PolledSockets::new(self.rt, self.alloc, sockets)?;
         let sockets = WorkerSockets::new(polled, answering);
-        Ok(UdpWire::new(self.rt, self.start, random, sockets))
+        Ok(UdpWire::new(self.rt, self.alloc, self.start, random, sockets))
     }
 
     /// The wire of a lane over these sockets.
