@@ -12,7 +12,7 @@ use std::net::{Net, SocketAddr, UdpSocket};
 use std::time::Duration;
 
 /// The longest sleep, in milliseconds.
-const SLEEP: u64 = 20;
+pub(crate) const SLEEP: u64 = 20;
 
 /// How many events a sleep gives at once: those of a lane's sockets and of its notifier. What more there are the next sleep
 /// gives, which ends at once then.
@@ -46,11 +46,10 @@ impl Sleeper {
         })
     }
 
-    /// Sleeps until a datagram comes, the worker is notified or a while has passed.
-    fn sleep(&mut self) {
-        let _ = self
-            .poll
-            .poll(&mut self.events, Some(Duration::from_millis(SLEEP)));
+    /// Sleeps until a datagram comes, the worker is notified or so many milliseconds have passed, but no longer than any sleep.
+    fn sleep(&mut self, milliseconds: u64) {
+        let most = Duration::from_millis(milliseconds.min(SLEEP));
+        let _ = self.poll.poll(&mut self.events, Some(most));
     }
 }
 
@@ -65,6 +64,8 @@ pub(crate) struct PolledSockets {
     /// The socket that is received from next.
     turn: u16,
     sleeper: Sleeper,
+    /// Whether a receive failed since each socket was looked at again, so that datagrams may wait there of which no sleep tells.
+    has_failed: bool,
     /// How many receives there were since the worker slept or looked at each socket again.
     receives: usize,
     /// Whether a datagram went out since the last receive.
@@ -88,6 +89,7 @@ impl PolledSockets {
             sockets,
             turn: 0,
             sleeper,
+            has_failed: false,
             receives: 0,
             has_sent: false,
         })
@@ -102,12 +104,13 @@ impl PolledSockets {
         self.sleeper.notifier.share()
     }
 
-    /// Receives a datagram, and waits for one where there is nothing else to do. The worker looks for work afterwards.
-    pub(crate) fn receive(&mut self, room: &mut [u8; 4096]) -> Received
+    /// Receives a datagram, and waits for one where there is nothing else to do, for so many milliseconds at most. The worker
+    /// looks for work afterwards.
+    pub(crate) fn receive(&mut self, milliseconds: u64, room: &mut [u8; 4096]) -> Received
         ensures { FitsRoom result }
     {
         self.count_receive();
-        let received = self.wait(room);
+        let received = self.wait(milliseconds, room);
         self.sleeper.notifier.set_awake();
         self.has_sent = false;
         received
@@ -124,20 +127,21 @@ impl PolledSockets {
     /// Each socket may have datagrams.
     fn set_each_waiting(&mut self) {
         self.receives = 0;
+        self.has_failed = false;
         for socket in &mut self.sockets {
             socket.set_waiting();
         }
     }
 
     /// Receives a datagram, and waits for one where there is nothing else to do.
-    fn wait(&mut self, room: &mut [u8; 4096]) -> Received
+    fn wait(&mut self, milliseconds: u64, room: &mut [u8; 4096]) -> Received
         ensures { FitsRoom result }
     {
         let received = self.try_each(room);
         if received != Received::Nothing || self.has_sent || !self.sleeper.notifier.try_sleep() {
             return received;
         }
-        self.sleep();
+        self.sleep(milliseconds);
         self.try_each(room)
     }
 
@@ -165,18 +169,20 @@ impl PolledSockets {
         } else {
             0
         };
-        match self.sockets.get_mut(usize::from(index)) {
+        let received = match self.sockets.get_mut(usize::from(index)) {
             Some(socket) => socket.receive(index, room),
             None => Received::Nothing,
-        }
+        };
+        self.has_failed = self.has_failed || received == Received::Fault;
+        received
     }
 
-    /// Sleeps until a datagram comes, the worker is notified or a while has passed. Where neither a socket nor a notification
-    /// ended the sleep, each socket is looked at again.
-    fn sleep(&mut self) {
-        self.sleeper.sleep();
+    /// Sleeps until a datagram comes, the worker is notified or so many milliseconds have passed. Where neither a socket nor a
+    /// notification ended the sleep, and a receive failed before, each socket is looked at again.
+    fn sleep(&mut self, milliseconds: u64) {
+        self.sleeper.sleep(milliseconds);
         self.receives = 0;
-        if self.sleeper.events.is_empty() {
+        if self.has_failed && self.sleeper.events.is_empty() {
             self.set_each_waiting();
         }
         for event in self.sleeper.events.iter() {

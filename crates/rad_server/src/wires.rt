@@ -5,6 +5,7 @@ ghost use Rattle.std.specs.Prelude.{Some};
 use crate::heap_room::HeapRoom;
 use crate::local_addresses::LocalAddresses;
 use crate::notifying::Notifier;
+use crate::polling::SLEEP;
 use crate::worker_sockets::WorkerSockets;
 use rad_desk::{Delivery, Gate, Received, Traffic, Wire};
 use rad_realms::Endpoint;
@@ -17,13 +18,17 @@ use std::time::{Clock, Instant};
 /// The sockets of a worker, its clock and its random octets.
 ///
 /// A receive waits at most 20 milliseconds, and not at all in the turn after a send, when there may be more to send.
-/// Whoever has work for the worker notifies it and so ends the wait.
+/// Whoever has work for the worker notifies it and so ends the wait. All that wait end it where the milliseconds since their
+/// common start are a multiple of twenty, so that the idle ones wake together. The moment is told anew after each receive, and
+/// stays until the next one.
 #[derive(Drop)]
 pub(crate) struct UdpWire<'a, R, G, A> {
     clock: &'a R,
     start: Instant,
     /// The moment that was told last.
     moment: Moment,
+    /// Whether it was told since the last receive.
+    is_fresh: bool,
     random: StdRng,
     sockets: WorkerSockets<'a, R, G, A>,
     heap: HeapRoom,
@@ -43,6 +48,7 @@ impl<'a, R, G, A> UdpWire<'a, R, G, A> {
             clock,
             start,
             moment: Moment::new(0).unwrap(),
+            is_fresh: false,
             random,
             sockets,
             heap: HeapRoom::new(alloc),
@@ -58,15 +64,35 @@ impl<'a, R, G, A> UdpWire<'a, R, G, A> {
     pub(crate) fn notifier(&self) -> Result<Notifier, AllocError> {
         self.sockets.notifier()
     }
+
+    /// How many milliseconds the next wait takes at most. Where no moment was told since the last one it takes the longest time.
+    fn longest_wait(&self) -> u64 {
+        if self.is_fresh {
+            SLEEP - self.moment.get() % SLEEP
+        } else {
+            SLEEP
+        }
+    }
+
+    /// Reads the clock.
+    fn look_at_clock(&mut self)
+    where
+        R: Clock,
+    {
+        if let Ok(passed) = self.start.elapsed(self.clock) {
+            let milliseconds = u64::try_from(passed.as_millis()).unwrap_or(u64::MAX);
+            self.moment = Moment::new(milliseconds).unwrap_or(self.moment);
+        }
+        self.is_fresh = true;
+    }
 }
 
 impl<R: Clock, G: Gate, A: LocalAddresses> Wire for UdpWire<'_, R, G, A> {
     ghost log = { λ w. Some w.traffic.passed };
 
     fn now(&mut self) -> Moment {
-        if let Ok(passed) = self.start.elapsed(self.clock) {
-            let milliseconds = u64::try_from(passed.as_millis()).unwrap_or(u64::MAX);
-            self.moment = Moment::new(milliseconds).unwrap_or(self.moment);
+        if !self.is_fresh {
+            self.look_at_clock();
         }
         self.traffic.told(self.moment);
         self.moment
@@ -81,8 +107,10 @@ impl<R: Clock, G: Gate, A: LocalAddresses> Wire for UdpWire<'_, R, G, A> {
     }
 
     fn receive(&mut self, datagram: &mut [u8; 4096]) -> Received {
+        let milliseconds = self.longest_wait();
+        self.is_fresh = false;
         self.heap.keep();
-        match self.sockets.receive(datagram) {
+        match self.sockets.receive(milliseconds, datagram) {
             Received::Got {
                 address,
                 port,

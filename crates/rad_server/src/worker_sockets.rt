@@ -52,11 +52,11 @@ impl<'a, R, G, A> WorkerSockets<'a, R, G, A> {
 }
 
 impl<R: Clock, G: Gate, A: LocalAddresses> WorkerSockets<'_, R, G, A> {
-    /// Receives a datagram, and waits for one where there is nothing else to do.
-    pub(crate) fn receive(&mut self, room: &mut [u8; 4096]) -> Received
+    /// Receives a datagram, and waits for one where there is nothing else to do, for so many milliseconds at most.
+    pub(crate) fn receive(&mut self, milliseconds: u64, room: &mut [u8; 4096]) -> Received
         ensures { FitsRoom result }
     {
-        let received = self.polled.receive(room);
+        let received = self.polled.receive(milliseconds, room);
         match &mut self.answering {
             Some(answering) => answering.received(received),
             None => received,
