@@ -18,6 +18,7 @@ mod interrupting;
 mod known_addresses;
 mod lingering;
 mod local_addresses;
+mod neighbours;
 mod notifying;
 mod origins;
 mod polling;

@@ -5,7 +5,7 @@ use rad_desk::Worker;
 use std::alloc::{AllocError, Global};
 use std::io;
 use std::sync::Arc;
-use std::sync::atomic::{AtomicU8, Ordering};
+use std::sync::atomic::{AtomicBool, AtomicU8, Ordering};
 
 /// The worker looks for work.
 const AWAKE: u8 = 0;
@@ -25,6 +25,10 @@ struct Shared {
     /// One of the three above.
     state: AtomicU8,
     waker: Waker,
+    /// Whether it is due to be woken by whoever would have it notified later.
+    is_due: AtomicBool,
+    /// Whether datagrams come to the worker one after another.
+    is_busy: AtomicBool,
 }
 
 /// Notifies a worker where there is work for it. The waker of its poll is called only where it sleeps.
@@ -44,6 +48,8 @@ impl Notifier {
         let shared = Shared {
             state: AtomicU8::new(AWAKE),
             waker: Waker::new(poll.registry(), TOKEN)?,
+            is_due: AtomicBool::new(false),
+            is_busy: AtomicBool::new(false),
         };
         Ok(Notifier(Arc::new(alloc, shared)?))
     }
@@ -63,6 +69,35 @@ impl Notifier {
         if self.0.state.swap(NOTIFIED, Ordering::SeqCst) == ASLEEP {
             let _ = self.0.waker.wake();
         }
+    }
+
+    /// Tells the worker that there is work for it; but where it sleeps it is due to be woken, by whoever calls this.
+    pub(crate) fn notify_later(&self) {
+        let found = self
+            .0
+            .state
+            .compare_exchange(AWAKE, NOTIFIED, Ordering::SeqCst, Ordering::SeqCst);
+        if found == Err(ASLEEP) {
+            self.0.is_due.store(true, Ordering::SeqCst);
+        }
+    }
+
+    /// Notifies the worker where it is due to be woken.
+    pub(crate) fn notify_if_due(&self) {
+        if self.0.is_due.swap(false, Ordering::SeqCst) {
+            self.notify();
+        }
+    }
+
+    /// Whether datagrams come to the worker one after another.
+    pub(crate) fn is_busy(&self) -> bool {
+        self.0.is_busy.load(Ordering::SeqCst)
+    }
+
+    /// Datagrams come to the worker one after another from now on, or don't any more. The worker itself says so, and wakes all
+    /// that are due then.
+    pub(crate) fn set_busy(&self, is_busy: bool) {
+        self.0.is_busy.store(is_busy, Ordering::SeqCst);
     }
 
     /// Whether the worker may sleep now: nobody notified it since it was awake.
@@ -100,13 +135,27 @@ impl Notifiers {
 
     /// Notifies a worker.
     pub(crate) fn notify(&self, worker: Worker) {
+        if let Some(notifier) = self.of(worker) {
+            notifier.notify();
+        }
+    }
+
+    /// Notifies a worker for which another one has work: later, where datagrams come to that one one after another.
+    pub(crate) fn notify_for(&self, by: Worker, worker: Worker) {
+        let Some(notifier) = self.of(worker) else {
+            return;
+        };
+        match self.of(by) {
+            Some(own) if own.is_busy() => notifier.notify_later(),
+            _ => notifier.notify(),
+        }
+    }
+
+    /// The notifier of a worker, where it has one.
+    fn of(&self, worker: Worker) -> Option<&Notifier> {
         match worker {
-            Worker::Front => notify_if_any(&self.front),
-            Worker::Lane(lane) => {
-                if let Some(notifier) = self.lanes.get(usize::from(lane)) {
-                    notifier.notify();
-                }
-            }
+            Worker::Front => self.front.as_ref(),
+            Worker::Lane(lane) => self.lanes.get(usize::from(lane)),
         }
     }
 

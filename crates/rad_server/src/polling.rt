@@ -2,6 +2,7 @@
 
 ghost use Rattle.rad_server.specs.Wires.{FitsRoom};
 
+use crate::neighbours::Neighbours;
 use crate::notifying::Notifier;
 use crate::ready_socket::ReadySocket;
 use mio::{Events, Poll, Token};
@@ -64,6 +65,7 @@ pub(crate) struct PolledSockets {
     /// The socket that is received from next.
     turn: u16,
     sleeper: Sleeper,
+    neighbours: Neighbours,
     /// Whether a receive failed since each socket was looked at again, so that datagrams may wait there of which no sleep tells.
     has_failed: bool,
     /// How many receives there were since the worker slept or looked at each socket again.
@@ -85,10 +87,12 @@ impl PolledSockets {
     ) -> io::Result<PolledSockets> {
         let sleeper = Sleeper::new(net, alloc)?;
         let sockets = register_each(alloc, &sleeper.poll, sockets)?;
+        let neighbours = Neighbours::new(sleeper.notifier.share()?, Vec::new(alloc));
         Ok(PolledSockets {
             sockets,
             turn: 0,
             sleeper,
+            neighbours,
             has_failed: false,
             receives: 0,
             has_sent: false,
@@ -102,6 +106,11 @@ impl PolledSockets {
     /// Where memory is refused.
     pub(crate) fn notifier(&self) -> Result<Notifier, AllocError> {
         self.sleeper.notifier.share()
+    }
+
+    /// The others that the worker has work for.
+    pub(crate) fn set_neighbours(&mut self, others: Vec<Notifier>) {
+        self.neighbours.set(others);
     }
 
     /// Receives a datagram, and waits for one where there is nothing else to do, for so many milliseconds at most. The worker
@@ -133,12 +142,18 @@ impl PolledSockets {
         }
     }
 
-    /// Receives a datagram, and waits for one where there is nothing else to do.
+    /// Receives a datagram, and waits for one where there is nothing else to do. Before it waits it wakes the others that are
+    /// due to be woken.
     fn wait(&mut self, milliseconds: u64, room: &mut [u8; 4096]) -> Received
         ensures { FitsRoom result }
     {
         let received = self.try_each(room);
-        if received != Received::Nothing || self.has_sent || !self.sleeper.notifier.try_sleep() {
+        if received != Received::Nothing {
+            self.neighbours.went_on();
+            return received;
+        }
+        self.neighbours.paused();
+        if self.has_sent || !self.sleeper.notifier.try_sleep() {
             return received;
         }
         self.sleep(milliseconds);

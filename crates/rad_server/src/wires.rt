@@ -65,6 +65,11 @@ impl<'a, R, G, A> UdpWire<'a, R, G, A> {
         self.sockets.notifier()
     }
 
+    /// The others that the worker has work for.
+    pub(crate) fn set_neighbours(&mut self, others: Vec<Notifier>) {
+        self.sockets.set_neighbours(others);
+    }
+
     /// How many milliseconds the next wait takes at most. Where no moment was told since the last one it takes the longest time.
     fn longest_wait(&self) -> u64 {
         if self.is_fresh {

@@ -171,7 +171,30 @@ pub(crate) fn make_wires<'a, R: Clock + Net + RandomSource, G: Gate, A>(
         Err(error) => return Err(fault_at(config.listen(), config.listen(), &error, gate)),
     };
     let lanes = maker.make_lanes(lanes)?;
-    Ok(Wires { front, lanes })
+    let mut wires = Wires { front, lanes };
+    if acquaint(alloc, &mut wires).is_err() {
+        return Err(ServeFault::Memory);
+    }
+    Ok(wires)
+}
+
+/// Tells each worker whom it has work for: the front has some for each lane, and each lane for the front.
+///
+/// # Errors
+///
+/// Where memory is refused.
+fn acquaint<R, G, A>(
+    alloc: Global,
+    wires: &mut Wires<UdpWire<'_, R, G, A>>,
+) -> Result<(), AllocError> {
+    let others = notifiers_of_lanes(alloc, wires.lanes.as_slice())?;
+    for wire in &mut wires.lanes {
+        let mut front = Vec::with_capacity(alloc, 1)?;
+        front.push(wires.front.notifier()?)?;
+        wire.set_neighbours(front);
+    }
+    wires.front.set_neighbours(others);
+    Ok(())
 }
 
 /// What notifies the workers of these wires and the reader.

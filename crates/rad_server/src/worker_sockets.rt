@@ -39,6 +39,11 @@ impl<'a, R, G, A> WorkerSockets<'a, R, G, A> {
         self.polled.notifier()
     }
 
+    /// The others that the worker has work for.
+    pub(crate) fn set_neighbours(&mut self, others: Vec<Notifier>) {
+        self.polled.set_neighbours(others);
+    }
+
     /// Sends a datagram.
     pub(crate) fn send(&mut self, socket: u16, peer: Endpoint, octets: &[u8]) -> Delivery {
         let socket = match &self.answering {
