@@ -12,3 +12,9 @@ pub trait Share {
     fn share(&self) -> Result<Self, AllocError>
         ensures { IfOk result (λ other. other ≡ self.now) };
 }
+
+impl<T: Copy> Share for Option<T> {
+    fn share(&self) -> Result<Option<T>, AllocError> {
+        Ok(*self)
+    }
+}

@@ -3,7 +3,6 @@ pub mod Setup
 pub mod Session
 pub mod Outstanding
 pub mod Entries
-pub mod ReservedList
 pub mod Book
 pub mod Empty
 pub mod Datagrams
