@@ -30,7 +30,7 @@ use denote.Struct.Struct.{Struct}
 use denote.Struct.Owning.{shape}
 use denote.Struct.Lending.{lent_out}
 use denote.Slice.{elements_shared}
-use Rattle.std.specs.Prelude.{Option, None}
+use Rattle.std.specs.Prelude.{Option, Some, None}
 use Rattle.std.specs.Mem.{type_size}
 use Rattle.core.proofs.mem.Param.{El, R, el_x, elτ}
 use Rattle.core.proofs.alloc.Calls.{Al, token}
@@ -168,10 +168,11 @@ module _ (E : El) {M : Type 1} {𝓤 : Ura M} (𝓛 : Logic 𝓤) (b : ℕ) (κ 
   pub run_seen : (start : ℕ) (items : List (el_x E)) (rest o at : ℕ) → at ≡ start * sz E + o
       → ent 𝓤 (sem 𝓛 (places_lent (R E) b o (laid start items rest) κ)) (sem 𝓛 (elements_shared (R E) items b at κ))
   unfolding laid
-  run_seen zero [] rest o at e = qed 𝓛 (‵ (places_lent (R E) b o (laid zero [] rest) κ) ∷ []) ∵ drop ! $ done !
-  run_seen zero (item ∷ items) rest o at e = let here : at ≡ o = omega (arith, zero-mul (sz E)) in
-      qed 𝓛 (‵ (places_lent (R E) b o (Some item ∷ laid zero items rest) κ) ∷ []) ∵ rewrite ! 0 (λ (k : ℕ). ‵ (places_lent (R E) b k (Some item ∷ laid zero items rest) κ)) {x = at} here refl $ fsplit ! $
-      move ! (1 ∷ []) $ use1 𝓛 (‵ (elements_shared (R E) items b (at + sz E) κ)) (run_seen zero items rest (at + sz E) (at + sz E) (omega (arith, zero-mul (sz E)))) $ move ! (1 ∷ 0 ∷ []) $ fjoin ! $ done !
+  run_seen zero [] rest o at e = qed 𝓛 (‵ (places_lent (R E) b o (laid zero [] rest) κ) ∷ []) ∵ keep ! [] $ done !
+  run_seen zero (item ∷ items) rest o at e =
+      qed 𝓛 (‵ (places_lent (R E) b o (Some item ∷ laid zero items rest) κ) ∷ []) ∵
+      rewrite ! 0 (λ (k : ℕ). ‵ (places_lent (R E) b k (Some item ∷ laid zero items rest) κ)) {x = at} (omega (arith, zero-mul (sz E))) refl $ fsplit ! $ move ! (1 ∷ []) $
+      use1 𝓛 (‵ (elements_shared (R E) items b (at + sz E) κ)) (run_seen zero items rest (at + sz E) (at + sz E) (omega (arith, zero-mul (sz E)))) $ move ! (1 ∷ 0 ∷ []) $ fjoin ! $ done !
   run_seen (suc start) items rest o at e =
       qed 𝓛 (‵ (places_lent (R E) b o (None ∷ laid start items rest) κ) ∷ []) ∵ fsplit ! $ keep ! (1 ∷ []) $ by ! (run_seen start items rest (o + sz E) at (omega (arith, suc-mul start (sz E), e)))
 

@@ -58,8 +58,8 @@ values_spec 𝓤 𝓛 𝓜 𝓡 wired X U L LU g d dd _ _ =
     let y : (walk_of 𝓛 En hs c).Ghost = ((κs, qs, bounds, a, (vptr rb ro ∷ [], (vint w64 i ∷ [], (vint w64 k ∷ [], tt)))), gh) in let Post : Val → SProp 𝓤 = (walk_of 𝓛 En hs c).post y in
     let others : Fml = fsep (flft κs.1.0 qs.1.0) (fsep (flft κs.1.1.0 qs.1.1.0) ftrue) in
     let Asked : Type 0 = IsRun i k r.places in
-    qed 𝓛 (((‵ (flft κ qs.0) ⊛ ‵ others) ⊛ ‵ (owns (types_at En.signature.params κs) a y.0.4)) ∷ raw (fact 𝓤 _) ∷ raw (fact 𝓤 _) ∷ raw (fact 𝓤 _) ∷ raw (fact 𝓤 Asked) ∷ []) ∵
-    keep ! (4 ∷ 0 ∷ []) $ heard ! Asked (λ asked. let xs : List (el_x E) = values r.places in let rest : ℕ = length r.places - (i + k) in
+    qed 𝓛 (((‵ (flft κ qs.0) ⊛ ‵ others) ⊛ ‵ (owns (types_at En.signature.params κs) a y.0.4)) ∷ raw (fact 𝓤 _) ∷ raw (fact 𝓤 _) ∷ raw (fact 𝓤 Asked) ∷ []) ∵
+    keep ! (3 ∷ 0 ∷ []) $ heard ! Asked (λ asked. let xs : List (el_x E) = values r.places in let rest : ℕ = length r.places - (i + k) in
     split ! $ split ! $ move ! (2 ∷ []) $ fsplit ! $ fsplit ! $ drop ! $
     use1 𝓛 (‵ (hidden_shr RawPtr κ r.first rb (ro + 0)) ⊛ ‵ (fhide (C.the_lent (R E) (P E Z) g r r.first κ))) (shown E Z 𝓛 κ r rb ro) $ split ! $ move ! (1 ∷ []) $ unhide ! $
     in_a_block ! r.first (λ p. region_lent (R E) p r.places κ) (id⊢ 𝓤 (never 𝓤)) (λ b o at. fsplit ! $ flt_l ! (λ fit. fsplit ! $
@@ -81,6 +81,6 @@ values_spec 𝓤 𝓛 𝓜 𝓡 wired X U L LU g d dd _ _ =
     let Got : Type 0 = values r.places ≡ values r.places in
     join ! $ move ! (1 ∷ []) $ flt_i ! (length xs * s) (2 ^ 63) room $ flt_i ! (length xs) (2 ^ 64) few $ fjoin ! $
     feq_i ! (List Val) (slice_val (b, i * s + o) k ∷ []) (slice_val (b, i * s + o) (length xs) ∷ []) (ap (λ (j : ℕ). slice_val (b, i * s + o) j ∷ []) counted) $ fjoin ! $ fjoin ! $
-    use0 𝓛 (raw (fact 𝓤 Got)) (fact_i 𝓤 Got (emp 𝓤) refl) $ nothing ! $ nothing ! $ nothing ! $ nothing ! $ fjoin3 ! $ fjoin ! $
+    use0 𝓛 (raw (fact 𝓤 Got)) (fact_i 𝓤 Got (emp 𝓤) refl) $ nothing ! $ nothing ! $ fjoin ! $ nothing ! $ nothing ! $ fjoin3 ! $
     returns ! (look_at ! 0 refl) $ free_all ! refl $ keep ! (3 ∷ 0 ∷ 2 ∷ 1 ∷ []) $
     by ! (leaves 𝓛 En hs c y (slice_val (b, i * s + o) k) (record { ref_ptr = (b, i * s + o); now = xs }) (tt, (tt, (tt, tt))) (tt, (tt, (tt, tt))))))))))
