@@ -18,6 +18,7 @@ mod nodes;
 mod plain_queue;
 mod region;
 mod row;
+mod rows;
 mod sharing;
 mod sliding_list;
 
