@@ -75,3 +75,8 @@ module _ {T : Type 0} where
       → front ≡ take (length front) (set (set items i (get_or items j d)) j (get_or items i d))
   front_swapped_behind front items i j d li lj e =
       front_set_behind front (set items i (get_or items j d)) j (get_or items i d) lj (front_set_behind front items i (get_or items j d) li e)
+
+  pub item_at : (items : List T) (i : ℕ) → i < length items → (item : T) × (slice_get items i ≡ Some item)
+  item_at [] i lt = absurd (omega arith)
+  item_at (item ∷ items) zero lt = (item, refl)
+  item_at (item ∷ items) (suc i) lt = item_at items i (omega arith)
