@@ -1,6 +1,6 @@
 -- A row holds a front of some items, and still does where the items and the row change alike.
 use Rattle.std.proofs.Common.{◌≡◌, ◌≢◌, ℕ, zero, suc, ◌+◌, ◌-◌, ◌<◌, ◌≤◌, ◌⊎◌, inl, inr, List, [], ◌∷◌, ◌++◌, Option, Some, None, refl, sym, ap, ◌∙◌, subst, arith, length, get_or, set, take, drop, slice_get}
-use Rattle.std.proofs.lemmas.List.{length-set, take-append-le, take-set-le, get_or-take}
+use Rattle.std.proofs.lemmas.List.{length-set, take-append-le, take-set-le}
 
 module _ {T : Type 0} where
   -- a front is no longer than the items
@@ -57,26 +57,20 @@ module _ {T : Type 0} where
   pub front_set_behind : (front items : List T) (i : ℕ) (x : T) → length front ≤ i → front ≡ take (length front) items → front ≡ take (length front) (set items i x)
   front_set_behind front items i x le e = e ∙ sym (take-set-le (length front) items i x le)
 
-  pub front_at : (front items : List T) (i : ℕ) (d : T) → i < length front → front ≡ take (length front) items → get_or front i d ≡ get_or items i d
-  front_at front items i d lt e = ap (λ l. get_or l i d) e ∙ get_or-take (length front) items i d lt
-
-  -- two items of the front are exchanged
-  pub front_swapped : (front items new : List T) (i j : ℕ) (d : T) → i < length front → j < length front → front ≡ take (length front) items
-      → new ≡ set (set front i (get_or front j d)) j (get_or front i d)
-      → new ≡ take (length new) (set (set items i (get_or items j d)) j (get_or items i d))
-  front_swapped front items new i j d li lj e f =
-      let x = front_at front items i d li e in let y = front_at front items j d lj e in
-      let same : new ≡ set (set front i (get_or items j d)) j (get_or items i d) = f ∙ (λ k. set (set front i (y k)) j (x k)) in
-      same
-      ∙ front_set (set front i (get_or items j d)) (set items i (get_or items j d)) j (get_or items i d) (front_set front items i (get_or items j d) e)
-      ∙ ap (λ n. take n (set (set items i (get_or items j d)) j (get_or items i d))) (ap length (sym same))
-
-  pub front_swapped_behind : (front items : List T) (i j : ℕ) (d : T) → length front ≤ i → length front ≤ j → front ≡ take (length front) items
-      → front ≡ take (length front) (set (set items i (get_or items j d)) j (get_or items i d))
-  front_swapped_behind front items i j d li lj e =
-      front_set_behind front (set items i (get_or items j d)) j (get_or items i d) lj (front_set_behind front items i (get_or items j d) li e)
-
   pub item_at : (items : List T) (i : ℕ) → i < length items → (item : T) × (slice_get items i ≡ Some item)
   item_at [] i lt = absurd (omega arith)
   item_at (item ∷ items) zero lt = (item, refl)
   item_at (item ∷ items) (suc i) lt = item_at items i (omega arith)
+
+  -- one item more is let go of
+  pub drop_popped : (n next : ℕ) (items rest : List T) (x : T) → next ≡ suc n → drop n items ≡ x ∷ rest → rest ≡ drop next items
+  drop_popped n zero items rest x e is = absurd (omega (arith, e))
+  drop_popped zero (suc next) items rest x e is =
+      let none : next ≡ zero = omega (arith, e) in sym (ap (drop 1) is) ∙ ap (λ k. drop (suc k) items) (sym none)
+  drop_popped (suc n) (suc next) [] rest x e is = absurd (omega (arith, ap length is))
+  drop_popped (suc n) (suc next) (y ∷ items) rest x e is = drop_popped n next items rest x (omega (arith, e)) is
+
+  pub some_left : (n : ℕ) (items : List T) → n < length items → 0 < length (drop n items)
+  some_left n [] lt = absurd (omega arith)
+  some_left zero (x ∷ items) lt = omega arith
+  some_left (suc n) (x ∷ items) lt = some_left n items (omega arith)

@@ -8,5 +8,5 @@ mod Places
 mod Ready
 mod Regions
 mod Rooms
-mod Rows
+mod RowPlaces
 mod Sending

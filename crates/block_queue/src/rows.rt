@@ -150,16 +150,14 @@ pub(crate) fn follow_set<T: Share + Drop>(row: &mut Option<Row<T>>, place: usize
     }
 }
 
-/// The same where two items are exchanged.
-pub(crate) fn follow_swap<T: Drop>(row: &mut Option<Row<T>>, i: usize, j: usize)
-    requires { i ≢ j }
-    ensures { (items : List T) (d : T) → IsFront (items_in row.old) items
-        → IsFront (items_in row.new) (slice_set (slice_set items i (slice_index_or items j d)) j (slice_index_or items i d)) }
+/// The same where two of the items are exchanged.
+pub(crate) fn follow_swap<T: Share + Drop>(items: &[T], row: &mut Option<Row<T>>, i: usize, j: usize)
+    requires front { IsFront (items_in row.old) items.now }
+    requires i_within { i < length items.now }
+    requires j_within { j < length items.now }
+    ensures { (d : T) → IsFront (items_in row.new)
+        (slice_set (slice_set items.now i (slice_index_or items.now j d)) j (slice_index_or items.now i d)) }
 {
-    let count = slice_of(row).len();
-    if i < count && j < count {
-        swap_in(row, i, j);
-    } else if i < count || j < count {
-        *row = None;
-    }
+    follow_set(row, i, &items[j]);
+    follow_set(row, j, &items[i]);
 }

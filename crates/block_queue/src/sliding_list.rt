@@ -171,7 +171,7 @@ impl<T: Share + Drop> SlidingList<T> {
         if i == j {
             return;
         }
-        follow_swap(&mut self.next, i, j);
+        follow_swap(slice_of(&self.row), &mut self.next, i, j);
         swap_in(&mut self.row, i, j);
     }
 

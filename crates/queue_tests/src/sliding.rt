@@ -32,7 +32,8 @@ impl<'a> Counted<'a> {
 
 impl Drop for Counted<'_> {
     fn drop(self) {
-        self.counts.dropped.fetch_add(1, Ordering::SeqCst);
+        let Counted { number: _, counts } = self;
+        counts.dropped.fetch_add(1, Ordering::SeqCst);
     }
 }
 

@@ -1,5 +1,5 @@
 use Rattle.std.proofs.Common.{refl, ap, ◌∙◌}
-use Rattle.block_queue.proofs.Rows.{all_empty}
+use Rattle.block_queue.proofs.RowPlaces.{all_empty}
 use Rattle.block_queue.proofs.row.Row.free.Goals as goal
 
 pub release-requires : goal.release-requires

@@ -1,6 +1,6 @@
 use Rattle.std.proofs.Common.{◌≤◌, ◌-◌, ◌++◌, [], ◌∷◌, ◌∙◌, sym, ap, subst, arith}
 use Rattle.block_queue.proofs.Places.{queue_is}
-use Rattle.block_queue.proofs.Rows.{room_behind, row_pushed}
+use Rattle.block_queue.proofs.RowPlaces.{room_behind, row_pushed}
 use Rattle.block_queue.proofs.row.Row.push.Goals as goal
 
 pub write-requires : goal.write-requires

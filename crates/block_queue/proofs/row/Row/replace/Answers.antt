@@ -1,6 +1,6 @@
 use Rattle.std.proofs.Common.{◌+◌, ◌<◌, Some, None, ◌∙◌, length, get_or, set, sym, ap, subst, arith}
 use Rattle.std.proofs.lemmas.List.{length-set, get_or-set_same}
-use Rattle.block_queue.proofs.Rows.{inside, filled_at, row_replaced}
+use Rattle.block_queue.proofs.RowPlaces.{inside, filled_at, row_replaced}
 use Rattle.block_queue.proofs.row.Row.replace.Goals as goal
 
 pub read-other-requires : goal.read-other-requires

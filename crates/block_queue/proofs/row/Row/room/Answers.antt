@@ -1,5 +1,5 @@
 use Rattle.std.proofs.Common.{ap}
-use Rattle.block_queue.proofs.Rows.{inside}
+use Rattle.block_queue.proofs.RowPlaces.{inside}
 use Rattle.block_queue.proofs.row.Row.room.Goals as goal
 
 pub overflow_sub : goal.overflow_sub

@@ -1,6 +1,6 @@
 use Rattle.std.proofs.Common.{refl}
 use Rattle.block_queue.proofs.Places.{queue_is}
-use Rattle.block_queue.proofs.Rows.{row_new}
+use Rattle.block_queue.proofs.RowPlaces.{row_new}
 use Rattle.block_queue.proofs.row.Row.with_places.Goals as goal
 
 pub invariant_of-result : goal.invariant_of-result
