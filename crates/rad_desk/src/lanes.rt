@@ -197,7 +197,7 @@ fn tell_up<G: Gate>(lane: u16, reason: UpReason, shift: &Shift<'_, G>) {
 }
 
 /// Sends a datagram to the home server, from the socket of a source port. One of a port that the home server does not
-/// have, as where it is another lane's, is lost.
+/// have, as where it is another lane's, is not sent.
 fn send_home<W: Wire, G: Gate>(
     home: &Home,
     port: u16,
@@ -211,8 +211,6 @@ fn send_home<W: Wire, G: Gate>(
     let to = endpoint_of(home);
     if u32::from(port) < home.limits().numbers().ports {
         shift.send(wire, port, to, datagram.bytes());
-    } else {
-        shift.lose();
     }
 }
 

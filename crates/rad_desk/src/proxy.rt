@@ -45,6 +45,7 @@ impl Model for Proxy {
 }
 
 /// What a step of a lane gave.
+#[derive(Clone, Copy)]
 pub(crate) struct Stepped {
     pub(crate) action: Action,
     /// How many requests the book holds after it.

@@ -108,7 +108,7 @@ impl<'a, G: Gate> Shift<'a, G> {
     }
 
     /// Counts a datagram that could not be sent.
-    pub(crate) fn lose(&mut self)
+    fn lose(&mut self)
         ensures { self.new.tally.turns ≡ self.old.tally.turns }
     {
         self.tally.faults = self.tally.faults.saturating_add(1);

@@ -6,7 +6,7 @@ ghost use Rattle.std.specs.Borrow.{sem};
 ghost use Rattle.std.specs.FinMap as map;
 ghost use Rattle.rad_tables.specs.Pairs.{AllInUse, IsFirstFree, IsInRange};
 ghost use Rattle.rad_tables.specs.Dues.{IsLeastDue, NoneIs};
-ghost use Rattle.rad_tables.specs.Kept.{place_of as the_place, slot_at as the_slot, start_of as the_start};
+ghost use Rattle.rad_tables.specs.internal.Kept.{place_of as the_place, slot_at as the_slot, start_of as the_start};
 
 use crate::cells::{Cell, change_each, first_free_behind, free_cells, least_of};
 use crate::{Change, Timed};
@@ -48,7 +48,7 @@ impl<T> Model for Slots<T> {
 
     ghost coded = { coded_table T.code };
 
-    ghost use Rattle.rad_tables.specs.Kept.{contents_of, entries_of, IsKept};
+    ghost use Rattle.rad_tables.specs.internal.Kept.{contents_of, entries_of, IsKept};
 
     ghost view = { λ s. record {
       ports = s.ports;

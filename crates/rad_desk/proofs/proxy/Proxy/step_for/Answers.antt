@@ -1,4 +1,9 @@
+use Rattle.std.proofs.Common.{◌≡◌, ℕ, ◌+◌, ◌-◌, ◌∙◌, ap, arith, length}
+use Rattle.rad_lane.specs.declared.counts.Counts.{Counts}
 use Rattle.rad_desk.proofs.proxy.Proxy.step_for.Goals as goal
+
+rest : (opening count : ℕ) → opening + count - opening ≡ count
+rest opening count = omega arith
 
 pub returns : goal.returns
 returns g c = record {
@@ -10,5 +15,7 @@ returns g c = record {
     is_of = c.is_of.ensures.0 c.if-not-is_of.false;
     steps = c.step-action.ensures.steps;
   };
-  counted = omega arith;
+  counted =
+      ap (λ (k : Counts). k.accepted - k.opening) c.counts-counts.ensures.counts
+      ∙ rest c.step-action.new.self.lane.opening (length c.step-action.new.self.lane.accepted);
 }

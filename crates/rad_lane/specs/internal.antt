@@ -1,0 +1,4 @@
+pub mod AcceptReply
+pub mod Cutting
+pub mod NextDue
+pub mod Invariant
