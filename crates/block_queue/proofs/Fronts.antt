@@ -74,3 +74,9 @@ module _ {T : Type 0} where
   some_left n [] lt = absurd (omega arith)
   some_left zero (x ∷ items) lt = omega arith
   some_left (suc n) (x ∷ items) lt = some_left n items (omega arith)
+
+  -- what was read at a place within
+  pub read_is : (items : List T) (i : ℕ) (x d : T) → i < length items → x ≡ get_or items i x → x ≡ get_or items i d
+  read_is [] i x d lt e = absurd (omega arith)
+  read_is (y ∷ items) zero x d lt e = e
+  read_is (y ∷ items) (suc i) x d lt e = read_is items i x d (omega arith) e
