@@ -49,7 +49,7 @@ module _ {T : Type 0} where
       )
 
   pub row_new : (n : ℕ) (places : List (Option T)) → 1 ≤ n → places ≡ laid 0 [] n → IsRow n 0 0 places × (values places ≡ [])
-  row_new n places some e = is_row n 0 0 n [] places e refl refl some
+  row_new n places some e = is_row n 0 0 n [] places e refl (omega arith) some
 
   module _ (n start count : ℕ) (places : List (Option T)) (row : IsRow n start count places) where
     pub inside : start + count ≤ n

@@ -1,11 +1,12 @@
 //! What a list does with its rows, each of which may not be there.
-ghost use Rattle.std.specs.Prelude.{◌≡◌, ◌≢◌, ◌<◌, ◌≤◌, ◌↔◌, [], ◌∷◌, ◌++◌, List, IsTrue, IfOk, length, drop as drop_list, slice_set, slice_index_or};
+ghost use Rattle.std.specs.Prelude.{◌≡◌, ◌≢◌, ◌<◌, ◌≤◌, ◌↔◌, [], ◌∷◌, ◌++◌, List, None, IfOk, length, drop as drop_list, option_copied, slice_get, slice_set, slice_index_or};
 ghost use Rattle.std.specs.Bool.{OnTrue};
 ghost use Rattle.block_queue.specs.Sliding.{items_in, room_in, IsFront};
 
 use crate::row::Row;
 use crate::sharing::Share;
 use std::alloc::{AllocError, Global};
+use std::mem;
 
 /// How many places a row has beside half as many again as there are items.
 const LEAST_PLACES: usize = 32;
@@ -46,15 +47,27 @@ pub(crate) fn room_of<T>(row: &Option<Row<T>>) -> usize
     }
 }
 
-/// Whether there is a row that has so many items, and room for more.
+/// Whether there is a row that has so many items.
 pub(crate) fn has_all<T>(row: &Option<Row<T>>, count: usize) -> bool
-    ensures count { OnTrue result (length (items_in row.now) ≡ count) }
-    ensures room { OnTrue result (1 ≤ room_in row.now) }
+    ensures { OnTrue result (length (items_in row.now) ≡ count) }
 {
     match row {
-        Some(row) => row.len() == count && row.room() > 0,
+        Some(row) => row.len() == count,
         None => false,
     }
+}
+
+/// Has the next row take the place of a row, which is spent then.
+pub(crate) fn take_next<T: Drop>(
+    row: &mut Option<Row<T>>,
+    next: &mut Option<Row<T>>,
+    spent: &mut Option<Row<T>>,
+)
+    ensures row { row.new ≡ next.old }
+    ensures next { next.new ≡ None }
+{
+    let taken = mem::replace(next, None);
+    *spent = mem::replace(row, taken);
 }
 
 /// Puts an item behind the others.
@@ -124,7 +137,7 @@ fn copy_each<T: Share>(items: &[T], row: &mut Row<T>, most: usize)
     ensures { IsFront row.new.items items.now }
 {
     for _ in 0..most {
-        let Some(item) = items.get(row.len()) else {
+        let Some(item) = item_at(items, row.len()) else {
             return;
         };
         if row.room() == 0 {
@@ -135,6 +148,12 @@ fn copy_each<T: Share>(items: &[T], row: &mut Row<T>, most: usize)
         };
         row.push(other);
     }
+}
+
+fn item_at<T>(items: &[T], place: usize) -> Option<&T>
+    ensures { option_copied result ≡ slice_get items.now place }
+{
+    items.get(place)
 }
 
 /// Has a row with a front of some items keep that, where an item is put in the place of another.

@@ -4,12 +4,11 @@ ghost use Rattle.std.specs.Prelude.{◌≡◌, ◌<◌, ◌≤◌, [], ◌∷◌
 use crate::row::Row;
 use crate::rows::{
     copy_to, follow_set, follow_swap, has_all, let_go, make_row, push_to, room_of, set_in,
-    slice_of, swap_in,
+    slice_of, swap_in, take_next,
 };
 use crate::sharing::Share;
 use std::alloc::{AllocError, Global};
 use std::marker::Model;
-use std::mem;
 
 /// How many items a call copies into the next row at most, and how many of the row before it lets go of.
 const STEP: usize = 16;
@@ -112,12 +111,21 @@ impl<T: Share + Drop> SlidingList<T> {
         ensures { self.new ≡ self.old }
     {
         let count = self.as_slice().len();
-        if self.next.is_some() || self.spent.is_some() || room_of(&self.row) > count / 8 {
+        if room_of(&self.row) > count / 8 || self.next.is_some() || self.spent.is_some() {
             return;
         }
-        if let Ok(row) = make_row(self.alloc, count) {
-            self.next = Some(row);
+        match self.make_next() {
+            Ok(()) | Err(AllocError) => {}
         }
+    }
+
+    /// Makes a next row without items.
+    fn make_next(&mut self) -> Result<(), AllocError>
+        ensures { self.new ≡ self.old }
+    {
+        let count = self.as_slice().len();
+        self.next = Some(make_row(self.alloc, count)?);
+        Ok(())
     }
 
     /// Copies some items into the next row.
@@ -127,13 +135,13 @@ impl<T: Share + Drop> SlidingList<T> {
         copy_to(slice_of(&self.row), &mut self.next, most);
     }
 
-    /// Has the next row take the place of the row, once it has all items and room for more.
+    /// Has the next row take the place of the row, once it has all items.
     fn exchange(&mut self)
         ensures { self.new.items ≡ self.old.items }
     {
-        if has_all(&self.next, self.as_slice().len()) {
-            let next = mem::replace(&mut self.next, None);
-            self.spent = mem::replace(&mut self.row, next);
+        let count = self.as_slice().len();
+        if has_all(&self.next, count) {
+            take_next(&mut self.row, &mut self.next, &mut self.spent);
         }
     }
 
@@ -142,14 +150,13 @@ impl<T: Share + Drop> SlidingList<T> {
         ensures items { self.new.items ≡ self.old.items }
         ensures ok { OnOk result (1 ≤ self.new.room) }
     {
+        self.make_next()?;
         let count = self.as_slice().len();
-        self.next = Some(make_row(self.alloc, count)?);
         self.copy(count);
-        if !has_all(&self.next, count) {
+        self.exchange();
+        if room_of(&self.row) == 0 {
             return Err(AllocError);
         }
-        let next = mem::replace(&mut self.next, None);
-        self.spent = mem::replace(&mut self.row, next);
         Ok(())
     }
 

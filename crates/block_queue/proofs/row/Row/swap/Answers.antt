@@ -1,7 +1,6 @@
 use Rattle.std.proofs.Common.{◌+◌, ◌<◌, Some, None, ◌∙◌, length, get_or, set, sym, ap, subst, arith}
-use Rattle.std.proofs.lemmas.List.{length-set}
 use Rattle.block_queue.specs.Places.{IsFilled}
-use Rattle.block_queue.proofs.RowPlaces.{filled_at, other_filled, here_free, there_free, row_swapped}
+use Rattle.block_queue.proofs.RowPlaces.{filled_at, other_filled, here_free, row_swapped}
 use Rattle.block_queue.proofs.row.Row.swap.Goals as goal
 
 pub read-one-requires : goal.read-one-requires
@@ -21,13 +20,6 @@ write-requires g c =
     let r = c.self.inside in let i = subst (λ q. c.args.i < length q.items) (sym c.self.view_is) c.requires.i_within in
     let j = subst (λ q. c.args.j < length q.items) (sym c.self.view_is) c.requires.j_within in
     here_free r.places r.start r.count r.region.places c.self.invariant c.args.i c.args.j i j c.requires.apart _ _ c.read-one.ensures.places.0 c.read-other.ensures.places.0
-
-pub write-2-requires : goal.write-2-requires
-write-2-requires g c =
-    let r = c.self.inside in let i = subst (λ q. c.args.i < length q.items) (sym c.self.view_is) c.requires.i_within in
-    let j = subst (λ q. c.args.j < length q.items) (sym c.self.view_is) c.requires.j_within in
-    there_free r.places r.start r.count r.region.places c.self.invariant c.args.i c.args.j i j c.requires.apart _ _ c.read-other.result _
-    (ap length c.read-one.ensures.places.0 ∙ length-set r.region.places (r.start + c.args.i) None) c.read-other.ensures.places.0 c.write.ensures.0
 
 pub invariant_of-self : goal.invariant_of-self
 invariant_of-self g c =

@@ -1,7 +1,14 @@
-use Rattle.std.proofs.Common.{◌<◌, ◌∙◌, length, get_or, set, sym, ap, subst}
+use Rattle.std.proofs.Common.{◌≡◌, ◌<◌, ◌∙◌, length, get_or, set, sym, ap, subst}
+use Rattle.std.proofs.lemmas.List.{set-set, set-get_or}
 use Rattle.block_queue.specs.Sliding.{items_in, IsFront}
 use Rattle.block_queue.proofs.Fronts.{item_at}
 use Rattle.block_queue.proofs.sliding_list.SlidingList.swap.Goals as goal
+
+pub returns-then-i-j : goal.returns-then-i-j
+returns-then-i-j g c = λ d.
+    let items = c.args.self.now.items in let i = c.args.i in let x = get_or items i d in
+    let same = sym (set-set items i x x ∙ set-get_or items i d) in
+    subst (λ j. items ≡ set (set items i (get_or items j d)) j (get_or items i d)) c.if-i-j.true same
 
 pub follow_swap-requires-clause-front : goal.follow_swap-requires-clause-front
 follow_swap-requires-clause-front g c = subst (λ items. IsFront (items_in c.self.inside.next) items) (sym c.slice_of.ensures) c.self.invariant
