@@ -170,7 +170,12 @@ pub(crate) fn follow_set<T: Share + Drop>(row: &mut Option<Row<T>>, place: usize
 }
 
 /// The same where two of the items are exchanged.
-pub(crate) fn follow_swap<T: Share + Drop>(items: &[T], row: &mut Option<Row<T>>, i: usize, j: usize)
+pub(crate) fn follow_swap<T: Share + Drop>(
+    items: &[T],
+    row: &mut Option<Row<T>>,
+    i: usize,
+    j: usize,
+)
     requires front { IsFront (items_in row.old) items.now }
     requires i_within { i < length items.now }
     requires j_within { j < length items.now }
