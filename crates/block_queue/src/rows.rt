@@ -1,25 +1,18 @@
 //! What a list does with its rows, each of which may not be there.
-ghost use Rattle.std.specs.Prelude.{◌≡◌, ◌≢◌, ◌<◌, ◌≤◌, ◌↔◌, [], ◌∷◌, ◌++◌, List, None, IfOk, length, drop as drop_list, option_copied, slice_get, slice_set, slice_index_or};
+ghost use Rattle.std.specs.Prelude.{◌≡◌, ◌≢◌, ◌<◌, ◌≤◌, ◌↔◌, [], ◌∷◌, ◌++◌, List, None, length, drop as drop_list, option_copied, slice_get, slice_set, slice_index_or};
 ghost use Rattle.std.specs.Bool.{OnTrue};
 ghost use Rattle.block_queue.specs.Sliding.{items_in, room_in, IsFront};
 
 use crate::row::Row;
 use crate::sharing::Share;
-use std::alloc::{AllocError, Global};
+use std::alloc::AllocError;
 use std::mem;
 
 /// How many places a row has beside half as many again as there are items.
 const LEAST_PLACES: usize = 32;
 
-/// A row without items, with places for so many and more. An error means that memory was refused.
-pub(crate) fn make_row<T>(alloc: Global, count: usize) -> Result<Row<T>, AllocError>
-    ensures { IfOk result (λ row. row.items ≡ []) }
-{
-    Row::with_places(alloc, places_for(count))
-}
-
-/// So many places, half as many again, and some more.
-fn places_for(count: usize) -> usize
+/// How many places a row is made with for so many items: half as many again, and some more.
+pub(crate) fn places_for(count: usize) -> usize
     ensures { 1 ≤ result }
 {
     (count / 2)

@@ -3,7 +3,7 @@ ghost use Rattle.std.specs.Prelude.{◌≡◌, ◌<◌, ◌≤◌, [], ◌∷◌
 
 use crate::row::Row;
 use crate::rows::{
-    copy_to, follow_set, follow_swap, has_all, let_go, make_row, push_to, room_of, set_in,
+    copy_to, follow_set, follow_swap, has_all, let_go, places_for, push_to, room_of, set_in,
     slice_of, swap_in, take_next,
 };
 use crate::sharing::Share;
@@ -124,7 +124,7 @@ impl<T: Share + Drop> SlidingList<T> {
         ensures { self.new ≡ self.old }
     {
         let count = self.as_slice().len();
-        self.next = Some(make_row(self.alloc, count)?);
+        self.next = Some(Row::with_places(self.alloc, places_for(count))?);
         Ok(())
     }
 
