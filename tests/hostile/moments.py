@@ -142,7 +142,7 @@ class Stage:
         hope(is_so(self.proxy.counters.exists), "there is no file of counters")
         lines = self.proxy.counters.read_text("utf-8").splitlines()
         pairs = [line.rsplit(" ", 1) for line in lines if not line.startswith("#")]
-        found = {name: int(count) for name, count in pairs}
+        found = {name: float(count) if "." in count else int(count) for name, count in pairs}
         hope(len(found) == len(pairs), "a counter stands there twice")
         return found
 

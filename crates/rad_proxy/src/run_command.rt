@@ -98,7 +98,7 @@ where
     let Ok(texts) = Arc::new(alloc, CounterTexts::new(alloc)) else {
         return Err(Fault::Memory);
     };
-    let Ok(telemetry) = Telemetry::new(alloc, config, log) else {
+    let Ok(telemetry) = Telemetry::new(alloc, rt, config, log) else {
         return Err(Fault::Memory);
     };
     if !start_writers(rt, alloc, log, &texts, file, files) {
@@ -116,7 +116,7 @@ fn serve_told<'a, R, L, A>(
     addresses: &'a A,
     alloc: Global,
     config: &'a Config,
-    telemetry: &'a Telemetry<'a, L>,
+    telemetry: &'a Telemetry<'a, L, R>,
     texts: Option<&'a CounterTexts>,
     log: &'a L,
 ) -> Result<EndLine, Fault>
@@ -196,8 +196,8 @@ struct Service<'a, R, L, A> {
     addresses: &'a A,
     alloc: Global,
     config: &'a Config,
-    telemetry: &'a Telemetry<'a, L>,
-    reporter: Reporter<'a, L>,
+    telemetry: &'a Telemetry<'a, L, R>,
+    reporter: Reporter<'a, L, R>,
 }
 
 impl<R, L, A> Clone for Service<'_, R, L, A> {

@@ -11,6 +11,7 @@ use crate::metric_lines::{CounterLine, HelpLine, Labels, TypeLine};
 use crate::workers::{worker_name, worker_of_lane};
 use log::{Log, info, warn};
 use rad_desk::Worker;
+use rad_metrics::{Numbers, Reading, write_numbers};
 use rad_realms::{Config, Dropped};
 use std::alloc::{AllocError, Global};
 use std::io::{self, Write};
@@ -20,6 +21,10 @@ use std::time::{Clock, Duration, Instant};
 
 /// How long it is from one report to the next, in milliseconds.
 const PERIOD: u64 = 1000;
+
+/// How long the workers are waited for at most to tell how their lanes stand, in milliseconds: each looks for that at least every
+/// 20 milliseconds. They are asked so long before a report.
+const ASKED: u64 = 40;
 
 /// Whether a reporter is to stop, which it shares with the others.
 #[derive(Drop)]
@@ -44,8 +49,8 @@ impl StopFlag {
         self.is_set.load(Ordering::SeqCst) != 0
     }
 
-    /// Waits until the period is over or the flag is set.
-    fn wait<R: Clock + Wait>(&self, rt: &R) {
+    /// Waits so many milliseconds, or until the flag is set.
+    fn wait<R: Clock + Wait>(&self, rt: &R, milliseconds: u64) {
         let Ok(start) = Instant::now(rt) else {
             return;
         };
@@ -53,7 +58,7 @@ impl StopFlag {
             let Ok(passed) = start.elapsed(rt) else {
                 return;
             };
-            let Some(left) = Duration::from_millis(PERIOD).checked_sub(passed) else {
+            let Some(left) = Duration::from_millis(milliseconds).checked_sub(passed) else {
                 return;
             };
             if left.is_zero() || self.is_set() {
@@ -65,42 +70,71 @@ impl StopFlag {
 }
 
 /// What a reporter reports, and where to.
-pub struct Reporter<'a, L> {
+pub struct Reporter<'a, L, R> {
     pub(crate) config: &'a Config,
     pub(crate) counters: &'a Counters,
+    pub(crate) numbers: &'a Numbers<'a, R>,
     pub(crate) log: &'a L,
     /// What takes the texts of the counters, where they go to a file.
     pub(crate) texts: Option<&'a CounterTexts>,
 }
 
-impl<L> Clone for Reporter<'_, L> {
+impl<L, R> Clone for Reporter<'_, L, R> {
     fn clone(&self) -> Result<Self, AllocError> {
         Ok(*self)
     }
 }
 
-impl<L> Copy for Reporter<'_, L> {}
+impl<L, R> Copy for Reporter<'_, L, R> {}
 
-/// Reports once a second until the flag is set, and then once more. A text of all counters is made anew each time, in the
-/// memory of an earlier one.
-pub fn report<R, L>(rt: &R, alloc: Global, reporter: Reporter<'_, L>, stop: &StopFlag)
+/// The memory in which the texts of the numbers are made.
+#[derive(Drop)]
+pub struct Draft {
+    text: Vec<u8>,
+    readings: Vec<Reading>,
+}
+
+impl Draft {
+    /// Nothing is written yet.
+    pub fn new(alloc: Global) -> Draft {
+        Draft {
+            text: Vec::new(alloc),
+            readings: Vec::new(alloc),
+        }
+    }
+}
+
+/// Reports once a second until the flag is set, and then once more. A text of all numbers is made anew each time, in the
+/// memory of an earlier one; the workers are asked right before how their lanes stand.
+pub fn report<R, L>(rt: &R, alloc: Global, reporter: Reporter<'_, L, R>, stop: &StopFlag)
 where
     R: Clock + Wait,
     L: Log,
 {
-    let mut text = Vec::new(alloc);
+    let mut draft = Draft::new(alloc);
     for _ in rt.forever() {
         let is_last = stop.is_set();
+        if !is_last {
+            reporter.ask();
+            stop.wait(rt, ASKED);
+        }
         reporter.log_deltas();
-        reporter.leave_text(rt, &mut text);
+        reporter.leave_text(rt, &mut draft);
         if is_last {
             return;
         }
-        stop.wait(rt);
+        stop.wait(rt, PERIOD - ASKED);
     }
 }
 
-impl<L: Log> Reporter<'_, L> {
+impl<L: Log, R> Reporter<'_, L, R> {
+    /// Has the workers tell how their lanes stand, where that is reported.
+    fn ask(&self) {
+        if self.texts.is_some() {
+            self.numbers.ask_each();
+        }
+    }
+
     /// Logs what was counted since the last time, a line for each worker and kind of which there was any.
     pub fn log_deltas(&self) {
         self.log_deltas_of(Worker::Front);
@@ -137,19 +171,6 @@ impl<L: Log> Reporter<'_, L> {
             if let Some(delta) = self.counters.take_delta(worker, kind) {
                 self.log_delta(worker_name(self.config, worker), kind, delta);
             }
-        }
-    }
-
-    /// Leaves a text of the counters to whoever writes it to their file, where there is one; and logs what speaks against one
-    /// that was left before, once.
-    pub fn leave_text<R: Wait>(&self, rt: &R, text: &mut Vec<u8>) {
-        let Some(texts) = self.texts else {
-            return;
-        };
-        self.log_fault(rt, texts);
-        text.clear();
-        if self.write(text).is_ok() {
-            texts.leave(rt, text);
         }
     }
 
@@ -259,6 +280,31 @@ impl<L: Log> Reporter<'_, L> {
             count: self.counters.get(worker, kind),
         };
         writeln!(writer, "{line}")
+    }
+}
+
+impl<L: Log, R: Clock> Reporter<'_, L, R> {
+    /// Leaves a text of all numbers to whoever writes it to their file, where there is one; and logs what speaks against one
+    /// that was left before, once.
+    pub fn leave_text<S: Wait>(&self, rt: &S, draft: &mut Draft) {
+        let Some(texts) = self.texts else {
+            return;
+        };
+        self.log_fault(rt, texts);
+        if self.numbers.read_each(rt, &mut draft.readings).is_err() {
+            return;
+        }
+        draft.text.clear();
+        if self.write_all(draft).is_ok() {
+            texts.leave(rt, &mut draft.text);
+        }
+    }
+
+    /// Writes all counters, and then all that is told of the clients and the home servers.
+    fn write_all(&self, draft: &mut Draft) -> io::Result<()> {
+        let Draft { text, readings } = draft;
+        self.write(text)?;
+        write_numbers(text, self.config, self.numbers, readings.as_slice())
     }
 }
 

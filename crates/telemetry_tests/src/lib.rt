@@ -11,6 +11,8 @@ mod levels;
 #[cfg(test)]
 mod logging;
 #[cfg(test)]
+mod numbers;
+#[cfg(test)]
 mod packets;
 #[cfg(test)]
 mod reporting;

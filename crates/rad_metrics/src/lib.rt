@@ -1,0 +1,35 @@
+//! The numbers of a proxy that serves, in Prometheus' text format: of the program, of the limits, of each client and of each home
+//! server.
+//!
+//! [`Numbers`] keeps what the workers tell. The numbers of one home server are of one hold of its lane, which the lane's worker
+//! takes where it is asked to. All labels are of the configuration, whoever sends.
+//!
+//! Contracts say what each family is called, what it tells and how a line is printed, which number of a home server is which part
+//! of its [`Reading`], and as what a note is counted of a client. What stands behind a lock or in an atomic, such as a count, no
+//! contract tells, and tests show it. The definitions stand in specs: `Families` and `Samples` have the lines, `ProgramNumbers`,
+//! `LimitNumbers`, `ClientEvents` and `HomeNumbers` what is told of each.
+#![tactic(auto)]
+
+mod client_event;
+mod client_numbers;
+mod family;
+mod home_cells;
+mod home_number;
+mod limit_number;
+mod numbers;
+mod program_number;
+mod reading;
+mod sample;
+mod value;
+mod writing;
+
+pub use client_event::{CLIENT_EVENTS, ClientEvent, ClientFamily};
+pub use family::{Family, Kind};
+pub use home_number::HomeNumber;
+pub use limit_number::LimitNumber;
+pub use numbers::Numbers;
+pub use program_number::ProgramNumber;
+pub use reading::Reading;
+pub use sample::{Labels, Sample};
+pub use value::Value;
+pub use writing::write_numbers;

@@ -1,0 +1,60 @@
+//! The number of a sample. Times are in seconds.
+
+ghost use Rattle.std.specs.Prelude.{◌≡◌};
+ghost use Rattle.rad_metrics.specs.Values.{value_of_bool};
+
+use std::fmt;
+
+/// A number.
+#[derive(Clone, Copy, Debug, PartialEq, Eq)]
+pub enum Value {
+    /// How many there are.
+    Count(u64),
+    /// A time of so many milliseconds.
+    Milliseconds(u64),
+}
+
+/// Seconds, with three digits behind the point.
+#[derive(Clone, Copy)]
+struct Seconds(u64);
+
+impl Value {
+    /// 1 where something is so, and else 0.
+    pub fn of_bool(is_so: bool) -> Value
+        ensures { result ≡ value_of_bool is_so }
+    {
+        Value::Count(u64::from(is_so))
+    }
+}
+
+impl fmt::Display for Value {
+    ghost use Rattle.std.specs.Prelude.{Some};
+    ghost use Rattle.rad_metrics.specs.Values.{value_text};
+
+    ghost output = { λ value. Some (value_text value) };
+
+    fn fmt<W: fmt::Write>(&self, f: &mut fmt::Formatter<W>) -> fmt::Result {
+        match *self {
+            Value::Count(count) => write!(f, "{count}"),
+            Value::Milliseconds(milliseconds) => {
+                let seconds = Seconds(milliseconds);
+                write!(f, "{seconds}")
+            }
+        }
+    }
+}
+
+impl fmt::Display for Seconds {
+    ghost use Rattle.std.specs.Prelude.{Some};
+    ghost use Rattle.rad_metrics.specs.Values.{seconds_text};
+
+    ghost output = { λ seconds. Some (seconds_text seconds.0) };
+
+    fn fmt<W: fmt::Write>(&self, f: &mut fmt::Formatter<W>) -> fmt::Result {
+        let whole = self.0 / 1000;
+        let tenths = self.0 / 100 % 10;
+        let hundredths = self.0 / 10 % 10;
+        let thousandths = self.0 % 10;
+        write!(f, "{whole}.{tenths}{hundredths}{thousandths}")
+    }
+}
