@@ -43,7 +43,7 @@ home_help Outstanding = codes "Requests sent and not answered."
 home_help Held = codes "Requests that the book holds."
 home_help Resent = codes "Accounting-Requests sent to the home server again."
 home_help OldestQueued = codes "How long the first request of the queue has waited."
-home_help OldestOutstanding = codes "How long ago the first request was accepted that is sent and not answered."
+home_help OldestOutstanding = codes "How long ago the first request was sent that is not answered."
 home_help OldestHeld = codes "How long ago the first request was accepted that the book holds."
 home_help LastAnswer = codes "When the home server answered a request last, in seconds since 1970, and 0 before that."
 

@@ -5,3 +5,4 @@ pub mod LimitNumbers
 pub mod ClientEvents
 pub mod HomeNumbers
 pub mod Samples
+pub mod Buckets

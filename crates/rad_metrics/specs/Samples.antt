@@ -31,6 +31,7 @@ labels_text (labels.Client address) = codes "{" ++ client_label address ++ codes
 labels_text (labels.ClientReason address event) = codes "{" ++ client_label address ++ codes "," ++ reason_label event ++ codes "}"
 labels_text (labels.Home lane home) = codes "{" ++ home_labels lane home.now ++ codes "}"
 labels_text (labels.HomeUp lane home why) = codes "{" ++ home_labels lane home.now ++ codes ",reason=\"" ++ up_text why ++ codes "\"}"
+labels_text (labels.HomeBound lane home bound) = codes "{" ++ home_labels lane home.now ++ codes ",le=\"" ++ bound.now ++ codes "\"}"
 
 -- A number under its name.
 abbrev pub sample_line : Sample → List ℕ

@@ -1,7 +1,7 @@
 //! Families: what stands before the samples of one name.
 
 ghost use Rattle.std.specs.Prelude.{◌≡◌};
-ghost use Rattle.rad_metrics.specs.declared.family.Kind.TheVariants.{Counter as counting, Gauge as standing};
+ghost use Rattle.rad_metrics.specs.declared.family.Kind.TheVariants.{Counter as counting, Gauge as standing, Histogram as lasting};
 
 use std::fmt;
 
@@ -12,6 +12,8 @@ pub enum Kind {
     Counter,
     /// It tells how something stands.
     Gauge,
+    /// It counts how often something took no longer than each of some bounds.
+    Histogram,
 }
 
 /// What one name tells.
@@ -46,6 +48,19 @@ impl Family {
         }
     }
 
+    /// A family that counts how long something took.
+    pub(crate) fn histogram(name: &'static str, help: &'static str) -> Family
+        ensures name { result.name.now ≡ name.now }
+        ensures kind { result.kind ≡ lasting }
+        ensures help { result.help.now ≡ help.now }
+    {
+        Family {
+            name,
+            kind: Kind::Histogram,
+            help,
+        }
+    }
+
     /// A family that tells how something stands.
     pub(crate) fn gauge(name: &'static str, help: &'static str) -> Family
         ensures name { result.name.now ≡ name.now }
@@ -70,6 +85,7 @@ impl fmt::Display for Kind {
         f.write_str(match self {
             Kind::Counter => "counter",
             Kind::Gauge => "gauge",
+            Kind::Histogram => "histogram",
         })
     }
 }

@@ -30,7 +30,7 @@ pub enum HomeNumber {
     Resent,
     /// How long the first request of the queue has waited.
     OldestQueued,
-    /// How long ago the first request was accepted that is sent and not answered.
+    /// How long ago the first request was sent that is not answered.
     OldestOutstanding,
     /// How long ago the first request was accepted that the book holds.
     OldestHeld,
@@ -101,7 +101,7 @@ impl HomeNumber {
             ),
             HomeNumber::OldestOutstanding => Family::gauge(
                 "oldest_outstanding_age_seconds",
-                "How long ago the first request was accepted that is sent and not answered.",
+                "How long ago the first request was sent that is not answered.",
             ),
             HomeNumber::OldestHeld => Family::gauge(
                 "oldest_held_age_seconds",

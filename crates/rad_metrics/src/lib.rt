@@ -7,12 +7,13 @@
 //! Contracts say what each family is called, what it tells and how a line is printed, which number of a home server is which part
 //! of its [`Reading`], and as what a note is counted of a client. What stands behind a lock or in an atomic, such as a count, no
 //! contract tells, and tests show it. The definitions stand in specs: `Families` and `Samples` have the lines, `ProgramNumbers`,
-//! `LimitNumbers`, `ClientEvents` and `HomeNumbers` what is told of each.
+//! `LimitNumbers`, `ClientEvents` and `HomeNumbers` what is told of each, and `Buckets` the bounds of a histogram.
 #![tactic(auto)]
 
 mod client_event;
 mod client_numbers;
 mod family;
+mod histogram;
 mod home_cells;
 mod home_number;
 mod limit_number;

@@ -2,11 +2,12 @@
 
 use crate::client_event::ClientEvent;
 use crate::client_numbers::ClientNumbers;
+use crate::histogram::Histogram;
 use crate::home_cells::{HomeCell, home_cells};
 use crate::reading::Reading;
 use rad_desk::{Note, Repeat, Standing, UpReason, Worker};
 use rad_realms::{Config, Endpoint};
-use rad_tables::Moment;
+use rad_tables::{Moment, Slot};
 use std::alloc::{AllocError, Global};
 use std::sync::Wait;
 use std::time::{Clock, Instant, SystemTime, UNIX_EPOCH};
@@ -37,7 +38,7 @@ impl<'a, R: Clock> Numbers<'a, R> {
             start: Instant::now(rt).ok(),
             started,
             clients: ClientNumbers::new(alloc, config)?,
-            homes: home_cells(alloc, config.homes().len(), started)?,
+            homes: home_cells(alloc, config.homes(), started)?,
         })
     }
 
@@ -104,6 +105,20 @@ impl<R> Numbers<'_, R> {
         self.clients.responded(to.address);
     }
 
+    /// A lane is about to send a request for the first time, under this pair.
+    pub fn first_sent(&self, lane: u16, slot: Slot) {
+        if let Some(home) = self.home(lane) {
+            home.first_sent(slot);
+        }
+    }
+
+    /// A lane's request that is out under this pair is answered.
+    pub fn replied(&self, lane: u16, slot: Slot) {
+        if let Some(home) = self.home(lane) {
+            home.replied(slot);
+        }
+    }
+
     /// A home server answered a request.
     pub fn answered(&self, lane: u16) {
         if let Some(home) = self.home(lane) {
@@ -163,6 +178,12 @@ impl<R> Numbers<'_, R> {
             Some(home) => home.ups(reason),
             None => 0,
         }
+    }
+
+    /// How long it was from the first sending of each request of a lane to its reply.
+    pub(crate) fn replies(&self, lane: usize) -> Option<&Histogram> {
+        let home = self.homes.get(lane)?;
+        Some(home.replies())
     }
 
     /// Reads what was told of each lane last, in order, in place of what was read before.

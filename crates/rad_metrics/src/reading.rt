@@ -23,7 +23,7 @@ pub struct Reading {
     pub last_answer: u64,
     /// How many Accounting-Requests it was sent.
     pub sent: u64,
-    /// How many milliseconds ago the first of the requests was accepted that are outstanding.
+    /// How many milliseconds ago the first of the requests was sent that are outstanding.
     pub oldest_outstanding: u64,
 }
 

@@ -21,6 +21,8 @@ pub enum Labels<'a> {
     Home(usize, &'a str),
     /// A lane and its home server's name, and why that went up.
     HomeUp(usize, &'a str, UpReason),
+    /// A lane and its home server's name, and a bound in seconds.
+    HomeBound(usize, &'a str, &'static str),
 }
 
 /// A number of a name.
@@ -110,6 +112,10 @@ impl fmt::Display for Labels<'_> {
                 let home = HomeLabels(lane, home);
                 let reason = UpText(reason);
                 write!(f, "{{{home},reason=\"{reason}\"}}")
+            }
+            Labels::HomeBound(lane, home, bound) => {
+                let home = HomeLabels(lane, home);
+                write!(f, "{{{home},le=\"{bound}\"}}")
             }
         }
     }

@@ -12,11 +12,17 @@ pub enum Value {
     Count(u64),
     /// A time of so many milliseconds.
     Milliseconds(u64),
+    /// A time of so many microseconds.
+    Microseconds(u64),
 }
 
-/// Seconds, with three digits behind the point.
+/// A time of so many milliseconds in seconds, with three digits behind the point.
 #[derive(Clone, Copy)]
 struct Seconds(u64);
+
+/// Three digits of a number below 1000.
+#[derive(Clone, Copy)]
+struct Digits(u64);
 
 impl Value {
     /// 1 where something is so, and else 0.
@@ -40,6 +46,11 @@ impl fmt::Display for Value {
                 let seconds = Seconds(milliseconds);
                 write!(f, "{seconds}")
             }
+            Value::Microseconds(microseconds) => {
+                let seconds = Seconds(microseconds / 1000);
+                let rest = Digits(microseconds % 1000);
+                write!(f, "{seconds}{rest}")
+            }
         }
     }
 }
@@ -52,9 +63,21 @@ impl fmt::Display for Seconds {
 
     fn fmt<W: fmt::Write>(&self, f: &mut fmt::Formatter<W>) -> fmt::Result {
         let whole = self.0 / 1000;
-        let tenths = self.0 / 100 % 10;
-        let hundredths = self.0 / 10 % 10;
-        let thousandths = self.0 % 10;
-        write!(f, "{whole}.{tenths}{hundredths}{thousandths}")
+        let rest = Digits(self.0 % 1000);
+        write!(f, "{whole}.{rest}")
+    }
+}
+
+impl fmt::Display for Digits {
+    ghost use Rattle.std.specs.Prelude.{Some};
+    ghost use Rattle.rad_metrics.specs.Values.{digits_text};
+
+    ghost output = { λ digits. Some (digits_text digits.0) };
+
+    fn fmt<W: fmt::Write>(&self, f: &mut fmt::Formatter<W>) -> fmt::Result {
+        let hundreds = self.0 / 100;
+        let tens = self.0 / 10 % 10;
+        let ones = self.0 % 10;
+        write!(f, "{hundreds}{tens}{ones}")
     }
 }

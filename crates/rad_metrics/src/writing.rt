@@ -2,6 +2,7 @@
 
 use crate::client_event::{CLIENT_EVENTS, CLIENT_FAMILIES, ClientEvent, ClientFamily};
 use crate::family::{Family, HelpLine, TypeLine};
+use crate::histogram::{BUCKETS, Histogram, bound_label};
 use crate::home_number::HOME_NUMBERS;
 use crate::limit_number::LIMIT_NUMBERS;
 use crate::numbers::Numbers;
@@ -22,6 +23,18 @@ const UPS: &str = "ups_total";
 
 /// What it tells.
 const UPS_HELP: &str = "How often the home server went up again.";
+
+/// The name of the family of how long the home servers take, and those of its samples.
+const REPLIES: &str = "reply_seconds";
+
+const REPLIES_BUCKET: &str = "reply_seconds_bucket";
+
+const REPLIES_SUM: &str = "reply_seconds_sum";
+
+const REPLIES_COUNT: &str = "reply_seconds_count";
+
+/// What it tells.
+const REPLIES_HELP: &str = "From the first sending of a request to the home server's reply.";
 
 /// Why a home server goes up.
 const UP_REASONS: [UpReason; 3] = [
@@ -45,7 +58,8 @@ pub fn write_numbers<W: Write, R: Clock>(
     write_clients(writer, config, numbers)?;
     write_limits(writer, config)?;
     write_homes(writer, config, readings)?;
-    write_ups(writer, config, numbers)
+    write_ups(writer, config, numbers)?;
+    write_replies(writer, config, numbers)
 }
 
 /// Writes what stands before the samples of a family.
@@ -62,8 +76,18 @@ fn write_sample<W: Write>(
     labels: Labels<'_>,
     value: Value,
 ) -> io::Result<()> {
+    write_named(writer, family.name, labels, value)
+}
+
+/// Writes a sample of this name.
+fn write_named<W: Write>(
+    writer: &mut W,
+    name: &'static str,
+    labels: Labels<'_>,
+    value: Value,
+) -> io::Result<()> {
     let sample = Sample {
-        name: family.name,
+        name,
         labels,
         value,
     };
@@ -201,4 +225,38 @@ fn write_ups<W: Write, R>(
         }
     }
     Ok(())
+}
+
+/// Writes how long each home server takes to reply.
+fn write_replies<W: Write, R>(
+    writer: &mut W,
+    config: &Config,
+    numbers: &Numbers<'_, R>,
+) -> io::Result<()> {
+    write_head(writer, Family::histogram(REPLIES, REPLIES_HELP))?;
+    for (lane, home) in config.homes().iter().enumerate() {
+        if let Some(replies) = numbers.replies(lane) {
+            write_histogram(writer, lane, home.name(), replies)?;
+        }
+    }
+    Ok(())
+}
+
+/// Writes how often a home server took no longer than each bound, how long it took in all, and how often it replied.
+fn write_histogram<W: Write>(
+    writer: &mut W,
+    lane: usize,
+    home: &str,
+    replies: &Histogram,
+) -> io::Result<()> {
+    let mut count = 0_u64;
+    for bucket in 0..BUCKETS {
+        count = count.saturating_add(replies.get(bucket));
+        let labels = Labels::HomeBound(lane, home, bound_label(bucket));
+        write_named(writer, REPLIES_BUCKET, labels, Value::Count(count))?;
+    }
+    let labels = Labels::Home(lane, home);
+    let sum = Value::Microseconds(replies.sum());
+    write_named(writer, REPLIES_SUM, labels, sum)?;
+    write_named(writer, REPLIES_COUNT, labels, Value::Count(count))
 }

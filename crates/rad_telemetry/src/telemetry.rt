@@ -10,7 +10,7 @@ use log::Log;
 use rad_desk::{Call, Gate, Go, Note, Repeat, Spent, Standing, UpReason, Worker};
 use rad_metrics::Numbers;
 use rad_realms::{Config, Endpoint};
-use rad_tables::Moment;
+use rad_tables::{Moment, Slot};
 use std::alloc::{AllocError, Global};
 use std::io::Error;
 use std::time::Clock;
@@ -141,6 +141,14 @@ impl<L: Log, R: Clock> Gate for Telemetry<'_, L, R> {
     fn stands(&self, lane: u16, moment: Moment, standing: Standing) {
         let sent = self.counters.get(Worker::Lane(lane), EventKind::Sent);
         self.numbers.stands(lane, moment, standing, sent);
+    }
+
+    fn first_sent(&self, lane: u16, _number: u64, slot: Slot) {
+        self.numbers.first_sent(lane, slot);
+    }
+
+    fn replied(&self, lane: u16, _serial: u64, slot: Slot) {
+        self.numbers.replied(lane, slot);
     }
 
     fn answered(&self, lane: u16, serial: u64) {

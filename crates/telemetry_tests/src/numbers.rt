@@ -6,7 +6,7 @@ use rad_desk::{Gate, Note, Repeat, Standing, UpReason, Worker};
 use rad_lane::{Counts, Refusal};
 use rad_metrics::{CLIENT_EVENTS, write_numbers};
 use rad_realms::{Dropped, Endpoint};
-use rad_tables::Moment;
+use rad_tables::{Moment, Slot};
 use rad_telemetry::{LevelFilter, Telemetry};
 use std::alloc::Global;
 use std::result::Result;
@@ -126,7 +126,7 @@ const HOMES: &str = "# HELP rad_proxy_home_up Whether the home server is taken t
     # TYPE rad_proxy_oldest_queued_age_seconds gauge\n\
     rad_proxy_oldest_queued_age_seconds{lane=\"0\",home=\"h1\"} 1.007\n\
     rad_proxy_oldest_queued_age_seconds{lane=\"1\",home=\"h2\"} 0.000\n\
-    # HELP rad_proxy_oldest_outstanding_age_seconds How long ago the first request was accepted that is sent and not answered.\n\
+    # HELP rad_proxy_oldest_outstanding_age_seconds How long ago the first request was sent that is not answered.\n\
     # TYPE rad_proxy_oldest_outstanding_age_seconds gauge\n\
     rad_proxy_oldest_outstanding_age_seconds{lane=\"0\",home=\"h1\"} 0.000\n\
     rad_proxy_oldest_outstanding_age_seconds{lane=\"1\",home=\"h2\"} 0.000\n\
@@ -148,6 +148,51 @@ const UPS: &str = "# HELP rad_proxy_ups_total How often the home server went up 
     rad_proxy_ups_total{lane=\"1\",home=\"h2\",reason=\"answered\"} 0\n\
     rad_proxy_ups_total{lane=\"1\",home=\"h2\",reason=\"probe answered\"} 1\n\
     rad_proxy_ups_total{lane=\"1\",home=\"h2\",reason=\"down_wait over\"} 0\n";
+
+/// What is told of how long they took: one reply came at once.
+const REPLIES: &str =
+    "# HELP rad_proxy_reply_seconds From the first sending of a request to the home server's reply.\n\
+    # TYPE rad_proxy_reply_seconds histogram\n\
+    rad_proxy_reply_seconds_bucket{lane=\"0\",home=\"h1\",le=\"0.00025\"} 1\n\
+    rad_proxy_reply_seconds_bucket{lane=\"0\",home=\"h1\",le=\"0.0005\"} 1\n\
+    rad_proxy_reply_seconds_bucket{lane=\"0\",home=\"h1\",le=\"0.001\"} 1\n\
+    rad_proxy_reply_seconds_bucket{lane=\"0\",home=\"h1\",le=\"0.0025\"} 1\n\
+    rad_proxy_reply_seconds_bucket{lane=\"0\",home=\"h1\",le=\"0.005\"} 1\n\
+    rad_proxy_reply_seconds_bucket{lane=\"0\",home=\"h1\",le=\"0.01\"} 1\n\
+    rad_proxy_reply_seconds_bucket{lane=\"0\",home=\"h1\",le=\"0.025\"} 1\n\
+    rad_proxy_reply_seconds_bucket{lane=\"0\",home=\"h1\",le=\"0.05\"} 1\n\
+    rad_proxy_reply_seconds_bucket{lane=\"0\",home=\"h1\",le=\"0.1\"} 1\n\
+    rad_proxy_reply_seconds_bucket{lane=\"0\",home=\"h1\",le=\"0.25\"} 1\n\
+    rad_proxy_reply_seconds_bucket{lane=\"0\",home=\"h1\",le=\"0.5\"} 1\n\
+    rad_proxy_reply_seconds_bucket{lane=\"0\",home=\"h1\",le=\"1\"} 1\n\
+    rad_proxy_reply_seconds_bucket{lane=\"0\",home=\"h1\",le=\"2.5\"} 1\n\
+    rad_proxy_reply_seconds_bucket{lane=\"0\",home=\"h1\",le=\"5\"} 1\n\
+    rad_proxy_reply_seconds_bucket{lane=\"0\",home=\"h1\",le=\"10\"} 1\n\
+    rad_proxy_reply_seconds_bucket{lane=\"0\",home=\"h1\",le=\"30\"} 1\n\
+    rad_proxy_reply_seconds_bucket{lane=\"0\",home=\"h1\",le=\"60\"} 1\n\
+    rad_proxy_reply_seconds_bucket{lane=\"0\",home=\"h1\",le=\"+Inf\"} 1\n\
+    rad_proxy_reply_seconds_sum{lane=\"0\",home=\"h1\"} 0.000000\n\
+    rad_proxy_reply_seconds_count{lane=\"0\",home=\"h1\"} 1\n\
+    rad_proxy_reply_seconds_bucket{lane=\"1\",home=\"h2\",le=\"0.00025\"} 0\n\
+    rad_proxy_reply_seconds_bucket{lane=\"1\",home=\"h2\",le=\"0.0005\"} 0\n\
+    rad_proxy_reply_seconds_bucket{lane=\"1\",home=\"h2\",le=\"0.001\"} 0\n\
+    rad_proxy_reply_seconds_bucket{lane=\"1\",home=\"h2\",le=\"0.0025\"} 0\n\
+    rad_proxy_reply_seconds_bucket{lane=\"1\",home=\"h2\",le=\"0.005\"} 0\n\
+    rad_proxy_reply_seconds_bucket{lane=\"1\",home=\"h2\",le=\"0.01\"} 0\n\
+    rad_proxy_reply_seconds_bucket{lane=\"1\",home=\"h2\",le=\"0.025\"} 0\n\
+    rad_proxy_reply_seconds_bucket{lane=\"1\",home=\"h2\",le=\"0.05\"} 0\n\
+    rad_proxy_reply_seconds_bucket{lane=\"1\",home=\"h2\",le=\"0.1\"} 0\n\
+    rad_proxy_reply_seconds_bucket{lane=\"1\",home=\"h2\",le=\"0.25\"} 0\n\
+    rad_proxy_reply_seconds_bucket{lane=\"1\",home=\"h2\",le=\"0.5\"} 0\n\
+    rad_proxy_reply_seconds_bucket{lane=\"1\",home=\"h2\",le=\"1\"} 0\n\
+    rad_proxy_reply_seconds_bucket{lane=\"1\",home=\"h2\",le=\"2.5\"} 0\n\
+    rad_proxy_reply_seconds_bucket{lane=\"1\",home=\"h2\",le=\"5\"} 0\n\
+    rad_proxy_reply_seconds_bucket{lane=\"1\",home=\"h2\",le=\"10\"} 0\n\
+    rad_proxy_reply_seconds_bucket{lane=\"1\",home=\"h2\",le=\"30\"} 0\n\
+    rad_proxy_reply_seconds_bucket{lane=\"1\",home=\"h2\",le=\"60\"} 0\n\
+    rad_proxy_reply_seconds_bucket{lane=\"1\",home=\"h2\",le=\"+Inf\"} 0\n\
+    rad_proxy_reply_seconds_sum{lane=\"1\",home=\"h2\"} 0.000000\n\
+    rad_proxy_reply_seconds_count{lane=\"1\",home=\"h2\"} 0\n";
 
 /// Somebody who is no client.
 const STRANGER: Endpoint = Endpoint {
@@ -228,6 +273,12 @@ fn tell_homes(telemetry: &Telemetry<'_, MemoryLog, Still>) {
     for _ in 0..7 {
         telemetry.sends(Worker::Lane(0), NAS, &[4]);
     }
+    let slot = Slot {
+        port: 0,
+        identifier: 255,
+    };
+    telemetry.first_sent(0, 4, slot);
+    telemetry.replied(0, 2, slot);
     telemetry.answered(0, 2);
     telemetry.note(Worker::Lane(1), Note::WentUp);
     telemetry.went_up(1, UpReason::ProbeAnswered);
@@ -277,7 +328,7 @@ fn text_of(rt: &impl Wait, alloc: Global) -> Result<Vec<u8>, Fail> {
 #[test]
 fn numbers_are_written(rt: HostRuntime) -> Result<(), Fail> {
     let text = text_of(&rt, rt.alloc())?;
-    let pieces = [PROGRAM, CLIENTS, LIMITS, HOMES, UPS];
+    let pieces = [PROGRAM, CLIENTS, LIMITS, HOMES, UPS, REPLIES];
     holds(&rt, is_of(text.as_slice(), &pieces));
     Ok(())
 }
