@@ -405,6 +405,39 @@ def metrics_go_to_a_file(service):
         hope("another file", os.fstat(kept.fileno()).st_ino != file.stat().st_ino, True)
 
 
+def top_draws_what_is_there(service):
+    """`top` prints its tables once where its output is no terminal; on one it draws them again and again, in place of those before."""
+    service.start()
+    until("counters", (service.run / "counters").exists)
+    service.send(b"no packet")
+    done = service.ask("top")
+    hope("it ends", (done.returncode, done.stderr), (0, ""))
+    first, *lines = done.stdout.splitlines()
+    hope("head", re.sub(r"\d+\.\ds", "SECONDS", first), "rad_proxy 0.1.0, running for SECONDS")
+    rows = [line.split() for line in lines if line]
+    hope("heads", [row[0] for row in rows[::2]], ["HOME", "CLIENT", "DROPS"])
+    hope("home", (rows[1][:2], rows[1][3:]), (["h1", "up"], ["0.0", "0.0", "0.0", "0.0", "-", "-", "0", "0", "0%", "never"]))
+    hope("client", rows[3][0], "127.0.0.1")
+    ours, theirs = pty.openpty()
+    drawing = subprocess.Popen([service.ctl, "top"], stdin=theirs, stdout=theirs, stderr=theirs, env=service.environment)
+    os.close(theirs)
+    try:
+        drawn = b""
+        while drawn.count(b"\033[H\033[2J") < 3:
+            drawn += os.read(ours, 4096)
+        hope("tables", drawn.count(b"HOME") >= 2, True)
+    finally:
+        drawing.terminate()
+        drawing.wait(PATIENCE)
+        os.close(ours)
+
+
+def top_of_no_proxy_ends(service):
+    """Where no proxy answers, `top` says so, and ends with 4."""
+    done = service.ask("top")
+    hope("no service", (done.returncode, done.stdout, done.stderr), (4, "", f"rad_proxyctl: no service in {service.run}, or no right to ask it\n"))
+
+
 def metrics_of_no_proxy_are_removed(service):
     """Where no proxy answers, `metrics FILE` removes FILE, says why, and ends with 4; a proxy that was stopped is none."""
     file = service.room / "rad_proxy.prom"
@@ -713,7 +746,7 @@ TESTS = [
     a_hand_over_that_dies_is_started_anew, nobody_reads_its_output, its_output_is_full, what_is_left_over_is_a_warning,
     counters_elsewhere_are_told, counters_that_are_not_written_are_told,
     metrics_are_as_prometheus_reads_them, alerts_fire_where_they_should, metrics_go_to_a_file,
-    metrics_of_no_proxy_are_removed, metrics_go_to_no_other_file, metrics_are_had_by_http, http_waits_for_no_client, sent_again_is_never_less_than_nothing, counters_that_are_written_late_are_waited_for,
+    top_draws_what_is_there, top_of_no_proxy_ends, metrics_of_no_proxy_are_removed, metrics_go_to_no_other_file, metrics_are_had_by_http, http_waits_for_no_client, sent_again_is_never_less_than_nothing, counters_that_are_written_late_are_waited_for,
     memory_is_refused_and_nothing_ends, relative_paths_hold, an_answer_that_cannot_be_written_is_told,
     whoever_keeps_the_pipe_is_not_waited_for, the_unit_takes_no_core_dump, root_asks_as_the_owner,
     the_owner_gets_nothing_of_roots, root_serves_nobody_elses_folder,
