@@ -7,6 +7,7 @@ A test is a function below; its first line says what holds. The last line is `N 
 """
 import contextlib
 import pathlib
+import re
 import subprocess
 import sys
 import tempfile
@@ -17,6 +18,7 @@ sys.dont_write_bytecode = True
 from moments import Failed, Stage, hope
 from telling import HERE, bound, is_so
 from trying import try_each
+from vectors import TOP
 
 HOME = '{lane="0",home="h0"}'
 OF_ONE_HOLD = ["accepted_total", "queued", "outstanding", "answered_total"]
@@ -112,7 +114,8 @@ def limits_are_told(program, folder):
         hope(is_so(stage.proxy.counters.exists), "there are no numbers")
         names = ["book_limit", "queue_limit", "window_limit", "ring_limit", "span_seconds"]
         hope(seen(stage, *names) == [5000, 70, 9, 11, 1.5], seen(stage, *names))
-        hope([value for name, value in stage.counters().items() if name.startswith("rad_proxy_build_info{version=")] == [1], "version")
+        version = re.search(r"^VERSION = (.*)$", (TOP / "Makefile").read_text(), re.M)[1]
+        hope(stage.counters()[f'rad_proxy_build_info{{version="{version}"}}'] == 1, "the version is not", version)
 
 
 TESTS = [numbers_of_a_home_fit_together, ages_grow_until_an_answer, what_became_of_a_home_is_told, a_client_is_counted, limits_are_told]

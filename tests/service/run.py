@@ -9,6 +9,7 @@ line is `N passed, M failed`.
 """
 import contextlib
 import hashlib
+import json
 import os
 import pathlib
 import pty
@@ -17,12 +18,17 @@ import resource
 import shutil
 import signal
 import socket
+import socketserver
 import stat
 import struct
 import subprocess
 import sys
 import tempfile
+import threading
 import time
+import urllib.error
+import urllib.parse
+import urllib.request
 
 HERE = pathlib.Path(__file__).resolve().parent.parent.parent
 PATIENCE = 30
@@ -540,6 +546,72 @@ def alerts_fire_where_they_should(service):
     hope("alerts", tried, set(re.findall(r"alert: (\w+)", (service.room / "alerts.yml").read_text())))
 
 
+def each_panel_of_the_dashboard_draws(service):
+    """Each expression of examples/grafana-dashboard.json gives numbers, where a real Prometheus scrapes the service under load."""
+    if shutil.which("prometheus") is None:
+        raise LeftOut("Prometheus is not here")
+    service.start()
+    until("counters", (service.run / "counters").exists)
+    panels = json.loads((HERE / "examples" / "grafana-dashboard.json").read_text())["panels"]
+    asked = {target["expr"].replace("$__rate_interval", "8s") for panel in panels for target in panel["targets"]}
+    sender = subprocess.Popen(
+        [sys.executable, "-c", NASES, str(service.port), str(service.home.fileno())], pass_fds=[service.home.fileno()])
+    try:
+        with answering(service) as port, prometheus(service, port) as has_numbers:
+            last = time.monotonic() + 2 * PATIENCE
+            while time.monotonic() < last and asked:
+                time.sleep(1)
+                asked = {each for each in asked if not has_numbers(each)}
+            hope("without numbers", asked, set())
+    finally:
+        sender.kill()
+        sender.wait()
+
+
+@contextlib.contextmanager
+def answering(service):
+    """A port at which each connection is answered by `rad_proxyctl http`, as systemd does it."""
+
+    class Handler(socketserver.BaseRequestHandler):
+        def handle(self):
+            subprocess.run([service.ctl, "http"], stdin=self.request, stdout=self.request, env=service.environment)
+
+    with socketserver.ThreadingTCPServer(("127.0.0.1", 0), Handler) as server:
+        threading.Thread(target=server.serve_forever, daemon=True).start()
+        try:
+            yield server.server_address[1]
+        finally:
+            server.shutdown()
+
+
+@contextlib.contextmanager
+def prometheus(service, port):
+    """A Prometheus that scrapes this port, and whether it has numbers of an expression."""
+    with socket.socket() as free:
+        free.bind(("127.0.0.1", 0))
+        own = free.getsockname()[1]
+    file, kept = service.room / "prometheus.yml", service.room / f"prometheus{own}"
+    file.write_text("scrape_configs: [{job_name: rad_proxy, scrape_interval: 2s, scrape_timeout: 2s, "
+                    f"static_configs: [{{targets: ['127.0.0.1:{port}']}}]}}]\n")
+    words = ["prometheus", f"--config.file={file}", f"--storage.tsdb.path={kept}", f"--web.listen-address=127.0.0.1:{own}"]
+    with open(service.room / "prometheus.log", "wb") as log:
+        running = subprocess.Popen(words, stdout=log, stderr=log)
+
+    def has_numbers(expression):
+        url = f"http://127.0.0.1:{own}/api/v1/query?" + urllib.parse.urlencode({"query": expression})
+        try:
+            with urllib.request.urlopen(url, timeout=PATIENCE) as answer:
+                return bool(json.load(answer)["data"]["result"])
+        except (urllib.error.URLError, ConnectionError):
+            return False
+
+    try:
+        yield has_numbers
+    finally:
+        running.kill()
+        running.wait()
+
+
 def sent_again_is_never_less_than_nothing(service):
     """While requests come, what `metrics` tells as sent is never less than what it tells as accepted and not queued."""
     service.start()
@@ -746,7 +818,7 @@ TESTS = [
     a_hand_over_that_dies_is_started_anew, nobody_reads_its_output, its_output_is_full, what_is_left_over_is_a_warning,
     counters_elsewhere_are_told, counters_that_are_not_written_are_told,
     metrics_are_as_prometheus_reads_them, alerts_fire_where_they_should, metrics_go_to_a_file,
-    top_draws_what_is_there, top_of_no_proxy_ends, metrics_of_no_proxy_are_removed, metrics_go_to_no_other_file, metrics_are_had_by_http, http_waits_for_no_client, sent_again_is_never_less_than_nothing, counters_that_are_written_late_are_waited_for,
+    top_draws_what_is_there, top_of_no_proxy_ends, metrics_of_no_proxy_are_removed, metrics_go_to_no_other_file, metrics_are_had_by_http, http_waits_for_no_client, each_panel_of_the_dashboard_draws, sent_again_is_never_less_than_nothing, counters_that_are_written_late_are_waited_for,
     memory_is_refused_and_nothing_ends, relative_paths_hold, an_answer_that_cannot_be_written_is_told,
     whoever_keeps_the_pipe_is_not_waited_for, the_unit_takes_no_core_dump, root_asks_as_the_owner,
     the_owner_gets_nothing_of_roots, root_serves_nobody_elses_folder,
