@@ -1,22 +1,19 @@
 //! What the workers told of each home server.
 
-ghost use Rattle.std.specs.Prelude.{◌≡◌, ◌<◌, ◌+◌, ◌*◌};
+ghost use Rattle.std.specs.Prelude.{◌<◌};
 
-use crate::histogram::Histogram;
+use crate::home_times::HomeTimes;
 use crate::reading::Reading;
 use rad_desk::{Standing, UpReason};
 use rad_lane::Counts;
 use rad_realms::Home;
-use rad_tables::{Moment, Slot};
+use rad_tables::Moment;
 use std::alloc::{AllocError, Global};
 use std::sync::atomic::{AtomicBool, AtomicU64, Ordering};
 use std::sync::{Mutex, Wait};
 
 /// How many reasons there are to go up.
 const REASONS: usize = 3;
-
-/// How many Identifiers there are on each source port.
-const IDENTIFIERS: u32 = 256;
 
 /// What is known of a home server. All of it but whether its worker is asked is written by that worker alone.
 #[derive(Drop)]
@@ -31,10 +28,7 @@ pub(crate) struct HomeCell {
     last_answer: AtomicU64,
     /// How often it went up for each reason.
     ups: [AtomicU64; REASONS],
-    /// For each pair of source port and Identifier when the request was first sent that is out under it, and 0 where none is.
-    out: Vec<AtomicU64>,
-    /// How long it was from there to the reply.
-    replies: Histogram,
+    times: HomeTimes,
     reading: Mutex<Reading>,
 }
 
@@ -45,18 +39,13 @@ impl HomeCell {
     ///
     /// Where memory is refused.
     fn new(alloc: Global, home: &Home, start: u64) -> Result<HomeCell, AllocError> {
-        let mut out = Vec::new(alloc);
-        for _ in 0..home.limits().numbers().ports.saturating_mul(IDENTIFIERS) {
-            out.push(AtomicU64::new(0))?;
-        }
         Ok(HomeCell {
             is_asked: AtomicBool::new(false),
             turn: AtomicU64::new(0),
             since: AtomicU64::new(start),
             last_answer: AtomicU64::new(0),
             ups: [AtomicU64::new(0), AtomicU64::new(0), AtomicU64::new(0)],
-            out,
-            replies: Histogram::new(),
+            times: HomeTimes::new(alloc, home.limits().numbers())?,
             reading: Mutex::new(first_reading(start)),
         })
     }
@@ -101,46 +90,15 @@ impl HomeCell {
         self.ups[place_of(reason)].load(Ordering::SeqCst)
     }
 
-    /// A request is sent for the first time, under this pair.
-    pub(crate) fn first_sent(&self, slot: Slot) {
-        if let Some(out) = self.out.get(place_in(slot)) {
-            out.store(self.turn().max(1), Ordering::SeqCst);
-        }
-    }
-
-    /// The request that is out under this pair is answered.
-    pub(crate) fn replied(&self, slot: Slot) {
-        let Some(out) = self.out.get(place_in(slot)) else {
-            return;
-        };
-        let sent = out.swap(0, Ordering::SeqCst);
-        if sent != 0 {
-            self.replies.count(self.turn().saturating_sub(sent));
-        }
-    }
-
-    /// How long it was from the first sending of each request to its reply.
-    pub(crate) fn replies(&self) -> &Histogram {
-        &self.replies
-    }
-
-    /// How many milliseconds ago the first request was sent that is out.
-    fn oldest_outstanding(&self) -> u64 {
-        let now = self.turn();
-        let mut oldest = now;
-        for out in &self.out {
-            let sent = out.load(Ordering::SeqCst);
-            if sent != 0 && sent < oldest {
-                oldest = sent;
-            }
-        }
-        now.saturating_sub(oldest) / 1000
+    /// The times of its requests.
+    pub(crate) fn times(&self) -> &HomeTimes {
+        &self.times
     }
 
     /// Its lane stands like this at this moment and time, and so many requests were sent to it. Where the one before is being
     /// read its worker is asked again.
     pub(crate) fn set_standing(&self, standing: Standing, moment: Moment, told: u64, sent: u64) {
-        let oldest_outstanding = self.oldest_outstanding();
+        let oldest_outstanding = self.times.oldest(self.turn());
         let Some(mut reading) = self.reading.try_lock() else {
             return;
         };
@@ -178,13 +136,6 @@ pub(crate) fn home_cells(
         cells.push(HomeCell::new(alloc, home, start)?)?;
     }
     Ok(cells)
-}
-
-/// The place of a pair among all of its lane.
-fn place_in(slot: Slot) -> usize
-    ensures { result ≡ slot.port * 256 + slot.identifier }
-{
-    usize::from(slot.port) * 256 + usize::from(slot.identifier)
 }
 
 fn place_of(reason: UpReason) -> usize

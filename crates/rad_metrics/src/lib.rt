@@ -16,11 +16,13 @@ mod family;
 mod histogram;
 mod home_cells;
 mod home_number;
+mod home_times;
 mod limit_number;
 mod numbers;
 mod program_number;
 mod reading;
 mod sample;
+mod timed_word;
 mod value;
 mod writing;
 

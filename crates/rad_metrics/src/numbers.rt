@@ -2,14 +2,15 @@
 
 use crate::client_event::ClientEvent;
 use crate::client_numbers::ClientNumbers;
-use crate::histogram::Histogram;
 use crate::home_cells::{HomeCell, home_cells};
+use crate::home_times::HomeTimes;
 use crate::reading::Reading;
 use rad_desk::{Note, Repeat, Standing, UpReason, Worker};
 use rad_realms::{Config, Endpoint};
 use rad_tables::{Moment, Slot};
 use std::alloc::{AllocError, Global};
 use std::sync::Wait;
+use std::sync::atomic::{AtomicU64, Ordering};
 use std::time::{Clock, Instant, SystemTime, UNIX_EPOCH};
 
 /// What the workers of a configuration told. To tell takes no memory, and waits for no lock.
@@ -21,6 +22,8 @@ pub struct Numbers<'a, R> {
     /// The same in milliseconds since 1970.
     started: u64,
     clients: ClientNumbers,
+    /// When the front's turn began, in microseconds since the start.
+    front: AtomicU64,
     /// The home servers, in order.
     homes: Vec<HomeCell>,
 }
@@ -38,16 +41,23 @@ impl<'a, R: Clock> Numbers<'a, R> {
             start: Instant::now(rt).ok(),
             started,
             clients: ClientNumbers::new(alloc, config)?,
+            front: AtomicU64::new(0),
             homes: home_cells(alloc, config.homes(), started)?,
         })
     }
 
     /// A worker has received, or waited in vain: its turn begins.
     pub fn woke(&self, worker: Worker) {
-        if let Worker::Lane(lane) = worker {
-            if let Some(home) = self.home(lane) {
-                home.set_turn(self.microseconds());
-            }
+        let now = self.microseconds();
+        match worker {
+            Worker::Front => self.front.store(now, Ordering::SeqCst),
+            Worker::Lane(lane) => self.woke_for(lane, now),
+        }
+    }
+
+    fn woke_for(&self, lane: u16, now: u64) {
+        if let Some(home) = self.home(lane) {
+            home.set_turn(now);
         }
     }
 
@@ -90,9 +100,17 @@ impl<R> Numbers<'_, R> {
         }
     }
 
-    /// The request that the front received last was accepted.
-    pub fn accepted(&self) {
+    /// The request that the front received last was accepted by a lane, as this number.
+    pub fn accepted(&self, lane: u16, number: u64) {
         self.clients.count(ClientEvent::Accepted);
+        if let Some(home) = self.home(lane) {
+            home.times().was_accepted(number, self.front_turn());
+        }
+    }
+
+    /// When the front's turn began.
+    fn front_turn(&self) -> u64 {
+        self.front.load(Ordering::SeqCst)
     }
 
     /// The request that the front received last is a repeat.
@@ -105,17 +123,25 @@ impl<R> Numbers<'_, R> {
         self.clients.responded(to.address);
     }
 
-    /// A lane is about to send a request for the first time, under this pair.
-    pub fn first_sent(&self, lane: u16, slot: Slot) {
+    /// A lane is about to send the request of this number for the first time, under this pair.
+    pub fn first_sent(&self, lane: u16, number: u64, slot: Slot) {
         if let Some(home) = self.home(lane) {
-            home.first_sent(slot);
+            home.times()
+                .first_sent(number, slot, self.front_turn(), home.turn());
         }
     }
 
-    /// A lane's request that is out under this pair is answered.
-    pub fn replied(&self, lane: u16, slot: Slot) {
+    /// A lane's request that is out under this pair is answered, by the response of this serial.
+    pub fn replied(&self, lane: u16, serial: u64, slot: Slot) {
         if let Some(home) = self.home(lane) {
-            home.replied(slot);
+            home.times().replied(serial, slot, home.turn());
+        }
+    }
+
+    /// A lane's response of this serial went out.
+    pub fn left(&self, lane: u16, serial: u64) {
+        if let Some(home) = self.home(lane) {
+            home.times().left(serial, self.front_turn());
         }
     }
 
@@ -180,10 +206,10 @@ impl<R> Numbers<'_, R> {
         }
     }
 
-    /// How long it was from the first sending of each request of a lane to its reply.
-    pub(crate) fn replies(&self, lane: usize) -> Option<&Histogram> {
+    /// How long the requests of a lane take.
+    pub(crate) fn times(&self, lane: usize) -> Option<&HomeTimes> {
         let home = self.homes.get(lane)?;
-        Some(home.replies())
+        Some(home.times())
     }
 
     /// Reads what was told of each lane last, in order, in place of what was read before.

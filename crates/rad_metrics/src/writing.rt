@@ -24,17 +24,34 @@ const UPS: &str = "ups_total";
 /// What it tells.
 const UPS_HELP: &str = "How often the home server went up again.";
 
-/// The name of the family of how long the home servers take, and those of its samples.
-const REPLIES: &str = "reply_seconds";
+/// The names of the samples of a histogram, and of its family first.
+#[derive(Clone, Copy)]
+struct Names {
+    family: &'static str,
+    bucket: &'static str,
+    sum: &'static str,
+    count: &'static str,
+}
 
-const REPLIES_BUCKET: &str = "reply_seconds_bucket";
+/// How long the home servers take.
+const REPLIES: Names = Names {
+    family: "reply_seconds",
+    bucket: "reply_seconds_bucket",
+    sum: "reply_seconds_sum",
+    count: "reply_seconds_count",
+};
 
-const REPLIES_SUM: &str = "reply_seconds_sum";
-
-const REPLIES_COUNT: &str = "reply_seconds_count";
-
-/// What it tells.
 const REPLIES_HELP: &str = "From the first sending of a request to the home server's reply.";
+
+/// How long the clients wait.
+const RESPONSES: Names = Names {
+    family: "response_seconds",
+    bucket: "response_seconds_bucket",
+    sum: "response_seconds_sum",
+    count: "response_seconds_count",
+};
+
+const RESPONSES_HELP: &str = "From the acceptance of a request to the response to the client.";
 
 /// Why a home server goes up.
 const UP_REASONS: [UpReason; 3] = [
@@ -59,7 +76,8 @@ pub fn write_numbers<W: Write, R: Clock>(
     write_limits(writer, config)?;
     write_homes(writer, config, readings)?;
     write_ups(writer, config, numbers)?;
-    write_replies(writer, config, numbers)
+    write_replies(writer, config, numbers)?;
+    write_responses(writer, config, numbers)
 }
 
 /// Writes what stands before the samples of a family.
@@ -233,30 +251,46 @@ fn write_replies<W: Write, R>(
     config: &Config,
     numbers: &Numbers<'_, R>,
 ) -> io::Result<()> {
-    write_head(writer, Family::histogram(REPLIES, REPLIES_HELP))?;
+    write_head(writer, Family::histogram(REPLIES.family, REPLIES_HELP))?;
     for (lane, home) in config.homes().iter().enumerate() {
-        if let Some(replies) = numbers.replies(lane) {
-            write_histogram(writer, lane, home.name(), replies)?;
+        if let Some(times) = numbers.times(lane) {
+            write_histogram(writer, REPLIES, lane, home.name(), times.replies())?;
         }
     }
     Ok(())
 }
 
-/// Writes how often a home server took no longer than each bound, how long it took in all, and how often it replied.
+/// Writes how long it takes until each home server's requests are answered.
+fn write_responses<W: Write, R>(
+    writer: &mut W,
+    config: &Config,
+    numbers: &Numbers<'_, R>,
+) -> io::Result<()> {
+    write_head(writer, Family::histogram(RESPONSES.family, RESPONSES_HELP))?;
+    for (lane, home) in config.homes().iter().enumerate() {
+        if let Some(times) = numbers.times(lane) {
+            write_histogram(writer, RESPONSES, lane, home.name(), times.responses())?;
+        }
+    }
+    Ok(())
+}
+
+/// Writes how often something took no longer than each bound, how long it took in all, and how often it was.
 fn write_histogram<W: Write>(
     writer: &mut W,
+    names: Names,
     lane: usize,
     home: &str,
-    replies: &Histogram,
+    histogram: &Histogram,
 ) -> io::Result<()> {
     let mut count = 0_u64;
     for bucket in 0..BUCKETS {
-        count = count.saturating_add(replies.get(bucket));
+        count = count.saturating_add(histogram.get(bucket));
         let labels = Labels::HomeBound(lane, home, bound_label(bucket));
-        write_named(writer, REPLIES_BUCKET, labels, Value::Count(count))?;
+        write_named(writer, names.bucket, labels, Value::Count(count))?;
     }
     let labels = Labels::Home(lane, home);
-    let sum = Value::Microseconds(replies.sum());
-    write_named(writer, REPLIES_SUM, labels, sum)?;
-    write_named(writer, REPLIES_COUNT, labels, Value::Count(count))
+    let sum = Value::Microseconds(histogram.sum());
+    write_named(writer, names.sum, labels, sum)?;
+    write_named(writer, names.count, labels, Value::Count(count))
 }

@@ -84,6 +84,7 @@ impl<L: Log, R> Telemetry<'_, L, R> {
     fn tell_numbers(&self, worker: Worker, note: Note) {
         match (worker, note) {
             (Worker::Lane(lane), Note::WentDown | Note::WentUp) => self.numbers.turned(lane),
+            (Worker::Front, Note::Took(lane, serial)) => self.numbers.left(lane, serial),
             (Worker::Front, note) => self.numbers.noted(note),
             _ => {}
         }
@@ -126,7 +127,7 @@ impl<L: Log, R: Clock> Gate for Telemetry<'_, L, R> {
     }
 
     fn accepted(&self, lane: u16, number: u64) {
-        self.numbers.accepted();
+        self.numbers.accepted(lane, number);
         self.events.accepted(lane, number);
     }
 
@@ -143,12 +144,12 @@ impl<L: Log, R: Clock> Gate for Telemetry<'_, L, R> {
         self.numbers.stands(lane, moment, standing, sent);
     }
 
-    fn first_sent(&self, lane: u16, _number: u64, slot: Slot) {
-        self.numbers.first_sent(lane, slot);
+    fn first_sent(&self, lane: u16, number: u64, slot: Slot) {
+        self.numbers.first_sent(lane, number, slot);
     }
 
-    fn replied(&self, lane: u16, _serial: u64, slot: Slot) {
-        self.numbers.replied(lane, slot);
+    fn replied(&self, lane: u16, serial: u64, slot: Slot) {
+        self.numbers.replied(lane, serial, slot);
     }
 
     fn answered(&self, lane: u16, serial: u64) {

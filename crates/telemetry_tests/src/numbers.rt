@@ -149,30 +149,30 @@ const UPS: &str = "# HELP rad_proxy_ups_total How often the home server went up 
     rad_proxy_ups_total{lane=\"1\",home=\"h2\",reason=\"probe answered\"} 1\n\
     rad_proxy_ups_total{lane=\"1\",home=\"h2\",reason=\"down_wait over\"} 0\n";
 
-/// What is told of how long they took: one reply came at once.
+/// What is told of how long they took: two replies came at once.
 const REPLIES: &str =
     "# HELP rad_proxy_reply_seconds From the first sending of a request to the home server's reply.\n\
     # TYPE rad_proxy_reply_seconds histogram\n\
-    rad_proxy_reply_seconds_bucket{lane=\"0\",home=\"h1\",le=\"0.00025\"} 1\n\
-    rad_proxy_reply_seconds_bucket{lane=\"0\",home=\"h1\",le=\"0.0005\"} 1\n\
-    rad_proxy_reply_seconds_bucket{lane=\"0\",home=\"h1\",le=\"0.001\"} 1\n\
-    rad_proxy_reply_seconds_bucket{lane=\"0\",home=\"h1\",le=\"0.0025\"} 1\n\
-    rad_proxy_reply_seconds_bucket{lane=\"0\",home=\"h1\",le=\"0.005\"} 1\n\
-    rad_proxy_reply_seconds_bucket{lane=\"0\",home=\"h1\",le=\"0.01\"} 1\n\
-    rad_proxy_reply_seconds_bucket{lane=\"0\",home=\"h1\",le=\"0.025\"} 1\n\
-    rad_proxy_reply_seconds_bucket{lane=\"0\",home=\"h1\",le=\"0.05\"} 1\n\
-    rad_proxy_reply_seconds_bucket{lane=\"0\",home=\"h1\",le=\"0.1\"} 1\n\
-    rad_proxy_reply_seconds_bucket{lane=\"0\",home=\"h1\",le=\"0.25\"} 1\n\
-    rad_proxy_reply_seconds_bucket{lane=\"0\",home=\"h1\",le=\"0.5\"} 1\n\
-    rad_proxy_reply_seconds_bucket{lane=\"0\",home=\"h1\",le=\"1\"} 1\n\
-    rad_proxy_reply_seconds_bucket{lane=\"0\",home=\"h1\",le=\"2.5\"} 1\n\
-    rad_proxy_reply_seconds_bucket{lane=\"0\",home=\"h1\",le=\"5\"} 1\n\
-    rad_proxy_reply_seconds_bucket{lane=\"0\",home=\"h1\",le=\"10\"} 1\n\
-    rad_proxy_reply_seconds_bucket{lane=\"0\",home=\"h1\",le=\"30\"} 1\n\
-    rad_proxy_reply_seconds_bucket{lane=\"0\",home=\"h1\",le=\"60\"} 1\n\
-    rad_proxy_reply_seconds_bucket{lane=\"0\",home=\"h1\",le=\"+Inf\"} 1\n\
+    rad_proxy_reply_seconds_bucket{lane=\"0\",home=\"h1\",le=\"0.00025\"} 2\n\
+    rad_proxy_reply_seconds_bucket{lane=\"0\",home=\"h1\",le=\"0.0005\"} 2\n\
+    rad_proxy_reply_seconds_bucket{lane=\"0\",home=\"h1\",le=\"0.001\"} 2\n\
+    rad_proxy_reply_seconds_bucket{lane=\"0\",home=\"h1\",le=\"0.0025\"} 2\n\
+    rad_proxy_reply_seconds_bucket{lane=\"0\",home=\"h1\",le=\"0.005\"} 2\n\
+    rad_proxy_reply_seconds_bucket{lane=\"0\",home=\"h1\",le=\"0.01\"} 2\n\
+    rad_proxy_reply_seconds_bucket{lane=\"0\",home=\"h1\",le=\"0.025\"} 2\n\
+    rad_proxy_reply_seconds_bucket{lane=\"0\",home=\"h1\",le=\"0.05\"} 2\n\
+    rad_proxy_reply_seconds_bucket{lane=\"0\",home=\"h1\",le=\"0.1\"} 2\n\
+    rad_proxy_reply_seconds_bucket{lane=\"0\",home=\"h1\",le=\"0.25\"} 2\n\
+    rad_proxy_reply_seconds_bucket{lane=\"0\",home=\"h1\",le=\"0.5\"} 2\n\
+    rad_proxy_reply_seconds_bucket{lane=\"0\",home=\"h1\",le=\"1\"} 2\n\
+    rad_proxy_reply_seconds_bucket{lane=\"0\",home=\"h1\",le=\"2.5\"} 2\n\
+    rad_proxy_reply_seconds_bucket{lane=\"0\",home=\"h1\",le=\"5\"} 2\n\
+    rad_proxy_reply_seconds_bucket{lane=\"0\",home=\"h1\",le=\"10\"} 2\n\
+    rad_proxy_reply_seconds_bucket{lane=\"0\",home=\"h1\",le=\"30\"} 2\n\
+    rad_proxy_reply_seconds_bucket{lane=\"0\",home=\"h1\",le=\"60\"} 2\n\
+    rad_proxy_reply_seconds_bucket{lane=\"0\",home=\"h1\",le=\"+Inf\"} 2\n\
     rad_proxy_reply_seconds_sum{lane=\"0\",home=\"h1\"} 0.000000\n\
-    rad_proxy_reply_seconds_count{lane=\"0\",home=\"h1\"} 1\n\
+    rad_proxy_reply_seconds_count{lane=\"0\",home=\"h1\"} 2\n\
     rad_proxy_reply_seconds_bucket{lane=\"1\",home=\"h2\",le=\"0.00025\"} 0\n\
     rad_proxy_reply_seconds_bucket{lane=\"1\",home=\"h2\",le=\"0.0005\"} 0\n\
     rad_proxy_reply_seconds_bucket{lane=\"1\",home=\"h2\",le=\"0.001\"} 0\n\
@@ -193,6 +193,51 @@ const REPLIES: &str =
     rad_proxy_reply_seconds_bucket{lane=\"1\",home=\"h2\",le=\"+Inf\"} 0\n\
     rad_proxy_reply_seconds_sum{lane=\"1\",home=\"h2\"} 0.000000\n\
     rad_proxy_reply_seconds_count{lane=\"1\",home=\"h2\"} 0\n";
+
+/// What is told of how long the clients waited: two responses came at once.
+const RESPONSES: &str =
+    "# HELP rad_proxy_response_seconds From the acceptance of a request to the response to the client.\n\
+    # TYPE rad_proxy_response_seconds histogram\n\
+    rad_proxy_response_seconds_bucket{lane=\"0\",home=\"h1\",le=\"0.00025\"} 2\n\
+    rad_proxy_response_seconds_bucket{lane=\"0\",home=\"h1\",le=\"0.0005\"} 2\n\
+    rad_proxy_response_seconds_bucket{lane=\"0\",home=\"h1\",le=\"0.001\"} 2\n\
+    rad_proxy_response_seconds_bucket{lane=\"0\",home=\"h1\",le=\"0.0025\"} 2\n\
+    rad_proxy_response_seconds_bucket{lane=\"0\",home=\"h1\",le=\"0.005\"} 2\n\
+    rad_proxy_response_seconds_bucket{lane=\"0\",home=\"h1\",le=\"0.01\"} 2\n\
+    rad_proxy_response_seconds_bucket{lane=\"0\",home=\"h1\",le=\"0.025\"} 2\n\
+    rad_proxy_response_seconds_bucket{lane=\"0\",home=\"h1\",le=\"0.05\"} 2\n\
+    rad_proxy_response_seconds_bucket{lane=\"0\",home=\"h1\",le=\"0.1\"} 2\n\
+    rad_proxy_response_seconds_bucket{lane=\"0\",home=\"h1\",le=\"0.25\"} 2\n\
+    rad_proxy_response_seconds_bucket{lane=\"0\",home=\"h1\",le=\"0.5\"} 2\n\
+    rad_proxy_response_seconds_bucket{lane=\"0\",home=\"h1\",le=\"1\"} 2\n\
+    rad_proxy_response_seconds_bucket{lane=\"0\",home=\"h1\",le=\"2.5\"} 2\n\
+    rad_proxy_response_seconds_bucket{lane=\"0\",home=\"h1\",le=\"5\"} 2\n\
+    rad_proxy_response_seconds_bucket{lane=\"0\",home=\"h1\",le=\"10\"} 2\n\
+    rad_proxy_response_seconds_bucket{lane=\"0\",home=\"h1\",le=\"30\"} 2\n\
+    rad_proxy_response_seconds_bucket{lane=\"0\",home=\"h1\",le=\"60\"} 2\n\
+    rad_proxy_response_seconds_bucket{lane=\"0\",home=\"h1\",le=\"+Inf\"} 2\n\
+    rad_proxy_response_seconds_sum{lane=\"0\",home=\"h1\"} 0.000000\n\
+    rad_proxy_response_seconds_count{lane=\"0\",home=\"h1\"} 2\n\
+    rad_proxy_response_seconds_bucket{lane=\"1\",home=\"h2\",le=\"0.00025\"} 0\n\
+    rad_proxy_response_seconds_bucket{lane=\"1\",home=\"h2\",le=\"0.0005\"} 0\n\
+    rad_proxy_response_seconds_bucket{lane=\"1\",home=\"h2\",le=\"0.001\"} 0\n\
+    rad_proxy_response_seconds_bucket{lane=\"1\",home=\"h2\",le=\"0.0025\"} 0\n\
+    rad_proxy_response_seconds_bucket{lane=\"1\",home=\"h2\",le=\"0.005\"} 0\n\
+    rad_proxy_response_seconds_bucket{lane=\"1\",home=\"h2\",le=\"0.01\"} 0\n\
+    rad_proxy_response_seconds_bucket{lane=\"1\",home=\"h2\",le=\"0.025\"} 0\n\
+    rad_proxy_response_seconds_bucket{lane=\"1\",home=\"h2\",le=\"0.05\"} 0\n\
+    rad_proxy_response_seconds_bucket{lane=\"1\",home=\"h2\",le=\"0.1\"} 0\n\
+    rad_proxy_response_seconds_bucket{lane=\"1\",home=\"h2\",le=\"0.25\"} 0\n\
+    rad_proxy_response_seconds_bucket{lane=\"1\",home=\"h2\",le=\"0.5\"} 0\n\
+    rad_proxy_response_seconds_bucket{lane=\"1\",home=\"h2\",le=\"1\"} 0\n\
+    rad_proxy_response_seconds_bucket{lane=\"1\",home=\"h2\",le=\"2.5\"} 0\n\
+    rad_proxy_response_seconds_bucket{lane=\"1\",home=\"h2\",le=\"5\"} 0\n\
+    rad_proxy_response_seconds_bucket{lane=\"1\",home=\"h2\",le=\"10\"} 0\n\
+    rad_proxy_response_seconds_bucket{lane=\"1\",home=\"h2\",le=\"30\"} 0\n\
+    rad_proxy_response_seconds_bucket{lane=\"1\",home=\"h2\",le=\"60\"} 0\n\
+    rad_proxy_response_seconds_bucket{lane=\"1\",home=\"h2\",le=\"+Inf\"} 0\n\
+    rad_proxy_response_seconds_sum{lane=\"1\",home=\"h2\"} 0.000000\n\
+    rad_proxy_response_seconds_count{lane=\"1\",home=\"h2\"} 0\n";
 
 /// Somebody who is no client.
 const STRANGER: Endpoint = Endpoint {
@@ -278,6 +323,10 @@ fn tell_homes(telemetry: &Telemetry<'_, MemoryLog, Still>) {
         identifier: 255,
     };
     telemetry.first_sent(0, 4, slot);
+    telemetry.replied(0, 1, slot);
+    telemetry.note(Worker::Front, Note::Took(0, 1));
+    telemetry.first_sent(0, 5, slot);
+    telemetry.note(Worker::Front, Note::Took(0, 2));
     telemetry.replied(0, 2, slot);
     telemetry.answered(0, 2);
     telemetry.note(Worker::Lane(1), Note::WentUp);
@@ -328,7 +377,7 @@ fn text_of(rt: &impl Wait, alloc: Global) -> Result<Vec<u8>, Fail> {
 #[test]
 fn numbers_are_written(rt: HostRuntime) -> Result<(), Fail> {
     let text = text_of(&rt, rt.alloc())?;
-    let pieces = [PROGRAM, CLIENTS, LIMITS, HOMES, UPS, REPLIES];
+    let pieces = [PROGRAM, CLIENTS, LIMITS, HOMES, UPS, REPLIES, RESPONSES];
     holds(&rt, is_of(text.as_slice(), &pieces));
     Ok(())
 }
