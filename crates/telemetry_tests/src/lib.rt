@@ -11,6 +11,8 @@ mod levels;
 #[cfg(test)]
 mod logging;
 #[cfg(test)]
+mod number_texts;
+#[cfg(test)]
 mod numbers;
 #[cfg(test)]
 mod packets;
