@@ -12,7 +12,7 @@ use rad_tables::Moment;
 use std::sync::Wait;
 
 /// How a lane stands, all of it at one moment.
-#[derive(Clone, Copy, Debug, PartialEq, Eq)]
+#[derive(Clone, Copy)]
 pub struct Standing {
     /// How much it has.
     pub counts: Counts,

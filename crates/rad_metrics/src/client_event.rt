@@ -11,7 +11,7 @@ use rad_realms::Dropped;
 use std::fmt;
 
 /// What is counted of a client.
-#[derive(Clone, Copy, Debug, PartialEq, Eq)]
+#[derive(Clone, Copy)]
 pub enum ClientEvent {
     /// A datagram came from it.
     Received,
@@ -32,7 +32,7 @@ pub enum ClientEvent {
 }
 
 /// The names under which that is told.
-#[derive(Clone, Copy, Debug, PartialEq, Eq)]
+#[derive(Clone, Copy, PartialEq, Eq)]
 pub enum ClientFamily {
     Received,
     Accepted,

@@ -6,7 +6,7 @@ ghost use Rattle.rad_metrics.specs.declared.family.Kind.TheVariants.{Counter as 
 use std::fmt;
 
 /// What a number does.
-#[derive(Clone, Copy, Debug, PartialEq, Eq)]
+#[derive(Clone, Copy)]
 pub enum Kind {
     /// It counts from the start of the program on.
     Counter,

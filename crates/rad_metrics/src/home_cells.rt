@@ -117,7 +117,8 @@ impl HomeCell {
 
     /// What was told last.
     pub(crate) fn reading<R: Wait>(&self, rt: &R) -> Reading {
-        *self.reading.lock(rt)
+        let reading = self.reading.lock(rt);
+        *reading
     }
 }
 

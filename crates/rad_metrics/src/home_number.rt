@@ -6,7 +6,7 @@ ghost use Rattle.rad_metrics.specs.HomeNumbers.{home_name, home_help, home_kind}
 use crate::family::Family;
 
 /// A number of a home server.
-#[derive(Clone, Copy, Debug, PartialEq, Eq)]
+#[derive(Clone, Copy)]
 pub enum HomeNumber {
     /// Whether it is taken to be up.
     Up,

@@ -19,7 +19,7 @@ const SERIALS: u64 = 1 << 23;
 const UNTOLD: u64 = u64::MAX;
 
 /// Who tells of a response.
-#[derive(Clone, Copy, Debug, PartialEq, Eq)]
+#[derive(Clone, Copy)]
 enum Teller {
     /// The lane's worker, when its request was accepted.
     Lane,
@@ -141,8 +141,11 @@ fn places(alloc: Global, count: u32, first: u64) -> Result<Vec<AtomicU64>, Alloc
 
 /// The place of a number among so many, by its rest.
 fn place_by(places: &[AtomicU64], number: u64) -> Option<&AtomicU64> {
-    let rest = number.checked_rem(places.len() as u64)?;
-    places.get(rest as usize)
+    let count = places.len() as u64;
+    if count == 0 {
+        return None;
+    }
+    places.get(usize::try_from(number % count).ok()?)
 }
 
 fn load(places: &[AtomicU64], slot: Slot) -> u64 {

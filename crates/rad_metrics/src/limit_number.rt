@@ -9,7 +9,7 @@ use crate::value::Value;
 use rad_realms::LimitNumbers;
 
 /// A limit that is told.
-#[derive(Clone, Copy, Debug, PartialEq, Eq)]
+#[derive(Clone, Copy)]
 pub enum LimitNumber {
     Book,
     Queue,

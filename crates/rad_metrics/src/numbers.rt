@@ -68,7 +68,7 @@ impl<'a, R: Clock> Numbers<'a, R> {
 
     /// How many microseconds the program has run.
     fn microseconds(&self) -> u64 {
-        let Some(start) = self.start else {
+        let Some(start) = &self.start else {
             return 0;
         };
         match start.elapsed(self.rt) {

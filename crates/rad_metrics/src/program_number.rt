@@ -6,7 +6,7 @@ ghost use Rattle.rad_metrics.specs.ProgramNumbers.{program_name, program_help, p
 use crate::family::Family;
 
 /// A number of the program.
-#[derive(Clone, Copy, Debug, PartialEq, Eq)]
+#[derive(Clone, Copy)]
 pub enum ProgramNumber {
     /// 1, with the version as a label.
     BuildInfo,

@@ -9,7 +9,7 @@ use rad_desk::Standing;
 use rad_tables::Moment;
 
 /// What is known of a home server. Its times are in milliseconds since 1970, but for those of the lane.
-#[derive(Clone, Copy, Debug, PartialEq, Eq)]
+#[derive(Clone, Copy)]
 pub struct Reading {
     /// How its lane stands.
     pub standing: Standing,

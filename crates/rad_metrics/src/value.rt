@@ -6,7 +6,7 @@ ghost use Rattle.rad_metrics.specs.Values.{value_of_bool};
 use std::fmt;
 
 /// A number.
-#[derive(Clone, Copy, Debug, PartialEq, Eq)]
+#[derive(Clone, Copy)]
 pub enum Value {
     /// How many there are.
     Count(u64),
