@@ -6,3 +6,4 @@ pub mod ClientEvents
 pub mod HomeNumbers
 pub mod Samples
 pub mod Buckets
+pub mod SocketNumbers

@@ -1,7 +1,7 @@
 -- Samples in Prometheus' text format, without the line feeds (own).
 use Rattle.std.specs.Prelude.{ℕ, List, ◌++◌, codes}
 use Rattle.std.specs.Fmt.{decimal}
-use Rattle.rad_realms.specs.Printed.{address_text}
+use Rattle.rad_realms.specs.Printed.{address_text, endpoint_text}
 use Rattle.rad_desk.specs.declared.gate.UpReason.{UpReason}
 use Rattle.rad_desk.specs.declared.gate.UpReason.TheVariants as reason
 use Rattle.rad_metrics.specs.Values.{value_text}
@@ -32,6 +32,8 @@ labels_text (labels.ClientReason address event) = codes "{" ++ client_label addr
 labels_text (labels.Home lane home) = codes "{" ++ home_labels lane home.now ++ codes "}"
 labels_text (labels.HomeUp lane home why) = codes "{" ++ home_labels lane home.now ++ codes ",reason=\"" ++ up_text why ++ codes "\"}"
 labels_text (labels.HomeBound lane home bound) = codes "{" ++ home_labels lane home.now ++ codes ",le=\"" ++ bound.now ++ codes "\"}"
+labels_text (labels.Socket at) = codes "{side=\"clients\",socket=\"" ++ endpoint_text at ++ codes "\"}"
+labels_text (labels.HomeSocket lane home place) = codes "{" ++ home_labels lane home.now ++ codes ",port=\"" ++ decimal place ++ codes "\"}"
 
 -- A number under its name.
 abbrev pub sample_line : Sample → List ℕ

@@ -5,6 +5,7 @@ use crate::client_numbers::ClientNumbers;
 use crate::home_cells::{HomeCell, home_cells};
 use crate::home_times::HomeTimes;
 use crate::reading::Reading;
+use crate::socket_numbers::{SocketNumbers, SocketReading};
 use rad_desk::{Note, Repeat, Standing, UpReason, Worker};
 use rad_realms::{Config, Endpoint};
 use rad_tables::{Moment, Slot};
@@ -26,6 +27,7 @@ pub struct Numbers<'a, R> {
     front: AtomicU64,
     /// The home servers, in order.
     homes: Vec<HomeCell>,
+    sockets: SocketNumbers,
 }
 
 impl<'a, R: Clock> Numbers<'a, R> {
@@ -43,6 +45,7 @@ impl<'a, R: Clock> Numbers<'a, R> {
             clients: ClientNumbers::new(alloc, config)?,
             front: AtomicU64::new(0),
             homes: home_cells(alloc, config.homes(), started)?,
+            sockets: SocketNumbers::new(alloc),
         })
     }
 
@@ -186,6 +189,25 @@ impl<R> Numbers<'_, R> {
         if let Some(home) = self.home(lane) {
             home.set_standing(standing, moment, self.time_at(home.turn()), sent);
         }
+    }
+
+    /// A worker's socket is bound there, with a receive buffer of so many octets.
+    pub fn bound(&self, worker: Worker, at: Endpoint, buffer: u32) {
+        self.sockets.bound(worker, at, buffer);
+    }
+
+    /// Reads all sockets in place of what was read before, with what a table of /proc/self/net/udp tells of each.
+    ///
+    /// # Errors
+    ///
+    /// Where memory is refused.
+    pub fn read_sockets<S: Wait>(
+        &self,
+        rt: &S,
+        table: &str,
+        readings: &mut Vec<SocketReading>,
+    ) -> Result<(), AllocError> {
+        self.sockets.read(rt, table, readings)
     }
 
     /// How often something happened to the client in this place of the configuration.

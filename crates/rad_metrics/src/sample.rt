@@ -3,7 +3,7 @@
 use crate::client_event::{ClientEvent, ReasonText};
 use crate::value::Value;
 use rad_desk::UpReason;
-use rad_realms::AddressText;
+use rad_realms::{AddressText, Endpoint};
 use std::fmt;
 
 /// Of whom a number is, and for which reason.
@@ -23,6 +23,10 @@ pub enum Labels<'a> {
     HomeUp(usize, &'a str, UpReason),
     /// A lane and its home server's name, and a bound in seconds.
     HomeBound(usize, &'a str, &'static str),
+    /// The clients' side, and where a socket of it is bound.
+    Socket(Endpoint),
+    /// A lane and its home server's name, and the place of a socket among those of the lane.
+    HomeSocket(usize, &'a str, usize),
 }
 
 /// A number of a name.
@@ -116,6 +120,11 @@ impl fmt::Display for Labels<'_> {
             Labels::HomeBound(lane, home, bound) => {
                 let home = HomeLabels(lane, home);
                 write!(f, "{{{home},le=\"{bound}\"}}")
+            }
+            Labels::Socket(at) => write!(f, "{{side=\"clients\",socket=\"{at}\"}}"),
+            Labels::HomeSocket(lane, home, place) => {
+                let home = HomeLabels(lane, home);
+                write!(f, "{{{home},port=\"{place}\"}}")
             }
         }
     }

@@ -9,8 +9,10 @@ use crate::numbers::Numbers;
 use crate::program_number::ProgramNumber;
 use crate::reading::Reading;
 use crate::sample::{Labels, Sample};
+use crate::socket_number::SOCKET_NUMBERS;
+use crate::socket_numbers::SocketReading;
 use crate::value::Value;
-use rad_desk::UpReason;
+use rad_desk::{UpReason, Worker};
 use rad_realms::Config;
 use std::io::{self, Write};
 use std::time::Clock;
@@ -60,7 +62,7 @@ const UP_REASONS: [UpReason; 3] = [
     UpReason::DownWaitOver,
 ];
 
-/// Writes all numbers: those that were told until now, and what was read of each lane.
+/// Writes all numbers: those that were told until now, and what was read of each lane and each socket.
 ///
 /// # Errors
 ///
@@ -70,6 +72,7 @@ pub fn write_numbers<W: Write, R: Clock>(
     config: &Config,
     numbers: &Numbers<'_, R>,
     readings: &[Reading],
+    sockets: &[SocketReading],
 ) -> io::Result<()> {
     write_program(writer, numbers.started(), numbers.now())?;
     write_clients(writer, config, numbers)?;
@@ -77,7 +80,8 @@ pub fn write_numbers<W: Write, R: Clock>(
     write_homes(writer, config, readings)?;
     write_ups(writer, config, numbers)?;
     write_replies(writer, config, numbers)?;
-    write_responses(writer, config, numbers)
+    write_responses(writer, config, numbers)?;
+    write_sockets(writer, config, sockets)
 }
 
 /// Writes what stands before the samples of a family.
@@ -293,4 +297,35 @@ fn write_histogram<W: Write>(
     let sum = Value::Microseconds(histogram.sum());
     write_named(writer, names.sum, labels, sum)?;
     write_named(writer, names.count, labels, Value::Count(count))
+}
+
+/// Writes what is told of the sockets, in the order in which they were bound.
+fn write_sockets<W: Write>(
+    writer: &mut W,
+    config: &Config,
+    sockets: &[SocketReading],
+) -> io::Result<()> {
+    for number in SOCKET_NUMBERS {
+        write_head(writer, number.family())?;
+        for socket in sockets {
+            let labels = socket_labels(config, socket);
+            write_sample(writer, number.family(), labels, number.value(socket))?;
+        }
+    }
+    Ok(())
+}
+
+/// Whose a socket is: that of a lane by its place, since its port is another one at each start.
+fn socket_labels<'a>(config: &'a Config, socket: &SocketReading) -> Labels<'a> {
+    match socket.worker {
+        Worker::Front => Labels::Socket(socket.at),
+        Worker::Lane(lane) => {
+            let lane = usize::from(lane);
+            let home = match config.homes().get(lane) {
+                Some(home) => home.name(),
+                None => "none",
+            };
+            Labels::HomeSocket(lane, home, socket.place)
+        }
+    }
 }

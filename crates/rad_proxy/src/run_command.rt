@@ -16,7 +16,7 @@ use std::alloc::{AllocError, AllocGlobal, Global};
 use std::io::{self, Error, Read, Write};
 use std::net::Net;
 use std::random::RandomSource;
-use std::rt::Runtime;
+use std::rt::{Files, Runtime};
 use std::sync::{Arc, Wait};
 use std::thread::{self, Scope, Threads};
 use std::time::{Clock, Duration, Instant};
@@ -122,6 +122,7 @@ fn serve_told<'a, R, L, A>(
 ) -> Result<EndLine, Fault>
 where
     R: Runtime + AllocGlobal + Net + RandomSource + Threads + Wait + Sync,
+    R::File: Drop,
     L: Log + Sync,
     A: LocalAddresses + Sync,
 {
@@ -215,7 +216,8 @@ fn serve<R, L, A, I, O>(
     writer: O,
 ) -> Result<EndLine, ServeFault>
 where
-    R: Clock + Net + RandomSource + Threads + Wait + Sync,
+    R: Clock + Files + Net + RandomSource + Threads + Wait + Sync,
+    R::File: Drop,
     L: Log + Sync,
     A: LocalAddresses + Sync,
     I: Read + Drop,
@@ -246,7 +248,8 @@ fn start_reporter<'s, E, R, L, A>(
     stop: &'s StopFlag,
 ) -> bool
 where
-    R: Clock + Wait + Sync + 's,
+    R: Clock + Files + Wait + Sync + 's,
+    R::File: Drop,
     L: Log + Sync + 's,
     A: Sync + 's,
 {

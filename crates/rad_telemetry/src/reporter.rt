@@ -11,10 +11,11 @@ use crate::metric_lines::{CounterLine, HelpLine, Labels, TypeLine};
 use crate::workers::{worker_name, worker_of_lane};
 use log::{Log, info, warn};
 use rad_desk::Worker;
-use rad_metrics::{Numbers, Reading, write_numbers};
+use rad_metrics::{Numbers, Reading, SocketReading, write_numbers};
 use rad_realms::{Config, Dropped};
 use std::alloc::{AllocError, Global};
-use std::io::{self, Write};
+use std::fs::{self, Files};
+use std::io::{self, Read, Write};
 use std::sync::atomic::{AtomicU64, Ordering};
 use std::sync::{Wait, WaitMethods};
 use std::time::{Clock, Duration, Instant};
@@ -25,6 +26,12 @@ const PERIOD: u64 = 1000;
 /// How long the workers are waited for at most to tell how their lanes stand, in milliseconds: each looks for that at least every
 /// 20 milliseconds. They are asked so long before a report.
 const ASKED: u64 = 40;
+
+/// Where Linux tells of its UDP sockets, those of this program's network alone.
+const UDP_TABLE: &str = "/proc/self/net/udp";
+
+/// The most octets that are read there, which are those of some 30,000 sockets.
+const MOST_OCTETS: u64 = 1 << 22;
 
 /// Whether a reporter is to stop, which it shares with the others.
 #[derive(Drop)]
@@ -92,6 +99,9 @@ impl<L, R> Copy for Reporter<'_, L, R> {}
 pub struct Draft {
     text: Vec<u8>,
     readings: Vec<Reading>,
+    /// What the system tells of its UDP sockets.
+    table: Vec<u8>,
+    sockets: Vec<SocketReading>,
 }
 
 impl Draft {
@@ -100,6 +110,8 @@ impl Draft {
         Draft {
             text: Vec::new(alloc),
             readings: Vec::new(alloc),
+            table: Vec::new(alloc),
+            sockets: Vec::new(alloc),
         }
     }
 }
@@ -108,7 +120,8 @@ impl Draft {
 /// memory of an earlier one; the workers are asked right before how their lanes stand.
 pub fn report<R, L>(rt: &R, alloc: Global, reporter: Reporter<'_, L, R>, stop: &StopFlag)
 where
-    R: Clock + Wait,
+    R: Clock + Files + Wait,
+    R::File: Drop,
     L: Log,
 {
     let mut draft = Draft::new(alloc);
@@ -286,25 +299,58 @@ impl<L: Log, R> Reporter<'_, L, R> {
 impl<L: Log, R: Clock> Reporter<'_, L, R> {
     /// Leaves a text of all numbers to whoever writes it to their file, where there is one; and logs what speaks against one
     /// that was left before, once.
-    pub fn leave_text<S: Wait>(&self, rt: &S, draft: &mut Draft) {
+    pub fn leave_text<S: Files + Wait>(&self, rt: &S, draft: &mut Draft)
+    where
+        S::File: Drop,
+    {
         let Some(texts) = self.texts else {
             return;
         };
         self.log_fault(rt, texts);
-        if self.numbers.read_each(rt, &mut draft.readings).is_err() {
-            return;
-        }
-        draft.text.clear();
-        if self.write_all(draft).is_ok() {
+        if self.read_all(rt, draft).is_ok() && self.write_all(draft).is_ok() {
             texts.leave(rt, &mut draft.text);
         }
     }
 
+    /// Reads what was told of each lane last, and what the system tells of each socket.
+    fn read_all<S: Files + Wait>(&self, rt: &S, draft: &mut Draft) -> Result<(), AllocError>
+    where
+        S::File: Drop,
+    {
+        self.numbers.read_each(rt, &mut draft.readings)?;
+        read_table(rt, &mut draft.table);
+        let table = str::from_utf8(draft.table.as_slice()).unwrap_or("");
+        self.numbers.read_sockets(rt, table, &mut draft.sockets)
+    }
+
     /// Writes all counters, and then all that is told of the clients and the home servers.
     fn write_all(&self, draft: &mut Draft) -> io::Result<()> {
-        let Draft { text, readings } = draft;
+        let Draft {
+            text,
+            readings,
+            sockets,
+            ..
+        } = draft;
+        text.clear();
         self.write(text)?;
-        write_numbers(text, self.config, self.numbers, readings.as_slice())
+        write_numbers(
+            text,
+            self.config,
+            self.numbers,
+            readings.as_slice(),
+            sockets.as_slice(),
+        )
+    }
+}
+
+/// Reads what the system tells of its UDP sockets, in place of what was read before; nothing where it tells nothing.
+fn read_table<S: Files>(files: &S, table: &mut Vec<u8>)
+where
+    S::File: Drop,
+{
+    table.clear();
+    if let Ok(file) = fs::open(files, UDP_TABLE) {
+        let _ = file.take(MOST_OCTETS).read_to_end(table);
     }
 }
 

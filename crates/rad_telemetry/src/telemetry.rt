@@ -174,6 +174,10 @@ impl<L: Log, R: Clock> Gate for Telemetry<'_, L, R> {
         self.counters.count_marked(lane, from, marks);
     }
 
+    fn bound(&self, worker: Worker, at: Endpoint, buffer: u32) {
+        self.numbers.bound(worker, at, buffer);
+    }
+
     fn unbound(&self, at: Endpoint, error: &Error) {
         self.events.unbound(at, error);
     }

@@ -225,3 +225,21 @@ pub const RESPONSES: &str =
     rad_proxy_response_seconds_bucket{lane=\"1\",home=\"h2\",le=\"+Inf\"} 0\n\
     rad_proxy_response_seconds_sum{lane=\"1\",home=\"h2\"} 0.000000\n\
     rad_proxy_response_seconds_count{lane=\"1\",home=\"h2\"} 0\n";
+
+/// What is told of two sockets.
+pub const SOCKETS: &str =
+    "# HELP rad_proxy_socket_buffer_bytes The receive buffer that the system granted the socket.\n\
+    # TYPE rad_proxy_socket_buffer_bytes gauge\n\
+    rad_proxy_socket_buffer_bytes{side=\"clients\",socket=\"10.0.0.1:40000\"} 212992\n\
+    rad_proxy_socket_buffer_bytes{lane=\"1\",home=\"h2\",port=\"0\"} 1048576\n\
+    # HELP rad_proxy_socket_drops_total Datagrams that the system dropped since the socket's receive buffer was full.\n\
+    # TYPE rad_proxy_socket_drops_total counter\n\
+    rad_proxy_socket_drops_total{side=\"clients\",socket=\"10.0.0.1:40000\"} 5732\n\
+    rad_proxy_socket_drops_total{lane=\"1\",home=\"h2\",port=\"0\"} 0\n";
+
+/// A table of Linux's, of a machine of this kind: the first socket has dropped some.
+pub const TABLE: &str = "\
+    \u{20}  sl  local_address rem_address   st tx_queue rx_queue tr tm->when retrnsmt   uid  timeout inode ref pointer drops            \n\
+    \u{20} 421: 0100007F:0AFF 00000000:0000 07 00000000:00000000 00:00000000 00000000     0        0 17041 2 0000000000000000 3         \n\
+    \u{20}1234: 0100000A:9C40 00000000:0000 07 00000000:00000000 00:00000000 00000000     0        0 17042 2 0000000000000000 5732      \n\
+    \u{20}1235: 0100007F:0AFE 00000000:0000 07 00000000:00000000 00:00000000 00000000     0        0 17043 2 0000000000000000 0         \n";

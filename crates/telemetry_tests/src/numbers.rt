@@ -1,8 +1,10 @@
 //! What no clause says of the numbers: of whom each is counted, when each was, and in which order they are written.
 
 use crate::comparing::{holds, same};
-use crate::number_texts::{CLIENTS, HOMES, LIMITS, PROGRAM, REPLIES, RESPONSES, UPS};
-use crate::shared::{MemoryLog, NAS, Setup, Still, TWO_HOMES};
+use crate::number_texts::{
+    CLIENTS, HOMES, LIMITS, PROGRAM, REPLIES, RESPONSES, SOCKETS, TABLE, UPS,
+};
+use crate::shared::{HOME, MemoryLog, NAS, Setup, Still, TWO_HOMES};
 use rad_desk::{Gate, Note, Repeat, Standing, UpReason, Worker};
 use rad_lane::{Counts, Refusal};
 use rad_metrics::{CLIENT_EVENTS, write_numbers};
@@ -139,12 +141,17 @@ fn text_of(rt: &impl Wait, alloc: Global) -> Result<Vec<u8>, Fail> {
     tell_homes(&telemetry);
     let mut readings = Vec::new(alloc);
     telemetry.numbers().read_each(rt, &mut readings)?;
+    telemetry.bound(Worker::Front, NAS, 212_992);
+    telemetry.bound(Worker::Lane(1), HOME, 1_048_576);
+    let mut sockets = Vec::new(alloc);
+    telemetry.numbers().read_sockets(rt, TABLE, &mut sockets)?;
     let mut text = Vec::new(alloc);
     write_numbers(
         &mut text,
         setup.config(),
         telemetry.numbers(),
         readings.as_slice(),
+        sockets.as_slice(),
     )?;
     Ok(text)
 }
@@ -152,7 +159,9 @@ fn text_of(rt: &impl Wait, alloc: Global) -> Result<Vec<u8>, Fail> {
 #[test]
 fn numbers_are_written(rt: HostRuntime) -> Result<(), Fail> {
     let text = text_of(&rt, rt.alloc())?;
-    let pieces = [PROGRAM, CLIENTS, LIMITS, HOMES, UPS, REPLIES, RESPONSES];
+    let pieces = [
+        PROGRAM, CLIENTS, LIMITS, HOMES, UPS, REPLIES, RESPONSES, SOCKETS,
+    ];
     holds(&rt, is_of(text.as_slice(), &pieces));
     Ok(())
 }

@@ -10,6 +10,7 @@ use rad_telemetry::{
 };
 use std::alloc::Global;
 use std::result::Result;
+use std::rt::Files;
 use std::sync::{Mutex, Wait};
 use std::test::Fail;
 
@@ -180,7 +181,10 @@ struct Texts<'a, R> {
     untaken: u32,
 }
 
-impl<R: Wait> Texts<'_, R> {
+impl<R: Files + Wait> Texts<'_, R>
+where
+    R::File: Drop,
+{
     /// Leaves a text, and has it written as the last one.
     fn write_last(&self, reporter: Reporter<'_, MemoryLog, Still>) {
         reporter.leave_text(self.rt, &mut Draft::new(self.alloc));
@@ -190,7 +194,10 @@ impl<R: Wait> Texts<'_, R> {
     }
 }
 
-impl<R: Wait> Story for Texts<'_, R> {
+impl<R: Files + Wait> Story for Texts<'_, R>
+where
+    R::File: Drop,
+{
     fn tell<'x>(&'x self, telemetry: &'x Telemetry<'_, MemoryLog, Still>) {
         for _ in 0..self.written {
             self.write_last(telemetry.reporter(Some(&self.texts)));
@@ -206,14 +213,17 @@ impl<R: Wait> Story for Texts<'_, R> {
 
 /// Whether a file is given a text that begins like this, and these lines are logged, where so many texts are written and then so
 /// many left. The file may have a fault.
-fn gives(
-    rt: &impl Wait,
+fn gives<R: Files + Wait>(
+    rt: &R,
     alloc: Global,
     fault: Option<FileFault>,
     (written, untaken): (u32, u32),
     given: &str,
     expected: &str,
-) -> Result<bool, Fail> {
+) -> Result<bool, Fail>
+where
+    R::File: Drop,
+{
     let memory = Memory::new(alloc, fault);
     let story = Texts {
         rt,
