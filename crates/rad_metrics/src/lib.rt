@@ -12,6 +12,7 @@
 
 mod client_event;
 mod client_numbers;
+mod draft;
 mod family;
 mod histogram;
 mod home_cells;
@@ -30,6 +31,7 @@ mod value;
 mod writing;
 
 pub use client_event::{CLIENT_EVENTS, ClientEvent, ClientFamily};
+pub use draft::Draft;
 pub use family::{Family, Kind};
 pub use home_number::HomeNumber;
 pub use limit_number::LimitNumber;

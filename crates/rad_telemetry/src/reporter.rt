@@ -8,17 +8,17 @@ use crate::event_kind::{EVENT_KINDS, EventKind};
 use crate::last_realm::LastRealm;
 use crate::metric::{METRICS, Metric};
 use crate::metric_lines::{CounterLine, HelpLine, Labels, TypeLine};
+use crate::stop_flag::StopFlag;
 use crate::workers::{worker_name, worker_of_lane};
 use log::{Log, info, warn};
 use rad_desk::Worker;
-use rad_metrics::{Numbers, Reading, SocketReading, write_numbers};
+use rad_metrics::{Draft, Numbers};
 use rad_realms::{Config, Dropped};
 use std::alloc::{AllocError, Global};
-use std::fs::{self, Files};
-use std::io::{self, Read, Write};
-use std::sync::atomic::{AtomicU64, Ordering};
+use std::fs::Files;
+use std::io::{self, Write};
 use std::sync::{Wait, WaitMethods};
-use std::time::{Clock, Duration, Instant};
+use std::time::Clock;
 
 /// How long it is from one report to the next, in milliseconds.
 const PERIOD: u64 = 1000;
@@ -26,55 +26,6 @@ const PERIOD: u64 = 1000;
 /// How long the workers are waited for at most to tell how their lanes stand, in milliseconds: each looks for that at least every
 /// 20 milliseconds. They are asked so long before a report.
 const ASKED: u64 = 40;
-
-/// Where Linux tells of its UDP sockets, those of this program's network alone.
-const UDP_TABLE: &str = "/proc/self/net/udp";
-
-/// The most octets that are read there, which are those of some 30,000 sockets.
-const MOST_OCTETS: u64 = 1 << 22;
-
-/// Whether a reporter is to stop, which it shares with the others.
-#[derive(Drop)]
-pub struct StopFlag {
-    is_set: AtomicU64,
-}
-
-impl StopFlag {
-    pub fn new() -> StopFlag {
-        StopFlag {
-            is_set: AtomicU64::new(0),
-        }
-    }
-
-    /// Has the reporter report once more and stop.
-    pub fn set(&self) {
-        self.is_set.store(1, Ordering::SeqCst);
-        self.is_set.wake_all();
-    }
-
-    fn is_set(&self) -> bool {
-        self.is_set.load(Ordering::SeqCst) != 0
-    }
-
-    /// Waits so many milliseconds, or until the flag is set.
-    fn wait<R: Clock + Wait>(&self, rt: &R, milliseconds: u64) {
-        let Ok(start) = Instant::now(rt) else {
-            return;
-        };
-        for _ in rt.forever() {
-            let Ok(passed) = start.elapsed(rt) else {
-                return;
-            };
-            let Some(left) = Duration::from_millis(milliseconds).checked_sub(passed) else {
-                return;
-            };
-            if left.is_zero() || self.is_set() {
-                return;
-            }
-            self.is_set.park_timeout(rt, 0, left);
-        }
-    }
-}
 
 /// What a reporter reports, and where to.
 pub struct Reporter<'a, L, R> {
@@ -93,28 +44,6 @@ impl<L, R> Clone for Reporter<'_, L, R> {
 }
 
 impl<L, R> Copy for Reporter<'_, L, R> {}
-
-/// The memory in which the texts of the numbers are made.
-#[derive(Drop)]
-pub struct Draft {
-    text: Vec<u8>,
-    readings: Vec<Reading>,
-    /// What the system tells of its UDP sockets.
-    table: Vec<u8>,
-    sockets: Vec<SocketReading>,
-}
-
-impl Draft {
-    /// Nothing is written yet.
-    pub fn new(alloc: Global) -> Draft {
-        Draft {
-            text: Vec::new(alloc),
-            readings: Vec::new(alloc),
-            table: Vec::new(alloc),
-            sockets: Vec::new(alloc),
-        }
-    }
-}
 
 /// Reports once a second until the flag is set, and then once more. A text of all numbers is made anew each time, in the
 /// memory of an earlier one; the workers are asked right before how their lanes stand.
@@ -307,50 +236,15 @@ impl<L: Log, R: Clock> Reporter<'_, L, R> {
             return;
         };
         self.log_fault(rt, texts);
-        if self.read_all(rt, draft).is_ok() && self.write_all(draft).is_ok() {
-            texts.leave(rt, &mut draft.text);
+        if draft.read(rt, self.numbers).is_ok() && self.write_all(draft).is_ok() {
+            texts.leave(rt, draft.text());
         }
     }
 
-    /// Reads what was told of each lane last, and what the system tells of each socket.
-    fn read_all<S: Files + Wait>(&self, rt: &S, draft: &mut Draft) -> Result<(), AllocError>
-    where
-        S::File: Drop,
-    {
-        self.numbers.read_each(rt, &mut draft.readings)?;
-        read_table(rt, &mut draft.table);
-        let table = str::from_utf8(draft.table.as_slice()).unwrap_or("");
-        self.numbers.read_sockets(rt, table, &mut draft.sockets)
-    }
-
-    /// Writes all counters, and then all that is told of the clients and the home servers.
+    /// Writes all counters, and then all that is told of the clients, the home servers and the sockets.
     fn write_all(&self, draft: &mut Draft) -> io::Result<()> {
-        let Draft {
-            text,
-            readings,
-            sockets,
-            ..
-        } = draft;
-        text.clear();
-        self.write(text)?;
-        write_numbers(
-            text,
-            self.config,
-            self.numbers,
-            readings.as_slice(),
-            sockets.as_slice(),
-        )
-    }
-}
-
-/// Reads what the system tells of its UDP sockets, in place of what was read before; nothing where it tells nothing.
-fn read_table<S: Files>(files: &S, table: &mut Vec<u8>)
-where
-    S::File: Drop,
-{
-    table.clear();
-    if let Ok(file) = fs::open(files, UDP_TABLE) {
-        let _ = file.take(MOST_OCTETS).read_to_end(table);
+        self.write(draft.begin())?;
+        draft.finish(self.config, self.numbers)
     }
 }
 

@@ -4,9 +4,10 @@ use crate::comparing::holds;
 use crate::shared::{HOME, MemoryLog, NAS, Setup, Still, Story, TWO_HOMES, logs};
 use rad_desk::{Gate, Note, Worker};
 use rad_lane::Refusal;
+use rad_metrics::Draft;
 use rad_realms::{Dropped, Endpoint};
 use rad_telemetry::{
-    CounterFile, CounterTexts, Draft, FileFault, LevelFilter, ReplaceFile, Reporter, Telemetry,
+    CounterFile, CounterTexts, FileFault, LevelFilter, ReplaceFile, Reporter, Telemetry,
 };
 use std::alloc::Global;
 use std::result::Result;
