@@ -8,6 +8,7 @@ A test is a function below; its first line says what holds. The last line is `N 
 import contextlib
 import pathlib
 import re
+import signal
 import subprocess
 import sys
 import tempfile
@@ -118,7 +119,52 @@ def limits_are_told(program, folder):
         hope(stage.counters()[f'rad_proxy_build_info{{version="{version}"}}'] == 1, "the version is not", version)
 
 
-TESTS = [numbers_of_a_home_fit_together, ages_grow_until_an_answer, what_became_of_a_home_is_told, a_client_is_counted, limits_are_told]
+def latencies_are_counted(program, folder):
+    """A reply after 60 milliseconds, to a request that waited 300 before, is counted between its bounds; each is counted once."""
+    with Stage(program, folder, "window = 1\nfirst_wait = 60000\n") as stage:
+        first, second = stage.nas.ask(), stage.nas.ask()
+        packet, sender = stage.came()
+        time.sleep(0.3)
+        stage.homes[0].answer(packet, sender)
+        hope(stage.nas.is_answered(first), "another response came")
+        packet, sender = stage.came()
+        time.sleep(0.06)
+        stage.homes[0].answer(packet, sender)
+        hope(stage.nas.is_answered(second), "another response came")
+
+        def counts(name):
+            found = stage.counters()
+            return [found[f'rad_proxy_{name}_seconds_bucket{HOME[:-1]},le="{bound}"}}'] for bound in ("0.05", "0.25", "2.5", "+Inf")]
+
+        hope(is_so(lambda: counts("reply") == [0, 1, 2, 2]), counts("reply"))
+        hope(is_so(lambda: counts("response") == [0, 0, 2, 2]), counts("response"))
+        of_all = seen(stage, "reply_seconds_count", "response_seconds_count")
+        sums = seen(stage, "reply_seconds_sum", "response_seconds_sum")
+        hope(of_all == [2, 2] and 0.36 <= sums[0] < 2 and 0.66 <= sums[1] < 4, of_all, sums)
+
+
+def what_the_system_drops_is_told(program, folder):
+    """Datagrams for which the receive buffer has no room are counted at their socket, as the system counts them, and at no other."""
+    with Stage(program, folder) as stage:
+        hope(is_so(stage.proxy.counters.exists), "there are no numbers")
+        stage.proxy.ran.send_signal(signal.SIGSTOP)
+        for _ in range(4000):
+            stage.nas.socket.sendto(bytes(1000), stage.proxy.listen)
+        stage.proxy.ran.send_signal(signal.SIGCONT)
+        port = f":{stage.proxy.listen[1]:04X} "
+        lines = pathlib.Path("/proc/net/udp").read_text().splitlines()
+        [dropped] = [int(line.split()[-1]) for line in lines if port in line[:40]]
+        hope(dropped > 0, "nothing was dropped")
+        clients = f'{{side="clients",socket="{HERE}:{stage.proxy.listen[1]}"}}'
+        hope(is_so(lambda: stage.counters()[f"rad_proxy_socket_drops_total{clients}"] == dropped), dropped)
+        found = stage.counters()
+        hope(found[f'rad_proxy_socket_drops_total{HOME[:-1]},port="0"}}'] == 0, "the home server's socket dropped some")
+        most = int(pathlib.Path("/proc/sys/net/core/rmem_max").read_text())
+        hope(found[f"rad_proxy_socket_buffer_bytes{clients}"] == min(most, 1 << 20), found[f"rad_proxy_socket_buffer_bytes{clients}"])
+
+
+TESTS = [numbers_of_a_home_fit_together, ages_grow_until_an_answer, what_became_of_a_home_is_told, a_client_is_counted, limits_are_told,
+         what_the_system_drops_is_told, latencies_are_counted]
 
 
 def fault_of(test, program):
