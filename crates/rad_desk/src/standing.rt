@@ -31,9 +31,8 @@ impl Desk {
         ensures lawful { IsLawful (book self.now) }
     {
         let counts = self.lane.counts();
-        let accepted = self.lane.accepted();
-        let first_queued = moment_at(accepted, self.lane.sent().len());
-        let first_held = moment_at(accepted, 0);
+        let first_queued = self.first_queued();
+        let first_held = moment_at(self.lane.accepted(), 0);
         let last_answered = moment_of_last(self.lane.answered());
         Standing {
             counts,
@@ -41,6 +40,16 @@ impl Desk {
             first_held,
             last_answered,
         }
+    }
+
+    /// When the first request that waits to be sent was accepted: it stands behind all that were sent.
+    #[tactic(auto, using(crate::proofs::Standings::first_queued_at))]
+    fn first_queued(&self) -> Option<Moment>
+        ensures { result ≡ option_map (λ r. r.stamp.moment) (slice_get (book self.now).queued 0) }
+    {
+        let accepted = self.lane.accepted();
+        let sent = self.lane.sent().len();
+        moment_at(accepted, sent)
     }
 }
 
