@@ -15,7 +15,7 @@ use std::sync::{Mutex, Wait};
 /// How many reasons there are to go up.
 const REASONS: usize = 3;
 
-/// What is known of a home server. All of it but whether its worker is asked is written by that worker alone.
+/// What is known of a home server. All of it but the times and whether its worker is asked is written by that worker alone.
 #[derive(Drop)]
 pub(crate) struct HomeCell {
     /// Whether its worker is to tell how its lane stands.

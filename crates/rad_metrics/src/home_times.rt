@@ -12,6 +12,10 @@ use std::sync::atomic::{AtomicU64, Ordering};
 /// How many Identifiers there are on each source port.
 const IDENTIFIERS: u32 = 256;
 
+/// How many requests more may be accepted while the worker of a lane, which took one from a full queue, looks when that was
+/// accepted.
+const BESIDE: u32 = 256;
+
 /// How many serials the word of a response tells apart, beside which of the two came.
 const SERIALS: u64 = 1 << 23;
 
@@ -53,7 +57,7 @@ impl HomeTimes {
     pub(crate) fn new(alloc: Global, limits: LimitNumbers) -> Result<HomeTimes, AllocError> {
         let pairs = limits.ports.saturating_mul(IDENTIFIERS);
         Ok(HomeTimes {
-            waiting: places(alloc, limits.queue, UNTOLD)?,
+            waiting: places(alloc, limits.queue.saturating_add(BESIDE), UNTOLD)?,
             accepted: places(alloc, pairs, 0)?,
             sent: places(alloc, pairs, 0)?,
             leaving: places(alloc, limits.ring.saturating_mul(2), UNTOLD)?,
