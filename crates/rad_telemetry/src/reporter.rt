@@ -117,7 +117,7 @@ impl<L: Log, R> Reporter<'_, L, R> {
     }
 
     /// Logs what speaks against the last text that was written, once.
-    fn log_fault<R: Wait>(&self, rt: &R, texts: &CounterTexts) {
+    fn log_fault<S: Wait>(&self, rt: &S, texts: &CounterTexts) {
         if let Some(fault) = texts.take_fault(rt) {
             log_fault(self.log, fault);
         }
