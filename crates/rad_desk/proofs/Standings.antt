@@ -1,5 +1,5 @@
 -- The first that waits stands in the book behind all that were sent.
-use Rattle.std.proofs.Common.{◌≡◌, ℕ, List, [], ◌∷◌, ◌++◌, refl, sym, ap, ◌∙◌}
+use Rattle.std.proofs.Common.{◌≡◌, List, [], ◌∷◌, ◌++◌, refl, ap, ◌∙◌}
 use Rattle.std.specs.Prelude.{length, map as each, slice_get, option_map, Option, Some, None}
 use Rattle.std.proofs.lemmas.Option.{slice_get-map}
 use Rattle.rad_lane.specs.Book.{Book}
