@@ -20,43 +20,20 @@ import tempfile
 import time
 
 sys.dont_write_bytecode = True
-sys.path.insert(0, str(pathlib.Path(__file__).resolve().parent.parent))
 
 from model import read
-from vectors import PROXY_STATE, answer, attribute, request, user_name
+from packets import HOME_SECRET, NAS_SECRET, reply
+from trying import conclude, hope
+from vectors import answer, request, user_name
+from waiting import bound, until
 
 PORT, HOME_PORT = 1813, 2813
 SERVED = ["127.0.0.1", "127.0.0.5", "10.77.0.1", "10.77.0.2"]
 NASES = ["10.77.1.1", "10.77.1.2", "10.77.1.3", "10.77.1.4"]
-NAS_SECRET, HOME_SECRET = b"nas-secret", b"home-secret"
-PATIENCE = 30
 BURST = 400
 SOCKETS, KNOWN = 256, 512
 CLOSE_ON_EXEC = 0o2000000
 WITHOUT_PROC = "mount -t tmpfs none /proc && exec \"$@\""
-
-
-def hope(text, found, wanted):
-    if found != wanted:
-        raise AssertionError(f"{text}: {found!r}, and not {wanted!r}")
-
-
-def until(text, test):
-    """Waits until a test answers something, and answers that."""
-    last = time.monotonic() + PATIENCE
-    while time.monotonic() < last:
-        found = test()
-        if found:
-            return found
-        time.sleep(0.0005)
-    raise AssertionError(f"never: {text}")
-
-
-def bound(address, port=0, patience=PATIENCE):
-    made = socket.socket(socket.AF_INET, socket.SOCK_DGRAM)
-    made.bind((address, port))
-    made.settimeout(patience)
-    return made
 
 
 def ip(*words):
@@ -108,9 +85,7 @@ class Service:
 
     def reply(self, forwarded):
         octets, sender = forwarded
-        came = read(octets)
-        states = b"".join(attribute(PROXY_STATE, value) for value, _ in came.of_type(PROXY_STATE))
-        self.home.sendto(answer(octets, came.identifier, states, HOME_SECRET), sender)
+        self.home.sendto(reply(read(octets), HOME_SECRET), sender)
 
     def answered_from(self, nas, asked):
         """The address that the response to a request came from."""
@@ -188,7 +163,7 @@ def send_from_each_port(nas, address):
         for port in range(1, 65536):
             raw.sendto(struct.pack("!HHHH", port, PORT, 8, 0), (address, 0))
             if port % BURST == 0 or port == 65535:
-                until("all is received", is_all_received)
+                until("all is received", is_all_received, apart=0.0005)
 
 
 def is_all_received():
@@ -367,20 +342,18 @@ def inside(program, names):
     ip("link", "set", "lo", "up")
     add(*SERVED[1:], *NASES)
     passed = [try_one(name, program) for name in names or TESTS]
-    print(f"{sum(passed)} passed, {len(passed) - sum(passed)} failed")
-    return not all(passed)
+    conclude(sum(passed), len(passed) - sum(passed))
 
 
 def main():
     if len(sys.argv) < 2:
         sys.exit(__doc__)
     if sys.argv[1] == "--inside":
-        sys.exit(inside(sys.argv[2], sys.argv[3:]))
+        inside(sys.argv[2], sys.argv[3:])
     program, names = str(pathlib.Path(sys.argv[1]).resolve()), sys.argv[2:]
     if os.geteuid() or not shutil.which("ip") or subprocess.run(["unshare", "--net", "--mount", "true"]).returncode:
         print("left out: it wants root, `ip` and `unshare`")
-        print("0 passed, 0 failed")
-        return
+        conclude(0, 0)
     words = ["unshare", "--net", sys.executable, __file__, "--inside", program, *names]
     sys.exit(subprocess.run(words).returncode)
 

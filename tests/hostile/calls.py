@@ -18,7 +18,7 @@ import time
 sys.dont_write_bytecode = True
 
 import memory
-from moments import built
+from starting import built
 
 BOOK, SPAN = 100_000, 10_000
 LONGEST, FEW = 5, 4

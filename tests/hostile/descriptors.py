@@ -11,13 +11,16 @@ import contextlib
 import itertools
 import os
 import pathlib
-import socket
 import subprocess
 import sys
-import tempfile
 import time
 
-HERE = "127.0.0.1"
+sys.dont_write_bytecode = True
+
+import trying
+from starting import configuration, environment
+from waiting import HERE, bound, free_port
+
 PATIENCE, APART = 60, 0.005
 SUBSETS = [chosen for count in (1, 2, 3) for chosen in itertools.combinations((0, 1, 2), count)]
 COUNTS = "clients 1 homes 1 realms 1\n"
@@ -25,29 +28,6 @@ NOTHING_LEFT = "end: queued 0 outstanding 0 untaken 0"
 CLOSE_ON_EXEC, ACCESS = 0o2000000, 0o3
 READ, WRITE = 0, 1
 NULL_DEVICE = {0: WRITE, 1: READ, 2: WRITE}
-
-
-def bound():
-    """A UDP socket on loopback."""
-    made = socket.socket(socket.AF_INET, socket.SOCK_DGRAM)
-    made.bind((HERE, 0))
-    return made
-
-
-def free_port():
-    with bound() as tried:
-        return tried.getsockname()[1]
-
-
-def configuration(port):
-    return (f'listen = "{HERE}:{port}"\nlinger = 0\n[[client]]\naddress = "192.0.2.1"\nsecret = "nas-secret"\n'
-            f'[[home]]\nname = "h1"\naddress = "{HERE}:9"\nsecret = "home-secret"\n'
-            '[[realm]]\nname = "example.org"\nhome = "h1"\n')
-
-
-def environment():
-    """That of this process, without what changes what the program tells."""
-    return {name: value for name, value in os.environ.items() if not name.startswith("RAD_PROXY_")}
 
 
 def without(closed):
@@ -85,25 +65,14 @@ class Ended:
         return f"status {self.status}, {self.output!r}, {self.errors!r}"
 
 
-class Trial:
+class Trial(trying.Trial):
     """The program, and what was seen of it."""
 
     def __init__(self, program, folder):
-        self.program, self.folder = program, pathlib.Path(folder)
-        self.port, self.passed, self.failed = free_port(), 0, 0
+        super().__init__(program, folder)
+        self.port = free_port()
         self.file = self.write("proxy.toml", configuration(self.port))
         self.faulty = self.write("faulty.toml", "listen = 3\n")
-
-    def write(self, name, text):
-        path = self.folder / name
-        path.write_text(text, "utf-8")
-        return str(path)
-
-    def see(self, what, is_right, found=""):
-        self.passed += bool(is_right)
-        self.failed += not is_right
-        if not is_right:
-            print(f"not so: {what}: {found}", flush=True)
 
     def start(self, closed, *words):
         pipes = dict.fromkeys(("stdin", "stdout", "stderr"), subprocess.PIPE)
@@ -209,13 +178,7 @@ class Trial:
 
 
 def main():
-    if len(sys.argv) != 2:
-        sys.exit(__doc__)
-    with tempfile.TemporaryDirectory() as folder:
-        trial = Trial(str(pathlib.Path(sys.argv[1]).resolve()), folder)
-        trial.run()
-    print(f"{trial.passed} passed, {trial.failed} failed")
-    sys.exit(1 if trial.failed else 0)
+    trying.run_trial(Trial, __doc__)
 
 
 if __name__ == "__main__":

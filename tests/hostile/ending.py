@@ -8,63 +8,29 @@ Each test is a function below, and its first line tells what holds. Names choose
 """
 import contextlib
 import fcntl
-import hashlib
 import os
 import pathlib
 import pty
 import signal
 import socket
-import struct
 import subprocess
 import sys
-import tempfile
 import time
 
-HERE = pathlib.Path(__file__).resolve().parent
+sys.dont_write_bytecode = True
+
+from packets import answered, request
+from starting import built
+from trying import hope, try_named
+from waiting import bound, free_port, until
+
 PATIENCE = 60
 # How much later than it should the end may come, on a machine that has much else to do.
 MARGIN = 15
 LINGER = 2000
 COUNT = 5000
-NAS_SECRET, HOME_SECRET = b"nas-secret", b"home-secret"
 STATE = "lane {} h{} up {} accepted {} queued 0 outstanding {} answered {} opening 0"
 NOTHING_LEFT = "end: queued 0 outstanding 0 untaken 0"
-
-
-def hope(text, found, wanted):
-    if found != wanted:
-        raise AssertionError(f"{text}: {found!r}, and not {wanted!r}")
-
-
-def until(text, test, patience=PATIENCE):
-    """Waits until a test answers something, and answers that."""
-    last = time.monotonic() + patience
-    while time.monotonic() < last:
-        found = test()
-        if found:
-            return found
-        time.sleep(0.02)
-    raise AssertionError(f"never: {text}")
-
-
-def bound():
-    made = socket.socket(socket.AF_INET, socket.SOCK_DGRAM)
-    made.bind(("127.0.0.1", 0))
-    made.settimeout(PATIENCE)
-    return made
-
-
-def request(identifier=1):
-    attributes = b"\x01\x11bob@example.org" + b"\x28\x06\x00\x00\x00\x01"
-    head = struct.pack("!BBH", 4, identifier, 20 + len(attributes))
-    return head + hashlib.md5(head + bytes(16) + attributes + NAS_SECRET).digest() + attributes
-
-
-def answered(octets):
-    """The response of a home server, with the Proxy-State that stands last."""
-    attributes = octets[-12:]
-    head = struct.pack("!BBH", 5, octets[1], 20 + len(attributes))
-    return head + hashlib.md5(head + octets[4:20] + attributes + HOME_SECRET).digest() + attributes
 
 
 class Proxy:
@@ -72,9 +38,8 @@ class Proxy:
 
     def __init__(self, program, room):
         self.program, self.room = program, room
-        self.home, self.nas = bound(), bound()
-        with bound() as free:
-            self.port = free.getsockname()[1]
+        self.home, self.nas = bound(patience=PATIENCE), bound(patience=PATIENCE)
+        self.port = free_port()
         self.file, self.log = room / "two.toml", room / "log"
         self.configure(LINGER)
         self.environment = os.environ | {"RAD_PROXY_COUNTERS": str(room / "counters")}
@@ -109,7 +74,7 @@ class Proxy:
             with contextlib.suppress(TimeoutError):
                 return self.home.recvfrom(4096)
         self.home.settimeout(0.5)
-        return until("the home server is asked", came)
+        return until("the home server is asked", came, PATIENCE)
 
     def waits_for_output(self):
         """Waits until the program waits in the system, and no longer works off what it was given."""
@@ -126,7 +91,7 @@ class Proxy:
         lines = [line for line in self.log.read_text().splitlines() if not line.startswith("level=")]
         return lines[-1] if lines else ""
 
-    def end(self):
+    def stop(self):
         for descriptor in self.open:
             with contextlib.suppress(OSError):
                 os.close(descriptor)
@@ -139,14 +104,6 @@ class Proxy:
 def close(proxy, descriptor):
     os.close(descriptor)
     proxy.open.remove(descriptor)
-
-
-def built(proxy, name):
-    """A library of a file in C beside this one."""
-    library = proxy.room / f"{name}.so"
-    compiler = os.environ.get("CC", "cc").split()
-    subprocess.run([*compiler, "-O2", "-shared", "-fPIC", "-o", library, HERE / f"{name}.c"], check=True)
-    return str(library)
 
 
 def read_all(descriptor):
@@ -175,7 +132,7 @@ def fill(descriptor):
 
 def says_nothing_without_a_thread(proxy):
     """Each thread refused in turn: nothing is printed on standard output, and the end is `threads: failed` and status 4."""
-    library = built(proxy, "refuse")
+    library = built(proxy.room, "refuse")
     for thread in (1, 2, 3, 4):
         given, ours = os.pipe()
         reading, taken = os.pipe()
@@ -188,7 +145,7 @@ def says_nothing_without_a_thread(proxy):
 
 def listens_once_all_threads_run(proxy):
     """Where each thread begins late, `listening` comes later still; it is the first line, though commands were there before."""
-    library = built(proxy, "delay")
+    library = built(proxy.room, "delay")
     given, ours = os.pipe()
     reading, taken = os.pipe()
     proxy.kept([reading])
@@ -410,34 +367,9 @@ TESTS = [
 ]
 
 
-def tried(program, test):
-    """What became of a test: a word, and what there is to say."""
-    with tempfile.TemporaryDirectory() as room:
-        proxy = Proxy(program, pathlib.Path(room))
-        try:
-            test(proxy)
-        except (AssertionError, OSError, subprocess.SubprocessError) as fault:
-            return "failed", f"{fault or type(fault).__name__}"
-        finally:
-            proxy.end()
-    return "passed", ""
-
-
 def main():
-    if len(sys.argv) < 2:
-        sys.exit(__doc__.splitlines()[3])
-    program, names = pathlib.Path(sys.argv[1]).resolve(), sys.argv[2:]
     signal.signal(signal.SIGPIPE, signal.SIG_IGN)
-    words = []
-    for test in TESTS:
-        if names and test.__name__ not in names:
-            continue
-        word, text = tried(program, test)
-        words.append(word)
-        if word != "passed":
-            print(f"{word}: {test.__name__}: {text}", flush=True)
-    print(f"{words.count('passed')} passed, {words.count('failed')} failed")
-    sys.exit(1 if "failed" in words else 0)
+    try_named(TESTS, Proxy, __doc__)
 
 
 if __name__ == "__main__":

@@ -13,12 +13,17 @@ import pty
 import re
 import resource
 import shutil
-import socket
 import subprocess
 import sys
 import tempfile
 
-HERE, ELSEWHERE = "127.0.0.1", "192.0.2.1"
+sys.dont_write_bytecode = True
+
+import trying
+from starting import built, configuration, environment
+from waiting import HERE, bound, free_port
+
+ELSEWHERE = "192.0.2.1"
 PATIENCE = 60
 MOST_FILE_OCTETS = 1_048_576
 STRANGER = 65534
@@ -27,30 +32,6 @@ ABSENT = "there is no such file"
 TOO_MANY = "Too many open files (os error 24)"
 # With less than this one the system can't load the program.
 FEWEST_FILES, MOST_FILES = 4, 40
-
-
-def bound():
-    """A UDP socket on loopback."""
-    made = socket.socket(socket.AF_INET, socket.SOCK_DGRAM)
-    made.bind((HERE, 0))
-    return made
-
-
-def free_port():
-    with bound() as tried:
-        return tried.getsockname()[1]
-
-
-def configuration(port, address=HERE):
-    return (f'listen = "{address}:{port}"\nlinger = 0\n[[client]]\naddress = "192.0.2.7"\nsecret = "nas-secret"\n'
-            f'[[home]]\nname = "h1"\naddress = "{HERE}:9"\nsecret = "home-secret"\n'
-            '[[realm]]\nname = "example.org"\nhome = "h1"\n')
-
-
-def environment(level=None):
-    """That of this process, and how much is logged."""
-    kept = {name: value for name, value in os.environ.items() if not name.startswith("RAD_PROXY_")}
-    return kept if level is None else kept | {"RAD_PROXY_LOG": level}
 
 
 def at_most(files):
@@ -67,25 +48,13 @@ def file_fault(path, reason):
     return [fault_of("file-fault", reason, f" file={path}"), f"file: {path}"]
 
 
-class Trial:
+class Trial(trying.Trial):
     """The program, and what was seen of it."""
 
     def __init__(self, program, folder):
-        self.program, self.folder = program, pathlib.Path(folder)
-        self.passed, self.failed = 0, 0
+        super().__init__(program, folder)
         self.file = self.write("proxy.toml", configuration(free_port()))
         self.absent = str(self.folder / "absent.toml")
-
-    def write(self, name, text):
-        path = self.folder / name
-        path.write_text(text, "utf-8")
-        return str(path)
-
-    def see(self, what, found, wanted):
-        self.passed += found == wanted
-        self.failed += found != wanted
-        if found != wanted:
-            print(f"not so: {what}: {found!r}, and not {wanted!r}", flush=True)
 
     def ended(self, *words, level=None, **options):
         given = {"stdin": subprocess.DEVNULL, "stdout": subprocess.PIPE, "env": environment(level), "timeout": PATIENCE} | options
@@ -94,7 +63,7 @@ class Trial:
     def see_errors(self, what, status, lines, *words, **options):
         """What the program prints on standard error, and its status."""
         done = self.ended(*words, **options)
-        self.see(what, (done.returncode, done.stderr.decode().splitlines()), (status, lines))
+        self.compare(what, (done.returncode, done.stderr.decode().splitlines()), (status, lines))
 
     def run(self):
         self.see_files()
@@ -160,7 +129,7 @@ class Trial:
         self.see_errors("run, and no log", 4, lines[1:], "run", self.absent, level="off")
         for level in (None, "trace"):
             done = self.ended("check", self.file, level=level)
-            self.see(f"a right file at {level}", (done.returncode, done.stdout.decode(), done.stderr), (0, COUNTS, b""))
+            self.compare(f"a right file at {level}", (done.returncode, done.stdout.decode(), done.stderr), (0, COUNTS, b""))
 
     def see_terminal(self):
         """Standard error is a terminal, where each line ends with a carriage return too."""
@@ -175,7 +144,7 @@ class Trial:
         except OSError:
             pass
         os.close(ours)
-        self.see("check at a terminal", (done.returncode, found.decode().splitlines()), (4, file_fault(self.absent, ABSENT)))
+        self.compare("check at a terminal", (done.returncode, found.decode().splitlines()), (4, file_fault(self.absent, ABSENT)))
 
     def see_streams(self):
         """A folder as standard input fails at each read, and /dev/full as standard output at each write."""
@@ -219,35 +188,27 @@ class Trial:
             event, keys = ("input-fault", "") if lines[-1] == "input: failed" else ("unbound", " socket=")
             start, end = f"level=error event={event}{keys}", f'reason="{TOO_MANY}"'
             told = len(lines) == 2 and lines[0].startswith(start) and lines[0].endswith(end)
-            self.see(f"{files} files, {lines}", (done.returncode, told), (4, True))
-        self.see("files enough", (files < MOST_FILES - 1, done.stderr), (True, b""))
+            self.compare(f"{files} files, {lines}", (done.returncode, told), (4, True))
+        self.compare("files enough", (files < MOST_FILES - 1, done.stderr), (True, b""))
         listen = re.search(r'listen = "(.*)"', pathlib.Path(self.file).read_text("utf-8"))[1]
-        self.see("each end", ends, {f"socket: {listen}", "socket: lane 0", "input: failed"})
+        self.compare("each end", ends, {f"socket: {listen}", "socket: lane 0", "input: failed"})
 
     def see_clock(self):
         """A clock that fails at the start, and one that fails after some calls, whenever that is."""
-        library = self.folder / "clock.so"
-        compiler = os.environ.get("CC", "cc").split()
-        source = pathlib.Path(__file__).parent / "clock.c"
-        subprocess.run([*compiler, "-O2", "-shared", "-fPIC", "-o", library, source], check=True)
+        library = built(self.folder, "clock")
         for calls in (0, 1, 2, 5):
-            given = environment() | {"LD_PRELOAD": str(library), "CLOCK_CALLS": str(calls)}
+            given = environment() | {"LD_PRELOAD": library, "CLOCK_CALLS": str(calls)}
             done = self.ended("run", self.file, env=given)
             told = done.stderr.decode().splitlines()
             if calls == 0:
-                self.see("a clock that fails", (done.returncode, told), (4, ["clock: failed"]))
+                self.compare("a clock that fails", (done.returncode, told), (4, ["clock: failed"]))
             else:
-                self.see(f"a clock that fails after {calls} calls", (done.returncode, told) in ((4, ["clock: failed"]), (0, [])), True)
+                is_right = (done.returncode, told) in ((4, ["clock: failed"]), (0, []))
+                self.see(f"a clock that fails after {calls} calls", is_right, (done.returncode, told))
 
 
 def main():
-    if len(sys.argv) != 2:
-        sys.exit(__doc__)
-    with tempfile.TemporaryDirectory() as folder:
-        trial = Trial(str(pathlib.Path(sys.argv[1]).resolve()), folder)
-        trial.run()
-    print(f"{trial.passed} passed, {trial.failed} failed")
-    sys.exit(1 if trial.failed else 0)
+    trying.run_trial(Trial, __doc__)
 
 
 if __name__ == "__main__":

@@ -16,49 +16,22 @@ import socket
 import stat
 import subprocess
 import sys
-import tempfile
 import time
 
 sys.dont_write_bytecode = True
 
-import model  # noqa: F401  (it has the folder of `vectors` looked in)
-from vectors import ACCOUNTING_RESPONSE, answer, request, user_name
+from packets import answered, request
+from starting import built, configuration
+from trying import LeftOut, hope, try_named
+from vectors import ACCOUNTING_RESPONSE
+from waiting import HERE, bound, free_port, until
 
-HERE = pathlib.Path(__file__).resolve().parent
-PATIENCE, APART = 30, 0.02
-NAS_SECRET, HOME_SECRET = b"nas-secret", b"home-secret"
+PATIENCE = 30
 NOTHING_LEFT = "end: queued 0 outstanding 0 untaken 0"
 FAULT = 'level=warn event=counters-fault reason="{}"'
 LINE = re.compile(r"level=(error|warn|info|debug|trace) event=[a-z-]+( [a-z_]+=(\"[^\"]*\"|[^ \"=]+))*")
 SOON, LATEST = 3.0, 6.0
 UNSET = ("RAD_PROXY_COUNTERS", "RAD_PROXY_LOG", "LD_PRELOAD")
-
-
-class LeftOut(Exception):
-    """The test wants what is not here."""
-
-
-def hope(text, found, wanted):
-    if found != wanted:
-        raise AssertionError(f"{text}: {found!r}, and not {wanted!r}")
-
-
-def until(text, test):
-    """Waits until a test answers something, and answers that."""
-    last = time.monotonic() + PATIENCE
-    while time.monotonic() < last:
-        found = test()
-        if found:
-            return found
-        time.sleep(APART)
-    raise AssertionError(f"never: {text}")
-
-
-def bound():
-    made = socket.socket(socket.AF_INET, socket.SOCK_DGRAM)
-    made.bind(("127.0.0.1", 0))
-    made.settimeout(PATIENCE)
-    return made
 
 
 class Trial:
@@ -70,20 +43,13 @@ class Trial:
         self.folder.mkdir()
         self.counters, self.log, self.printed = self.folder / "counters", room / "log", room / "printed"
         self.home, self.nas, self.process = bound(), bound(), None
-        with bound() as free:
-            self.port = free.getsockname()[1]
+        self.port = free_port()
         self.file = room / "one.toml"
-        self.file.write_text(
-            f'listen = "127.0.0.1:{self.port}"\nlinger = 1000\n[[client]]\naddress = "127.0.0.1"\nsecret = "nas-secret"\n'
-            f'[[home]]\nname = "h1"\naddress = "127.0.0.1:{self.home.getsockname()[1]}"\nsecret = "home-secret"\n'
-            '[[realm]]\nname = "example.org"\nhome = "h1"\n')
+        self.file.write_text(configuration(self.port, client=HERE, home_port=self.home.getsockname()[1], linger=1000))
 
     def slowed(self, **numbers):
         """The environment in which files are slow."""
-        library = self.room / "slow.so"
-        compiler = os.environ.get("CC", "cc").split()
-        subprocess.run([*compiler, "-O2", "-shared", "-fPIC", "-o", library, HERE / "slow.c"], check=True)
-        return {"LD_PRELOAD": str(library)} | {name: str(value) for name, value in numbers.items()}
+        return {"LD_PRELOAD": built(self.room, "slow")} | {name: str(value) for name, value in numbers.items()}
 
     def start(self, before=None, **variables):
         """Starts the program, and waits until it listens."""
@@ -135,18 +101,17 @@ class Trial:
 
     def is_answered(self, seconds):
         """Whether a request is answered within so many seconds."""
-        octets = request(1, user_name(b"bob@example.org"), NAS_SECRET)
-        self.nas.sendto(octets, ("127.0.0.1", self.port))
+        self.nas.sendto(request(), ("127.0.0.1", self.port))
         self.nas.settimeout(seconds)
         self.home.settimeout(seconds)
         try:
             sent, proxy = self.home.recvfrom(4096)
-            self.home.sendto(answer(sent, sent[1], sent[-12:], HOME_SECRET), proxy)
+            self.home.sendto(answered(sent), proxy)
             return self.nas.recv(4096)[0] == ACCOUNTING_RESPONSE
         except socket.timeout:
             return False
 
-    def clean(self):
+    def stop(self):
         if self.process is not None:
             self.process.kill()
             self.process.wait()
@@ -333,35 +298,8 @@ TESTS = [
 ]
 
 
-def tried(program, test):
-    """What became of a test: a word, and what there is to say."""
-    with tempfile.TemporaryDirectory() as room:
-        trial = Trial(program, pathlib.Path(room))
-        try:
-            test(trial)
-        except LeftOut as reason:
-            return "left out", str(reason)
-        except (AssertionError, OSError, subprocess.SubprocessError) as fault:
-            return "failed", f"{fault or type(fault).__name__}"
-        finally:
-            trial.clean()
-    return "passed", ""
-
-
 def main():
-    if len(sys.argv) < 2:
-        sys.exit(__doc__.splitlines()[2])
-    program, names = pathlib.Path(sys.argv[1]).resolve(), sys.argv[2:]
-    words = []
-    for test in TESTS:
-        if names and test.__name__ not in names:
-            continue
-        word, text = tried(program, test)
-        words.append(word)
-        if word != "passed":
-            print(f"{word}: {test.__name__}: {text}", flush=True)
-    print(f"{words.count('passed')} passed, {words.count('failed')} failed")
-    sys.exit(1 if "failed" in words else 0)
+    try_named(TESTS, Trial, __doc__)
 
 
 if __name__ == "__main__":

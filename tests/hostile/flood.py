@@ -11,7 +11,6 @@ import contextlib
 import os
 import pathlib
 import signal
-import socket
 import subprocess
 import sys
 import tempfile
@@ -19,24 +18,12 @@ import tempfile
 sys.dont_write_bytecode = True
 
 from model import read
-from vectors import PROXY_STATE, answer, attribute, request, user_name
+from packets import HOME_SECRET, NAS_SECRET, reply
+from trying import conclude
+from vectors import answer, request, user_name
+from waiting import HERE, bound, free_port
 
-HERE = "127.0.0.1"
-NAS_SECRET, HOME_SECRET = b"nas-secret", b"home-secret"
 PATIENCE, FIRST, ASKED, STRANGERS = 10, 256, 200, 3
-
-
-def bound():
-    """A UDP socket on loopback."""
-    made = socket.socket(socket.AF_INET, socket.SOCK_DGRAM)
-    made.bind((HERE, 0))
-    made.settimeout(PATIENCE)
-    return made
-
-
-def free_port():
-    with bound() as tried:
-        return tried.getsockname()[1]
 
 
 def flood(port):
@@ -56,7 +43,8 @@ class Trial:
     """The program, its one NAS and its one home server."""
 
     def __init__(self, program, folder):
-        self.nas, self.home, self.listen, self.asked = bound(), bound(), (HERE, free_port()), 0
+        self.nas, self.home = bound(patience=PATIENCE), bound(patience=PATIENCE)
+        self.listen, self.asked = (HERE, free_port()), 0
         file = pathlib.Path(folder, "proxy.toml")
         home = f'[[home]]\nname = "h"\naddress = "{HERE}:{self.home.getsockname()[1]}"\nsecret = "home-secret"\n'
         client = f'[[client]]\naddress = "{HERE}"\nsecret = "nas-secret"\n'
@@ -72,9 +60,7 @@ class Trial:
         octets = request(self.asked % 256, user_name(f"bob{self.asked}".encode()), NAS_SECRET)
         self.nas.sendto(octets, self.listen)
         forwarded, (_, port) = self.home.recvfrom(4096)
-        came = read(forwarded)
-        states = b"".join(attribute(PROXY_STATE, value) for value, _ in came.of_type(PROXY_STATE))
-        self.home.sendto(answer(forwarded, came.identifier, states, HOME_SECRET), (HERE, port))
+        self.home.sendto(reply(read(forwarded), HOME_SECRET), (HERE, port))
         if self.nas.recv(4096) != answer(octets, octets[1], b"", NAS_SECRET):
             raise AssertionError(f"request {self.asked} has another response")
         return port
@@ -110,8 +96,7 @@ def main():
         finally:
             trial.ran.kill()
             trial.ran.communicate()
-    print(f"{1 - failed} passed, {failed} failed")
-    sys.exit(failed)
+    conclude(1 - failed, failed)
 
 
 if __name__ == "__main__":

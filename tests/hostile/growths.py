@@ -20,7 +20,6 @@ failed`.
 import os
 import pathlib
 import signal
-import socket
 import subprocess
 import sys
 import tempfile
@@ -31,8 +30,10 @@ from typing import Callable
 sys.dont_write_bytecode = True
 
 from model import answers, rows
+from starting import built
+from trying import conclude
+from waiting import free_port
 
-HERE = pathlib.Path(__file__).resolve().parent
 QUIET = "refusals/what-takes-no-memory"
 ROWS = ["lane/answers-one-request", "draining/drains", "responses/untaken-of-two-homes", "watch/comes-up-by-probe"]
 ROWS += ["refusals/each-call-is-made-twice", QUIET]
@@ -53,14 +54,12 @@ class Refuser:
     """Runs programs with allocations refused, by a library that it builds from refuse.c."""
 
     def __init__(self, folder):
-        self.library, self.note = pathlib.Path(folder, "refuse.so"), pathlib.Path(folder, "note")
-        compiler = os.environ.get("CC", "cc").split()
-        subprocess.run([*compiler, "-O2", "-shared", "-fPIC", "-o", self.library, HERE / "refuse.c"], check=True)
+        self.library, self.note = built(folder, "refuse"), pathlib.Path(folder, "note")
 
     def settings(self, numbers):
         """The environment in which what has these numbers is refused; `run` logs so much that it takes all its memory."""
         texts = {f"REFUSE_{name}": str(number) for name, number in numbers.items()}
-        more = {"REFUSE_NOTE": str(self.note), "LD_PRELOAD": str(self.library), "RAD_PROXY_LOG": "debug"}
+        more = {"REFUSE_NOTE": str(self.note), "LD_PRELOAD": self.library, "RAD_PROXY_LOG": "debug"}
         return {**os.environ, **texts, **more}
 
     def has_refused(self):
@@ -158,9 +157,7 @@ def subjects(program, folder):
         script = rows.Row(name).streams["<"]
         quiet = answers(script.decode())[0][:-1] if name == QUIET else None
         yield Subject(name, [program, "replay"], script, partial(fault_of_replay, script.decode()), quiet=quiet)
-    with socket.socket(socket.AF_INET, socket.SOCK_DGRAM) as free:
-        free.bind(("127.0.0.1", 0))
-        listen = f"127.0.0.1:{free.getsockname()[1]}"
+    listen = f"127.0.0.1:{free_port()}"
     file = pathlib.Path(folder, "one-home.toml")
     file.write_text((rows.ROWS / "one-home.toml").read_text("utf-8").replace("127.0.0.1:1813", listen), "utf-8")
     yield Subject("check", [program, "check", str(file)], b"", partial(fault_of_run, ["clients 1 homes 1 realms 1"]))
@@ -227,8 +224,7 @@ def main():
     if unseen:
         print(f"no refused growth ended in {', '.join(sorted(unseen))}")
     passed, failed = map(sum, zip(*counts))
-    print(f"{passed} passed, {failed + len(unseen)} failed")
-    sys.exit(1 if failed or unseen else 0)
+    conclude(passed, failed + len(unseen))
 
 
 if __name__ == "__main__":

@@ -17,6 +17,7 @@ sys.dont_write_bytecode = True
 
 import memory
 from growths import Refuser
+from trying import conclude
 
 REQUESTS = 60_000
 OUT = 64
@@ -56,8 +57,7 @@ def main():
         except (memory.Failed, OSError, subprocess.SubprocessError) as fault:
             failed = 1
             print(f"failed: {fault}", flush=True)
-    print(f"{1 - failed} passed, {failed} failed")
-    sys.exit(failed)
+    conclude(1 - failed, failed)
 
 
 if __name__ == "__main__":

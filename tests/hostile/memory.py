@@ -18,7 +18,6 @@ import pathlib
 import re
 import select
 import signal
-import socket
 import subprocess
 import sys
 import tempfile
@@ -34,11 +33,13 @@ from compiling import compile_all  # noqa: E402
 from growths import Refuser  # noqa: E402
 from proxies import CLIENT_SECRET, HOME_SECRET, end, end_with_parent  # noqa: E402
 from readings import resident_kilobytes  # noqa: E402
+from trying import conclude  # noqa: E402
+from waiting import free_port, is_so  # noqa: E402
 
 MOST = 500_000
 LEAST = 250
 REQUESTS, MOST_REQUESTS = 10_000, 2**32 - 1
-PATIENCE, GIVEN_UP = 120, 300
+PATIENCE, APART, GIVEN_UP = 120, 0.05, 300
 OUT_OF_A_SOCKET = 200
 STATE = re.compile(r"lane 0 h0 (?:up|down) open accepted (\d+) queued (\d+) outstanding (\d+) answered \d+ opening (\d+)")
 NOTHING_LEFT = "end: queued 0 outstanding 0 untaken 0"
@@ -71,19 +72,10 @@ class Failed(Exception):
     """The load could not be given."""
 
 
-def until(text, is_so):
-    last = time.monotonic() + PATIENCE
-    while not is_so():
-        if time.monotonic() > last:
-            raise Failed(f"never: {text}")
-        time.sleep(0.05)
-
-
-def free_port():
-    """A port of loopback that nobody has."""
-    with socket.socket(socket.AF_INET, socket.SOCK_DGRAM) as tried:
-        tried.bind(("127.0.0.1", 0))
-        return tried.getsockname()[1]
+def until(text, test):
+    """Waits until something is so."""
+    if not is_so(test, PATIENCE, APART):
+        raise Failed(f"never: {text}")
 
 
 class Proxy:
@@ -279,8 +271,7 @@ def main():
         counts = [tried(program, work, load, library, seconds) for load in LOADS]
         is_right = is_given_back(program, work, library)
     passed, failed = map(sum, zip(*counts, (is_right, not is_right)))
-    print(f"{passed} passed, {failed} failed")
-    sys.exit(1 if failed else 0)
+    conclude(passed, failed)
 
 
 if __name__ == "__main__":

@@ -17,9 +17,9 @@ import time
 sys.dont_write_bytecode = True
 
 from moments import Failed, Stage, hope
-from telling import HERE, bound, is_so
 from trying import try_each
 from vectors import TOP
+from waiting import HERE, bound, is_so
 
 HOME = '{lane="0",home="h0"}'
 OF_ONE_HOLD = ["accepted_total", "queued", "outstanding", "answered_total"]

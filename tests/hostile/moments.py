@@ -22,9 +22,11 @@ import time
 sys.dont_write_bytecode = True
 
 from model import read
-from telling import HERE, SECRET, Home, Proxy, bound, is_so
+from starting import built
+from telling import SECRET, Home, Proxy
 from trying import try_each
 from vectors import STATUS_SERVER, TOP, answer, request, user_name
+from waiting import bound, is_so
 
 TRIES = 5
 PATIENCE = 30
@@ -53,14 +55,6 @@ def best(tried, is_kept):
         if is_kept(seen[-1]):
             return
     raise Failed(f"not in {TRIES} tries: {seen}")
-
-
-def built(folder, name):
-    """A library that is loaded before the program's own, from the C file of this name."""
-    library, source = pathlib.Path(folder, f"{name}.so"), pathlib.Path(__file__).parent / f"{name}.c"
-    compiler = os.environ.get("CC", "cc").split()
-    subprocess.run([*compiler, "-O2", "-shared", "-fPIC", "-o", library, source], check=True)
-    return str(library)
 
 
 class Nas:

@@ -17,6 +17,7 @@ import sys
 sys.dont_write_bytecode = True
 
 from model import Replay, answer, attribute, request, rows, signed, status, user_name
+from trying import conclude
 
 DATAGRAMS, SEED = 20_000, 1
 SCRIPT = 400
@@ -233,8 +234,7 @@ def main():
     unseen = ANSWERS - set(seen)
     if unseen:
         print(f"no datagram was answered by {', '.join(sorted(unseen))}")
-    print(f"{done - failed} passed, {failed + len(unseen)} failed")
-    sys.exit(1 if failed or unseen else 0)
+    conclude(done - failed, failed + len(unseen))
 
 
 if __name__ == "__main__":

@@ -9,26 +9,22 @@ is `N passed, M failed`, of what was looked at.
 """
 import contextlib
 import os
-import pathlib
 import pty
 import re
-import socket
 import subprocess
 import sys
-import tempfile
 import time
 
-HERE = "127.0.0.1"
+sys.dont_write_bytecode = True
+
+import trying
+from starting import environment
+from waiting import HERE, bound, free_port
+
 PATIENCE = 60
 MOST_FILE = 1_048_576
 COUNTS = "clients 1 homes 1 realms 1\n"
 VALUE = "invalid value, expected a string, number, boolean, date-time, array or inline table"
-
-
-def free_port():
-    with socket.socket(socket.AF_INET, socket.SOCK_DGRAM) as tried:
-        tried.bind((HERE, 0))
-        return tried.getsockname()[1]
 
 
 def configuration(listen="127.0.0.1:1", home="192.0.2.9:1813", more="", top=""):
@@ -38,25 +34,12 @@ def configuration(listen="127.0.0.1:1", home="192.0.2.9:1813", more="", top=""):
             f'[[home]]\nname = "h1"\naddress = "{home}"\nsecret = "home-secret"\n{more}').encode()
 
 
-def environment(log=None):
-    """That of this process, without what changes what the program tells but this."""
-    kept = {name: value for name, value in os.environ.items() if not name.startswith("RAD_PROXY_")}
-    return kept if log is None else kept | {"RAD_PROXY_LOG": log}
+class Trial(trying.Trial):
+    """The program, and what it tells."""
 
-
-class Trial:
-    """Counts what was looked at, over one program."""
-
-    def __init__(self, program):
-        self.program = program
-        self.passed = self.failed = 0
-
-    def look(self, name, told, wanted):
-        if told == wanted:
-            self.passed += 1
-            return
-        self.failed += 1
-        print(f"{name}: {told!r} where {wanted!r} was expected", flush=True)
+    def run(self):
+        for part in (faulty, unread, many, homes, files, sockets):
+            part(self, self.folder)
 
     def ended(self, *words, log=None, given=b""):
         """The status, what was printed and what was told, of a program that ends by itself."""
@@ -98,13 +81,13 @@ def faulty(trial, folder):
     for name, text, told, fixed in cases:
         file = folder / "faulty.toml"
         file.write_bytes(text)
-        trial.look(f"check, {name}", trial.ended("check", file), (2, "", fixed))
-        trial.look(f"check with a log, {name}", trial.ended("check", file, log="info"), (2, "", told + fixed))
-        trial.look(f"check on a terminal, {name}", trial.on_a_terminal("check", file), told + fixed)
-        trial.look(f"run, {name}", trial.ended("run", file), (2, "", told + fixed))
-        trial.look(f"replay, {name}", trial.ended("replay", given=text), (2, "", fixed))
-        trial.look(f"replay with a log, {name}", trial.ended("replay", given=text, log="trace"), (2, "", fixed))
-        trial.look(f"run without a log, {name}", trial.ended("run", file, log="off"), (2, "", fixed))
+        trial.compare(f"check, {name}", trial.ended("check", file), (2, "", fixed))
+        trial.compare(f"check with a log, {name}", trial.ended("check", file, log="info"), (2, "", told + fixed))
+        trial.compare(f"check on a terminal, {name}", trial.on_a_terminal("check", file), told + fixed)
+        trial.compare(f"run, {name}", trial.ended("run", file), (2, "", told + fixed))
+        trial.compare(f"replay, {name}", trial.ended("replay", given=text), (2, "", fixed))
+        trial.compare(f"replay with a log, {name}", trial.ended("replay", given=text, log="trace"), (2, "", fixed))
+        trial.compare(f"run without a log, {name}", trial.ended("run", file, log="off"), (2, "", fixed))
 
 
 def unread(trial, folder):
@@ -126,12 +109,12 @@ def unread(trial, folder):
     for name, text, told in cases:
         file = folder / "unread.toml"
         file.write_bytes(text)
-        trial.look(f"check, {name}", trial.ended("check", file), (0, COUNTS, ""))
-        trial.look(f"check with a log, {name}", trial.ended("check", file, log="warn"), (0, COUNTS, told))
-        trial.look(f"check on a terminal, {name}", trial.on_a_terminal("check", file), told)
+        trial.compare(f"check, {name}", trial.ended("check", file), (0, COUNTS, ""))
+        trial.compare(f"check with a log, {name}", trial.ended("check", file, log="warn"), (0, COUNTS, told))
+        trial.compare(f"check on a terminal, {name}", trial.on_a_terminal("check", file), told)
         status, printed, errors = trial.ended("run", file, log="warn")
-        trial.look(f"run, {name}", (status, printed.splitlines()[:1], errors), (0, [f"listening {HERE}:{port}"], told))
-        trial.look(f"replay, {name}", trial.ended("replay", given=text, log="trace")[2], "")
+        trial.compare(f"run, {name}", (status, printed.splitlines()[:1], errors), (0, [f"listening {HERE}:{port}"], told))
+        trial.compare(f"replay, {name}", trial.ended("replay", given=text, log="trace")[2], "")
 
 
 def many(trial, folder):
@@ -150,11 +133,11 @@ def many(trial, folder):
     status, printed, told = trial.ended("check", file, log="warn")
     spent = time.monotonic() - begun
     told = told.splitlines()
-    trial.look("many keys are read past", (status, printed), (0, COUNTS))
-    trial.look("many keys make few lines", len(told), 21)
-    trial.look("the first of many", told[:1], [line("warn", "unread-key", "home 0 k000000 at line 13, column 1")[:-1]])
-    trial.look("the last of many", told[-1:], [f"level=warn event=unread-keys count={count - 20}"])
-    trial.look("many keys take no minute", spent < PATIENCE / 2, True)
+    trial.compare("many keys are read past", (status, printed), (0, COUNTS))
+    trial.compare("many keys make few lines", len(told), 21)
+    trial.compare("the first of many", told[:1], [line("warn", "unread-key", "home 0 k000000 at line 13, column 1")[:-1]])
+    trial.compare("the last of many", told[-1:], [f"level=warn event=unread-keys count={count - 20}"])
+    trial.compare("many keys take no minute", spent < PATIENCE / 2, True)
 
 
 def homes(trial, folder):
@@ -176,15 +159,15 @@ def homes(trial, folder):
         file = folder / "homes.toml"
         file.write_bytes(configuration(listen, home))
         told = "" if reason is None else line("warn", "home-address", f"home h1 at {home}: {reason}")
-        trial.look(f"check, {home}", trial.ended("check", file), (0, COUNTS, ""))
-        trial.look(f"check with a log, {home}", trial.ended("check", file, log="warn"), (0, COUNTS, told))
-        trial.look(f"run, {home}", trial.ended("run", file, log="warn")[2], told)
+        trial.compare(f"check, {home}", trial.ended("check", file), (0, COUNTS, ""))
+        trial.compare(f"check with a log, {home}", trial.ended("check", file, log="warn"), (0, COUNTS, told))
+        trial.compare(f"run, {home}", trial.ended("run", file, log="warn")[2], told)
 
 
 def reason_before(trial, name, told, fixed):
     """One line of the log with a reason, and then the line of the fault, alone and last."""
     form = r'level=error event=[a-z-]+( [a-z_]+=[^ "]+)* reason="[^"]+"\n' + re.escape(fixed)
-    trial.look(name, bool(re.fullmatch(form, told)), True)
+    trial.compare(name, bool(re.fullmatch(form, told)), True)
     if not re.fullmatch(form, told):
         print(f"  {told!r}")
 
@@ -201,22 +184,21 @@ def files(trial, folder):
         cases.append(("not to be read", hidden))
     for name, file in cases:
         fixed = f"file: {file}\n"
-        trial.look(f"check, {name}", trial.ended("check", file), (4, "", fixed))
+        trial.compare(f"check, {name}", trial.ended("check", file), (4, "", fixed))
         reason_before(trial, f"check with a log, {name}", trial.ended("check", file, log="info")[2], fixed)
         reason_before(trial, f"run, {name}", trial.ended("run", file)[2], fixed)
     split = f"{folder}/a\nb"
-    trial.look("a name with a line end", len(trial.ended("run", split)[2].splitlines()), 2)
+    trial.compare("a name with a line end", len(trial.ended("run", split)[2].splitlines()), 2)
 
 
 def sockets(trial, folder):
     """Sockets that can't be had."""
     file = folder / "sockets.toml"
-    with socket.socket(socket.AF_INET, socket.SOCK_DGRAM) as taken:
-        taken.bind((HERE, 0))
+    with bound() as taken:
         listen = f"{HERE}:{taken.getsockname()[1]}"
         file.write_bytes(configuration(listen))
         status, printed, told = trial.ended("run", file)
-    trial.look("a port in use", (status, printed), (4, ""))
+    trial.compare("a port in use", (status, printed), (4, ""))
     reason_before(trial, "a port in use has its reason", told, f"socket: {listen}\n")
     elsewhere = f"192.0.2.77:{free_port()}"
     file.write_bytes(configuration(elsewhere))
@@ -224,14 +206,7 @@ def sockets(trial, folder):
 
 
 def main():
-    if len(sys.argv) != 2:
-        sys.exit(__doc__)
-    trial = Trial(sys.argv[1])
-    with tempfile.TemporaryDirectory() as folder:
-        for part in (faulty, unread, many, homes, files, sockets):
-            part(trial, pathlib.Path(folder))
-    print(f"{trial.passed} passed, {trial.failed} failed")
-    sys.exit(trial.failed > 0)
+    trying.run_trial(Trial, __doc__)
 
 
 if __name__ == "__main__":

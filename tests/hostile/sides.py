@@ -9,6 +9,7 @@ from dataclasses import dataclass, field
 
 from model import Fault, is_right_status, is_signed, read
 from network import Port
+from packets import states_of
 from vectors import ACCOUNTING_REQUEST, ACCOUNTING_RESPONSE, ACCT_SESSION_ID, CLASS, PROXY_STATE, STATUS_SERVER, ZEROS
 from vectors import answer, attribute, mark, request, status, user_name
 
@@ -147,7 +148,7 @@ class Home:
             more = attribute(80, ZEROS) if self.chance.random() < 0.5 else b""
             self.reply(answer(octets, came.identifier, more, self.secret), sender, None)
             return
-        states = b"".join(attribute(PROXY_STATE, value) for value, _ in came.of_type(PROXY_STATE))
+        states = states_of(came)
         kept, own = states[:-12], states[-12:]
         first = attribute(CLASS, self.chance.randbytes(self.chance.randrange(20)))
         last = attribute(CLASS, b"last") if self.chance.random() < 0.5 else b""

@@ -12,6 +12,10 @@ import re
 import subprocess
 import sys
 
+sys.dont_write_bytecode = True
+
+from trying import conclude
+
 AT_ONCE = 25
 SECONDS = 600
 MOST_FAILED = 20
@@ -49,8 +53,7 @@ def main():
             failed += len(lines)
             for line in lines:
                 print(line, flush=True)
-    print(f"{seeds - failed} passed, {failed} failed")
-    sys.exit(1 if failed else 0)
+    conclude(seeds - failed, failed)
 
 
 if __name__ == "__main__":

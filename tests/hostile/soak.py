@@ -22,7 +22,6 @@ import pathlib
 import random
 import re
 import signal
-import socket
 import subprocess
 import sys
 import tempfile
@@ -34,6 +33,7 @@ sys.dont_write_bytecode = True
 from growths import Refuser
 from network import Loop, Network
 from sides import Findings, Home, Nas
+from waiting import HERE, free_port
 
 ENDINGS = ["calm", "away", "drain"]
 REQUESTS, SEED = 1500, 1
@@ -113,7 +113,7 @@ class Soak:
         self.loop, self.findings = Loop(), Findings()
         self.network = Network(self.loop, self.chance)
         self.homes = [self.home(lane) for lane in range(len(LIMITS))]
-        self.listen = free_address()
+        self.listen = (HERE, free_port())
         self.nases = [self.nas(number) for number in range(3)]
         self.log = pathlib.Path(folder, "log")
         file = pathlib.Path(folder, "proxy.toml")
@@ -264,13 +264,6 @@ class Soak:
         counts["lines of its log"] = lines
         if lines > passed_on + SPARE_LINES + SPARE_LINES_A_SECOND * (time.monotonic() - self.began):
             self.findings.fault(f"its log has {lines} lines, for {passed_on} datagrams")
-
-
-def free_address():
-    """An address on loopback whose port nobody has."""
-    with socket.socket(socket.AF_INET, socket.SOCK_DGRAM) as tried:
-        tried.bind(("127.0.0.1", 0))
-        return tried.getsockname()
 
 
 def ran(program, seed, ending, is_enough, seconds, is_refusing=False):

@@ -10,49 +10,22 @@ Python's hashlib. The last line is `N passed, M failed`, of what was looked at.
 import pathlib
 import re
 import select
-import socket
 import subprocess
 import sys
-import tempfile
 import time
 
 sys.dont_write_bytecode = True
 
+import trying
 from model import read
+from packets import reply
 from vectors import ACCOUNTING_REQUEST, ACCT_SESSION_ID, PROXY_STATE, STATUS_SERVER
 from vectors import answer, attribute, mark, request, user_name
+from waiting import HERE, PATIENCE, bound, free_port, free_ports, is_so
 
-HERE = "127.0.0.1"
 SECRET = b"one secret for all"
-PATIENCE, APART = 40, 0.05
 CUT_REQUESTS, CUT_BOOK = 300, 10
 VALUE = re.compile(r'(\S+?)=("[^"]*"|\S*)')
-
-
-def bound(port=0):
-    """A UDP socket on loopback."""
-    made = socket.socket(socket.AF_INET, socket.SOCK_DGRAM)
-    made.bind((HERE, port))
-    return made
-
-
-def free_ports(count):
-    """Ports that nobody has."""
-    tried = [bound() for _ in range(count)]
-    ports = [each.getsockname()[1] for each in tried]
-    for each in tried:
-        each.close()
-    return ports
-
-
-def is_so(what):
-    """Whether something is so before too long."""
-    end = time.monotonic() + PATIENCE
-    while not what():
-        if time.monotonic() > end:
-            return False
-        time.sleep(APART)
-    return True
 
 
 def pairs_of(line):
@@ -85,8 +58,7 @@ class Home:
         return list(first.values())
 
     def answer(self, packet, sender):
-        states = b"".join(attribute(PROXY_STATE, value) for value, _ in packet.of_type(PROXY_STATE))
-        self.ear.sendto(answer(packet.octets, packet.identifier, states, SECRET), sender)
+        self.ear.sendto(reply(packet, SECRET), sender)
 
     def answers_a_probe(self):
         """Answers the last probe, where one came."""
@@ -103,7 +75,7 @@ class Proxy:
 
     def __init__(self, program, folder, name, homes, port=None, default=None, level="info", linger=0, variables=(),
                  errors=None):
-        self.listen = (HERE, port or free_ports(1)[0])
+        self.listen = (HERE, port or free_port())
         self.log, self.counters = pathlib.Path(folder, f"{name}.log"), pathlib.Path(folder, f"{name}.prom")
         first = f'listen = "{HERE}:{self.listen[1]}"\nlinger = {linger}\n' + (f'default_home = "{default}"\n' if default else "")
         parts = [first, f'[[client]]\naddress = "{HERE}"\nsecret = "{SECRET.decode()}"\n']
@@ -142,19 +114,20 @@ class Proxy:
         self.ran.communicate()
 
 
-class Trial:
+class Trial(trying.Trial):
     """What is looked at, and the one NAS."""
 
     def __init__(self, program, folder):
-        self.program, self.folder = program, folder
-        self.passed, self.failed = 0, 0
+        super().__init__(program, folder)
         self.nas, self.asked, self.proxies = bound(), 0, []
 
-    def see(self, what, is_right, told=None):
-        self.passed += bool(is_right)
-        self.failed += not is_right
-        if not is_right:
-            print(f"not so: {what}; told was {told}", flush=True)
+    def run(self):
+        self.tell_of_homes()
+        self.tell_of_cuts("info")
+        self.tell_of_cuts("debug")
+        self.tell_of_realms()
+        self.tell_of_loops()
+        self.tell_of_a_chain()
 
     def proxy(self, *words, **more):
         made = Proxy(self.program, self.folder, *words, **more)
@@ -291,21 +264,7 @@ class Trial:
 
 
 def main():
-    if len(sys.argv) != 2:
-        sys.exit(__doc__)
-    with tempfile.TemporaryDirectory() as folder:
-        trial = Trial(str(pathlib.Path(sys.argv[1]).resolve()), folder)
-        try:
-            trial.tell_of_homes()
-            trial.tell_of_cuts("info")
-            trial.tell_of_cuts("debug")
-            trial.tell_of_realms()
-            trial.tell_of_loops()
-            trial.tell_of_a_chain()
-        finally:
-            trial.stop()
-    print(f"{trial.passed} passed, {trial.failed} failed")
-    sys.exit(1 if trial.failed else 0)
+    trying.run_trial(Trial, __doc__)
 
 
 if __name__ == "__main__":

@@ -11,46 +11,32 @@ between; only what was sent twice to a slow home server may be told as Unknown. 
 is left at the end is the request to nobody. The last line is `N passed, M failed`, of what was looked at.
 """
 import pathlib
-import socket
 import subprocess
 import sys
-import tempfile
 import time
 
 sys.dont_write_bytecode = True
 
+import trying
 from model import is_right_status, is_signed, read
-from vectors import ACCOUNTING_REQUEST, PROXY_STATE, STATUS_SERVER, ZEROS, answer, attribute, request, user_name
+from packets import NAS_SECRET, reply
+from vectors import ACCOUNTING_REQUEST, STATUS_SERVER, ZEROS, answer, request, user_name
+from waiting import HERE, bound, free_port, is_so
 
-HERE = "127.0.0.1"
-NAS_SECRET = b"nas-secret"
 NAMES = ["there", "killed", "nobody"]
 LIMITS = "tries = 2\nprobe_every = 1000\ndown_wait = 600000\n"
 FIRST_WAIT = {"there": 60_000, "killed": 500, "nobody": 500}
 TOLD_TWICE = {"event": "unheard", "reason": "Unknown"}
-PATIENCE, APART = 30, 0.05
-A_WHILE = 3
+A_WHILE, APART = 3, 0.05
 
 
 def secret_of(name):
     return f"{name}-secret"
 
 
-def bound(port=0):
-    """A UDP socket on loopback."""
-    made = socket.socket(socket.AF_INET, socket.SOCK_DGRAM)
-    made.bind((HERE, port))
-    return made
-
-
-def free_port():
-    with bound() as tried:
-        return tried.getsockname()[1]
-
-
 def serve(port, secret):
     """Answers whatever is right, for ever."""
-    ear = bound(port)
+    ear = bound(port=port, patience=None)
     print("ready", flush=True)
     while True:
         octets, sender = ear.recvfrom(4096)
@@ -58,25 +44,14 @@ def serve(port, secret):
         if came.code == STATUS_SERVER and is_right_status(came, secret):
             ear.sendto(answer(octets, came.identifier, b"", secret), sender)
         elif came.code == ACCOUNTING_REQUEST and is_signed(came, ZEROS, secret):
-            states = b"".join(attribute(PROXY_STATE, value) for value, _ in came.of_type(PROXY_STATE))
-            ear.sendto(answer(octets, came.identifier, states, secret), sender)
+            ear.sendto(reply(came, secret), sender)
 
 
-def is_so(what):
-    """Whether something is so before too long."""
-    end = time.monotonic() + PATIENCE
-    while not what():
-        if time.monotonic() > end:
-            return False
-        time.sleep(APART)
-    return True
-
-
-class Trial:
+class Trial(trying.Trial):
     """The program, its home servers and its one NAS."""
 
     def __init__(self, program, folder):
-        self.passed, self.failed = 0, 0
+        super().__init__(program, folder)
         self.ports, self.homes = {name: free_port() for name in NAMES}, {}
         self.listen, self.log = (HERE, free_port()), pathlib.Path(folder, "log")
         self.nas, self.asked = bound(), 0
@@ -96,10 +71,7 @@ class Trial:
         return "".join(parts)
 
     def see(self, what, is_right):
-        self.passed += bool(is_right)
-        self.failed += not is_right
-        if not is_right:
-            print(f"not so: {what}; the log is {self.logged()}", flush=True)
+        super().see(what, is_right, f"the log is {self.logged()}")
 
     def logged(self):
         """What the log tells: each event, and of whom."""
@@ -179,16 +151,7 @@ class Trial:
 def main():
     if len(sys.argv) == 4 and sys.argv[1] == "--serve":
         serve(int(sys.argv[2]), sys.argv[3].encode())
-    if len(sys.argv) != 2:
-        sys.exit(__doc__)
-    with tempfile.TemporaryDirectory() as folder:
-        trial = Trial(str(pathlib.Path(sys.argv[1]).resolve()), folder)
-        try:
-            trial.run()
-        finally:
-            trial.stop()
-    print(f"{trial.passed} passed, {trial.failed} failed")
-    sys.exit(1 if trial.failed else 0)
+    trying.run_trial(Trial, __doc__)
 
 
 if __name__ == "__main__":

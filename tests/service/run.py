@@ -8,7 +8,6 @@ systemd, and uses loopback alone; what needs another user is tried where root ru
 line is `N passed, M failed`.
 """
 import contextlib
-import hashlib
 import json
 import os
 import pathlib
@@ -20,62 +19,27 @@ import signal
 import socket
 import socketserver
 import stat
-import struct
 import subprocess
 import sys
-import tempfile
 import threading
 import time
 import urllib.error
 import urllib.parse
 import urllib.request
 
+sys.dont_write_bytecode = True
+
 HERE = pathlib.Path(__file__).resolve().parent.parent.parent
+sys.path.append(str(HERE / "tests" / "hostile"))
+
+from packets import answered, request  # noqa: E402
+from trying import LeftOut, hope, try_named  # noqa: E402
+from waiting import bound, until  # noqa: E402
+
 PATIENCE = 30
-NAS_SECRET, HOME_SECRET = b"nas-secret", b"home-secret"
 STRANGER = 65534
 LINE = "lane 0 h1 up open accepted 0 queued 0 outstanding 0 answered 0 opening 0\n"
 NOTHING_LEFT = "end: queued 0 outstanding 0 untaken 0"
-
-
-class LeftOut(Exception):
-    """The test wants what is not here."""
-
-
-def hope(text, found, wanted):
-    if found != wanted:
-        raise AssertionError(f"{text}: {found!r}, and not {wanted!r}")
-
-
-def until(text, test, patience=PATIENCE):
-    """Waits until a test answers something, and answers that."""
-    last = time.monotonic() + patience
-    while time.monotonic() < last:
-        found = test()
-        if found:
-            return found
-        time.sleep(0.02)
-    raise AssertionError(f"never: {text}")
-
-
-def bound():
-    made = socket.socket(socket.AF_INET, socket.SOCK_DGRAM)
-    made.bind(("127.0.0.1", 0))
-    made.settimeout(PATIENCE)
-    return made
-
-
-def request(identifier=1, more=b""):
-    attributes = b"\x01\x11bob@example.org" + b"\x28\x06\x00\x00\x00\x01" + more
-    head = struct.pack("!BBH", 4, identifier, 20 + len(attributes))
-    return head + hashlib.md5(head + bytes(16) + attributes + NAS_SECRET).digest() + attributes
-
-
-def answered(octets):
-    """The response of a home server, with the Proxy-State that stands last."""
-    attributes = octets[-12:]
-    head = struct.pack("!BBH", 5, octets[1], 20 + len(attributes))
-    return head + hashlib.md5(head + octets[4:20] + attributes + HOME_SECRET).digest() + attributes
 
 
 class Service:
@@ -131,7 +95,7 @@ class Service:
         done = subprocess.run(["ps", "--ppid", str(process.pid), "-o", "pid=,comm="], capture_output=True, text=True)
         return [(int(pid), name) for pid, name in (line.split() for line in done.stdout.splitlines())]
 
-    def end(self):
+    def stop(self):
         for process in self.started:
             with contextlib.suppress(ProcessLookupError):
                 os.killpg(process.pid, signal.SIGKILL)
@@ -653,18 +617,19 @@ def see_sent_again(service):
 
 # Sends requests and answers them, some hundred a second, until it is killed.
 NASES = f"""
-import sys, time
-sys.path.insert(0, {str(pathlib.Path(__file__).resolve().parent)!r})
-import run, socket, select
+import select, socket, sys
+sys.dont_write_bytecode = True
+sys.path.insert(0, {str(HERE / "tests" / "hostile")!r})
+import packets, waiting
 home = socket.socket(fileno=int(sys.argv[2]))
-ports, count = [run.bound() for _ in range(32)], 0
+ports, count = [waiting.bound() for _ in range(32)], 0
 while True:
     nas = ports[count // 256 % 32]
-    nas.sendto(run.request(count % 256), ("127.0.0.1", int(sys.argv[1])))
+    nas.sendto(packets.request(count % 256), ("127.0.0.1", int(sys.argv[1])))
     count += 1
     while select.select([home], [], [], 0.001)[0]:
         octets, proxy = home.recvfrom(4096)
-        home.sendto(run.answered(octets), proxy)
+        home.sendto(packets.answered(octets), proxy)
 """
 
 
@@ -825,21 +790,6 @@ TESTS = [
 ]
 
 
-def tried(program, test):
-    """What became of a test: a word, and what there is to say."""
-    with tempfile.TemporaryDirectory() as room:
-        service = Service(program, pathlib.Path(room))
-        try:
-            test(service)
-        except LeftOut as reason:
-            return "left out", str(reason)
-        except (AssertionError, OSError, subprocess.SubprocessError) as fault:
-            return "failed", f"{fault or type(fault).__name__}"
-        finally:
-            service.end()
-    return "passed", ""
-
-
 def heed_signals():
     """Has what is started here end by the signals that are meant to end it, also where this was started to ignore them, as by nohup."""
     for number in (signal.SIGHUP, signal.SIGINT, signal.SIGQUIT, signal.SIGTERM):
@@ -848,20 +798,8 @@ def heed_signals():
 
 
 def main():
-    if len(sys.argv) < 2:
-        sys.exit(__doc__.splitlines()[2])
     heed_signals()
-    program, names = pathlib.Path(sys.argv[1]).resolve(), sys.argv[2:]
-    words = []
-    for test in TESTS:
-        if names and test.__name__ not in names:
-            continue
-        word, text = tried(program, test)
-        words.append(word)
-        if word != "passed":
-            print(f"{word}: {test.__name__}: {text}", flush=True)
-    print(f"{words.count('passed')} passed, {words.count('failed')} failed")
-    sys.exit(1 if "failed" in words else 0)
+    try_named(TESTS, Service, __doc__)
 
 
 if __name__ == "__main__":

@@ -11,6 +11,7 @@ mod failing;
 mod homes;
 mod memory;
 mod rings;
+mod sockets;
 mod spoiled;
 mod test_desk;
 mod test_gate;

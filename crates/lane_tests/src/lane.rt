@@ -5,6 +5,7 @@
 mod accepting;
 mod comparing;
 mod cutting;
+mod example;
 mod hearing;
 mod leaving;
 mod ports;

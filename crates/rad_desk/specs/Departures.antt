@@ -67,6 +67,11 @@ pub record StepsFor (lane : ℕ) (secret : List ℕ) (moment : ℕ) (random : Li
   pub is_of : IsOf old.setup lane secret
   pub steps : Steps old moment random action d new
 
+-- It does so, and then holds so many requests.
+pub record StepsHolding (lane : ℕ) (secret : List ℕ) (moment : ℕ) (random : List ℕ) (action : Action) (held : ℕ) (d : Datagrams) : Type 0 where
+  pub steps : StepsFor lane secret moment random action d
+  pub counted : held ≡ length steps.new.accepted
+
 -- A lawful book to which a request leads answers it like this, and is lawful after it.
 pub record AcceptsLawfully (request : Request) (moment : ℕ) (result : Result Taken Refusal) (d : Datagrams) : Type 0 where
   pub old : Book

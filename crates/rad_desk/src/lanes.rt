@@ -1,13 +1,12 @@
 //! The worker of a home server.
 
-ghost use Rattle.std.specs.Prelude.{◌≡◌, ◌<◌, ◌≤◌, ◌+◌, None, false, IfSome, MatchOption};
-ghost use Rattle.std.specs.Bool.{OnTrue, OnFalse};
+ghost use Rattle.std.specs.Prelude.{◌≡◌, ◌<◌, ◌≤◌, ◌*◌, ◌↔◌, IsTrue, None, MatchOption};
 ghost use Rattle.rad_desk.specs.Calls.{Passes, IsQuiet};
 ghost use Rattle.rad_desk.specs.Working.{WorksForHome, IsSentHome, slot_of, IsPortOf};
 
 use crate::gate::{Call, Gate, Note, UpReason, Worker};
 use crate::hearing::Told;
-use crate::proxy::Proxy;
+use crate::proxy::{Proxy, Stepped};
 use crate::tally::{Shift, Tally};
 use crate::wire::{Received, Wire};
 use rad_lane::Action;
@@ -17,13 +16,10 @@ use rad_tables::{Moment, Slot};
 use std::alloc::Global;
 use std::sync::Wait;
 
-/// How many milliseconds a worker leaves at least from one cut of a book that is not full to the next, so that each cuts many
-/// requests in place of a few.
-const CUTS_APART: u64 = 10;
-
 /// Works for a lane and its home server: so many turns at most, or until the gate stops it. In each turn it receives
 /// once and, where that came from the home server's address and port, has the lane hear it. Then the lane does one
-/// thing that is next, and what that gives is sent to the home server, from the socket of its source port.
+/// thing that is next, and what that gives is sent to the home server, from the socket of its source port. Where the lane is idle
+/// and holds half of the requests that its book may hold, it cuts off what is over.
 ///
 /// A send that fails is a datagram lost, and the sending stands; a receive that fails ends nothing.
 pub fn lane_worker<W: Wire, G: Gate>(
@@ -156,13 +152,13 @@ fn step<W: Wire, G: Gate>(
     let secret = home.secret();
     let stepped = proxy.step_for(rt, lane, secret, now, wire.random(), datagram);
     shift.made(Call::Step);
-    let Some(action) = stepped else {
+    let Some(stepped) = stepped else {
         return true;
     };
-    let Some(port) = port_of(&action) else {
-        return follow(rt, alloc, proxy, lane, home, &action, wire, shift);
+    let Some(port) = port_of(&stepped.action) else {
+        return follow(rt, alloc, proxy, lane, home, &stepped, wire, shift);
     };
-    tell_first(lane, &action, shift);
+    tell_first(lane, &stepped.action, shift);
     send_home(home, port, wire, shift, datagram);
     true
 }
@@ -199,15 +195,15 @@ fn port_of(action: &Action) -> Option<u16>
     }
 }
 
-/// Does what follows an action that sends nothing: tells that the home server is marked down or up, or has the lane, which is
-/// idle, cut off what is over. It answers whether the worker goes on.
+/// Does what follows a step that sends nothing: tells that the home server is marked down or up, or has the lane, which is idle,
+/// cut off what is over where its book is half full. It answers whether the worker goes on.
 fn follow<W: Wire, G: Gate>(
     rt: &impl Wait,
     alloc: Global,
     proxy: &Proxy,
     lane: u16,
     home: &Home,
-    action: &Action,
+    stepped: &Stepped,
     wire: &mut W,
     shift: &mut Shift<'_, G>,
 ) -> bool
@@ -215,11 +211,13 @@ fn follow<W: Wire, G: Gate>(
     ensures quiet { Passes IsQuiet (W.log wire.old) (W.log wire.new) }
     ensures turns { shift.new.tally.turns ≡ shift.old.tally.turns }
 {
-    match action {
+    match stepped.action {
         Action::WentDown => tell_down(rt, proxy, lane, wire.now(), shift),
         Action::WentUp => tell_up(lane, UpReason::DownWaitOver, shift),
-        Action::Idle(_) => return cut(rt, alloc, proxy, lane, home, wire, shift),
-        Action::Sent(..) | Action::Resent(..) | Action::Probed(_) => {}
+        Action::Idle(_) if is_half_full(stepped.held, home.limits().numbers().book) => {
+            return cut(rt, alloc, proxy, lane, wire, shift);
+        }
+        Action::Idle(_) | Action::Sent(..) | Action::Resent(..) | Action::Probed(_) => {}
     }
     true
 }
@@ -241,7 +239,7 @@ fn tell_up<G: Gate>(lane: u16, reason: UpReason, shift: &Shift<'_, G>) {
 }
 
 /// Sends a datagram to the home server, from the socket of a source port. One of a port that the home server does not
-/// have, as where it is another lane's, is lost.
+/// have, as where it is another lane's, is not sent.
 fn send_home<W: Wire, G: Gate>(
     home: &Home,
     port: u16,
@@ -255,19 +253,23 @@ fn send_home<W: Wire, G: Gate>(
     let to = endpoint_of(home);
     if u32::from(port) < home.limits().numbers().ports {
         shift.send(wire, port, to, datagram.bytes());
-    } else {
-        shift.lose();
     }
 }
 
-/// Has the lane cut off what is over, where its book is full, or half full and the last cut not too near, and drops what was
-/// cut. It answers whether the worker goes on.
+/// Whether a book holds half of the requests that it may, or more.
+fn is_half_full(held: u64, book: u32) -> bool
+    ensures { IsTrue result ↔ (book ≤ 2 * held) }
+{
+    let book = u64::from(book);
+    held >= book || 2 * held >= book
+}
+
+/// Has the lane cut off what is over, and drops what was cut. It answers whether the worker goes on.
 fn cut<W: Wire, G: Gate>(
     rt: &impl Wait,
     alloc: Global,
     proxy: &Proxy,
     lane: u16,
-    home: &Home,
     wire: &mut W,
     shift: &mut Shift<'_, G>,
 ) -> bool
@@ -275,33 +277,13 @@ fn cut<W: Wire, G: Gate>(
     ensures quiet { Passes IsQuiet (W.log wire.old) (W.log wire.new) }
     ensures turns { shift.new.tally.turns ≡ shift.old.tally.turns }
 {
-    let now = wire.now();
-    let counts = proxy.counts(rt, lane);
-    let held = counts.accepted - counts.opening;
-    let book = u64::from(home.limits().numbers().book);
-    if held < book && (held.saturating_mul(2) < book || is_near(shift.cut_at, now)) {
-        return true;
-    }
     if !shift.may(Call::Turn) {
         return false;
     }
-    shift.cut_at = Some(now);
-    let turned = proxy.turn(rt, alloc, lane, now);
+    let turned = proxy.turn(rt, alloc, lane, wire.now());
     shift.made(Call::Turn);
     if let Ok(volume) = turned {
         shift.note(Note::Cut(volume.stamps.as_slice().len() as u64));
     }
     true
-}
-
-/// Whether a moment is less than [`CUTS_APART`] after the last cut.
-fn is_near(last: Option<Moment>, now: Moment) -> bool
-    ensures near { IfSome last (λ cut. OnTrue result (now < cut + 10)) }
-    ensures far { IfSome last (λ cut. OnFalse result (cut + 10 ≤ now)) }
-    ensures none { last ≡ None → result ≡ false }
-{
-    match last {
-        Some(cut) => now.get() < cut.get() + CUTS_APART,
-        None => false,
-    }
 }

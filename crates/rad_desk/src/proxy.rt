@@ -5,7 +5,7 @@ ghost use Rattle.std.specs.List.{range_with_len};
 ghost use Rattle.rad_lane.specs.declared.accepting.Refusal.TheVariants.{WrongLane};
 ghost use Rattle.rad_lane.specs.Datagrams.{Datagrams};
 ghost use Rattle.rad_desk.specs.Inlet.{lane_of, taken};
-ghost use Rattle.rad_desk.specs.Departures.{Departs, Returns, StepsFor, AcceptsLawfully, UnlessWrongLane};
+ghost use Rattle.rad_desk.specs.Departures.{Departs, Returns, StepsHolding, AcceptsLawfully, UnlessWrongLane};
 ghost use Rattle.rad_desk.specs.Lawful.{AreLawful};
 
 use crate::inlet::Inlet;
@@ -42,6 +42,14 @@ impl Model for Proxy {
     ghost view = { λ p. length p.desks.items };
 
     ghost invariant = { λ p. length p.desks.items ≤ 64 };
+}
+
+/// What a step of a lane gave.
+#[derive(Clone, Copy)]
+pub(crate) struct Stepped {
+    pub(crate) action: Action,
+    /// How many requests the book holds after it.
+    pub(crate) held: u64,
 }
 
 /// A lane for each home server of the configuration, and the inlets of their rings, in the order of the lanes.
@@ -124,7 +132,8 @@ impl Proxy {
         self.lock(rt, lane).step(moment, random, datagram)
     }
 
-    /// Does the same, where the lane is of this number and its home server has this secret, and else nothing.
+    /// Does the same, where the lane is of this number and its home server has this secret, and else nothing. It tells how many
+    /// requests the book then holds, in the same hold of the lock.
     pub(crate) fn step_for(
         &self,
         rt: &impl Wait,
@@ -133,16 +142,21 @@ impl Proxy {
         moment: Moment,
         random: [u8; 16],
         datagram: &mut Datagram,
-    ) -> Option<Action>
+    ) -> Option<Stepped>
         requires { lane < self.now }
-        ensures { IfSome result (λ action. StepsFor lane secret.now moment random action (record { before = datagram.old; after = datagram.new })) }
+        ensures { IfSome result (λ stepped. StepsHolding lane secret.now moment random stepped.action stepped.held (record { before = datagram.old; after = datagram.new })) }
     {
         let mut guard = self.lock(rt, lane);
         let desk = &mut *guard;
         if !desk.is_of(lane, secret) {
             return None;
         }
-        Some(desk.step(moment, random, datagram))
+        let action = desk.step(moment, random, datagram);
+        let counts = desk.counts();
+        Some(Stepped {
+            action,
+            held: counts.accepted - counts.opening,
+        })
     }
 
     /// Hears a datagram that came to a source port of a lane from its home server.

@@ -7,7 +7,6 @@ ghost use Rattle.rad_desk.specs.Calls.{Passes, IsSent};
 use crate::gate::{Call, Gate, Go, Note, Worker};
 use crate::wire::{Delivery, Received, Wire};
 use rad_realms::Endpoint;
-use rad_tables::Moment;
 
 /// How much a worker did. A count at the greatest number stays there.
 #[derive(Clone, Copy, Debug, PartialEq, Eq)]
@@ -28,8 +27,6 @@ pub(crate) struct Shift<'a, G> {
     pub(crate) worker: Worker,
     pub(crate) gate: &'a G,
     pub(crate) tally: Tally,
-    /// When it last had its lane cut off what is over.
-    pub(crate) cut_at: Option<Moment>,
 }
 
 impl<'a, G: Gate> Shift<'a, G> {
@@ -47,7 +44,6 @@ impl<'a, G: Gate> Shift<'a, G> {
             worker,
             gate,
             tally,
-            cut_at: None,
         }
     }
 
@@ -113,7 +109,7 @@ impl<'a, G: Gate> Shift<'a, G> {
     }
 
     /// Counts a datagram that could not be sent.
-    pub(crate) fn lose(&mut self)
+    fn lose(&mut self)
         ensures { self.new.tally.turns ≡ self.old.tally.turns }
     {
         self.tally.faults = self.tally.faults.saturating_add(1);

@@ -22,9 +22,9 @@ use Rattle.rad_lane.specs.Setup.{LaneSetup}
 use Rattle.rad_lane.specs.Outstanding.{AnswerKept}
 use Rattle.rad_lane.specs.Book.{Book}
 use Rattle.rad_lane.specs.Repeat.{of_key, last_of, answer_to}
-use Rattle.rad_lane.specs.Invariant.{IsConsistent, book_of, last_number, receipt_in, receipt_of, receipt_to}
+use Rattle.rad_lane.specs.internal.Invariant.{IsConsistent, book_of, last_number, receipt_in, receipt_of, receipt_to}
 use Rattle.rad_lane.specs.Volumes.{IsOver, BeginsUnended, IsCut, answers_below, answers_since, volume_of, without_cut}
-use Rattle.rad_lane.specs.Cutting.{IsOverBy, unless_of, HasUnderItsKey}
+use Rattle.rad_lane.specs.internal.Cutting.{IsOverBy, unless_of, HasUnderItsKey}
 use Rattle.rad_lane.proofs.ListLemmas.{All-right}
 use Rattle.rad_lane.proofs.NoRepeatOfFresh.{same_key}
 use Rattle.rad_lane.proofs.LawfulAfterCut.{numbered_at, last_behind, cut_numbered, cut_below, kept_since, cut_sent, found_still, accepted_count, next_same, answers_counted, lawful_after_cut}

@@ -12,7 +12,7 @@ use Rattle.rad_tables.specs.Keys.{key_cmp}
 use Rattle.rad_tables.proofs.KeyLemmas.{keys_total}
 use Rattle.rad_lane.specs.declared.stamp.Stamp.{Stamp}
 use Rattle.rad_lane.specs.Stamp.{key_of}
-use Rattle.rad_lane.specs.Cutting.{HasUnderItsKey, unless_of}
+use Rattle.rad_lane.specs.internal.Cutting.{HasUnderItsKey, unless_of}
 use Rattle.rad_lane.proofs.NoRepeatOfFresh.{same_key, ties_itself}
 
 -- a number that is another than this one

@@ -15,7 +15,7 @@ use Rattle.rad_lane.specs.declared.entry.Entry.TheVariants.{Sending as sending, 
 use Rattle.rad_lane.specs.Outstanding.{Outstanding}
 use Rattle.rad_lane.specs.Book.{Book, outstanding_at}
 use Rattle.rad_lane.specs.Hears.{RefusesToHear, pair, fault_of}
-use Rattle.rad_lane.specs.AcceptReply.{AnswerIsRefused}
+use Rattle.rad_lane.specs.internal.AcceptReply.{AnswerIsRefused}
 
 module _ (book : Book) (port : ℕ) (datagram packet : List ℕ) (read : ReadsAs datagram packet) (code : code_of packet ≡ 5) (slot : Slot) (is_pair : slot ≡ pair port packet) where
   by_reason : (entry : Outstanding) → outstanding_at book (pair port packet) entry → (reason : ReplyFault) → RefusesReply entry.octets packet book.setup.home_secret reason → RefusesToHear book port datagram (fault_of reason)

@@ -26,7 +26,7 @@ use Rattle.rad_lane.specs.Book.{Book, next_number}
 use Rattle.rad_lane.specs.Repeat.{fresh, repeats, of_key, last_of}
 use Rattle.rad_lane.specs.Accepts.{IsTaken, IsRefused, request_key, stamp_of, record_of, with_request}
 use Rattle.rad_lane.specs.Lawful.{IsLawful, NoRepeatWithinSpan}
-use Rattle.rad_lane.specs.Invariant.{IsConsistent, HasRoom, book_of, last_number}
+use Rattle.rad_lane.specs.internal.Invariant.{IsConsistent, HasRoom, book_of, last_number}
 use Rattle.rad_lane.proofs.NumberLemmas.{numbered_more, front_same, none_more}
 use Rattle.rad_lane.proofs.VerifiedLater.{passed_later, verified_later}
 use Rattle.rad_lane.proofs.NoRepeatOfFresh.{unrepeated}

@@ -36,9 +36,9 @@ use Rattle.rad_lane.specs.declared.outgoing.Outgoing.{Outgoing}
 use Rattle.rad_lane.specs.declared.hearing.HearFault.{HearFault}
 use Rattle.rad_lane.specs.declared.hearing.HearFault.TheVariants.{OutOfMemory}
 use Rattle.rad_lane.specs.Hears.{KeepsAnswer, GoesOut, with_answer, fault_of}
-use Rattle.rad_lane.specs.AcceptReply.{AnswerIsKept, AnswerIsRefused}
+use Rattle.rad_lane.specs.internal.AcceptReply.{AnswerIsKept, AnswerIsRefused}
 use Rattle.rad_lane.specs.Lawful.{IsLawful, IsVerified, ProbeStands}
-use Rattle.rad_lane.specs.Invariant.{IsConsistent, receipt_of, receipt_in, receipt_to}
+use Rattle.rad_lane.specs.internal.Invariant.{IsConsistent, receipt_of, receipt_in, receipt_to}
 use Rattle.rad_packet.specs.Packet.{identifier_of}
 use Rattle.rad_auth.specs.Forwarding.{forwarded}
 use Rattle.rad_auth.specs.Refusing.{RefusesReply}

@@ -8,7 +8,7 @@ use Rattle.rad_lane.specs.Stamp.{Kept}
 use Rattle.rad_lane.specs.Book.{Book, next_number}
 use Rattle.rad_lane.specs.Drains.{drained_at}
 use Rattle.rad_lane.specs.Lawful.{IsLawful}
-use Rattle.rad_lane.specs.Invariant.{IsConsistent}
+use Rattle.rad_lane.specs.internal.Invariant.{IsConsistent}
 
 count_kept : (book : Book) (drain : Option ℕ) → IfSome drain (λ count. next_number book ≡ count) → next_number book ≡ drained_at book drain
 count_kept book None h = refl

@@ -23,7 +23,7 @@ use Rattle.rad_lane.specs.Setup.{LaneSetup, IsOfItsRealms}
 use Rattle.rad_lane.specs.Book.{Book, outstanding_at, outstanding_count, table_of}
 use Rattle.rad_lane.specs.Dues.{NoneDue}
 use Rattle.rad_lane.specs.Lawful.{IsLawful, ForwardsItsRecord, ProbeStands, IsTheLanes}
-use Rattle.rad_lane.specs.Invariant.{IsConsistent, HasRoom, book_of}
+use Rattle.rad_lane.specs.internal.Invariant.{IsConsistent, HasRoom, book_of}
 use Rattle.rad_lane.specs.declared.stepping.Action.TheVariants.{Sent}
 use Rattle.rad_lane.specs.Steps.{StepsWhileUp, with_sending}
 use Rattle.rad_lane.proofs.HeldLemmas.{stamps_in, sending_comes, one_more, every_put}

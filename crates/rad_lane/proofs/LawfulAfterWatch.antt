@@ -22,7 +22,7 @@ use Rattle.rad_lane.specs.Outstanding.{Outstanding, AnswerKept, is_spent, sent_a
 use Rattle.rad_lane.specs.Book.{Book, outstanding_count}
 use Rattle.rad_lane.specs.Watch.{probe_of, GoesUp}
 use Rattle.rad_lane.specs.Lawful.{ProbeStands, HoldsItsOwn, IsTheLanes, IsProbe}
-use Rattle.rad_lane.specs.Invariant.{IsConsistent, book_of}
+use Rattle.rad_lane.specs.internal.Invariant.{IsConsistent, book_of}
 use Rattle.rad_lane.specs.Steps.{freed}
 use Rattle.rad_lane.specs.Closes.{Left, Leaves, left_of}
 use Rattle.rad_lane.specs.Entries.{but_a_probe, renewed_in, IfSending}

@@ -19,7 +19,7 @@ use Rattle.rad_lane.specs.Outstanding.{Outstanding, AnswerKept, octets_of, renew
 use Rattle.rad_lane.specs.Setup.{LaneSetup, IsOfItsRealms}
 use Rattle.rad_lane.specs.Book.{Book}
 use Rattle.rad_lane.specs.Lawful.{IsLawful, ProbeStands, HoldsItsOwn}
-use Rattle.rad_lane.specs.Invariant.{IsConsistent, book_of}
+use Rattle.rad_lane.specs.internal.Invariant.{IsConsistent, book_of}
 use Rattle.rad_lane.specs.declared.stamp.Stamp.{Stamp}
 use Rattle.rad_lane.specs.Entries.{renewed_in}
 use Rattle.rad_lane.proofs.HeldLemmas.{stamps_in, as_many, probe_comes, probe_leaves, sending_stays, all_anew}

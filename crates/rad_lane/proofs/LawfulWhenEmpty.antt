@@ -10,7 +10,7 @@ use Rattle.rad_lane.specs.declared.entry.Entry.{Entry}
 use Rattle.rad_lane.specs.Setup.{LaneSetup}
 use Rattle.rad_lane.specs.Empty.{empty_book}
 use Rattle.rad_lane.specs.Lawful.{IsLawful}
-use Rattle.rad_lane.specs.Invariant.{IsConsistent}
+use Rattle.rad_lane.specs.internal.Invariant.{IsConsistent}
 
 no_items : {X : Type 0} (xs : List X) → length xs ≡ 0 → xs ≡ []
 no_items [] e = refl

@@ -16,7 +16,7 @@ use Rattle.rad_lane.specs.Dues.{NoneDue, IsNextDue, IsLeastOfAll, as_moment}
 use Rattle.rad_lane.specs.Lawful.{ProbeStands}
 use Rattle.rad_lane.specs.Steps.{StepsWhileUp, NothingToSend}
 use Rattle.rad_lane.specs.Entries.{due_in, number_in, is_spent_in}
-use Rattle.rad_lane.specs.NextDue.{NoneIsSo, IsLeastLater, FindsNextDue, earlier}
+use Rattle.rad_lane.specs.internal.NextDue.{NoneIsSo, IsLeastLater, FindsNextDue, earlier}
 
 -- a lane that is up has no probe
 pub no_probe : (book : Book) → book.watch ≡ up → ProbeStands book book.watch → (slot : Slot) (octets : _) → map.get book.held slot ≡ Some (probe octets) → ⊥

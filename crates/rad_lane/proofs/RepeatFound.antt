@@ -8,7 +8,7 @@ use Rattle.rad_lane.specs.declared.stamp.Stamp.{Stamp}
 use Rattle.rad_lane.specs.Book.{Book}
 use Rattle.rad_lane.specs.Outstanding.{AnswerKept}
 use Rattle.rad_lane.specs.Repeat.{Repeats, fresh, repeats, repeats_last, repeats_answered, of_key, last_of, answer_to}
-use Rattle.rad_lane.specs.Invariant.{last_number, repeats_number}
+use Rattle.rad_lane.specs.internal.Invariant.{last_number, repeats_number}
 
 none_last : (book : Book) (now : ℕ) (last : Option Stamp) → option_map (λ (s : Stamp). s.number) last ≡ None → fresh ≡ repeats_last book now last
 none_last book now None h = refl

@@ -95,7 +95,7 @@ turn_stays old new moment (Err OutOfMemory) t = ap (λ (b : Book). b.setup) t.4
 
 pub gives_stays : (old new : Book) (event : Event) (answer : GivenAnswer) (d : Datagrams) → Gives old event answer d new → new.setup ≡ old.setup
 gives_stays old new (accept request moment) (accepted result) d g = accept_stays old new request.now moment result d g
-gives_stays old new (step moment random) (stepped action) d g = step_stays old.watch old new (moment_in old moment) random action d g
+gives_stays old new (step moment random) (stepped action) d g = step_stays old.watch old new (moment_in old moment) random action d g.0
 gives_stays old new (hear moment port datagram) (heard result) d g = hear_stays old new moment port datagram.now result g.0
 gives_stays old new drain (drained count) d g = ap (λ (b : Book). b.setup) g.0.book
 gives_stays old new (turn moment) (turned result) d g = turn_stays old new moment result g.0

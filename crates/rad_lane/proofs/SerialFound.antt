@@ -12,7 +12,7 @@ use Rattle.std.proofs.lemmas.List.Sorted.{searchable_from_sorted}
 use Rattle.rad_lane.specs.declared.answered.Receipt.{Receipt}
 use Rattle.rad_lane.specs.Outstanding.{AnswerKept}
 use Rattle.rad_lane.specs.Repeat.{answer_to}
-use Rattle.rad_lane.specs.Invariant.{at_place, answer_of, receipt_of, receipt_to}
+use Rattle.rad_lane.specs.internal.Invariant.{at_place, answer_of, receipt_of, receipt_to}
 use Rattle.rad_lane.proofs.ListLemmas.{AllPairs-right, found_holds, pairs_rise}
 use Rattle.rad_lane.proofs.NumberLemmas.{test_since}
 

@@ -3,7 +3,6 @@ pub mod Setup
 pub mod Session
 pub mod Outstanding
 pub mod Entries
-pub mod ReservedList
 pub mod Book
 pub mod Empty
 pub mod Datagrams
@@ -11,17 +10,15 @@ pub mod Repeat
 pub mod Accepts
 pub mod Drains
 pub mod Dues
-pub mod NextDue
 pub mod Watch
 pub mod Steps
 pub mod Hears
-pub mod AcceptReply
 pub mod Volumes
-pub mod Cutting
 pub mod Runs
 pub mod LosesNone
 pub mod Lawful
+pub mod Headline
 pub mod Counting
 pub mod Closes
-pub mod Invariant
 pub mod Printed
+pub mod internal

@@ -9,15 +9,16 @@ use Rattle.rad_lane.specs.declared.running.Given.{Given}
 use Rattle.rad_lane.specs.Book.{Book}
 use Rattle.rad_lane.specs.Datagrams.{Datagrams}
 use Rattle.rad_lane.specs.Accepts.{Accepts, IsTaken}
-use Rattle.rad_lane.specs.Steps.{Steps}
+use Rattle.rad_lane.specs.Steps.{Steps, AllotsAnother}
 use Rattle.rad_lane.specs.Hears.{Hears}
 use Rattle.rad_lane.specs.Drains.{Drains}
 use Rattle.rad_lane.specs.Volumes.{Turns}
 
--- What one event may answer, and the datagram and the book after it.
+-- What one event may answer, and the datagram and the book after it. A pair that a step allots is another than the one
+-- allotted before it.
 abbrev pub Gives : Book → Event → GivenAnswer → Datagrams → Book → Type 0
 Gives old (accept request moment) (accepted result) d new = Accepts old request.now moment result d new
-Gives old (step moment random) (stepped action) d new = Steps old moment random action d new
+Gives old (step moment random) (stepped action) d new = Steps old moment random action d new × AllotsAnother old action
 Gives old (hear moment port datagram) (heard result) d new = Hears old moment port datagram.now result new × (d.after ≡ d.before)
 Gives old drain (drained count) d new = Drains old count new × (d.after ≡ d.before)
 Gives old (turn moment) (turned result) d new = Turns old moment result new × (d.after ≡ d.before)

@@ -2,7 +2,7 @@
 
 ghost use Rattle.std.specs.Prelude.{◌≡◌, ◌+◌, ◌≤◌, length, IfOk, MatchResult, IsTrue, ◌↔◌};
 ghost use Rattle.rad_lane.specs.Repeat.{repeats, fresh};
-ghost use Rattle.rad_lane.specs.Invariant.{HasRoom};
+ghost use Rattle.rad_lane.specs.internal.Invariant.{HasRoom};
 ghost use Rattle.rad_lane.specs.Datagrams.{Datagrams};
 ghost use Rattle.rad_lane.specs.Accepts.{Accepts, IsTaken, IsRefused, request_key, stamp_of as the_stamp, record_of as the_record};
 

@@ -5,7 +5,7 @@ ghost use Rattle.rad_packet.specs.Packet.{code_of, identifier_of};
 ghost use Rattle.rad_lane.specs.Outstanding.{Outstanding};
 ghost use Rattle.rad_lane.specs.Book.{outstanding_at};
 ghost use Rattle.rad_lane.specs.Hears.{Hears};
-ghost use Rattle.rad_lane.specs.AcceptReply.{AnswerIsKept, AnswerIsRefused};
+ghost use Rattle.rad_lane.specs.internal.AcceptReply.{AnswerIsKept, AnswerIsRefused};
 
 use crate::answered::Receipt;
 use crate::{Entry, Lane, Outgoing, Record};

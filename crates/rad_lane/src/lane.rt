@@ -68,7 +68,7 @@ impl<Q: Fifo<Record>> Model for Lane<Q> {
 
     ghost coded = { Prim.hlevel (codes, map.code {R = slot_cmp} coded_slot entry.the_row.coded) };
 
-    ghost use Rattle.rad_lane.specs.Invariant.{book_of, IsConsistent};
+    ghost use Rattle.rad_lane.specs.internal.Invariant.{book_of, IsConsistent};
 
     ghost view = { λ l. book_of l.setup l.opening l.accepted.items (Q.items l.queued) l.answered.items l.served l.slots l.drain l.watch l.last };
 

@@ -5,7 +5,7 @@ ghost use Rattle.std.specs.List.Sorted.{IsStrictlyIncreasing};
 ghost use Rattle.std.specs.Option.{option_copied};
 ghost use Rattle.rad_lane.specs.Book.{Book};
 ghost use Rattle.rad_lane.specs.Repeat.{answer_to, found, repeats};
-ghost use Rattle.rad_lane.specs.Invariant.{answer_of as the_answer, at_place, receipt_in, receipt_to, repeats_number};
+ghost use Rattle.rad_lane.specs.internal.Invariant.{answer_of as the_answer, at_place, receipt_in, receipt_to, repeats_number};
 
 use crate::answered::Receipt;
 use crate::reserved_list::ReservedList;

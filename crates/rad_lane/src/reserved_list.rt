@@ -14,7 +14,7 @@ pub(crate) struct ReservedList<T> {
 
 impl<T> Model for ReservedList<T> {
     ghost use Rattle.std.specs.Prelude.{◌-◌, ◌≤◌, drop, length, vec_capacity, vec_len};
-    ghost use Rattle.rad_lane.specs.ReservedList.{ListWithRoom};
+    ghost use Rattle.rad_lane.specs.internal.ReservedList.{ListWithRoom};
 
     ghost Value = { ListWithRoom T };
 

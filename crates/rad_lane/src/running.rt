@@ -1,10 +1,10 @@
 //! A run of events over a lane.
 
-ghost use Rattle.std.specs.Prelude.{◌≡◌, [], replicate, IfOk, OnErr};
-ghost use Rattle.rad_packet.specs.Packet.{packet_text};
+ghost use Rattle.std.specs.Prelude.{◌≡◌, IfOk, OnErr};
 ghost use Rattle.rad_lane.specs.Datagrams.{Datagrams};
-ghost use Rattle.rad_lane.specs.LosesNone.{LosesNone};
-ghost use Rattle.rad_lane.specs.Runs.{Gives, Runs, TakesEvent, TakesEach};
+ghost use Rattle.rad_lane.specs.Headline.{Headline};
+ghost use Rattle.rad_lane.specs.Lawful.{IsLawful};
+ghost use Rattle.rad_lane.specs.Runs.{Gives, TakesEvent, TakesEach};
 
 use crate::{Action, HearFault, Heard, Lane, Record, Refusal, Taken, TurnFault, Volume};
 use block_queue::Fifo;
@@ -71,13 +71,13 @@ pub fn run<Q: Fifo<Record>>(
     events: &[Event<'_, '_>],
 ) -> Result<Vec<Given>, RunFault>
     requires { TakesEach lane.old events.now }
-    ensures runs { IfOk result (λ gives. Runs lane.old (packet_text 0 0 (replicate 16 0) []) events.now gives.items lane.new) }
-    ensures none_lost { IfOk result (λ gives. LosesNone lane.old events.now gives.items lane.new) }
+    ensures headline { IfOk result (λ gives. Headline lane.old events.now gives.items lane.new) }
     ensures stays { OnErr result (lane.new ≡ lane.old) }
 {
     let Ok(mut gives) = Vec::with_capacity(alloc, events.len()) else {
         return Err(RunFault::OutOfMemory);
     };
+    look_at(lane);
     let mut datagram = Datagram::new();
     for event in events {
         let answer = give(alloc, lane, event, &mut datagram);
@@ -86,7 +86,15 @@ pub fn run<Q: Fifo<Record>>(
             datagram: datagram.copy(),
         });
     }
+    look_at(lane);
     Ok(gives)
+}
+
+/// Looks at a lane. Its type keeps the book lawful, which is known of it once it is looked at.
+fn look_at<Q: Fifo<Record>>(lane: &Lane<Q>)
+    ensures { IsLawful lane.now }
+{
+    let _ = lane.accepted();
 }
 
 /// Makes the call of one event.

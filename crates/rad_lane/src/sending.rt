@@ -44,7 +44,7 @@ impl Sending {
     ghost use Rattle.rad_packet.specs.Packet.{code_of, identifier_of};
     ghost use Rattle.rad_auth.specs.Refusing.{RefusesReply};
     ghost use Rattle.rad_lane.specs.Hears.{KeepsAnswer, GoesOut};
-    ghost use Rattle.rad_lane.specs.Invariant.{HasRoom};
+    ghost use Rattle.rad_lane.specs.internal.Invariant.{HasRoom};
     ghost use Rattle.rad_lane.specs.Outstanding.{IsForwarded, is_spent, octets_of, first_sending, renewed, sent_again};
 
     /// The record whose forwarded packet was sent.

@@ -10,7 +10,7 @@ ghost use Rattle.rad_lane.specs.Datagrams.{Datagrams};
 ghost use Rattle.rad_lane.specs.Dues.{IsNextDue, NoneDue, as_moment};
 ghost use Rattle.rad_lane.specs.Steps.{AllotsAnother, Steps, StepsWhileUp, NothingToSend};
 ghost use Rattle.rad_lane.specs.Entries.{due_in};
-ghost use Rattle.rad_lane.specs.NextDue.{FindsNextDue, MaySend, earlier as the_earlier};
+ghost use Rattle.rad_lane.specs.internal.NextDue.{FindsNextDue, MaySend, earlier as the_earlier};
 
 use crate::{Entry, Lane, Record, Sending, Setup, Watch};
 use block_queue::Fifo;

@@ -10,7 +10,7 @@ ghost use Rattle.rad_lane.specs.Stamp.{key_of as the_key_of};
 ghost use Rattle.rad_lane.specs.Book.{moment_in};
 ghost use Rattle.rad_lane.specs.Repeat.{repeats};
 ghost use Rattle.rad_lane.specs.Volumes.{IsCut, Turns, answers_below as the_answers_below, answers_since, volume_of, without_cut};
-ghost use Rattle.rad_lane.specs.Cutting.{HasUnderItsKey, IsOverBy, unless_of};
+ghost use Rattle.rad_lane.specs.internal.Cutting.{HasUnderItsKey, IsOverBy, unless_of};
 
 use crate::answered::Receipt;
 use crate::reserved_list::ReservedList;

@@ -1,2 +1,2 @@
 pub mod FibTrie
-pub mod Wires
+pub mod internal

@@ -1,6 +1,6 @@
 //! The front's sockets as one: what is asked at one of them is answered from it.
 
-ghost use Rattle.rad_server.specs.Wires.{FitsRoom};
+ghost use Rattle.rad_server.specs.internal.Wires.{FitsRoom};
 
 use crate::address_watch::AddressWatch;
 use crate::local_addresses::LocalAddresses;

@@ -1,6 +1,6 @@
 //! The sockets of a worker, and how it sleeps where none of them has a datagram.
 
-ghost use Rattle.rad_server.specs.Wires.{FitsRoom};
+ghost use Rattle.rad_server.specs.internal.Wires.{FitsRoom};
 
 use crate::notifying::Notifier;
 use crate::ready_socket::ReadySocket;

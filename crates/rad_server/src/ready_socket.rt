@@ -1,6 +1,6 @@
 //! A socket that is received from until it has no more datagrams.
 
-ghost use Rattle.rad_server.specs.Wires.{FitsRoom};
+ghost use Rattle.rad_server.specs.internal.Wires.{FitsRoom};
 
 use mio::net::UdpSocket;
 use mio::{Interest, Registry, Token};

@@ -1,6 +1,6 @@
 //! `run` and `serve`: the proxy over UDP, and over any wires.
 
-ghost use Rattle.std.specs.Prelude.{length, IfOk};
+ghost use Rattle.std.specs.Prelude.{length, IfOk, IsSome};
 ghost use Rattle.rad_console.specs.Closing.{IsEndOf};
 
 use crate::faults::ServeFault;
@@ -65,7 +65,8 @@ where
 }
 
 /// Serves a configuration over these wires until the reader ends, then drains the lanes, waits until they are done or
-/// have lingered, and says what is left. The notifiers are those of the wires and of the reader, as far as they have some.
+/// have lingered, and says what is left. The wires keep a log, so that a contract says what goes onto them. The notifiers are
+/// those of the wires and of the reader, as far as they have some.
 /// The gate is asked before each call of a worker. A worker that ends by itself stops the others.
 ///
 /// # Errors
@@ -89,6 +90,7 @@ where
     G: Gate + Sync,
     I: Read + Drop,
     O: Write + Drop,
+    requires keeps { (wire : W) → IsSome (W.log wire) }
     ensures { IfOk result (IsEndOf (length config.now.homes)) }
 {
     let output = open_output(alloc, config, writer, Descriptors::none())?;
@@ -123,6 +125,7 @@ where
     G: Gate + Sync,
     I: Read + Drop,
     O: Write + Drop,
+    requires keeps { (wire : W) → IsSome (W.log wire) }
     ensures { IfOk result (IsEndOf (length config.now.homes)) }
 {
     let (proxy, inlets) = match open(alloc, config) {

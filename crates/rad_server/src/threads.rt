@@ -1,6 +1,7 @@
 //! A thread for each worker.
 
 ghost use denote.Param.Send.{IsSend, IsSync};
+ghost use Rattle.std.specs.Prelude.{IsSome};
 
 use crate::attending::attend;
 use crate::faults::ServeFault;
@@ -28,12 +29,13 @@ where
     G: Gate + Sync,
     I: Read + Drop,
     O: Write + Drop,
+    requires keeps { (wire : W) → IsSome (W.log wire) }
 {
     thread::scope(
         thread::scope_env(),
         service.rt,
         move |scope| -> Result<Vec<Inlet>, ServeFault>
-            requires { IsSync R.row × IsSend W.row × IsSync G.row }
+            requires { IsSync R.row × IsSend W.row × IsSync G.row × ((wire : W) → IsSome (W.log wire)) }
         { work_in(scope, service, wires, inlets, reader, output) },
     )
 }
@@ -53,6 +55,7 @@ where
     G: Gate + Sync + 's,
     I: Read + Drop,
     O: Write + Drop,
+    requires keeps { (wire : W) → IsSome (W.log wire) }
 {
     let Wires { front, lanes } = wires;
     let front = start_front(scope, service, inlets, front)?;
@@ -80,13 +83,18 @@ where
     R: Wait + Sync + 's,
     W: Wire + Send + Drop + 's,
     G: Gate + Sync + 's,
+    requires keeps { (wire : W) → IsSome (W.log wire) }
 {
-    let worker = scope.spawn(move || {
-        let mut inlets = inlets;
-        let mut wire = wire;
-        service.work_in_front(inlets.as_mut_slice(), &mut wire);
-        inlets
-    });
+    let worker = scope.spawn(
+        move || -> Vec<Inlet>
+            requires { (wire : W) → IsSome (W.log wire) }
+        {
+            let mut inlets = inlets;
+            let mut wire = wire;
+            service.work_in_front(inlets.as_mut_slice(), &mut wire);
+            inlets
+        },
+    );
     match worker {
         Ok(worker) => Ok(worker),
         Err(_) => Err(ServeFault::Threads),
@@ -104,6 +112,7 @@ where
     R: Wait + Sync + 's,
     W: Wire + Send + Drop + 's,
     G: Gate + Sync + 's,
+    requires keeps { (wire : W) → IsSome (W.log wire) }
 {
     let mut started = true;
     for (lane, wire) in wires.into_iter().enumerate() {
@@ -123,14 +132,19 @@ where
     R: Wait + Sync + 's,
     W: Wire + Send + Drop + 's,
     G: Gate + Sync + 's,
+    requires keeps { (wire : W) → IsSome (W.log wire) }
 {
     let Ok(lane) = u16::try_from(lane) else {
         return false;
     };
     scope
-        .spawn(move || {
-            let mut wire = wire;
-            service.work_on_lane(lane, &mut wire);
-        })
+        .spawn(
+            move || -> ()
+                requires { (wire : W) → IsSome (W.log wire) }
+            {
+                let mut wire = wire;
+                service.work_on_lane(lane, &mut wire);
+            },
+        )
         .is_ok()
 }

@@ -1,6 +1,6 @@
 //! The sockets of a worker as the worker numbers them.
 
-ghost use Rattle.rad_server.specs.Wires.{FitsRoom};
+ghost use Rattle.rad_server.specs.internal.Wires.{FitsRoom};
 
 use crate::answering::Answering;
 use crate::local_addresses::LocalAddresses;

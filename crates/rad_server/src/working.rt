@@ -1,5 +1,6 @@
 //! What each worker does in its thread.
 
+ghost use Rattle.std.specs.Prelude.{IsSome};
 ghost use Rattle.rad_desk.specs.Calls.{Passes};
 ghost use Rattle.rad_desk.specs.Once.{WorksInFront};
 ghost use Rattle.rad_desk.specs.Working.{WorksForHome, WorksOnLane};
@@ -30,6 +31,7 @@ impl<R, G> Copy for Service<'_, R, G> {}
 impl<R: Wait, G: Gate> Service<'_, R, G> {
     /// Works for the clients until the worker is stopped.
     pub(crate) fn work_in_front<W: Wire>(self, inlets: &mut [Inlet], wire: &mut W)
+        requires { IsSome (W.log wire.old) }
         ensures { Passes (WorksInFront self.entry.config.now inlets.old inlets.new) (W.log wire.old) (W.log wire.new) }
     {
         self.supervisor.begin(self.rt);
@@ -48,6 +50,7 @@ impl<R: Wait, G: Gate> Service<'_, R, G> {
 
     /// Works for a lane until the worker is stopped.
     pub(crate) fn work_on_lane<W: Wire>(self, lane: u16, wire: &mut W)
+        requires { IsSome (W.log wire.old) }
         ensures { Passes (WorksOnLane self.entry.config.now lane) (W.log wire.old) (W.log wire.new) }
     {
         self.supervisor.begin(self.rt);

@@ -9,9 +9,6 @@ use crate::stepping::Doing;
 use crate::walk::Walk;
 use rad_desk::{Call, Note, UpReason};
 
-/// How many milliseconds may pass from an idle step at which a book is half full until it is turned.
-const TURNED_WITHIN: u64 = 10;
-
 /// Compares a turn. It gives whether the worker goes on.
 pub fn lane_turn(book: &mut Book, shift: &mut Shift, walk: &mut Walk<'_>) -> Result<bool, Rule> {
     let beginning = shift.begin(walk)?;
@@ -71,7 +68,7 @@ fn step(
             let up = Telling::WentUp(book.lane, UpReason::DownWaitOver);
             walk.tells(up, Rule::WentUp)?;
         }
-        Doing::Idle => return turn(book, moment, shift, walk),
+        Doing::Idle => return turn(book, moment, walk),
     }
     Ok(true)
 }
@@ -119,35 +116,22 @@ fn went_down(book: &Book, number: u64, moment: u64, walk: &mut Walk<'_>) -> Resu
     }
 }
 
-/// After an idle step the book is turned where it is half full, at once or a little later.
-fn turn(
-    book: &mut Book,
-    moment: u64,
-    shift: &mut Shift,
-    walk: &mut Walk<'_>,
-) -> Result<bool, Rule> {
+/// After an idle step the book is turned where it is half full.
+fn turn(book: &mut Book, moment: u64, walk: &mut Walk<'_>) -> Result<bool, Rule> {
     let is_half_full = book.held().saturating_mul(2) >= u64::from(book.limits.book);
-    if !walk.is_asked(Call::Turn) {
-        let is_late = match shift.turned {
-            Some(turned) => turned.saturating_add(TURNED_WITHIN) <= moment,
-            None => true,
-        };
-        if !walk.is_between_turns() {
-            return Err(Rule::Idle);
-        }
-        if is_half_full && is_late {
-            return Err(Rule::MustTurn);
-        }
-        return Ok(true);
-    }
     if !is_half_full {
-        return Err(Rule::Turn);
+        return if walk.is_asked(Call::Turn) {
+            Err(Rule::Turn)
+        } else if walk.is_between_turns() {
+            Ok(true)
+        } else {
+            Err(Rule::Idle)
+        };
     }
-    if !walk.asks(Call::Turn, Rule::Turn)? {
+    if !walk.asks(Call::Turn, Rule::MustTurn)? {
         return Ok(false);
     }
     walk.tells(Telling::After(Call::Turn), Rule::Turn)?;
-    shift.turned = Some(moment);
     let count = book.cut(moment);
     if count > 0 {
         walk.notes(Note::Cut(count), Rule::Cut)?;

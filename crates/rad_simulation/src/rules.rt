@@ -183,8 +183,7 @@ impl Rule {
             Rule::DownBy => "the gate is told by which request a lane went down",
             Rule::WentUp => "a lane that is down goes up once its time is over, and this is told",
             Rule::Idle => "a lane that has nothing due and nothing to send is idle",
-            Rule::MustTurn =>
-                "a book that is half full is turned at an idle step, within ten milliseconds",
+            Rule::MustTurn => "a book that is half full is turned at each idle step",
             Rule::Turn => "a book is turned where it is half full, and by its own worker alone",
             _ => "a turn cuts the first requests that are over, and their count is noted",
         }

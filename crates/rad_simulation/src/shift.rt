@@ -10,8 +10,6 @@ use rad_realms::Endpoint;
 #[derive(Clone, Copy)]
 pub struct Shift {
     pub tally: Tally,
-    /// When its lane's book was turned last.
-    pub turned: Option<u64>,
 }
 
 /// A datagram that came.
@@ -40,7 +38,6 @@ impl Shift {
                 sent: 0,
                 faults: 0,
             },
-            turned: None,
         }
     }
 

@@ -5,7 +5,7 @@ use Rattle.std.specs.FinMap.{get, len}
 use Rattle.std.proofs.lemmas.Bool.{cases_lt, cond-true, cond-false, lt-ltb, le-ltb, false≢true}
 use Rattle.rad_tables.specs.declared.slots.Slot.{Slot}
 use Rattle.rad_tables.specs.Pairs.{IsInRange, IsFirstFree, AllInUse, following, steps_on, beginning}
-use Rattle.rad_tables.specs.Kept.{place_of, slot_at, start_of, at, entries_of, InUseBetween, IsFirstFreeBetween, IsFirstFreeBehind}
+use Rattle.rad_tables.specs.internal.Kept.{place_of, slot_at, start_of, at, entries_of, InUseBetween, IsFirstFreeBetween, IsFirstFreeBehind}
 use Rattle.rad_tables.proofs.SlotLemmas.{place_slot, slot_place}
 use Rattle.rad_tables.proofs.ContentsLemmas.{get_place, get_slot, len_all_used, len_all_but_one, len_with_free}
 use Rattle.rad_tables.proofs.KeptLemmas.{table}

@@ -7,7 +7,7 @@ use Rattle.std.proofs.lemmas.Bool.{cases_lt, cases_eq}
 use Rattle.rad_tables.specs.declared.slots.Slot.{Slot}
 use Rattle.rad_tables.specs.declared.cells.Cell.{Cell}
 use Rattle.rad_tables.specs.Pairs.{slot_cmp}
-use Rattle.rad_tables.specs.Kept.{place_of, at, entry_of, contents_of, entries_of, AreChanged, IsKept}
+use Rattle.rad_tables.specs.internal.Kept.{place_of, at, entry_of, contents_of, entries_of, AreChanged, IsKept}
 use Rattle.rad_tables.proofs.SlotLemmas.{exact_slots, slots_total}
 use Rattle.rad_tables.proofs.ContentsLemmas.{get_slot, get_none}
 use Rattle.rad_tables.proofs.KeptLemmas.{contents_of-set, cell_at}

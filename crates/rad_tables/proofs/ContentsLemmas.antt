@@ -6,7 +6,7 @@ use Rattle.std.specs.Ordering.{eq_by_cmp}
 use Rattle.std.specs.FinMap.{FinMap, empty, from_entries, get, insert, remove, len, find, get-from_entries, get-insert, get-remove, len-insert, len-remove, len-empty, same_map}
 use Rattle.rad_tables.specs.declared.slots.Slot.{Slot}
 use Rattle.rad_tables.specs.Pairs.{slot_cmp}
-use Rattle.rad_tables.specs.Kept.{place_of, slot_at, at, listed, entries_of}
+use Rattle.rad_tables.specs.internal.Kept.{place_of, slot_at, at, listed, entries_of}
 use Rattle.rad_tables.proofs.SlotLemmas.{exact_slots, slots_total, tied, itself, apart, slot_place, slots_apart}
 
 module _ {T : Type 0} where

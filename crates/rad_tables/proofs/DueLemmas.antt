@@ -5,8 +5,8 @@ use Rattle.std.proofs.lemmas.Bool.{cases_lt}
 use Rattle.rad_tables.specs.declared.slots.Slot.{Slot}
 use Rattle.rad_tables.specs.declared.cells.Waiting.{Waiting}
 use Rattle.rad_tables.specs.Dues.{NotAfter, IsLeastDue, NoneIs}
-use Rattle.rad_tables.specs.Least.{NoneAmong, IsLeastAmong, due_and_number, IsEarlier}
-use Rattle.rad_tables.specs.Kept.{place_of, slot_at, at, entries_of, IsIndex}
+use Rattle.rad_tables.specs.internal.Least.{NoneAmong, IsLeastAmong, due_and_number, IsEarlier}
+use Rattle.rad_tables.specs.internal.Kept.{place_of, slot_at, at, entries_of, IsIndex}
 use Rattle.rad_tables.proofs.ContentsLemmas.{get_place, stored}
 
 some_is : {T : Type 0} (a b : T) → Some a ≡ Some b → a ≡ b

@@ -3,7 +3,7 @@ use Rattle.std.proofs.Common.{◌≡◌, ◌≢◌, ℕ, ◌-◌, ◌<◌, List,
 use Rattle.std.specs.List.{swap_remove}
 use Rattle.std.proofs.lemmas.List.{get_or-set_same, get_or-set_other, get_or_past, get_or_append_left, get_or_push, get_or-take, get_or_default, length_push}
 use Rattle.std.proofs.lemmas.Bool.{cases_eq, cases_lt, false≢true}
-use Rattle.rad_tables.specs.Kept.{at, IsIndex}
+use Rattle.rad_tables.specs.internal.Kept.{at, IsIndex}
 
 module _ {T : Type 0} where
   -- a place in use is one of the cells

@@ -9,7 +9,7 @@ use Rattle.rad_tables.specs.declared.slots.Slot.{Slot}
 use Rattle.rad_tables.specs.declared.cells.Cell.{Cell}
 use Rattle.rad_tables.specs.declared.cells.Cell.TheVariants.{Free, Used}
 use Rattle.rad_tables.specs.Pairs.{Table, slot_cmp, IsInRange}
-use Rattle.rad_tables.specs.Kept.{place_of, at, entry_of, contents_of, entries_of, IsKept}
+use Rattle.rad_tables.specs.internal.Kept.{place_of, at, entry_of, contents_of, entries_of, IsKept}
 use Rattle.rad_tables.proofs.ContentsLemmas.{get_slot, entries_of-used, entries_of-freed, entries_of-free, len_with_free, len_used, len_changed, len_freed}
 use Rattle.rad_tables.proofs.IndexLemmas.{within, changed, added, freed}
 

@@ -7,7 +7,7 @@ use Rattle.std.proofs.lemmas.Map.Lookups.{CmpEqualImpliesEq, exact_pairs, exact_
 use Rattle.std.proofs.lemmas.Cmp.{on_total, then_total}
 use Rattle.rad_tables.specs.declared.slots.Slot.{Slot}
 use Rattle.rad_tables.specs.Pairs.{slot_cmp}
-use Rattle.rad_tables.specs.Kept.{place_of, slot_at}
+use Rattle.rad_tables.specs.internal.Kept.{place_of, slot_at}
 
 -- pairs that compare alike are one
 pub exact_slots : CmpEqualImpliesEq slot_cmp

@@ -5,8 +5,8 @@ ghost use Rattle.std.specs.Option.{option_copied, option_map};
 ghost use Rattle.std.specs.Bool.{OnTrue, OnFalse};
 ghost use Rattle.std.specs.Borrow.{sem, Lends};
 ghost use Rattle.rad_tables.specs.Dues.{NotAfter};
-ghost use Rattle.rad_tables.specs.Kept.{entry_of, contents_of, AreChanged, InUseBetween, IsFirstFreeBetween, IsFirstFreeBehind};
-ghost use Rattle.rad_tables.specs.Least.{AreInUse, NoneAmong, IsLeastAmong, IsEarlier};
+ghost use Rattle.rad_tables.specs.internal.Kept.{entry_of, contents_of, AreChanged, InUseBetween, IsFirstFreeBetween, IsFirstFreeBehind};
+ghost use Rattle.rad_tables.specs.internal.Least.{AreInUse, NoneAmong, IsLeastAmong, IsEarlier};
 
 use crate::{Change, Timed};
 use std::alloc::{AllocError, Global};

@@ -68,10 +68,11 @@ impl Duplicates {
     ///
     /// # Errors
     ///
-    /// Where memory is refused: the table stays.
+    /// Where memory is refused, which only a key that isn't there needs: the table stays.
     pub fn insert(&mut self, key: Key, number: u64) -> Result<(), AllocError>
         ensures ok { OnOk result (self.new ≡ map.insert self.old key number) }
         ensures err { OnErr result (self.new ≡ self.old) }
+        ensures absent { OnErr result (map.get self.old key ≡ None) }
     {
         self.replace(key, number)?;
         Ok(())

@@ -6,7 +6,7 @@ ghost use Rattle.std.specs.Borrow.{sem};
 ghost use Rattle.std.specs.FinMap as map;
 ghost use Rattle.rad_tables.specs.Pairs.{AllInUse, IsFirstFree, IsInRange};
 ghost use Rattle.rad_tables.specs.Dues.{IsLeastDue, NoneIs};
-ghost use Rattle.rad_tables.specs.Kept.{place_of as the_place, slot_at as the_slot, start_of as the_start};
+ghost use Rattle.rad_tables.specs.internal.Kept.{place_of as the_place, slot_at as the_slot, start_of as the_start};
 
 use crate::cells::{Cell, change_each, first_free_behind, free_cells, least_of};
 use crate::{Change, Timed};
@@ -48,7 +48,7 @@ impl<T> Model for Slots<T> {
 
     ghost coded = { coded_table T.code };
 
-    ghost use Rattle.rad_tables.specs.Kept.{contents_of, entries_of, IsKept};
+    ghost use Rattle.rad_tables.specs.internal.Kept.{contents_of, entries_of, IsKept};
 
     ghost view = { λ s. record {
       ports = s.ports;
@@ -136,6 +136,7 @@ impl<T: Drop> Slots<T> {
     pub fn get_mut(&mut self, slot: Slot) -> Option<&mut T>
         ensures* writes_back { sem 𝓛 (LendsEntryIf T.row self.entry slot result) }
         ensures value { option_copied_mut result ≡ map.get self.old.entries slot }
+        ensures in_range { IsSome result → IsInRange self.old.ports slot }
     {
         if self.get(slot).is_some() {
             Some(self.entry_mut(slot))
@@ -165,6 +166,7 @@ impl<T: Drop> Slots<T> {
     /// Takes the entry at a pair out, and with it the pair out of use.
     pub fn take(&mut self, slot: Slot) -> Option<T>
         ensures value { result ≡ map.get self.old.entries slot }
+        ensures in_range { IsSome result → IsInRange self.old.ports slot }
         ensures taken { self.new ≡ record self.old { entries = map.remove self.old.entries slot } }
     {
         let place = place_of(slot);

@@ -21,11 +21,17 @@ struct Asking<'a, R> {
     sent: &'a AtomicU64,
     enough: u64,
     looks: u32,
+    /// Whether it ended with fewer.
+    gave_up: &'a AtomicBool,
 }
 
 impl<R: Clock> Read for Asking<'_, R> {
     fn read(&mut self, buf: &mut [u8]) -> io::Result<usize> {
-        if self.looks == 0 || self.sent.load(Ordering::SeqCst) >= self.enough {
+        if self.sent.load(Ordering::SeqCst) >= self.enough {
+            return Ok(0);
+        }
+        if self.looks == 0 {
+            self.gave_up.store(true, Ordering::SeqCst);
             return Ok(0);
         }
         self.looks -= 1;
@@ -141,11 +147,13 @@ fn lanes_have_threads_of_their_own(rt: HostRuntime) -> Result<(), Fail> {
         took: AtomicBool::new(false),
         gave_up: AtomicBool::new(false),
     };
+    let gave_up = AtomicBool::new(false);
     let reader = Asking {
         clock: &rt,
         sent: &sent[0],
         enough: 2,
         looks: LOOKS,
+        gave_up: &gave_up,
     };
     let mut taken = Vec::new(rt.alloc());
     let writer = Narrow {
@@ -156,6 +164,7 @@ fn lanes_have_threads_of_their_own(rt: HostRuntime) -> Result<(), Fail> {
     let served = served(&rt, rt.alloc(), wires, &gate, reader, writer)?;
     holds(&rt, matches!(served, Ok(end) if end.is_clean()));
     holds(&rt, !gate.gave_up.load(Ordering::SeqCst));
+    holds(&rt, !gave_up.load(Ordering::SeqCst));
     same(&rt, sent[0].load(Ordering::SeqCst), 2);
     Ok(())
 }

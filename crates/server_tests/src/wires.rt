@@ -1,6 +1,6 @@
 //! Wires in memory.
 
-ghost use Rattle.std.specs.Prelude.{Some};
+ghost use Rattle.std.specs.Prelude.{Some, IsSome};
 
 use rad_console::EndLine;
 use rad_desk::{Delivery, Gate, Received, Traffic, Wire};
@@ -149,6 +149,7 @@ where
     G: Gate + Sync,
     I: Read + Drop,
     O: Write + Drop,
+    requires keeps { (wire : W) → IsSome (W.log wire) }
 {
     let config = read_config(alloc, TWO_HOMES)?;
     let notifiers = Notifiers::none(alloc);

@@ -8,19 +8,21 @@ use rad_realms::Endpoint;
 use rad_tables::Moment;
 use std::alloc::Global;
 
-/// A wire that gives one datagram at most, and keeps what was sent last. One receive or send of it fails, where that is
+/// A wire of sockets that gives one datagram at most, and keeps what was sent last. One receive or send of it fails, where that is
 /// asked for; what was to be received then comes with the next receive.
 #[derive(Drop)]
 pub struct MemoryWire {
     alloc: Global,
-    /// What comes next, and from where.
-    coming: Option<(Endpoint, Vec<u8>)>,
-    /// Where what was sent last went, and its octets.
-    gone: Option<(Endpoint, Vec<u8>)>,
+    /// To which socket what comes next comes, from where, and its octets.
+    coming: Option<(u16, Endpoint, Vec<u8>)>,
+    /// By which socket what was sent last left, where it went, and its octets.
+    gone: Option<(u16, Endpoint, Vec<u8>)>,
     /// How many receives and sends pass before the one that fails; none where that is over.
     passing: Option<u32>,
-    /// How many receives there were.
+    /// How many receives there were since the first moment.
     receives: u32,
+    /// The moment of the first of them.
+    first: u32,
     /// How many milliseconds each is after the one before.
     pub tick: u32,
     traffic: Traffic,
@@ -34,24 +36,35 @@ impl MemoryWire {
             gone: None,
             passing: None,
             receives: 0,
+            first: 0,
             tick: 1000,
             traffic: Traffic::new(),
         }
     }
 
-    /// Has a datagram come next; none where memory is refused.
+    /// Has a datagram come next, to the first socket; none where memory is refused.
     pub fn comes(&mut self, from: Endpoint, octets: &[u8]) {
+        self.comes_to(0, from, octets);
+    }
+
+    /// The same to any one socket.
+    pub fn comes_to(&mut self, socket: u16, from: Endpoint, octets: &[u8]) {
         self.coming = match octets.to_vec(self.alloc) {
-            Ok(octets) => Some((from, octets)),
+            Ok(octets) => Some((socket, from, octets)),
             Err(_) => None,
         };
     }
 
-    /// Whether these octets went there, as the last that was sent; with none, whether nothing was sent. That is forgotten
-    /// then.
+    /// Whether these octets went there by the first socket, as the last that was sent; with none, whether nothing was sent. That
+    /// is forgotten then.
     pub fn sent(&mut self, to: Endpoint, octets: &[u8]) -> bool {
+        self.sent_by(0, to, octets)
+    }
+
+    /// The same by any one socket.
+    pub fn sent_by(&mut self, socket: u16, to: Endpoint, octets: &[u8]) -> bool {
         match self.gone.take() {
-            Some((peer, gone)) => peer == to && gone.as_slice() == octets,
+            Some((by, peer, gone)) => by == socket && peer == to && gone.as_slice() == octets,
             None => octets.is_empty(),
         }
     }
@@ -59,7 +72,7 @@ impl MemoryWire {
     /// The octets that were sent last. They are forgotten then.
     pub fn take_sent(&mut self) -> Option<Vec<u8>> {
         match self.gone.take() {
-            Some((_, octets)) => Some(octets),
+            Some((_, _, octets)) => Some(octets),
             None => None,
         }
     }
@@ -67,6 +80,12 @@ impl MemoryWire {
     /// Has the next receive be at the first moment again.
     pub fn start_over(&mut self) {
         self.receives = 0;
+    }
+
+    /// Has the next receive be at this moment, as the first.
+    pub fn start_at(&mut self, first: u32) {
+        self.receives = 0;
+        self.first = first;
     }
 
     /// Has the receive or send fail before which so many pass.
@@ -102,7 +121,8 @@ impl Wire for MemoryWire {
 
     /// A tick after the receive before.
     fn now(&mut self) -> Moment {
-        let moment = at(self.receives.saturating_sub(1).saturating_mul(self.tick));
+        let passed = self.receives.saturating_sub(1).saturating_mul(self.tick);
+        let moment = at(self.first.saturating_add(passed));
         self.traffic.told(moment);
         moment
     }
@@ -117,24 +137,25 @@ impl Wire for MemoryWire {
         if self.fails() {
             return Received::Fault;
         }
-        let Some((from, octets)) = self.coming.take() else {
+        let Some((socket, from, octets)) = self.coming.take() else {
             return Received::Nothing;
         };
         let Endpoint { address, port } = from;
         let count = octets.len().min(4096);
         datagram[..count].copy_from_slice(&octets.as_slice()[..count]);
-        self.traffic.arrived(0, address, port, &datagram[..count]);
+        self.traffic
+            .arrived(socket, address, port, &datagram[..count]);
         Received::Got {
             address,
             port,
-            socket: 0,
+            socket,
             count,
         }
     }
 
     fn send(&mut self, socket: u16, address: [u8; 4], port: u16, octets: &[u8]) -> Delivery {
         if let Ok(copy) = octets.to_vec(self.alloc) {
-            self.gone = Some((Endpoint { address, port }, copy));
+            self.gone = Some((socket, Endpoint { address, port }, copy));
         }
         let delivery = if self.fails() {
             Delivery::Fault

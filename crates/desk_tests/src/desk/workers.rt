@@ -165,41 +165,44 @@ fn a_half_full_book_is_cut(rt: HostRuntime) -> Result<(), Fail> {
 }
 
 #[test]
-fn cuts_are_ten_milliseconds_apart_until_the_book_is_full(rt: HostRuntime) -> Result<(), Fail> {
-    same(
-        &rt,
-        turns_in_31_milliseconds(&rt, rt.alloc(), "book = 3\n")?,
-        0,
-    );
-    same(
-        &rt,
-        turns_in_31_milliseconds(&rt, rt.alloc(), "book = 2\n")?,
-        4,
-    );
-    same(
-        &rt,
-        turns_in_31_milliseconds(&rt, rt.alloc(), "book = 1\n")?,
-        31,
-    );
+fn a_request_is_cut_once_its_span_is_over(rt: HostRuntime) -> Result<(), Fail> {
+    let mut works = Works::new(rt.alloc(), "book = 2\nspan = 30000\n")?;
+    works.lane.tick = 0;
+    answer(&rt, &mut works);
+    works.lane.start_at(29_999);
+    works.lane.tick = 1;
+    let turns = [
+        lane(&[], [0, 0, 0], None, &[]),
+        lane(&[], [0, 0, 0], note(Note::Cut(1)), &[]),
+        lane(&[], [0, 0, 0], None, &[]),
+    ];
+    works.play(&rt, &turns);
+    same(&rt, works.gate.turns(), 3);
+    works.end();
+    Ok(())
+}
+
+/// The request is taken and answered.
+fn answer<R: Wait + Abort>(rt: &R, works: &mut Works) {
+    forward(rt, works);
+    works.play(rt, &[lane(&REPLY, [1, 0, 0], answered(0), &[])]);
+}
+
+#[test]
+fn each_idle_step_turns_a_book_that_is_half_full(rt: HostRuntime) -> Result<(), Fail> {
+    for (more, turns) in [("book = 3\n", 0), ("book = 2\n", 31), ("book = 1\n", 31)] {
+        let turned = turns_in_31_idle_steps(&rt, rt.alloc(), more)?;
+        same(&rt, turned, turns);
+    }
     Ok(())
 }
 
 /// How many times a worker that has nothing else to do, and comes by each millisecond, has its lane cut off what is over, where
 /// the book holds one request that is out.
-fn turns_in_31_milliseconds<R: Wait + Abort>(
-    rt: &R,
-    alloc: Global,
-    more: &str,
-) -> Result<u64, Fail> {
+fn turns_in_31_idle_steps<R: Wait + Abort>(rt: &R, alloc: Global, more: &str) -> Result<u64, Fail> {
     let mut works = Works::new(alloc, more)?;
     works.lane.tick = 1;
-    works.play(
-        rt,
-        &[
-            front(&REQUEST, [1, 0, 0], accepted(0), &[]),
-            lane(&[], [0, 1, 0], None, &FORWARDED),
-        ],
-    );
+    forward(rt, &mut works);
     same(rt, works.lane(rt, 31), tally(31, [0, 0, 0]));
     let turns = works.gate.turns();
     works.end();

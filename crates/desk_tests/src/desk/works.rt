@@ -26,6 +26,10 @@ pub const HOME: Endpoint = Endpoint {
 #[derive(Clone, Copy)]
 pub struct Turn<'a> {
     worker: Worker,
+    /// To which socket something comes.
+    to: u16,
+    /// By which socket something leaves.
+    by: u16,
     /// From where something comes.
     from: Endpoint,
     /// What comes. Where that is empty, nothing comes but what was to come before.
@@ -49,13 +53,23 @@ impl<'a> Turn<'a> {
         }
     }
 
+    /// The same turn, where what comes comes to this socket.
+    pub fn to(self, to: u16) -> Turn<'a> {
+        Turn { to, ..self }
+    }
+
+    /// The same turn, where what leaves leaves by this socket.
+    pub fn by(self, by: u16) -> Turn<'a> {
+        Turn { by, ..self }
+    }
+
     /// The same turn, where what comes is from there.
     pub fn from(self, from: Endpoint) -> Turn<'a> {
         Turn { from, ..self }
     }
 }
 
-/// A turn of the front, whose peer is the client. What comes is from there.
+/// A turn of the front, whose peer is the client. What comes is from there. Both are by the first socket.
 pub fn front<'a>(
     comes: &'a [u8],
     did: [u64; 3],
@@ -64,6 +78,8 @@ pub fn front<'a>(
 ) -> Turn<'a> {
     Turn {
         worker: Worker::Front,
+        to: 0,
+        by: 0,
         from: CLIENT,
         comes,
         receives: comes,
@@ -73,7 +89,7 @@ pub fn front<'a>(
     }
 }
 
-/// A turn of the lane, whose peer is the home server. What comes is from there.
+/// A turn of the lane, whose peer is the home server. What comes is from there. Both are by the first socket.
 pub fn lane<'a>(
     comes: &'a [u8],
     did: [u64; 3],
@@ -82,6 +98,8 @@ pub fn lane<'a>(
 ) -> Turn<'a> {
     Turn {
         worker: Worker::Lane(0),
+        to: 0,
+        by: 0,
         from: HOME,
         comes,
         receives: comes,
@@ -234,13 +252,13 @@ impl Works {
         match turn.worker {
             Worker::Front => {
                 if !turn.comes.is_empty() {
-                    self.front.comes(turn.from, turn.comes);
+                    self.front.comes_to(turn.to, turn.from, turn.comes);
                 }
                 self.front(rt, 1)
             }
             Worker::Lane(_) => {
                 if !turn.comes.is_empty() {
-                    self.lane.comes(turn.from, turn.comes);
+                    self.lane.comes_to(turn.to, turn.from, turn.comes);
                 }
                 self.lane(rt, 1)
             }
@@ -260,8 +278,8 @@ impl Works {
             Worker::Lane(_) => HOME,
         };
         let is_sent = match turn.worker {
-            Worker::Front => self.front.sent(peer, turn.sends),
-            Worker::Lane(_) => self.lane.sent(peer, turn.sends),
+            Worker::Front => self.front.sent_by(turn.by, peer, turn.sends),
+            Worker::Lane(_) => self.lane.sent_by(turn.by, peer, turn.sends),
         };
         is_sent && self.gate.has_sent(turn.worker, peer, turn.sends)
     }

@@ -18,12 +18,12 @@ pub returns-clause-works : goal.returns-clause-works
 returns-clause-works g c =
     let octets = c.step_for-stepped.new.datagram in
     let gives : IsGiven c.args.lane c.args.home.now.secret c.now-now.result c.random.result c.in-Some-port_of.port octets = record {
-      action = c.in-Some.action;
+      action = c.in-Some.stepped.action;
       from_port = c.in-Some-port_of.ensures;
       before = c.args.datagram.now;
       steps =
-          subst (λ secret. StepsFor c.args.lane secret c.now-now.result c.random.result c.in-Some.action (record { before = c.args.datagram.now; after = octets }))
+          subst (λ secret. StepsFor c.args.lane secret c.now-now.result c.random.result c.in-Some.stepped.action (record { before = c.args.datagram.now; after = octets }))
           c.secret-secret.ensures
-          c.in-Some.ensures;
+          c.in-Some.ensures.steps;
     } in
     works_step c.args.lane c.args.home.now c.now-now.result c.random.result c.in-Some-port_of.port octets gives _ _ _ _ c.now-now.ensures c.random.ensures c.send_home.ensures.sends

@@ -23,7 +23,12 @@ loop-event-preserved g c =
       room = grind (arith, c.push_reserved.ensures.capacity, c.loop-event.invariant.room);
     }
 
-pub returns-clause-none_lost : goal.returns-clause-none_lost
-returns-clause-none_lost g c =
+pub returns-clause-headline : goal.returns-clause-headline
+returns-clause-headline g c =
     let all = take_all c.loop-event.event-index c.args.events.now (omega arith) in
-    runs_lose_none _ _ _ _ _ (rw all at c.loop-event.invariant.runs)
+    record {
+      was_lawful = c.look_at.ensures;
+      is_lawful = c.look_at-2.ensures;
+      each_call = rw all at c.loop-event.invariant.runs;
+      none_lost = runs_lose_none _ _ _ _ _ (rw all at c.loop-event.invariant.runs);
+    }

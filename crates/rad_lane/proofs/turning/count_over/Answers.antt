@@ -1,6 +1,6 @@
 use Rattle.std.proofs.Common.{subst, arith}
 use Rattle.std.proofs.lemmas.List.Elements.{All-more}
-use Rattle.rad_lane.specs.Cutting.{IsOverBy}
+use Rattle.rad_lane.specs.internal.Cutting.{IsOverBy}
 use Rattle.rad_lane.proofs.turning.count_over.Goals as goal
 
 pub loop-receipt-preserved : goal.loop-receipt-preserved

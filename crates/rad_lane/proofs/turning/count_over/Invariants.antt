@@ -1,6 +1,6 @@
 use Rattle.std.proofs.Common.{◌≡◌, take}
 use Rattle.std.specs.Prelude.{All}
-use Rattle.rad_lane.specs.Cutting.{IsOverBy}
+use Rattle.rad_lane.specs.internal.Cutting.{IsOverBy}
 use Rattle.rad_lane.proofs.turning.count_over.Given as goal
 
 abbrev pub invariant-loop-receipt : goal.invariant-loop-receipt

@@ -2,7 +2,7 @@ use Rattle.std.proofs.Common.{List, ap, ◌∙◌, arith}
 use Rattle.std.specs.FinMap as map
 use Rattle.std.proofs.lemmas.List.{take_all}
 use Rattle.rad_lane.specs.declared.stamp.Stamp.{Stamp}
-use Rattle.rad_lane.specs.Cutting.{unless_of}
+use Rattle.rad_lane.specs.internal.Cutting.{unless_of}
 use Rattle.rad_lane.proofs.ForgetsNumbers.{unless_none, forgets_more}
 use Rattle.rad_lane.proofs.turning.forget.Goals as goal
 

@@ -1,7 +1,7 @@
 use Rattle.std.proofs.Common.{◌≡◌, take}
 use Rattle.std.specs.FinMap as map
 use Rattle.rad_tables.specs.declared.duplicates.Key.{Key}
-use Rattle.rad_lane.specs.Cutting.{unless_of}
+use Rattle.rad_lane.specs.internal.Cutting.{unless_of}
 use Rattle.rad_lane.proofs.turning.forget.Given as goal
 
 abbrev pub invariant-loop-stamp : goal.invariant-loop-stamp

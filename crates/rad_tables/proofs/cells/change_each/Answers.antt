@@ -1,6 +1,6 @@
 use Rattle.std.proofs.Common.{◌<◌, length, sym, ap, ◌∙◌, arith}
 use Rattle.std.specs.Option.{option_map}
-use Rattle.rad_tables.specs.Kept.{entry_of}
+use Rattle.rad_tables.specs.internal.Kept.{entry_of}
 use Rattle.rad_tables.proofs.ChangeLemmas.{one_more_done, one_less_left, all_done}
 use Rattle.rad_tables.proofs.cells.change_each.Goals as goal
 

@@ -1,6 +1,6 @@
 use Rattle.std.proofs.Common.{◌≡◌, ℕ, ◌<◌, ◌≤◌}
 use Rattle.std.specs.Option.{option_map}
-use Rattle.rad_tables.specs.Kept.{at, contents_of}
+use Rattle.rad_tables.specs.internal.Kept.{at, contents_of}
 use Rattle.rad_tables.proofs.cells.change_each.Given as goal
 
 abbrev pub invariant-loop-cell : goal.invariant-loop-cell

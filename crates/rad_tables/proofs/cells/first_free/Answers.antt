@@ -1,6 +1,6 @@
 use Rattle.std.proofs.Common.{◌≡◌, ◌<◌, length, is_some, refl, sym, ap, ◌∙◌, inl, inr, arith}
 use Rattle.std.proofs.lemmas.Bool.{cases_lt}
-use Rattle.rad_tables.specs.Kept.{at, contents_of, entry_of}
+use Rattle.rad_tables.specs.internal.Kept.{at, contents_of, entry_of}
 use Rattle.rad_tables.proofs.KeptLemmas.{cell_at, some_of_not_none}
 use Rattle.rad_tables.proofs.cells.first_free.Goals as goal
 

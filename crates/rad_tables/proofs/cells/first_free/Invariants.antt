@@ -1,4 +1,4 @@
-use Rattle.rad_tables.specs.Kept.{contents_of, InUseBetween}
+use Rattle.rad_tables.specs.internal.Kept.{contents_of, InUseBetween}
 use Rattle.rad_tables.proofs.cells.first_free.Given as goal
 
 abbrev pub invariant-loop-place : goal.invariant-loop-place

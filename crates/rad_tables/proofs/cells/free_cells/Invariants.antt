@@ -1,5 +1,5 @@
 use Rattle.std.proofs.Common.{◌≡◌, None, vec_capacity, vec_len, replicate}
-use Rattle.rad_tables.specs.Kept.{contents_of}
+use Rattle.rad_tables.specs.internal.Kept.{contents_of}
 use Rattle.rad_tables.proofs.cells.free_cells.Given as goal
 
 abbrev pub invariant-loop : goal.invariant-loop

@@ -1,7 +1,7 @@
 use Rattle.std.proofs.Common.{◌≡◌, ◌<◌, ◌+◌, length, get_or, Option, Some, sym, subst, ◌∙◌, arith}
 use Rattle.std.proofs.lemmas.List.{length-map}
 use Rattle.rad_tables.specs.declared.cells.Waiting.{Waiting}
-use Rattle.rad_tables.specs.Kept.{at, contents_of, entry_of}
+use Rattle.rad_tables.specs.internal.Kept.{at, contents_of, entry_of}
 use Rattle.rad_tables.proofs.IndexLemmas.{within}
 use Rattle.rad_tables.proofs.KeptLemmas.{cell_at, same_bools, other_bools}
 use Rattle.rad_tables.proofs.DueLemmas.{IsFirst, first_skipped, first_taken}

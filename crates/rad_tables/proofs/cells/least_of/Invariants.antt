@@ -1,6 +1,6 @@
 use Rattle.std.proofs.Common.{MatchOption}
-use Rattle.rad_tables.specs.Least.{NoneAmong, IsLeastAmong}
-use Rattle.rad_tables.specs.Kept.{contents_of}
+use Rattle.rad_tables.specs.internal.Least.{NoneAmong, IsLeastAmong}
+use Rattle.rad_tables.specs.internal.Kept.{contents_of}
 use Rattle.rad_tables.proofs.cells.least_of.Given as goal
 
 -- the first to be due of the places so far

@@ -2,7 +2,7 @@ use Rattle.std.proofs.Common.{ap, sym, ◌∙◌, arith}
 use Rattle.std.specs.FinMap as map
 use Rattle.std.proofs.lemmas.List.Elements.{All-head}
 use Rattle.rad_lane.specs.Book.{Book}
-use Rattle.rad_lane.specs.Invariant.{HasRoom}
+use Rattle.rad_lane.specs.internal.Invariant.{HasRoom}
 use Rattle.rad_lane.proofs.LawfulAfterWatch.{few_up}
 use Rattle.rad_lane.proofs.LawfulAfterSend.{stands_sent, sends}
 use Rattle.rad_lane.proofs.lane.Lane.send_first.Goals as goal

@@ -1,6 +1,6 @@
 use Rattle.std.proofs.Common.{set, ap, ◌∙◌}
 use Rattle.std.proofs.lemmas.List.{drop-set-add}
-use Rattle.rad_lane.specs.ReservedList.{ListWithRoom}
+use Rattle.rad_lane.specs.internal.ReservedList.{ListWithRoom}
 use Rattle.rad_lane.proofs.reserved_list.ReservedList.set.Goals as goal
 
 pub returns : goal.returns

@@ -1,6 +1,6 @@
 use Rattle.std.proofs.Common.{◌+◌, get_or, set, drop, sym, ap, ◌∙◌}
 use Rattle.std.proofs.lemmas.List.{drop-set-add, get_or-drop}
-use Rattle.rad_lane.specs.ReservedList.{ListWithRoom}
+use Rattle.rad_lane.specs.internal.ReservedList.{ListWithRoom}
 use Rattle.rad_lane.proofs.reserved_list.ReservedList.swap.Goals as goal
 
 pub returns : goal.returns

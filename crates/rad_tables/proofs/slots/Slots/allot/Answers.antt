@@ -4,7 +4,7 @@ use Rattle.std.proofs.lemmas.List.{length-map}
 use Rattle.std.specs.FinMap as map
 use Rattle.rad_tables.specs.declared.cells.Cell.{Cell}
 use Rattle.rad_tables.specs.Pairs.{Table, AllInUse, IsFirstFree}
-use Rattle.rad_tables.specs.Kept.{slot_at, contents_of, entry_of, start_of, InUseBetween, IsFirstFreeBehind}
+use Rattle.rad_tables.specs.internal.Kept.{slot_at, contents_of, entry_of, start_of, InUseBetween, IsFirstFreeBehind}
 use Rattle.rad_tables.proofs.AllotLemmas.{found, found_inside, found_free, all_in_use, full, not_all, again}
 use Rattle.rad_tables.proofs.slots.Slots.allot.Goals as goal
 

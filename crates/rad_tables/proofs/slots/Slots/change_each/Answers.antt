@@ -2,7 +2,7 @@ use Rattle.std.proofs.Common.{List, sym, ap, subst, ◌∙◌, arith}
 use Rattle.std.specs.Option.{option_map}
 use Rattle.std.specs.FinMap as map
 use Rattle.rad_tables.specs.declared.cells.Cell.{Cell}
-use Rattle.rad_tables.specs.Kept.{AreChanged, contents_of, entries_of}
+use Rattle.rad_tables.specs.internal.Kept.{AreChanged, contents_of, entries_of}
 use Rattle.rad_tables.proofs.ChangeLemmas.{get_changed, kept_changed_each, rewritten}
 use Rattle.rad_tables.proofs.slots.Slots.change_each.Goals as goal
 

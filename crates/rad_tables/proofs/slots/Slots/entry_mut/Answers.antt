@@ -2,7 +2,7 @@ use Rattle.std.proofs.Common.{◌<◌, is_some, refl, sym, ap, ◌∙◌, arith,
 use Rattle.std.proofs.lemmas.List.{length-map}
 use Rattle.std.specs.FinMap as map
 use Rattle.rad_tables.specs.Lends.{with_entry}
-use Rattle.rad_tables.specs.Kept.{place_of, contents_of, entry_of}
+use Rattle.rad_tables.specs.internal.Kept.{place_of, contents_of, entry_of}
 use Rattle.rad_tables.proofs.ContentsLemmas.{get_slot}
 use Rattle.rad_tables.proofs.IndexLemmas.{within}
 use Rattle.rad_tables.proofs.KeptLemmas.{entries_of-set_used, cell_at, kept_write, used_there, table}

@@ -1,7 +1,7 @@
 use Rattle.std.proofs.Common.{◌<◌, ◌≤◌, None, sym, ap, ◌∙◌, arith, length}
 use Rattle.std.proofs.lemmas.List.{length-map, get_or_past}
 use Rattle.std.specs.FinMap as map
-use Rattle.rad_tables.specs.Kept.{place_of, contents_of, entry_of}
+use Rattle.rad_tables.specs.internal.Kept.{place_of, contents_of, entry_of}
 use Rattle.rad_tables.proofs.ContentsLemmas.{get_slot}
 use Rattle.rad_tables.proofs.KeptLemmas.{cell_at}
 use Rattle.rad_tables.proofs.slots.Slots.get.Goals as goal

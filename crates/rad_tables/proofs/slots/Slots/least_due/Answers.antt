@@ -4,8 +4,8 @@ use Rattle.rad_tables.specs.declared.slots.Slot.{Slot}
 use Rattle.rad_tables.specs.declared.cells.Cell.{Cell}
 use Rattle.rad_tables.specs.Pairs.{Table}
 use Rattle.rad_tables.specs.Dues.{NoneIs, IsLeastDue}
-use Rattle.rad_tables.specs.Least.{NoneAmong, IsLeastAmong}
-use Rattle.rad_tables.specs.Kept.{slot_at, contents_of}
+use Rattle.rad_tables.specs.internal.Least.{NoneAmong, IsLeastAmong}
+use Rattle.rad_tables.specs.internal.Kept.{slot_at, contents_of}
 use Rattle.rad_tables.proofs.DueLemmas.{none_is, least_is}
 use Rattle.rad_tables.proofs.slots.Slots.least_due.Goals as goal
 

@@ -1,5 +1,5 @@
 use Rattle.std.proofs.Common.{◌≡◌, ◌*◌, length, None, ap, ◌∙◌, arith}
-use Rattle.rad_tables.specs.Kept.{entries_of}
+use Rattle.rad_tables.specs.internal.Kept.{entries_of}
 use Rattle.rad_tables.proofs.ContentsLemmas.{entries_of-free}
 use Rattle.rad_tables.proofs.KeptLemmas.{kept_made, table}
 use Rattle.rad_tables.proofs.slots.Slots.new.Goals as goal

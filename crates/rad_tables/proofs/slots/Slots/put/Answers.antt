@@ -1,7 +1,7 @@
 use Rattle.std.proofs.Common.{◌≡◌, Some, ap, ◌∙◌, arith, length}
 use Rattle.std.specs.FinMap as map
 use Rattle.rad_tables.specs.Pairs.{IsInRange}
-use Rattle.rad_tables.specs.Kept.{contents_of}
+use Rattle.rad_tables.specs.internal.Kept.{contents_of}
 use Rattle.rad_tables.proofs.ContentsLemmas.{len_at_most}
 use Rattle.rad_tables.proofs.KeptLemmas.{entries_of-set_used, kept_put, place_below, room_for_one, table}
 use Rattle.rad_tables.proofs.slots.Slots.put.Goals as goal

@@ -1,7 +1,7 @@
 use Rattle.std.proofs.Common.{◌-◌, ◌<◌, ◌≡◌, ◌≤◌, None, is_some, IsSome, get_or, sym, ap, ◌∙◌, arith, length}
 use Rattle.std.proofs.lemmas.List.{length-map, get_or_past, get_or_read}
 use Rattle.std.specs.FinMap as map
-use Rattle.rad_tables.specs.Kept.{place_of, at, contents_of, entry_of}
+use Rattle.rad_tables.specs.internal.Kept.{place_of, at, contents_of, entry_of}
 use Rattle.rad_tables.proofs.ContentsLemmas.{get_slot, remove_absent}
 use Rattle.rad_tables.proofs.IndexLemmas.{within}
 use Rattle.rad_tables.proofs.KeptLemmas.{cell_at, entries_of-set_free, kept_take, table}

@@ -1,5 +1,5 @@
 use Rattle.std.proofs.Common.{ap, arith}
-use Rattle.rad_tables.specs.Kept.{contents_of}
+use Rattle.rad_tables.specs.internal.Kept.{contents_of}
 use Rattle.rad_tables.proofs.ContentsLemmas.{len_at_most}
 use Rattle.rad_tables.proofs.slots.Slots.used.Goals as goal
 

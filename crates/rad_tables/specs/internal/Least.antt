@@ -1,7 +1,7 @@
 -- The first to be due of the entries at some places. No public clause cites this module.
 use Rattle.std.specs.Prelude.{◌≡◌, ℕ, ◌<◌, List, length, slice_index, Bool, Option, Some, None, IsSome, ◌⊎◌}
 use Rattle.rad_tables.specs.Dues.{NotAfter}
-use Rattle.rad_tables.specs.Kept.{at}
+use Rattle.rad_tables.specs.internal.Kept.{at}
 use Rattle.rad_tables.specs.declared.cells.Waiting.{Waiting}
 
 -- there is an entry at each of the places

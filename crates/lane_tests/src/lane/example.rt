@@ -1,0 +1,103 @@
+//! How a caller uses a lane, from its configuration to its end: one request of a NAS is taken, forwarded and answered.
+
+use super::comparing::holds;
+use super::script::moment;
+use block_queue::BlockQueue;
+use rad_lane::{Action, Heard, Lane, Record, Setup, Taken};
+use rad_packet::Datagram;
+use rad_realms::{Config, Incoming, check_in, read_config};
+use rad_tables::Slot;
+use std::alloc::Global;
+use std::test::Fail;
+use test_octets::homes::{FORWARDED, REPLY};
+use test_octets::nas::{REQUEST, RESPONSE};
+
+const CONFIGURATION: &str = r#"
+listen = "127.0.0.1:1813"
+[[client]]
+address = "10.0.0.1"
+secret = "nas-secret"
+[[realm]]
+name = "example.org"
+home = "h1"
+[[home]]
+name = "h1"
+address = "127.0.0.1:2813"
+secret = "home-secret"
+"#;
+
+/// The client's address and port, from which the request comes.
+const NAS: ([u8; 4], u16) = ([10, 0, 0, 1], 40_000);
+
+/// The first pair of source port and Identifier.
+const FIRST: Slot = Slot {
+    port: 0,
+    identifier: 0,
+};
+
+/// A lane with the configuration that it is of, and the datagram that its calls write.
+#[derive(Drop)]
+struct Example {
+    config: Config,
+    lane: Lane<BlockQueue<Record>>,
+    datagram: Datagram,
+}
+
+impl Example {
+    /// The lane of the first home server, which is empty and up.
+    fn new(alloc: Global) -> Result<Example, Fail> {
+        let config = read_config(alloc, CONFIGURATION)?;
+        let setup = Setup::of(alloc, &config, 0)?;
+        Ok(Example {
+            config,
+            lane: Lane::new(alloc, setup)?,
+            datagram: Datagram::new(),
+        })
+    }
+
+    /// What a NAS sent is checked first: from which client it came, that it is right, and to which lane it leads.
+    fn takes_a_request(&mut self, alloc: Global) -> Result<bool, Fail> {
+        let (address, port) = NAS;
+        match check_in(&self.config, address, port, &REQUEST) {
+            Ok(Incoming::Request(request)) if self.lane.takes(&request) => {
+                let taken = self
+                    .lane
+                    .accept(alloc, &request, moment(0), &mut self.datagram)?;
+                Ok(taken == Taken::New(0))
+            }
+            _ => Ok(false),
+        }
+    }
+
+    /// The next step writes what goes to the home server, and tells its source port and Identifier.
+    fn forwards_it(&mut self) -> bool {
+        let action = self.lane.step(moment(0), [0; 16], &mut self.datagram);
+        action == Action::Sent(0, FIRST) && self.datagram.bytes() == FORWARDED.as_slice()
+    }
+
+    /// The home server's reply, which came to that source port, gives the response to the NAS.
+    fn answers_it(&mut self, alloc: Global) -> Result<bool, Fail> {
+        match self.lane.hear(alloc, moment(5), FIRST.port, &REPLY)? {
+            Heard::Answer(outgoing) => Ok(
+                (outgoing.client, outgoing.port) == NAS
+                    && outgoing.reply.response() == RESPONSE.as_slice(),
+            ),
+            Heard::ProbeAnswered => Ok(false),
+        }
+    }
+
+    /// A lane that is closed leaves all that it kept.
+    fn leaves_an_answer(self) -> bool {
+        self.lane.close().answered().len() == 1
+    }
+}
+
+#[test]
+fn a_request_is_taken_forwarded_and_answered(rt: HostRuntime) -> Result<(), Fail> {
+    let mut example = Example::new(rt.alloc())?;
+    let is_answered = example.takes_a_request(rt.alloc())?
+        && example.forwards_it()
+        && example.answers_it(rt.alloc())?;
+    holds(&rt, is_answered && example.leaves_an_answer());
+    Ok(())
+}

@@ -1,0 +1,5 @@
+pub mod AcceptReply
+pub mod Cutting
+pub mod NextDue
+pub mod Invariant
+pub mod ReservedList

@@ -1,0 +1,51 @@
+"""UDP sockets, and waits for what has to come."""
+import socket
+import time
+
+HERE = "127.0.0.1"
+# How many seconds are waited for what has to come, since a slow machine is no fault of the program, and how many from look to look.
+PATIENCE, APART = 40, 0.02
+
+
+def bound(address=HERE, port=0, patience=PATIENCE):
+    """A UDP socket that waits so many seconds for a datagram."""
+    made = socket.socket(socket.AF_INET, socket.SOCK_DGRAM)
+    made.bind((address, port))
+    made.settimeout(patience)
+    return made
+
+
+def free_ports(count):
+    """Ports of loopback that nobody has."""
+    tried = [bound() for _ in range(count)]
+    ports = [each.getsockname()[1] for each in tried]
+    for each in tried:
+        each.close()
+    return ports
+
+
+def free_port():
+    """A port of loopback that nobody has."""
+    (port,) = free_ports(1)
+    return port
+
+
+def awaited(test, patience, apart):
+    """What a test answers once it answers something, and its last answer where it never does."""
+    last = time.monotonic() + patience
+    while not (found := test()) and time.monotonic() < last:
+        time.sleep(apart)
+    return found
+
+
+def is_so(test, patience=PATIENCE, apart=APART):
+    """Whether something is so before too long."""
+    return bool(awaited(test, patience, apart))
+
+
+def until(text, test, patience=PATIENCE, apart=APART):
+    """Waits until a test answers something, and answers that."""
+    found = awaited(test, patience, apart)
+    if not found:
+        raise AssertionError(f"never: {text}")
+    return found
