@@ -29,7 +29,11 @@ impl Value {
     pub fn of_bool(is_so: bool) -> Value
         ensures { result ≡ value_of_bool is_so }
     {
-        Value::Count(u64::from(is_so))
+        if is_so {
+            Value::Count(1)
+        } else {
+            Value::Count(0)
+        }
     }
 }
 
