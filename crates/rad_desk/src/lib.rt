@@ -8,8 +8,8 @@
 //! The definitions that the contracts cite stand in specs: `Desk` and `Inlet` are what a contract sees of either end
 //! of a ring, `Outlet` is what the ring was given beside the lane's book, `Tells` is hearing the home server, and
 //! `Departures` and `Lawful` are what a call through a lock tells, `Spent` what is told of the request by which a lane went down,
-//! `Standing` how a lane stands, and `Marks` how many Proxy-States of this proxy's form a request has. `Traffic` is what passes over a wire, `Working` what of it a
-//! lane's worker may send, and `Once` what the front may.
+//! `Standing` how a lane stands, and `Marks` how many Proxy-States of this proxy's form a request has. `Traffic` is what passes
+//! over a wire, `Working` what of it a lane's worker may send, and `Once` what the front may.
 #![tactic(auto)]
 
 mod agreeing;
