@@ -326,6 +326,17 @@ def counters_that_are_not_written_are_told(service):
     hope("old counters", "of yesterday" in done.stdout, False)
 
 
+def kind_of(family):
+    if family in ("rad_proxy_reply_seconds", "rad_proxy_response_seconds"):
+        return "histogram"
+    return "counter" if family.endswith("_total") else "gauge"
+
+
+def names_of(family):
+    """The names that the samples of a family may have."""
+    return [f"{family}_{part}" for part in ("bucket", "sum", "count")] if kind_of(family) == "histogram" else [family]
+
+
 def metrics_are_as_prometheus_reads_them(service):
     """Each family of `metrics` stands once, behind its HELP and its TYPE; `promtool check metrics` finds no fault, where it is here."""
     service.start()
@@ -339,10 +350,10 @@ def metrics_are_as_prometheus_reads_them(service):
             families.append(family)
             hope(f"what {family} counts", len(line.split(None, 3)), 4)
         elif line.startswith("# TYPE "):
-            kind = "counter" if family.endswith("_total") else "gauge"
-            hope("type", line, f"# TYPE {family} {kind}")
+            hope("type", line, f"# TYPE {family} {kind_of(family)}")
         else:
-            hope("family", re.fullmatch(r"(\w+)(?:\{[^{}]*\})? \d+(?:\.\d{3})?", line)[1], family)
+            name = re.fullmatch(r"(\w+)(?:\{[^{}]*\})? \d+(?:\.\d{3}|\.\d{6})?", line)[1]
+            hope(f"{name} of {family}", name in names_of(family), True)
             samples += 1
     hope("families that stand twice", [name for name in set(families) if families.count(name) > 1], [])
     hope("numbers", samples > len(families) > 40, True)
