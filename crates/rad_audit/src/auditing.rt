@@ -76,14 +76,6 @@ struct Audit<'a, W> {
     report: Report<'a, W>,
 }
 
-/// What a line is.
-enum Found {
-    /// It was read, and told of where something was wrong.
-    Told,
-    /// It is no line of a ledger.
-    Unread,
-}
-
 impl<'a, W: Write> Audit<'a, W> {
     fn new(
         alloc: Global,
@@ -140,16 +132,29 @@ impl<'a, W: Write> Audit<'a, W> {
 
     /// Takes the line that was read.
     fn take(&mut self, place: Place<'_>) -> Result<(), Fault> {
-        let octets = self.line.as_slice();
-        match read_line(self.alloc, octets, &mut self.room) {
-            Ok(Line::Entry(entry)) => {
-                take_entry(self.alloc, self.config, &mut self.runs, &mut self.report, place, &entry)
-            }
-            Ok(Line::Begin(begin)) => take_begin(self.alloc, &mut self.runs, &begin),
-            Ok(Line::End(end)) => take_end(&mut self.runs, &mut self.report, place, &end),
-            Err(LineFault::NotALine) => self.hold(place.line),
-            Err(LineFault::OutOfMemory) => Err(Fault::Memory),
+        if self.take_read(place)? {
+            Ok(())
+        } else {
+            self.hold(place.line)
         }
+    }
+
+    /// Takes the line that was read, where it is a line of a ledger. It answers whether it is.
+    fn take_read(&mut self, place: Place<'_>) -> Result<bool, Fault> {
+        let (alloc, config) = (self.alloc, self.config);
+        let line = match read_line(alloc, self.line.as_slice(), &mut self.room) {
+            Ok(line) => line,
+            Err(LineFault::NotALine) => return Ok(false),
+            Err(LineFault::OutOfMemory) => return Err(Fault::Memory),
+        };
+        match &line {
+            Line::Entry(entry) => {
+                take_entry(alloc, config, &mut self.runs, &mut self.report, place, entry)?;
+            }
+            Line::Begin(begin) => take_begin(alloc, &mut self.runs, begin)?,
+            Line::End(end) => take_end(&mut self.runs, &mut self.report, place, end)?,
+        }
+        Ok(true)
     }
 
     /// Keeps the line until the next one is read.

@@ -92,8 +92,8 @@ impl<W: Write> Report<'_, W> {
 }
 
 /// What was written, or the fault that it was not.
-fn written<E: Drop>(result: Result<(), E>) -> Result<(), Fault> {
-    match result {
+fn written<E: Drop>(writing: Result<(), E>) -> Result<(), Fault> {
+    match writing {
         Ok(()) => Ok(()),
         Err(_) => Err(Fault::Output),
     }

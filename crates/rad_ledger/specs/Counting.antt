@@ -33,7 +33,7 @@ pub record Counts (tally : Tally) (serials : List ℕ) : Type 0 where
 -- The gap that an entry of this serial leaves before it.
 abbrev pub LeavesGap : ℕ → ℕ → Option Gap → Type 0
 LeavesGap next serial None = next ≡ serial
-LeavesGap next serial (Some gap) = (gap.first ≡ next) × (gap.last + 1 ≡ serial)
+LeavesGap next serial (Some gap) = (gap.first ≡ next) × (gap.last + 1 ≡ serial) × (gap.first ≤ gap.last)
 
 -- All responses up to the end line's count are there, each once and in order.
 pub record IsWhole (tally : Tally) (serials : List ℕ) : Type 0 where

@@ -7,7 +7,8 @@ use crate::entry::Entry;
 use crate::packets::{ends_with_mark, whole_packet};
 use crate::reason::Reason;
 use rad_auth::{
-    ACCOUNTING_REQUEST, ACCOUNTING_RESPONSE, Mark, ReplyFault, RequestHead, Secret, check_request, respond,
+    ACCOUNTING_REQUEST, ACCOUNTING_RESPONSE, Mark, ReplyFault, RequestHead, Secret, check_request,
+    one_response, refused_or_answered, respond,
 };
 use rad_packet::PacketRef;
 use std::alloc::{AllocError, Global};
@@ -90,6 +91,8 @@ fn judge_reply(
     if reply.code() != ACCOUNTING_RESPONSE || reply.identifier() != sent.identifier() {
         return Ok(Some(Reason::WrongReply));
     }
+    refused_or_answered();
+    one_response();
     let head = RequestHead {
         identifier: entry.identifier,
         authenticator: entry.authenticator,

@@ -1,11 +1,13 @@
 //! Packets as a ledger has them: whole, and without padding.
 
-ghost use Rattle.std.specs.Prelude.{◌≡◌, ◌≤◌, ◌↔◌, ◌+◌, length, IsTrue, MatchOption};
-ghost use Rattle.rad_packet.specs.Packet.{IsPacketText};
-ghost use Rattle.rad_auth.specs.Mark.{EndsWithMark};
+ghost use Rattle.std.specs.Prelude.{◌≡◌, ◌≤◌, ◌↔◌, ◌++◌, [], ◌∷◌, List, IsTrue, MatchOption};
+ghost use Rattle.rad_packet.specs.Attribute.{Attribute};
+ghost use Rattle.rad_packet.specs.Item.{attribute_at};
+ghost use Rattle.rad_packet.specs.Packet.{IsPacketText, packet_attributes};
+ghost use Rattle.rad_auth.specs.Mark.{EndsWithMark, mark_attribute};
 
 use rad_auth::{MARK_LENGTH, Mark, PROXY_STATE};
-use rad_packet::{PacketRef, read};
+use rad_packet::{AttributeRef, PacketRef, read};
 
 /// The packet that these octets are, where they are one and nothing stands behind it.
 pub fn whole_packet(octets: &[u8]) -> Option<PacketRef<'_>>
@@ -25,13 +27,31 @@ pub fn whole_packet(octets: &[u8]) -> Option<PacketRef<'_>>
 pub fn ends_with_mark(packet: &PacketRef<'_>, mark: Mark) -> bool
     ensures { IsTrue result ↔ EndsWithMark mark packet.now }
 {
-    let Some(at) = packet.last_of(PROXY_STATE) else {
-        return false;
-    };
-    let octets = packet.octets();
-    if at.length != MARK_LENGTH || at.place + at.length != octets.len() {
+    match last_attribute(packet) {
+        Some(attribute) => is_mark(attribute, mark),
+        None => false,
+    }
+}
+
+/// The last attribute of a packet.
+fn last_attribute<'a>(packet: &PacketRef<'a>) -> Option<AttributeRef<'a>>
+    ensures { MatchOption result (packet_attributes packet.now ≡ []) (λ a. (before : List Attribute) × (packet_attributes packet.now ≡ before ++ attribute_at a ∷ [])) }
+{
+    let mut last = None;
+    for attribute in packet.attributes() {
+        last = Some(attribute);
+    }
+    last
+}
+
+/// Whether an attribute is this mark.
+fn is_mark(attribute: AttributeRef<'_>, mark: Mark) -> bool
+    ensures { IsTrue result ↔ (attribute_at attribute.entry ≡ mark_attribute mark) }
+{
+    let value = attribute.value;
+    if attribute.kind != PROXY_STATE || value.len() != MARK_LENGTH - 2 {
         return false;
     }
-    let (lane, number) = octets[at.place + 2..].split_at(2);
+    let (lane, number) = value.split_at(2);
     lane == mark.lane.to_be_bytes().as_slice() && number == mark.number.to_be_bytes().as_slice()
 }

@@ -1,0 +1,4 @@
+pub mod Whole
+pub mod Last
+pub mod Replies
+pub mod Serials
