@@ -1,10 +1,12 @@
 #!/usr/bin/env python3
 """Makes ledgers as `run` writes them, by Python's hashlib and json alone.
 
-usage: ledger.py            prints the example, examples/one-home.jsonl
-       ledger.py --check    compares the example that stands there with the one made here
+usage: ledger.py            writes the ledgers that stand in the repository
+       ledger.py --check    compares those that stand there with those made here
 
-The example is of the configuration examples/one-home.toml. The last line of --check is `N passed, M failed`.
+They are of the configuration examples/one-home.toml: examples/one-home.jsonl is an example that is whole, and the one in
+crates/rad_audit/data, of which the auditor's stored run is, has a line of each kind that is printed. The last line of --check is
+`N passed, M failed`.
 """
 import json
 import pathlib
@@ -95,14 +97,39 @@ def text(lines):
     return "".join(f"{line if isinstance(line, str) else json.dumps(line, separators=(',', ':'))}\n" for line in lines)
 
 
+CLIENT = "192.0.2.10", b"one long random text for this NAS"
+SECRET = b"one long random text for this home server"
+
+
 def example():
-    """A run of one lane over examples/one-home.toml: a session that starts, goes on and stops, and one of octets that are no text."""
-    client = "192.0.2.10", b"one long random text for this NAS"
-    run = Run(0x0123456789ABCDEF, [Lane(0, "billing", b"one long random text for this home server")])
+    """A run of one lane: a session that starts, goes on and stops, and one of octets that are no text."""
+    run = Run(0x0123456789ABCDEF, [Lane(0, "billing", SECRET)])
     lines = [run.begin()]
-    lines += [run.entry(client=client, session=b"4f2a", status=status) for status in (1, 3, 2)]
-    lines += [run.entry(client=client, session=b"\xff\x00", user=b"bob", more=attribute(vectors.PROXY_STATE, b"abc"))]
+    lines += [run.entry(client=CLIENT, session=b"4f2a", status=status) for status in (1, 3, 2)]
+    lines += [run.entry(client=CLIENT, session=b"\xff\x00", user=b"bob", more=attribute(vectors.PROXY_STATE, b"abc"))]
     return text([*lines, run.end()])
+
+
+def spoiled():
+    """Three runs: of one an entry is wrong and another one missing; one is whole, with a line that was cut short and written again; and
+    one goes on, in a file whose last line has no line end yet."""
+    run = Run(0x1000000000000001, [Lane(0, "billing", SECRET)])
+    lines = [run.begin(), *(run.entry(client=CLIENT) for _ in range(6)), run.end()]
+    lines[2]["response"] = lines[1]["response"]
+    del lines[4]
+    run = Run(0x1000000000000002, [Lane(0, "billing", SECRET), Lane(1, "elsewhere", b"a secret that is not there")])
+    second = [run.begin(), run.entry(client=CLIENT), run.entry(1, client=CLIENT), run.end()]
+    second.insert(1, json.dumps(second[1], separators=(",", ":"))[:200])
+    run = Run(0x1000000000000003, [Lane(0, "billing", SECRET)])
+    third = [run.begin(), run.entry(client=CLIENT), run.entry(client=CLIENT)]
+    return text([*lines, *second, *third])[:-30]
+
+
+FILES = {
+    "examples/one-home.jsonl": example,
+    "crates/rad_audit/data/spoiled.jsonl": spoiled,
+    "crates/rad_audit/data/config.toml": lambda: (TOP / "examples" / "one-home.toml").read_text("utf-8"),
+}
 
 
 def main(words):
@@ -110,13 +137,14 @@ def main(words):
         print(__doc__.strip(), file=sys.stderr)
         return 2
     if not words:
-        print(example(), end="")
+        for file, made in FILES.items():
+            (TOP / file).write_text(made(), "utf-8")
         return 0
-    same = EXAMPLE.read_text("utf-8") == example()
-    if not same:
-        print(f"{EXAMPLE.relative_to(TOP)} is not what is made here")
-    print("1 passed, 0 failed" if same else "0 passed, 1 failed")
-    return 0 if same else 1
+    wrong = [file for file, made in FILES.items() if (TOP / file).read_text("utf-8") != made()]
+    for file in wrong:
+        print(f"{file} is not what is made here")
+    print(f"{len(FILES) - len(wrong)} passed, {len(wrong)} failed")
+    return 1 if wrong else 0
 
 
 if __name__ == "__main__":
