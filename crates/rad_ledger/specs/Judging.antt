@@ -23,39 +23,45 @@ pub record ArePackets (e : Entry) : Type 0 where
   pub reply : IsPacketText e.reply.now
   pub response : IsPacketText e.response.now
 
--- What was sent is an Accounting-Request, right under the home server's secret, and ends with the mark of the entry's lane
--- and number. Each forwarded packet of that mark and secret is such a packet.
-pub record IsSent (home : List ℕ) (e : Entry) : Type 0 where
-  pub code : code_of e.sent.now ≡ 4
-  pub right : IsRightRequest home e.sent.now
-  pub marked : EndsWithMark (mark_of e) e.sent.now
+-- A packet is an Accounting-Request, right under the home server's secret, and ends with this mark. Each forwarded packet of that
+-- mark and secret is such a packet.
+pub record IsSent (home : List ℕ) (mark : Mark) (sent : List ℕ) : Type 0 where
+  pub code : code_of sent ≡ 4
+  pub right : IsRightRequest home sent
+  pub marked : EndsWithMark mark sent
 
--- The reply is right for what was sent: after it some response answers some request.
-pub record IsReply (home : List ℕ) (e : Entry) : Type 0 where
+-- A reply is right for what was sent: after it some response answers some request.
+pub record IsReply (home sent reply : List ℕ) : Type 0 where
   pub head : RequestHead
   pub client : List ℕ
   pub response : List ℕ
-  pub answers : Answers head e.sent.now e.reply.now client home response
+  pub answers : Answers head sent reply client home response
 
--- The response answers the entry's own request, after its reply to what was sent.
-abbrev pub IsResponse : List ℕ → List ℕ → Entry → Type 0
-IsResponse home client e = Answers (head_of e) e.sent.now e.reply.now client home e.response.now
+-- The same of an entry; and that its response answers its own request, after its reply to what was sent.
+abbrev pub HasSent : List ℕ → Entry → Type 0
+HasSent home e = IsSent home (mark_of e) e.sent.now
+
+abbrev pub HasReply : List ℕ → Entry → Type 0
+HasReply home e = IsReply home e.sent.now e.reply.now
+
+abbrev pub HasResponse : List ℕ → List ℕ → Entry → Type 0
+HasResponse home client e = Answers (head_of e) e.sent.now e.reply.now client home e.response.now
 
 -- Nothing is wrong with the packets. What a secret is needed for is judged where it is known: of the response, both.
 pub record ArePacketsRight (e : Entry) (home client : Option (List ℕ)) : Type 0 where
   pub packets : ArePackets e
-  pub sent : IfSome home (λ secret. IsSent secret e)
-  pub reply : IfSome home (λ secret. IsReply secret e)
-  pub response : IfSome home (λ secret. IfSome client (λ its. IsResponse secret its e))
+  pub sent : IfSome home (λ secret. HasSent secret e)
+  pub reply : IfSome home (λ secret. HasReply secret e)
+  pub response : IfSome home (λ secret. IfSome client (λ its. HasResponse secret its e))
 
 -- The first thing that is wrong with the packets.
 abbrev pub IsWrongPacket : Entry → Option (List ℕ) → Option (List ℕ) → Reason → Type 0
 IsWrongPacket e home client NotEntry = ⊥
 IsWrongPacket e home client NoPacket = ¬ ArePackets e
-IsWrongPacket e home client WrongSent = ArePackets e × MatchOption home ⊥ (λ secret. ¬ IsSent secret e)
-IsWrongPacket e home client WrongReply = ArePackets e × MatchOption home ⊥ (λ secret. IsSent secret e × ¬ IsReply secret e)
+IsWrongPacket e home client WrongSent = ArePackets e × MatchOption home ⊥ (λ secret. ¬ HasSent secret e)
+IsWrongPacket e home client WrongReply = ArePackets e × MatchOption home ⊥ (λ secret. HasSent secret e × ¬ IsReply secret e)
 IsWrongPacket e home client WrongResponse =
-    ArePackets e × MatchOption home ⊥ (λ secret. IsSent secret e × IsReply secret e × MatchOption client ⊥ (λ its. ¬ IsResponse secret its e))
+    ArePackets e × MatchOption home ⊥ (λ secret. HasSent secret e × IsReply secret e × MatchOption client ⊥ (λ its. ¬ HasResponse secret its e))
 IsWrongPacket e home client SerialNotAbove = ⊥
 IsWrongPacket e home client UnknownLane = ⊥
 
@@ -73,13 +79,16 @@ IsWrong e home client next WrongResponse = IsWrongPacket e home client WrongResp
 IsWrong e home client next SerialNotAbove = ArePacketsRight e home client × MatchOption next ⊥ (λ least. e.serial < least)
 IsWrong e home client next UnknownLane = ArePacketsRight e home client × (next ≡ None)
 
--- What is wrong first with the reply or the response, where nothing is wrong with what was sent.
-abbrev pub JudgesReply : List ℕ → Option (List ℕ) → Entry → Option Reason → Type 0
-JudgesReply home client e None = IsReply home e × IfSome client (λ its. IsResponse home its e)
-JudgesReply home client e (Some NotEntry) = ⊥
-JudgesReply home client e (Some NoPacket) = ⊥
-JudgesReply home client e (Some WrongSent) = ⊥
-JudgesReply home client e (Some WrongReply) = ¬ IsReply home e
-JudgesReply home client e (Some WrongResponse) = IsReply home e × MatchOption client ⊥ (λ its. ¬ IsResponse home its e)
-JudgesReply home client e (Some SerialNotAbove) = ⊥
-JudgesReply home client e (Some UnknownLane) = ⊥
+-- What is wrong first with a reply to what was sent or with a response to the request of this head, where nothing is wrong with what
+-- was sent.
+abbrev pub JudgesReply : List ℕ → Option (List ℕ) → RequestHead → List ℕ → List ℕ → List ℕ → Option Reason → Type 0
+JudgesReply home client head sent reply response None =
+    IsReply home sent reply × IfSome client (λ its. Answers head sent reply its home response)
+JudgesReply home client head sent reply response (Some NotEntry) = ⊥
+JudgesReply home client head sent reply response (Some NoPacket) = ⊥
+JudgesReply home client head sent reply response (Some WrongSent) = ⊥
+JudgesReply home client head sent reply response (Some WrongReply) = ¬ IsReply home sent reply
+JudgesReply home client head sent reply response (Some WrongResponse) =
+    IsReply home sent reply × MatchOption client ⊥ (λ its. ¬ Answers head sent reply its home response)
+JudgesReply home client head sent reply response (Some SerialNotAbove) = ⊥
+JudgesReply home client head sent reply response (Some UnknownLane) = ⊥

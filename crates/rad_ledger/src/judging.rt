@@ -1,14 +1,16 @@
 //! What is wrong with an entry.
 
 ghost use Rattle.std.specs.Prelude.{◌≡◌, ◌↔◌, option_copied, MatchOption, IfOk, IsTrue};
-ghost use Rattle.rad_ledger.specs.Judging.{ArePacketsRight, IsInPlace, IsSent, IsWrong, IsWrongPacket, JudgesReply};
+ghost use Rattle.rad_auth.specs.Answers.{Answers};
+ghost use Rattle.rad_auth.specs.declared.mark.Mark.{Mark as TheMark};
+ghost use Rattle.rad_ledger.specs.Judging.{ArePacketsRight, IsInPlace, IsReply, IsSent, IsWrong, IsWrongPacket, JudgesReply, head_of as the_head_of, mark_of as the_mark_of};
 
 use crate::entry::Entry;
 use crate::packets::{ends_with_mark, whole_packet};
 use crate::reason::Reason;
 use rad_auth::{
-    ACCOUNTING_REQUEST, ACCOUNTING_RESPONSE, Mark, ReplyFault, RequestHead, Secret, check_request,
-    one_response, refused_or_answered, respond,
+    ACCOUNTING_REQUEST, ACCOUNTING_RESPONSE, Mark, Reply, ReplyFault, RequestHead, Secret,
+    check_request, one_response, refused_or_answered, respond,
 };
 use rad_packet::PacketRef;
 use std::alloc::{AllocError, Global};
@@ -47,63 +49,97 @@ fn judge_packets(
 ) -> Result<Option<Reason>, AllocError>
     ensures { IfOk result (λ wrong. MatchOption wrong (ArePacketsRight entry.now (option_copied home.entry) (option_copied client.entry)) (λ reason. IsWrongPacket entry.now (option_copied home.entry) (option_copied client.entry) reason)) }
 {
-    let (Some(sent), Some(reply), Some(_)) = (
-        whole_packet(entry.sent),
-        whole_packet(entry.reply),
-        whole_packet(entry.response),
-    ) else {
+    let Some(sent) = whole_packet(entry.sent) else {
         return Ok(Some(Reason::NoPacket));
     };
+    let Some(reply) = whole_packet(entry.reply) else {
+        return Ok(Some(Reason::NoPacket));
+    };
+    if whole_packet(entry.response).is_none() {
+        return Ok(Some(Reason::NoPacket));
+    }
     let Some(home) = home else {
         return Ok(None);
     };
-    if !is_sent(entry, &sent, home) {
+    if !is_sent(&sent, mark_of(entry), home) {
         return Ok(Some(Reason::WrongSent));
     }
-    judge_reply(alloc, entry, &sent, &reply, home, client)
+    judge_reply(alloc, head_of(entry), &sent, &reply, entry.response, home, client)
 }
 
-/// Whether what was sent is right under the home server's secret, and has the entry's mark.
-fn is_sent(entry: &Entry<'_>, sent: &PacketRef<'_>, home: &Secret) -> bool
-    requires { sent.now ≡ entry.now.sent.now }
-    ensures { IsTrue result ↔ IsSent home.now entry.now }
+/// The mark that an entry's request went out with.
+fn mark_of(entry: &Entry<'_>) -> Mark
+    ensures { result ≡ the_mark_of entry.now }
 {
-    let mark = Mark {
+    Mark {
         lane: entry.lane,
         number: entry.number,
-    };
+    }
+}
+
+/// The head of an entry's request.
+fn head_of(entry: &Entry<'_>) -> RequestHead
+    ensures { result ≡ the_head_of entry.now }
+{
+    RequestHead {
+        identifier: entry.identifier,
+        authenticator: entry.authenticator,
+    }
+}
+
+/// Whether what was sent is right under the home server's secret, and has this mark.
+fn is_sent(sent: &PacketRef<'_>, mark: Mark, home: &Secret) -> bool
+    ensures { IsTrue result ↔ IsSent home.now mark sent.now }
+{
     sent.code() == ACCOUNTING_REQUEST && check_request(sent, home) && ends_with_mark(sent, mark)
 }
 
 /// What is wrong with the reply or the response, where nothing is with what was sent.
 fn judge_reply(
     alloc: Global,
-    entry: &Entry<'_>,
+    head: RequestHead,
     sent: &PacketRef<'_>,
     reply: &PacketRef<'_>,
+    response: &[u8],
     home: &Secret,
     client: Option<&Secret>,
 ) -> Result<Option<Reason>, AllocError>
-    requires sent { (sent.now ≡ entry.now.sent.now) × IsSent home.now entry.now }
-    requires reply { reply.now ≡ entry.now.reply.now }
-    ensures { IfOk result (λ wrong. JudgesReply home.now (option_copied client.entry) entry.now wrong) }
+    requires { (mark : TheMark) × IsSent home.now mark sent.now }
+    ensures { IfOk result (λ wrong. JudgesReply home.now (option_copied client.entry) head sent.now reply.now response.now wrong) }
+{
+    let Some(client) = client else {
+        return match response_after(alloc, head, sent, reply, home, home)? {
+            Some(_) => Ok(None),
+            None => Ok(Some(Reason::WrongReply)),
+        };
+    };
+    one_response();
+    match response_after(alloc, head, sent, reply, client, home)? {
+        None => Ok(Some(Reason::WrongReply)),
+        Some(made) if made.response() == response => Ok(None),
+        Some(_) => Ok(Some(Reason::WrongResponse)),
+    }
+}
+
+/// The response to a request of this head after a reply to what was sent. There is none where the reply is not right.
+fn response_after(
+    alloc: Global,
+    head: RequestHead,
+    sent: &PacketRef<'_>,
+    reply: &PacketRef<'_>,
+    client: &Secret,
+    home: &Secret,
+) -> Result<Option<Reply>, AllocError>
+    requires { (mark : TheMark) × IsSent home.now mark sent.now }
+    ensures { IfOk result (λ made. MatchOption made (¬ IsReply home.now sent.now reply.now) (λ r. Answers head sent.now reply.now client.now home.now r.response)) }
 {
     if reply.code() != ACCOUNTING_RESPONSE || reply.identifier() != sent.identifier() {
-        return Ok(Some(Reason::WrongReply));
+        return Ok(None);
     }
     refused_or_answered();
-    one_response();
-    let head = RequestHead {
-        identifier: entry.identifier,
-        authenticator: entry.authenticator,
-    };
-    let made = match respond(alloc, head, sent, reply, client.unwrap_or(home), home) {
-        Ok(made) => made,
-        Err(ReplyFault::OutOfMemory) => return Err(AllocError),
-        Err(_) => return Ok(Some(Reason::WrongReply)),
-    };
-    if client.is_some() && made.response() != entry.response {
-        return Ok(Some(Reason::WrongResponse));
+    match respond(alloc, head, sent, reply, client, home) {
+        Ok(made) => Ok(Some(made)),
+        Err(ReplyFault::OutOfMemory) => Err(AllocError),
+        Err(_) => Ok(None),
     }
-    Ok(None)
 }
