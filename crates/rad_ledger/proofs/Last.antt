@@ -1,5 +1,5 @@
 -- The last attribute of a packet.
-use Rattle.std.proofs.Common.{◌≡◌, ◌≢◌, ℕ, List, [], ◌∷◌, ◌++◌, refl, sym, ap, ◌∙◌, Option, Some, None, MatchOption, append_assoc, length, arith, length-append}
+use Rattle.std.proofs.Common.{◌≡◌, ◌≢◌, ℕ, List, [], ◌∷◌, ◌++◌, refl, sym, ap, ◌∙◌, Option, Some, None, MatchOption, append_assoc, length, drop, arith, length-append}
 use Rattle.std.proofs.lemmas.List.{same_from_push, append-nil}
 use Rattle.rad_packet.specs.Attribute.{Attribute, attributes_of}
 use Rattle.rad_packet.specs.Packet.{packet_attributes}
@@ -18,8 +18,8 @@ pub record Seen (text rest : List ℕ) (last : Option AttributeRef) : Type 0 whe
   pub split : packet_attributes text ≡ seen ++ attributes_of rest
   pub last_is : IsLast seen last
 
-pub seen_none : (text rest : List ℕ) → attributes_of rest ≡ packet_attributes text → Seen text rest None
-seen_none text rest e = record { seen = []; split = sym e; last_is = refl }
+pub seen_none : (text rest : List ℕ) → rest ≡ drop 20 text → Seen text rest None
+seen_none text rest e = record { seen = []; split = sym (ap attributes_of e); last_is = refl }
 
 pub seen_more : (text rest rest' : List ℕ) (last : Option AttributeRef) (a : AttributeRef) → Seen text rest last → attributes_of rest ≡ attribute_at a ∷ attributes_of rest' → Seen text rest' (Some a)
 seen_more text rest rest' last a s next = record {
