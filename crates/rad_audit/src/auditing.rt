@@ -122,7 +122,10 @@ impl<'a, W: Write> Audit<'a, W> {
         };
         self.held.line = None;
         let place = Place { file, line };
-        let is_front = self.line.as_slice().starts_with(self.held.octets.as_slice());
+        let is_front = self
+            .line
+            .as_slice()
+            .starts_with(self.held.octets.as_slice());
         if is_front && piece != Piece::End {
             self.report.torn(place)
         } else {
@@ -149,7 +152,14 @@ impl<'a, W: Write> Audit<'a, W> {
         };
         match &line {
             Line::Entry(entry) => {
-                take_entry(alloc, config, &mut self.runs, &mut self.report, place, entry)?;
+                take_entry(
+                    alloc,
+                    config,
+                    &mut self.runs,
+                    &mut self.report,
+                    place,
+                    entry,
+                )?;
             }
             Line::Begin(begin) => take_begin(alloc, &mut self.runs, begin)?,
             Line::End(end) => take_end(&mut self.runs, &mut self.report, place, end)?,
@@ -160,7 +170,12 @@ impl<'a, W: Write> Audit<'a, W> {
     /// Keeps the line until the next one is read.
     fn hold(&mut self, line: u64) -> Result<(), Fault> {
         self.held.octets.clear();
-        if self.held.octets.extend_from_slice(self.line.as_slice()).is_err() {
+        if self
+            .held
+            .octets
+            .extend_from_slice(self.line.as_slice())
+            .is_err()
+        {
             return Err(Fault::Memory);
         }
         self.held.line = Some(line);
@@ -219,10 +234,14 @@ fn take_entry<W: Write>(
     let Some(lane) = lane else {
         return Ok(());
     };
+    let gap = match lane.tally.take(entry.serial) {
+        Ok(gap) => gap,
+        Err(reason) => return report.wrong(place, reason),
+    };
     if home.is_none() {
         lane.not_judged = lane.not_judged.saturating_add(1);
     }
-    match lane.tally.take(entry.serial) {
+    match gap {
         Some(gap) => report.gap(place, entry.run, lane, gap),
         None => Ok(()),
     }
@@ -230,7 +249,11 @@ fn take_entry<W: Write>(
 
 /// The secret of the home server of this name.
 fn secret_of_home<'a>(config: &'a Config, name: &str) -> Option<&'a Secret> {
-    match config.homes().iter().find(|home: &&Home| home.name() == name) {
+    match config
+        .homes()
+        .iter()
+        .find(|home: &&Home| home.name() == name)
+    {
         Some(home) => Some(home.secret()),
         None => None,
     }

@@ -1,5 +1,7 @@
 //! The lines that name a run, and that end one.
 
+ghost use Rattle.std.specs.Prelude.{◌<◌, ◌^◌};
+
 /// A lane, as the line that begins a file names it.
 #[derive(Clone, Copy, Debug, PartialEq, Eq)]
 pub struct LaneStart<'a> {
@@ -9,6 +11,7 @@ pub struct LaneStart<'a> {
     pub home: &'a str,
     /// The serial of the lane's next response, below 2^63.
     pub serial: u64,
+    ghost bounded: { serial < 2 ^ 63 },
 }
 
 /// A lane, as the end line counts it.

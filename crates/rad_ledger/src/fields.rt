@@ -23,18 +23,31 @@ const TEXTS: [&str; 14] = [
 ];
 
 pub(crate) const TYPE: usize = 0;
+
 pub(crate) const RUN: usize = 1;
+
 pub(crate) const TIME: usize = 2;
+
 pub(crate) const HOME: usize = 3;
+
 pub(crate) const CLIENT: usize = 4;
+
 pub(crate) const AUTHENTICATOR: usize = 5;
+
 pub(crate) const SENT: usize = 6;
+
 pub(crate) const REPLY: usize = 7;
+
 pub(crate) const RESPONSE: usize = 8;
+
 pub(crate) const REALM: usize = 9;
+
 pub(crate) const SESSION: usize = 10;
+
 pub(crate) const REALM_OCTETS: usize = 11;
+
 pub(crate) const SESSION_OCTETS: usize = 12;
+
 pub(crate) const VERSION: usize = 13;
 
 /// The keys of numbers, by their places.
@@ -50,12 +63,19 @@ const NUMBERS: [&str; 8] = [
 ];
 
 pub(crate) const LANE: usize = 0;
+
 pub(crate) const SERIAL: usize = 1;
+
 pub(crate) const RECORD: usize = 2;
+
 pub(crate) const PORT: usize = 3;
+
 pub(crate) const IDENTIFIER: usize = 4;
+
 pub(crate) const STATUS: usize = 5;
+
 pub(crate) const ENTRIES: usize = 6;
+
 pub(crate) const FILE: usize = 7;
 
 /// More members than a line has.
@@ -164,10 +184,7 @@ fn next_key<'a>(reader: &mut Reader<'a>) -> Result<Option<&'a str>, LineFault> {
 }
 
 /// Reads the list `lanes`: objects, in order.
-fn read_lanes<'a>(
-    alloc: Global,
-    reader: &mut Reader<'a>,
-) -> Result<Vec<Members<'a>>, LineFault> {
+fn read_lanes<'a>(alloc: Global, reader: &mut Reader<'a>) -> Result<Vec<Members<'a>>, LineFault> {
     let Some(Token::BeginArray) = reader.next() else {
         return Err(LineFault::NotALine);
     };

@@ -64,7 +64,15 @@ fn judge_packets(
     if !is_sent(&sent, mark_of(entry), home) {
         return Ok(Some(Reason::WrongSent));
     }
-    judge_reply(alloc, head_of(entry), &sent, &reply, entry.response, home, client)
+    judge_reply(
+        alloc,
+        head_of(entry),
+        &sent,
+        &reply,
+        entry.response,
+        home,
+        client,
+    )
 }
 
 /// The mark that an entry's request went out with.

@@ -1,12 +1,14 @@
 //! Lines of a ledger, as they are read.
 
+ghost use Rattle.std.specs.Prelude.{◌<◌, ◌^◌, IfSome};
+
 use crate::begin::{Begin, End, LaneCount, LaneStart};
 use crate::entry::Entry;
 use crate::faults::LineFault;
 use crate::fields::{
     AUTHENTICATOR, CLIENT, ENTRIES, FILE, Fields, HOME, IDENTIFIER, LANE, Members, PORT, REALM,
-    REALM_OCTETS, RECORD, REPLY, RESPONSE, RUN, SENT, SERIAL, SESSION, SESSION_OCTETS, STATUS, TIME,
-    TYPE, VERSION, push, read_fields,
+    REALM_OCTETS, RECORD, REPLY, RESPONSE, RUN, SENT, SERIAL, SESSION, SESSION_OCTETS, STATUS,
+    TIME, TYPE, VERSION, push, read_fields,
 };
 use json::{Reader, Scratch};
 use rad_realms::read_address;
@@ -119,10 +121,15 @@ fn entry_of<'a>(members: &Members<'a>, room: &'a mut Octets) -> Option<Entry<'a>
         session,
     } = room;
     let realm = words_of(members.texts[REALM], members.texts[REALM_OCTETS], realm)?;
-    let session = words_of(members.texts[SESSION], members.texts[SESSION_OCTETS], session)?;
+    let session = words_of(
+        members.texts[SESSION],
+        members.texts[SESSION_OCTETS],
+        session,
+    )?;
     let status = status_of(members.numbers[STATUS])?;
-    let optional =
-        usize::from(realm.is_some()) + usize::from(session.is_some()) + usize::from(status.is_some());
+    let optional = usize::from(realm.is_some())
+        + usize::from(session.is_some())
+        + usize::from(status.is_some());
     if members.count != MEMBERS_OF_ENTRY + optional {
         return None;
     }
@@ -281,7 +288,9 @@ fn status_of(number: Option<u64>) -> Option<Option<u32>> {
 }
 
 /// A serial, below 2^63.
-fn serial_of(number: u64) -> Option<u64> {
+fn serial_of(number: u64) -> Option<u64>
+    ensures { IfSome result (λ serial. serial < 2 ^ 63) }
+{
     if number < 1 << 63 { Some(number) } else { None }
 }
 
@@ -289,7 +298,12 @@ fn serial_of(number: u64) -> Option<u64> {
 fn time_of(text: &str) -> Option<&str> {
     let form = b"dddd-dd-ddTdd:dd:dd.dddZ";
     let octets = text.as_bytes();
-    if octets.len() == form.len() && form.iter().zip(octets).all(|(form, octet)| fits(*form, *octet)) {
+    if octets.len() == form.len()
+        && form
+            .iter()
+            .zip(octets)
+            .all(|(form, octet)| fits(*form, *octet))
+    {
         Some(text)
     } else {
         None

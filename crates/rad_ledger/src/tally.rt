@@ -1,8 +1,10 @@
 //! What is counted of one lane of a run.
 
-ghost use Rattle.std.specs.Prelude.{◌≡◌, ◌≤◌, ◌<◌, ◌+◌, ◌^◌, ◌++◌, [], ◌∷◌, ℕ, List, Some, None};
+ghost use Rattle.std.specs.Prelude.{◌≡◌, ◌≤◌, ◌<◌, ◌+◌, ◌^◌, ◌++◌, [], ◌∷◌, ℕ, List, Some, None, OnOk, IfOk, IfErr};
+ghost use Rattle.rad_ledger.specs.declared.reason.Reason.TheVariants.{SerialNotAbove};
 ghost use Rattle.rad_ledger.specs.Counting.{Counts, LeavesGap, Tells};
 
+use crate::reason::Reason;
 use std::fmt;
 
 /// Serials that are missing, from the first one to the last one.
@@ -78,20 +80,27 @@ impl Tally {
     }
 
     /// One entry more, of this serial. It tells the gap before it.
-    pub fn take(&mut self, serial: u64) -> Option<Gap>
-        requires above { self.old.next ≤ serial }
-        requires bounded { serial < 2 ^ 63 }
-        ensures gap { LeavesGap self.old.next serial result }
-        ensures counted { (serials : List ℕ) → Counts self.old serials → Counts self.new (serials ++ serial ∷ []) }
-        ensures others { (self.new.first ≡ self.old.first) × (self.new.end ≡ self.old.end) }
+    ///
+    /// # Errors
+    ///
+    /// `SerialNotAbove` for a serial that is not above the last one, or is 2^63 or more; nothing is counted then.
+    pub fn take(&mut self, serial: u64) -> Result<Option<Gap>, Reason>
+        ensures above { OnOk result ((self.old.next ≤ serial) × (serial < 2 ^ 63)) }
+        ensures gap { IfOk result (λ gap. LeavesGap self.old.next serial gap) }
+        ensures counted { OnOk result ((serials : List ℕ) → Counts self.old serials → Counts self.new (serials ++ serial ∷ [])) }
+        ensures others { OnOk result ((self.new.first ≡ self.old.first) × (self.new.end ≡ self.old.end)) }
+        ensures refused { IfErr result (λ reason. (reason ≡ SerialNotAbove) × ((self.old.next ≤ serial) → (2 ^ 63 ≤ serial)) × (self.new ≡ self.old)) }
     {
+        if serial < self.next || serial >= 1 << 63 {
+            return Err(Reason::SerialNotAbove);
+        }
         let gap = gap_between(self.next, serial);
         if self.gap.is_none() {
             self.gap = gap;
         }
         self.entries += 1;
         self.next = serial + 1;
-        gap
+        Ok(gap)
     }
 
     /// The end line says that there were so many responses in the run. It tells those that are missing behind the last entry.

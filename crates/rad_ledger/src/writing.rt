@@ -45,7 +45,13 @@ pub fn write_entry(alloc: Global, entry: &Entry<'_>, out: Vec<u8>) -> Result<Vec
     number(&mut writer, "identifier", u64::from(entry.identifier))?;
     digits(alloc, &mut writer, "authenticator", &entry.authenticator)?;
     words(alloc, &mut writer, "realm", "realm_octets", entry.realm)?;
-    words(alloc, &mut writer, "session", "session_octets", entry.session)?;
+    words(
+        alloc,
+        &mut writer,
+        "session",
+        "session_octets",
+        entry.session,
+    )?;
     if let Some(status) = entry.status {
         number(&mut writer, "status", u64::from(status))?;
     }
@@ -109,12 +115,7 @@ fn number(writer: &mut Writer, key: &str, value: u64) -> Result<(), AllocError> 
     writer.u64(value)
 }
 
-fn digits(
-    alloc: Global,
-    writer: &mut Writer,
-    key: &str,
-    octets: &[u8],
-) -> Result<(), AllocError> {
+fn digits(alloc: Global, writer: &mut Writer, key: &str, octets: &[u8]) -> Result<(), AllocError> {
     let digits = hex::encode(alloc, octets)?;
     text(writer, key, digits.as_str())
 }

@@ -35,7 +35,13 @@ impl<'a> Judged<'a> {
         next: Option<u64>,
         wanted: Option<Reason>,
     ) -> Result<(), Fail> {
-        let told = judge(rt.alloc(), &entry, Some(&self.home), Some(&self.client), next)?;
+        let told = judge(
+            rt.alloc(),
+            &entry,
+            Some(&self.home),
+            Some(&self.client),
+            next,
+        )?;
         same(rt, told, wanted);
         Ok(())
     }
@@ -53,31 +59,57 @@ fn an_entry_is_right_and_each_change_is_told(rt: HostRuntime) -> Result<(), Fail
     let next = Some(right.serial);
     judged.tells(&rt, right, next, None)?;
     judged.tells(&rt, right, None, Some(Reason::UnknownLane))?;
-    judged.tells(&rt, right, Some(right.serial + 1), Some(Reason::SerialNotAbove))?;
+    judged.tells(
+        &rt,
+        right,
+        Some(right.serial + 1),
+        Some(Reason::SerialNotAbove),
+    )?;
     let sent = right.response;
     judged.tells(&rt, Entry { sent, ..right }, next, Some(Reason::WrongSent))?;
     let reply = right.response;
-    judged.tells(&rt, Entry { reply, ..right }, next, Some(Reason::WrongReply))?;
+    judged.tells(
+        &rt,
+        Entry { reply, ..right },
+        next,
+        Some(Reason::WrongReply),
+    )?;
     let response = right.reply;
-    judged.tells(&rt, Entry { response, ..right }, next, Some(Reason::WrongResponse))?;
+    judged.tells(
+        &rt,
+        Entry { response, ..right },
+        next,
+        Some(Reason::WrongResponse),
+    )?;
     let response = &right.response[1..];
-    judged.tells(&rt, Entry { response, ..right }, next, Some(Reason::NoPacket))?;
+    judged.tells(
+        &rt,
+        Entry { response, ..right },
+        next,
+        Some(Reason::NoPacket),
+    )?;
     let number = right.number ^ 1;
-    judged.tells(&rt, Entry { number, ..right }, next, Some(Reason::WrongSent))
+    judged.tells(
+        &rt,
+        Entry { number, ..right },
+        next,
+        Some(Reason::WrongSent),
+    )
 }
 
 #[test]
 fn a_tally_tells_what_is_missing(rt: HostRuntime) -> Result<(), Fail> {
     let mut tally = Tally::new(3);
     same(&rt, tally.verdict(), Verdict::Open);
-    same(&rt, tally.take(3), None);
+    same(&rt, tally.take(3), Ok(None));
     same(&rt, tally.end(4), None);
     same(&rt, tally.verdict(), Verdict::Whole);
     let behind = Gap { first: 4, last: 5 };
     same(&rt, tally.end(6), Some(behind));
     same(&rt, tally.verdict(), Verdict::Missing(behind));
     let before = Gap { first: 4, last: 8 };
-    same(&rt, tally.take(9), Some(before));
+    same(&rt, tally.take(9), Ok(Some(before)));
+    same(&rt, tally.take(9), Err(Reason::SerialNotAbove));
     same(&rt, tally.verdict(), Verdict::Missing(before));
     same(&rt, tally.entries(), 2);
     Ok(())
