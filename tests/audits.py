@@ -237,6 +237,8 @@ def runs():
     yield "cut-and-not-written-again", {"ledger": text([*lines[:2], cut, *lines[3:]])}, [
         "ledger:3: NotEntry", f"ledger:4: run {NAME:016x} lane 0 h1 gap 1 to 1", counted(0, "h1", 0, 2, "gap 1 to 1")], 5
     yield "cut-at-the-end-of-a-file", {"a": text([*lines[:2], cut]), "b": text(lines[2:])}, ["a:3: NotEntry", whole], 5
+    yield "a-line-that-is-none-twice", {"ledger": text([*lines[:2], cut, cut, *lines[3:]])}, [
+        "ledger:3: NotEntry", "ledger:4: NotEntry", f"ledger:5: run {NAME:016x} lane 0 h1 gap 1 to 1", counted(0, "h1", 0, 2, "gap 1 to 1")], 5
     yield "an-empty-line", {"ledger": text([*lines[:2], "", *lines[2:]])}, ["ledger:3: torn", whole], 0
     yield "a-last-line-that-is-too-long", {"ledger": text(lines[:3]) + " " * 70000}, ["ledger:4: torn", counted(0, "h1", 0, 2, "open")], 0
     named = Run(NAME, [Lane(0, "h\n1", HOME)])

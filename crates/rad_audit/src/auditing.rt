@@ -104,7 +104,7 @@ impl<'a, W: Write> Audit<'a, W> {
                 Ok(piece) => piece,
                 Err(error) => return Err(Fault::of_file(self.alloc, file, &error)),
             };
-            self.settle(file, piece)?;
+            self.settle(file)?;
             match piece {
                 Piece::Whole => self.take(place)?,
                 Piece::TooLong => self.report.wrong(place, Reason::NotEntry)?,
@@ -115,18 +115,15 @@ impl<'a, W: Write> Audit<'a, W> {
         Ok(())
     }
 
-    /// Tells of the line before, where it was no line of a ledger: torn where it is the front of this one.
-    fn settle(&mut self, file: &str, piece: Piece) -> Result<(), Fault> {
+    /// Tells of the line before, where it was no line of a ledger: torn where it is the front of this one, which is longer.
+    fn settle(&mut self, file: &str) -> Result<(), Fault> {
         let Some(line) = self.held.line else {
             return Ok(());
         };
         self.held.line = None;
         let place = Place { file, line };
-        let is_front = self
-            .line
-            .as_slice()
-            .starts_with(self.held.octets.as_slice());
-        if is_front && piece != Piece::End {
+        let (front, next) = (self.held.octets.as_slice(), self.line.as_slice());
+        if front.len() < next.len() && next.starts_with(front) {
             self.report.torn(place)
         } else {
             self.report.wrong(place, Reason::NotEntry)
