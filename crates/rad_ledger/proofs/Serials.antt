@@ -1,8 +1,10 @@
 -- How the serials go on.
-use Rattle.std.proofs.Common.{◌≡◌, ℕ, zero, suc, ◌+◌, ◌<◌, ◌≤◌, List, [], ◌∷◌, ◌++◌, length, refl, sym, ap, ◌∙◌, arith, add-zero, add-one, append_assoc, length-append, Some}
+use Rattle.std.proofs.Common.{◌≡◌, ℕ, zero, suc, ◌+◌, ◌<◌, ◌≤◌, List, [], ◌∷◌, ◌++◌, length, refl, sym, ap, ◌∙◌, arith, add-zero, add-one, append_assoc, length-append, Option, Some, None, MatchOption, subst, inl, inr, ⊤}
 use Rattle.std.specs.List.{range_with_len}
-use Rattle.rad_ledger.specs.Counting.{GoOnFrom, next_after, IsFirstGap, LeavesGap}
+use Rattle.rad_ledger.specs.Counting.{GoOnFrom, next_after, IsFirstGap, LeavesGap, Counts, Tells}
 use Rattle.rad_ledger.specs.declared.tally.Gap.{Gap}
+use Rattle.rad_ledger.specs.declared.tally.Tally.{Tally}
+use Rattle.rad_ledger.specs.declared.tally.Verdict.TheVariants.{Whole, Open, Missing}
 
 range_more : (from count : ℕ) → range_with_len from (count + 1) ≡ range_with_len from count ++ (from + count) ∷ []
 range_more from zero = rw add-zero refl
@@ -12,17 +14,17 @@ range_more from (suc count) =
     rw (add-one (suc count)) (ap (λ numbers. from ∷ numbers) (rw (add-one count) at rest))
 
 -- the next serial after one more
-pub next_after-push : (first : ℕ) (serials : List ℕ) (serial : ℕ) → next_after first (serials ++ serial ∷ []) ≡ serial + 1
-next_after-push first [] serial = refl
-next_after-push first (x ∷ xs) serial = next_after-push (x + 1) xs serial
+pub next_after_push : (first : ℕ) (serials : List ℕ) (serial : ℕ) → next_after first (serials ++ serial ∷ []) ≡ serial + 1
+next_after_push first [] serial = refl
+next_after_push first (x ∷ xs) serial = next_after_push (x + 1) xs serial
 
-next_after-range : (first count : ℕ) → next_after first (range_with_len first count) ≡ first + count
-next_after-range first zero = omega arith
-next_after-range first (suc count) = next_after-range (first + 1) count ∙ (omega arith)
+next_after_range : (first count : ℕ) → next_after first (range_with_len first count) ≡ first + count
+next_after_range first zero = omega arith
+next_after_range first (suc count) = next_after_range (first + 1) count ∙ (omega arith)
 
 -- where none is left out, the next serial is known
 pub next_of_all : (first : ℕ) (serials : List ℕ) → GoOnFrom first serials → next_after first serials ≡ first + length serials
-next_of_all first serials e = ap (next_after first) e ∙ next_after-range first (length serials)
+next_of_all first serials e = ap (next_after first) e ∙ next_after_range first (length serials)
 
 -- none is left out with that one more
 pub goes_on : (first : ℕ) (serials : List ℕ) (serial : ℕ) → GoOnFrom first serials → next_after first serials ≡ serial → GoOnFrom first (serials ++ serial ∷ [])
@@ -55,3 +57,75 @@ gap_comes first serials serial gap e leaves = record {
   from = leaves.0 ∙ next_of_all first serials e;
   some = leaves.2;
 }
+
+-- how a tally stands after one entry more: where there was no gap, the one before it is the first
+module _ (old new : Tally) (serial : ℕ) (first : new.first ≡ old.first) (entries : new.entries ≡ old.entries + 1) (next : new.next ≡ serial + 1) (serials : List ℕ) (c : Counts old serials) where
+  more : List ℕ
+  more = serials ++ serial ∷ []
+
+  counted : new.entries ≡ length more
+  counted = omega (arith, entries, c.entries, length-append serials (serial ∷ []))
+
+  next_is : new.next ≡ next_after new.first more
+  next_is = next ∙ sym (next_after_push new.first serials serial)
+
+  pub counts_later : (gap : Gap) → old.gap ≡ Some gap → new.gap ≡ Some gap → Counts new more
+  counts_later gap was is =
+      let g : IsFirstGap old.first serials gap = subst (λ o. MatchOption o (GoOnFrom old.first serials) (λ h. IsFirstGap old.first serials h)) was c.gap in
+      let h : IsFirstGap new.first more gap = subst (λ n. IsFirstGap n more gap) (sym first) (gap_stays old.first serials serial gap g) in
+      record {
+        entries = counted;
+        next = next_is;
+        gap = subst (λ o. MatchOption o (GoOnFrom new.first more) (λ x. IsFirstGap new.first more x)) (sym is) h;
+      }
+
+  module _ (was : old.gap ≡ None) where
+    all : GoOnFrom old.first serials
+    all = subst (λ o. MatchOption o (GoOnFrom old.first serials) (λ h. IsFirstGap old.first serials h)) was c.gap
+
+    pub counts_next : new.gap ≡ None → old.next ≡ serial → Counts new more
+    counts_next is same =
+        let h : GoOnFrom new.first more = subst (λ n. GoOnFrom n more) (sym first) (goes_on old.first serials serial all (sym c.next ∙ same)) in
+        record {
+          entries = counted;
+          next = next_is;
+          gap = subst (λ o. MatchOption o (GoOnFrom new.first more) (λ x. IsFirstGap new.first more x)) (sym is) h;
+        }
+
+    pub counts_gap : (gap : Gap) → new.gap ≡ Some gap → LeavesGap old.next serial (Some gap) → Counts new more
+    counts_gap gap is leaves =
+        let at : LeavesGap (next_after old.first serials) serial (Some gap) = subst (λ n. LeavesGap n serial (Some gap)) c.next leaves in
+        let h : IsFirstGap new.first more gap = subst (λ n. IsFirstGap n more gap) (sym first) (gap_comes old.first serials serial gap all at) in
+        record {
+          entries = counted;
+          next = next_is;
+          gap = subst (λ o. MatchOption o (GoOnFrom new.first more) (λ x. IsFirstGap new.first more x)) (sym is) h;
+        }
+
+-- what is told of a tally
+module _ (tally : Tally) (serials : List ℕ) (c : Counts tally serials) where
+  pub tells_gap : (gap : Gap) → tally.gap ≡ Some gap → Tells tally serials (Missing gap)
+  tells_gap gap is = inl (subst (λ o. MatchOption o (GoOnFrom tally.first serials) (λ h. IsFirstGap tally.first serials h)) is c.gap)
+
+  module _ (none : tally.gap ≡ None) where
+    all_there : GoOnFrom tally.first serials
+    all_there = subst (λ o. MatchOption o (GoOnFrom tally.first serials) (λ h. IsFirstGap tally.first serials h)) none c.gap
+
+    next_there : tally.next ≡ tally.first + length serials
+    next_there = c.next ∙ next_of_all tally.first serials all_there
+
+    pub tells_open : tally.end ≡ None → Tells tally serials Open
+    tells_open is = record { goes_on = all_there; unended = subst (λ o. MatchOption o ⊤ (λ count. count < tally.first + length serials)) (sym is) tt }
+
+    module _ (count : ℕ) (ended : tally.end ≡ Some count) where
+      pub tells_less : count < tally.next → Tells tally serials Open
+      tells_less less = record {
+        goes_on = all_there;
+        unended = subst (λ o. MatchOption o ⊤ (λ n. n < tally.first + length serials)) (sym ended) (subst (λ n. count < n) next_there less);
+      }
+
+      pub tells_whole : tally.next ≡ count → Tells tally serials Whole
+      tells_whole same = record { count = count; ended = ended; goes_on = all_there; all = sym next_there ∙ same }
+
+      pub tells_missing : (gap : Gap) → LeavesGap tally.next count (Some gap) → Tells tally serials (Missing gap)
+      tells_missing gap leaves = inr (record { count = count; ended = ended; goes_on = all_there; from = leaves.0 ∙ next_there; to = leaves.1; some = leaves.2 })

@@ -10,6 +10,7 @@ use rad_auth::{MARK_LENGTH, Mark, PROXY_STATE};
 use rad_packet::{AttributeRef, PacketRef, read};
 
 /// The packet that these octets are, where they are one and nothing stands behind it.
+#[tactic(auto, using(crate::proofs::Whole::refused_is_none, crate::proofs::Whole::padded_is_none, crate::proofs::Whole::same_is_whole))]
 pub fn whole_packet(octets: &[u8]) -> Option<PacketRef<'_>>
     ensures { MatchOption result (¬ IsPacketText octets.now) (λ packet. packet ≡ octets.now) }
 {
@@ -24,6 +25,7 @@ pub fn whole_packet(octets: &[u8]) -> Option<PacketRef<'_>>
 }
 
 /// Whether the last attribute of a packet is this mark. It looks at each attribute once.
+#[tactic(auto, using(crate::proofs::Last::none_ends, crate::proofs::Last::same_ends, crate::proofs::Last::ends_same))]
 pub fn ends_with_mark(packet: &PacketRef<'_>, mark: Mark) -> bool
     ensures { IsTrue result ↔ EndsWithMark mark packet.now }
 {
