@@ -1,12 +1,14 @@
 #!/usr/bin/env python3
 """Spoils lines of a ledger by chance, among lines that are right, and has the auditor that was built read them all: it has to name
 each spoiled line by its file and number, with a reason of how it was spoiled, and no other line, and to count every entry that is
-right. Then it has the auditor read entries that are right alone, and tells how many it reads in a second of processor time.
+right. Then it spoils a ledger at any octets, and compares all that is printed with what audit_model.py answers. Last it has the auditor
+read entries that are right alone, and tells how many it reads in a second of processor time.
 
 usage: spoiled_ledgers.py AUDITOR [LINES [SEED]]    the path of rad_audit; else 100000 lines, and the seed 1
 
 The last line is `N passed, M failed`.
 """
+import itertools
 import json
 import pathlib
 import random
@@ -32,6 +34,11 @@ name = "h1"
 address = "127.0.0.1:2813"
 secret = "home-secret"
 """
+
+MODEL = pathlib.Path(__file__).resolve().parent / "audit_model.py"
+
+# How much is spoiled where the model reads it too.
+SPOILED = 4000
 
 # How many lines stand between two that are right, at most, and how many entries are read for the speed.
 APART = 20
@@ -140,6 +147,26 @@ def of_spoiled(program, folder, count, seed):
         yield f"{printed[-1:]} {err!r} {status}, and not {last}"
 
 
+def of_octets(program, folder, seed):
+    """Octets of a ledger changed, put in and taken out by chance, also in the lines that begin and end it: what differs from the model."""
+    chance, printed = random.Random(seed), []
+    lines, _ = spoiled(chance, SPOILED // 2)
+    content = bytearray("".join(f"{line}\n" for line, _ in lines).encode())
+    for _ in range(SPOILED // 2):
+        at = chance.randrange(len(content))
+        content[at : at + chance.randrange(2)] = bytes(chance.randrange(256) for _ in range(chance.randrange(2)))
+    for words in ([program], [sys.executable, str(MODEL)]):
+        (folder / "ledger").write_bytes(bytes(content))
+        ran = subprocess.run([*words, "config.toml", "ledger"], cwd=folder, capture_output=True, timeout=SECONDS)
+        printed.append((ran.stdout.decode("utf-8", "replace").splitlines(), ran.returncode))
+    (found, status), (wanted, its) = printed
+    for line, other in itertools.zip_longest(found, wanted):
+        if line != other:
+            yield f"{line!r}, and by the model {other!r}"
+    if status != its:
+        yield f"status {status}, and by the model {its}"
+
+
 def of_speed(program, folder):
     run = Run(1, [Lane(0, "h1", HOME)])
     lines = [run.begin(), *(run.entry(client=("192.0.2.10", NAS), more=bytes([26, 122]) + bytes(120)) for _ in range(ENTRIES)), run.end()]
@@ -157,12 +184,12 @@ def main():
     count, seed = (int(word) for word in [*sys.argv[2:], "100000", "1"][: len(sys.argv) - 2] + ["100000", "1"][len(sys.argv) - 2 :])
     with tempfile.TemporaryDirectory() as made:
         folder = pathlib.Path(made)
-        wrong = [*of_spoiled(program, folder, count, seed), *of_speed(program, folder)]
+        wrong = [*of_spoiled(program, folder, count, seed), *of_octets(program, folder, seed), *of_speed(program, folder)]
     for line in wrong[:20]:
         print(line)
     if len(wrong) > 20:
         print(f"and {len(wrong) - 20} more")
-    print(f"{count + 1 - min(len(wrong), count)} passed, {len(wrong)} failed")
+    print(f"{count + 2 - min(len(wrong), count)} passed, {len(wrong)} failed")
     sys.exit(1 if wrong else 0)
 
 
