@@ -1,7 +1,10 @@
 //! What is counted of one lane of a run.
 
-ghost use Rattle.std.specs.Prelude.{◌≡◌, ◌≤◌, ◌<◌, ◌+◌, ◌^◌, ◌++◌, [], ◌∷◌, ℕ, List, Some, None, OnOk, IfOk, IfErr};
+ghost use Rattle.std.specs.Prelude.{◌≡◌, ◌↔◌, ◌≤◌, ◌<◌, ◌+◌, ◌^◌, ◌++◌, [], ◌∷◌, ℕ, List, Some, None, OnOk, IfOk, IfErr};
 ghost use Rattle.rad_ledger.specs.declared.reason.Reason.TheVariants.{SerialNotAbove};
+ghost use Rattle.rad_lane.specs.declared.outgoing.Outgoing.{Outgoing};
+ghost use Rattle.rad_ledger.specs.declared.tally.Verdict.TheVariants.{Whole};
+ghost use Rattle.rad_ledger.specs.Outlets.{AreAllGiven, serials_of};
 ghost use Rattle.rad_ledger.specs.Counting.{Counts, LeavesGap, Tells};
 
 use crate::reason::Reason;
@@ -119,6 +122,7 @@ impl Tally {
     /// What the entries show together.
     pub fn verdict(&self) -> Verdict
         ensures tells { (serials : List ℕ) → Counts self.now serials → Tells self.now serials result }
+        ensures outlet { (given : List Outgoing) → Counts self.now (serials_of given) → self.now.first ≡ 0 → (result ≡ Whole) ↔ AreAllGiven self.now given }
     {
         if let Some(gap) = self.gap {
             return Verdict::Missing(gap);
