@@ -30,11 +30,12 @@ IS_NEW = test -f $(STAMP) && \
 	test -z "$$(find crates/*/src crates/*/specs crates/*/proofs crates.txt $(KIT)bin -newer $(STAMP) -print -quit)"
 IS_BUILT = test -x $(PROGRAM) && $(IS_NEW)
 
-# Proves and builds the program and the auditor, over what earlier checks kept, and runs each as stored.
+# Proves and builds the program and the auditor, over what earlier checks kept, and runs the one as stored and the other over the
+# example.
 build:
 	@mkdir -p out && touch out/rad_proxy.begun
 	@cd crates/rad_proxy && python3 ../../tests/progress.py ../../out/build.txt $(RT) run < stdin
-	@cd crates/rad_audit && python3 ../../tests/progress.py ../../out/build-audit.txt $(RT) run
+	@cd crates/rad_audit && python3 ../../tests/progress.py ../../out/build-audit.txt $(RT) run -- ../../examples/one-home.toml ../../examples/one-home.jsonl
 	@mv out/rad_proxy.begun $(STAMP)
 
 # Shows how the example's request is answered: by the program, where it is built, and else by a run that is not proved.

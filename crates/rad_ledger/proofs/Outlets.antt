@@ -1,5 +1,6 @@
 -- A tally that is whole is over all that an outlet was given, and over nothing else.
-use Rattle.std.proofs.Common.{◌≡◌, ◌↔◌, ℕ, ◌+◌, ◌<◌, ◌≤◌, List, ◌∷◌, ◌++◌, length, map as each, refl, sym, ap, ◌∙◌, subst, arith, Some, IfSome, length-append, get_or}
+use Rattle.std.proofs.Common.{◌≡◌, ◌↔◌, ℕ, ◌+◌, ◌<◌, ◌≤◌, List, ◌∷◌, ◌++◌, length, map as each, refl, sym, ap, ◌∙◌, subst, arith, Some, length-append, get_or, inl, inr}
+use Rattle.std.specs.Prelude.{IfSome}
 use Rattle.std.specs.List.{range_with_len}
 use Rattle.std.proofs.lemmas.List.{length-map}
 use Rattle.std.proofs.lemmas.List.FromFn.{get_or-range_with_len}
@@ -37,7 +38,7 @@ module _ (tally : Tally) (given : List Outgoing) (from_zero : tally.first ≡ 0)
     goes_on = a.in_order ∙ ap (range_with_len 0) (sym long) ∙ ap (λ n. range_with_len n (length (serials_of given))) (sym from_zero)
 
     same_count : (count : ℕ) → tally.end ≡ Some count → count ≡ length given
-    same_count count ended = ap (λ o. elim o [ Some n ↦ n | None ↦ 0 ]) (sym ended ∙ a.counted)
+    same_count count ended = subst (λ o. IfSome o (λ n. count ≡ n)) (sym ended ∙ a.counted) refl
 
     pub all_is_whole : (verdict : Verdict) → Tells tally (serials_of given) verdict → verdict ≡ Whole
     all_is_whole Whole t = refl
