@@ -47,3 +47,6 @@ module _ (tally : Tally) (given : List Outgoing) (from_zero : tally.first ≡ 0)
         absurd (omega (arith, less, from_zero, long))
     all_is_whole (Missing gap) (inl g) = absurd (no_gap tally.first (serials_of given) gap goes_on g)
     all_is_whole (Missing gap) (inr cut) = absurd (omega (arith, same_count cut.count cut.ended, cut.from, cut.to, cut.some, from_zero, long))
+
+  pub whole_exactly : (verdict : Verdict) → Tells tally (serials_of given) verdict → (verdict ≡ Whole) ↔ AreAllGiven tally given
+  whole_exactly verdict t = (λ e. whole_is_all (subst (λ v. Tells tally (serials_of given) v) e t), λ a. all_is_whole a verdict t)

@@ -1,6 +1,7 @@
 -- How the serials go on.
 use Rattle.std.proofs.Common.{◌≡◌, ℕ, zero, suc, ◌+◌, ◌<◌, ◌≤◌, List, [], ◌∷◌, ◌++◌, length, refl, sym, ap, ◌∙◌, arith, add-zero, add-one, append_assoc, length-append, Option, Some, None, MatchOption, subst, inl, inr, ⊤}
 use Rattle.std.specs.List.{range_with_len}
+use Rattle.std.specs.Option.{option_or}
 use Rattle.rad_ledger.specs.Counting.{GoOnFrom, next_after, IsFirstGap, LeavesGap, Counts, Tells}
 use Rattle.rad_ledger.specs.declared.tally.Gap.{Gap}
 use Rattle.rad_ledger.specs.declared.tally.Tally.{Tally}
@@ -101,6 +102,31 @@ module _ (old new : Tally) (serial : ℕ) (first : new.first ≡ old.first) (ent
           next = next_is;
           gap = subst (λ o. MatchOption o (GoOnFrom new.first more) (λ x. IsFirstGap new.first more x)) (sym is) h;
         }
+
+  by_gap : (was : Option Gap) → old.gap ≡ was → (gap : Option Gap) → new.gap ≡ option_or was gap → LeavesGap old.next serial gap → Counts new more
+  by_gap (Some g) was gap is leaves = counts_later g was is
+  by_gap None was None is leaves = counts_next was is leaves
+  by_gap None was (Some g) is leaves = counts_gap was g is leaves
+
+  pub counts_more : (gap : Option Gap) → new.gap ≡ option_or old.gap gap → LeavesGap old.next serial gap → Counts new (serials ++ serial ∷ [])
+  counts_more gap is leaves = by_gap old.gap refl gap is leaves
+
+-- where nothing was counted
+pub counts_none : (tally : Tally) → tally.entries ≡ 0 → tally.next ≡ tally.first → tally.gap ≡ None → Counts tally []
+counts_none tally entries next none = record {
+  entries = entries;
+  next = next;
+  gap = subst (λ o. MatchOption o (GoOnFrom tally.first []) (λ h. IsFirstGap tally.first [] h)) (sym none) refl;
+}
+
+-- what an end line changes is nothing that is counted
+pub counts_still : (old new : Tally) → new.first ≡ old.first → new.next ≡ old.next → new.entries ≡ old.entries → new.gap ≡ old.gap → (serials : List ℕ) → Counts old serials → Counts new serials
+counts_still old new first next entries gap serials c = record {
+  entries = entries ∙ c.entries;
+  next = next ∙ c.next ∙ ap (λ n. next_after n serials) (sym first);
+  gap = subst (λ n. MatchOption new.gap (GoOnFrom n serials) (λ h. IsFirstGap n serials h)) (sym first)
+      (subst (λ o. MatchOption o (GoOnFrom old.first serials) (λ h. IsFirstGap old.first serials h)) (sym gap) c.gap);
+}
 
 -- what is told of a tally
 module _ (tally : Tally) (serials : List ℕ) (c : Counts tally serials) where

@@ -1,5 +1,5 @@
 -- What reading octets tells of whether they are a packet, without padding.
-use Rattle.std.proofs.Common.{◌≡◌, ◌≢◌, ℕ, List, [], length, take, refl, sym, ap, ◌∙◌}
+use Rattle.std.proofs.Common.{◌≡◌, ◌≢◌, ℕ, List, [], length, take, refl, sym, ap, ◌∙◌, subst}
 use Rattle.std.proofs.lemmas.List.{append-nil}
 use Rattle.std.proofs.Math.Seq.{take-length}
 use Rattle.rad_packet.specs.Packet.{IsPacketText}
@@ -22,3 +22,7 @@ padded_is_none octets packet r n p = n (ap length (reads_alone octets packet p r
 -- what reads as a packet of its own length is that packet
 pub same_is_whole : (octets packet : List ℕ) → ReadsAs octets packet → length packet ≡ length octets → packet ≡ octets
 same_is_whole octets packet r n = read_front octets packet r ∙ ap (λ (m : ℕ). take m octets) n ∙ take-length octets
+
+-- and it is one
+pub same_is_packet : (octets packet : List ℕ) → ReadsAs octets packet → length packet ≡ length octets → IsPacketText octets
+same_is_packet octets packet r n = subst IsPacketText (same_is_whole octets packet r n) r.is_packet

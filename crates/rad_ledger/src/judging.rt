@@ -21,6 +21,7 @@ use std::alloc::{AllocError, Global};
 /// # Errors
 ///
 /// Where memory is refused.
+#[tactic(auto, using(crate::proofs::Judged::packets_first))]
 pub fn judge(
     alloc: Global,
     entry: &Entry<'_>,
@@ -41,6 +42,7 @@ pub fn judge(
 }
 
 /// The first thing that is wrong with the packets of an entry.
+#[tactic(auto, using(crate::proofs::Judged::sent_is_none, crate::proofs::Judged::reply_is_none, crate::proofs::Judged::response_is_none, crate::proofs::Judged::are_packets, crate::proofs::Judged::not_judged, crate::proofs::Judged::judged))]
 fn judge_packets(
     alloc: Global,
     entry: &Entry<'_>,
@@ -103,6 +105,7 @@ fn is_sent(sent: &PacketRef<'_>, mark: Mark, home: &Secret) -> bool
 }
 
 /// What is wrong with the reply or the response, where nothing is with what was sent.
+#[tactic(auto, using(crate::proofs::Replies::is_reply, crate::proofs::Replies::is_response, crate::proofs::Replies::is_no_response))]
 fn judge_reply(
     alloc: Global,
     head: RequestHead,
@@ -130,6 +133,7 @@ fn judge_reply(
 }
 
 /// The response to a request of this head after a reply to what was sent. There is none where the reply is not right.
+#[tactic(auto, using(crate::proofs::Replies::other_code, crate::proofs::Replies::other_identifier, crate::proofs::Replies::refused, crate::proofs::Replies::made_for))]
 fn response_after(
     alloc: Global,
     head: RequestHead,

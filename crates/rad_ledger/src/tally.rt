@@ -47,6 +47,7 @@ pub struct Tally {
 
 impl Tally {
     /// No entry yet of a lane whose next response has this serial.
+    #[tactic(auto, using(crate::proofs::Serials::counts_none))]
     pub fn new(first: u64) -> Tally
         requires { first < 2 ^ 63 }
         ensures first { (result.first ≡ first) × (result.end ≡ None) }
@@ -87,6 +88,7 @@ impl Tally {
     /// # Errors
     ///
     /// `SerialNotAbove` for a serial that is not above the last one, or is 2^63 or more; nothing is counted then.
+    #[tactic(auto, using(crate::proofs::Serials::counts_more))]
     pub fn take(&mut self, serial: u64) -> Result<Option<Gap>, Reason>
         ensures above { OnOk result ((self.old.next ≤ serial) × (serial < 2 ^ 63)) }
         ensures gap { IfOk result (λ gap. LeavesGap self.old.next serial gap) }
@@ -98,15 +100,14 @@ impl Tally {
             return Err(Reason::SerialNotAbove);
         }
         let gap = gap_between(self.next, serial);
-        if self.gap.is_none() {
-            self.gap = gap;
-        }
+        self.gap = self.gap.or(gap);
         self.entries += 1;
         self.next = serial + 1;
         Ok(gap)
     }
 
     /// The end line says that there were so many responses in the run. It tells those that are missing behind the last entry.
+    #[tactic(auto, using(crate::proofs::Serials::counts_still))]
     pub fn end(&mut self, count: u64) -> Option<Gap>
         ensures counted { (serials : List ℕ) → Counts self.old serials → Counts self.new serials }
         ensures ended { (self.new.first ≡ self.old.first) × (self.new.end ≡ Some count) }
@@ -120,9 +121,18 @@ impl Tally {
     }
 
     /// What the entries show together.
+    #[tactic(auto, using(crate::proofs::Outlets::whole_exactly))]
     pub fn verdict(&self) -> Verdict
         ensures tells { (serials : List ℕ) → Counts self.now serials → Tells self.now serials result }
         ensures outlet { (given : List Outgoing) → Counts self.now (serials_of given) → self.now.first ≡ 0 → (result ≡ Whole) ↔ AreAllGiven self.now given }
+    {
+        self.found()
+    }
+
+    /// What was counted shows.
+    #[tactic(auto, using(crate::proofs::Serials::tells_gap, crate::proofs::Serials::tells_open, crate::proofs::Serials::tells_less, crate::proofs::Serials::tells_whole, crate::proofs::Serials::tells_missing))]
+    fn found(&self) -> Verdict
+        ensures { (serials : List ℕ) → Counts self.now serials → Tells self.now serials result }
     {
         if let Some(gap) = self.gap {
             return Verdict::Missing(gap);
