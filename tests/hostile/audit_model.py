@@ -56,6 +56,12 @@ def no_number(text):
     raise NoLine
 
 
+def whole(text):
+    """A number without sign: `-0` is none."""
+    need(not text.startswith("-"))
+    return int(text)
+
+
 def are_right(keys, line):
     """Whether the members at these keys have their forms."""
     for key in keys:
@@ -76,7 +82,7 @@ def read_line(octets):
     """The members of a line."""
     need(len(octets) <= MOST_LINE)
     try:
-        line = json.loads(octets.decode("utf-8"), object_pairs_hook=members, parse_float=no_number, parse_constant=no_number)
+        line = json.loads(octets.decode("utf-8"), object_pairs_hook=members, parse_int=whole, parse_float=no_number, parse_constant=no_number)
     except (ValueError, RecursionError):
         raise NoLine from None
     need(type(line) is dict and HEAD <= set(line))
