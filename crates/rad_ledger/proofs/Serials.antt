@@ -61,7 +61,7 @@ gap_comes first serials serial gap e leaves = record {
 
 -- how a tally stands after one entry more: where there was no gap, the one before it is the first
 module _ (old new : Tally) (serial : ℕ) (first : new.first ≡ old.first) (entries : new.entries ≡ old.entries + 1) (next : new.next ≡ serial + 1) (serials : List ℕ) (c : Counts old serials) where
-  more : List ℕ
+  abbrev pub more : List ℕ
   more = serials ++ serial ∷ []
 
   counted : new.entries ≡ length more
