@@ -1,4 +1,5 @@
 pub mod Whole
+pub mod Lines
 pub mod Last
 pub mod Marks
 pub mod Replies

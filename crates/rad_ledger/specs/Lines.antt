@@ -1,13 +1,13 @@
--- Lines of a ledger (own): objects of JSON (RFC 8259), with their keys in any order.
+-- Lines of a ledger (own): objects of JSON (RFC 8259), with their keys in any order, each once.
 use Rattle.std.specs.Prelude.{◌≡◌, ℕ, ◌<◌, ◌≤◌, ◌^◌, List, [], ◌∷◌, length, All, Contains, codes, Bool, option_copied, IsTrue, cond, ◌==◌, Option, Some, None, Ok, ◌⊎◌, ⊤}
 use Rattle.std.specs.List.{zip}
 use Rattle.std.specs.Int.{w64, from_be_bytes}
 use Rattle.std.specs.Char.{is_ascii_digit}
 use Rattle.std.specs.Str.{IsUtf8}
-use Rattle.std.specs.Str.Parse.{IsNumeral, digits_value}
+use Rattle.std.specs.Str.Parse.{IsNumeral, digits_value, without_leading_plus}
 use Rattle.json.specs.Json.{Json, string, number, array, object, Items, no_items, item, Members, document}
-use Rattle.json.specs.Find.{get_member}
-use Rattle.json.specs.Strict.{keys, AreDistinct}
+use Rattle.json.specs.Find.{get}
+use Rattle.json.specs.Strict.{keys, HasUniqueKeys}
 use Rattle.hex.specs.Hex.{decode_of}
 use Rattle.rad_realms.specs.Address.{address_in}
 use Rattle.rad_ledger.specs.declared.entry.Entry.{Entry}
@@ -15,38 +15,50 @@ use Rattle.rad_ledger.specs.declared.begin.Begin.{Begin}
 use Rattle.rad_ledger.specs.declared.begin.End.{End}
 use Rattle.rad_ledger.specs.declared.begin.LaneStart.{LaneStart}
 use Rattle.rad_ledger.specs.declared.begin.LaneCount.{LaneCount}
+use Rattle.rad_ledger.specs.declared.faults.LineFault.{LineFault}
+use Rattle.rad_ledger.specs.declared.faults.LineFault.TheVariants.{NotALine, OutOfMemory}
 use Rattle.rad_ledger.specs.declared.reading.Line.{Line}
 use Rattle.rad_ledger.specs.declared.reading.Line.TheVariants.{Begin as begins, Entry as enters, End as ends}
 
--- What an object has at a key: nothing; a text; a number, whole, below this limit, without sign, point or exponent; octets, as
--- hexadecimal digits.
-abbrev pub Lacks : List ℕ → Members → Type 0
-Lacks key members = get_member key members ≡ None
+-- A fault tells that nothing is there, where it is not want of memory.
+abbrev pub Denies : LineFault → Type 0 → Type 0
+Denies NotALine there = ¬ there
+Denies OutOfMemory there = ⊤
 
-abbrev pub HasText : List ℕ → Members → List ℕ → Type 0
-HasText key members text = get_member key members ≡ Some (string text)
+-- What an object has at a key: nothing; a text; a whole number below this limit, without sign, point or exponent (JSON has no plus
+-- before a number); octets, as hexadecimal digits.
+abbrev pub Lacks : List ℕ → Json → Type 0
+Lacks key value = get key value ≡ None
 
-pub record HasNumber (key : List ℕ) (limit : ℕ) (members : Members) (value : ℕ) : Type 0 where
+abbrev pub HasText : List ℕ → Json → List ℕ → Type 0
+HasText key value text = get key value ≡ Some (string text)
+
+pub record HasNumber (key : List ℕ) (limit : ℕ) (value : Json) (its : ℕ) : Type 0 where
   pub digits : List ℕ
-  pub there : get_member key members ≡ Some (number digits)
-  pub numeral : IsNumeral 10 digits
-  pub value_is : digits_value 10 digits ≡ value
-  pub below : value < limit
+  pub there : get key value ≡ Some (number digits)
+  pub numeral : IsNumeral 10 (without_leading_plus digits)
+  pub its_digits : digits_value 10 (without_leading_plus digits) ≡ its
+  pub below : its < limit
 
-pub record HasOctets (key : List ℕ) (members : Members) (octets : List ℕ) : Type 0 where
+pub record HasOctets (key : List ℕ) (value : Json) (octets : List ℕ) : Type 0 where
   pub digits : List ℕ
-  pub there : HasText key members digits
+  pub there : HasText key value digits
   pub are : decode_of digits ≡ Ok octets
 
--- What may be there or not: a number, and octets that are a text under one key, or as digits under another.
-abbrev pub MayHaveNumber : List ℕ → ℕ → Members → Option ℕ → Type 0
-MayHaveNumber key limit members None = Lacks key members
-MayHaveNumber key limit members (Some value) = HasNumber key limit members value
+-- What may be there or not: a number, and octets that are a text under one key, or digits under another.
+abbrev pub MayHaveNumber : List ℕ → ℕ → Json → Option ℕ → Type 0
+MayHaveNumber key limit value None = Lacks key value
+MayHaveNumber key limit value (Some its) = HasNumber key limit value its
 
-abbrev pub MayHaveWords : List ℕ → List ℕ → Members → Option (List ℕ) → Type 0
-MayHaveWords key other members None = Lacks key members × Lacks other members
-MayHaveWords key other members (Some octets) =
-    (HasText key members octets × Lacks other members) ⊎ (Lacks key members × HasOctets other members octets)
+abbrev pub MayHaveWords : List ℕ → List ℕ → Json → Option (List ℕ) → Type 0
+MayHaveWords key other value None = Lacks key value × Lacks other value
+MayHaveWords key other value (Some octets) = (HasText key value octets × Lacks other value) ⊎ (Lacks key value × HasOctets other value octets)
+
+-- An object that has no keys but these.
+pub record HasKeys (known : List (List ℕ)) (value : Json) : Type 0 where
+  pub members : Members
+  pub is_object : value ≡ object members
+  pub known_all : All (λ key. Contains known key) (keys members)
 
 -- A moment, as `2026-01-31T23:59:59.999Z`: a digit where the form has `d`, and else what the form has.
 abbrev pub has_form : ℕ → ℕ → Bool
@@ -56,20 +68,26 @@ pub record IsTime (text : List ℕ) : Type 0 where
   pub long : length text ≡ 24
   pub formed : All (λ both. IsTrue (has_form both.0 both.1)) (zip (codes "dddd-dd-ddTdd:dd:dd.dddZ") text)
 
--- A run's name and a moment, in a line of this type.
-pub record IsHead (kind : List ℕ) (members : Members) (run : ℕ) (time : List ℕ) : Type 0 where
-  pub type_is : HasText (codes "type") members kind
-  pub name : List ℕ
-  pub named : HasOctets (codes "run") members name
-  pub long : length name ≡ 8
-  pub run_is : from_be_bytes w64 name ≡ run
-  pub timed : HasText (codes "time") members time
-  pub is_time : IsTime time
+-- A run's name, of eight octets.
+pub record HasRun (value : Json) (run : ℕ) : Type 0 where
+  pub octets : List ℕ
+  pub there : HasOctets (codes "run") value octets
+  pub long : length octets ≡ 8
+  pub are : from_be_bytes w64 octets ≡ run
 
--- Each key once, and none but these.
-pub record HasKeys (known : List (List ℕ)) (members : Members) : Type 0 where
-  pub once : AreDistinct (keys members)
-  pub known_all : All (λ key. Contains known key) (keys members)
+pub record HasTime (value : Json) (time : List ℕ) : Type 0 where
+  pub there : HasText (codes "time") value time
+  pub is : IsTime time
+
+-- A client's address, and a request's Authenticator.
+pub record HasClient (value : Json) (client : List ℕ) : Type 0 where
+  pub text : List ℕ
+  pub there : HasText (codes "client") value text
+  pub is : address_in text ≡ Some client
+
+pub record HasAuthenticator (value : Json) (octets : List ℕ) : Type 0 where
+  pub there : HasOctets (codes "authenticator") value octets
+  pub long : length octets ≡ 16
 
 abbrev pub keys_of_entry : List (List ℕ)
 keys_of_entry =
@@ -77,71 +95,91 @@ keys_of_entry =
     ∷ codes "identifier" ∷ codes "authenticator" ∷ codes "sent" ∷ codes "reply" ∷ codes "response" ∷ codes "realm" ∷ codes "realm_octets"
     ∷ codes "session" ∷ codes "session_octets" ∷ codes "status" ∷ []
 
-pub record IsEntry (members : Members) (e : Entry) : Type 0 where
-  pub its_keys : HasKeys keys_of_entry members
-  pub head : IsHead (codes "entry") members e.run e.time.now
-  pub home : HasText (codes "home") members e.home.now
-  pub lane : HasNumber (codes "lane") (2 ^ 16) members e.lane
-  pub serial : HasNumber (codes "serial") (2 ^ 63) members e.serial
-  pub number_is : HasNumber (codes "record") (2 ^ 64) members e.number
-  pub client : List ℕ
-  pub client_there : HasText (codes "client") members client
-  pub client_is : address_in client ≡ Some e.client
-  pub port : HasNumber (codes "port") (2 ^ 16) members e.port
-  pub identifier : HasNumber (codes "identifier") (2 ^ 8) members e.identifier
-  pub authenticator : HasOctets (codes "authenticator") members e.authenticator
-  pub authenticator_long : length e.authenticator ≡ 16
-  pub sent : HasOctets (codes "sent") members e.sent.now
-  pub reply : HasOctets (codes "reply") members e.reply.now
-  pub response : HasOctets (codes "response") members e.response.now
-  pub realm : MayHaveWords (codes "realm") (codes "realm_octets") members (option_copied e.realm)
-  pub session : MayHaveWords (codes "session") (codes "session_octets") members (option_copied e.session)
-  pub status : MayHaveNumber (codes "status") (2 ^ 32) members e.status
+abbrev pub keys_of_begin : List (List ℕ)
+keys_of_begin = codes "type" ∷ codes "run" ∷ codes "time" ∷ codes "version" ∷ codes "file" ∷ codes "lanes" ∷ []
 
--- The objects of a list, in order, each of which is the value at its place.
-abbrev pub AreObjects : {X : Type 0} → (Members → X → Type 0) → Items → List X → Type 0
-AreObjects Is no_items [] = ⊤
-AreObjects Is no_items (x ∷ xs) = ⊥
-AreObjects Is (item value values) [] = ⊥
-AreObjects Is (item value values) (x ∷ xs) = ((members : Members) × (value ≡ object members) × Is members x) × AreObjects Is values xs
+abbrev pub keys_of_end : List (List ℕ)
+keys_of_end = codes "type" ∷ codes "run" ∷ codes "time" ∷ codes "lanes" ∷ []
 
-pub record HasLanes {X : Type 0} (Is : Members → X → Type 0) (members : Members) (lanes : List X) : Type 0 where
+abbrev pub keys_of_start : List (List ℕ)
+keys_of_start = codes "lane" ∷ codes "home" ∷ codes "serial" ∷ []
+
+abbrev pub keys_of_count : List (List ℕ)
+keys_of_count = codes "lane" ∷ codes "entries" ∷ []
+
+pub record IsEntry (value : Json) (e : Entry) : Type 0 where
+  pub its_keys : HasKeys keys_of_entry value
+  pub type_is : HasText (codes "type") value (codes "entry")
+  pub run : HasRun value e.run
+  pub time : HasTime value e.time.now
+  pub home : HasText (codes "home") value e.home.now
+  pub lane : HasNumber (codes "lane") (2 ^ 16) value e.lane
+  pub serial : HasNumber (codes "serial") (2 ^ 63) value e.serial
+  pub record_is : HasNumber (codes "record") (2 ^ 64) value e.number
+  pub client : HasClient value e.client
+  pub port : HasNumber (codes "port") (2 ^ 16) value e.port
+  pub identifier : HasNumber (codes "identifier") (2 ^ 8) value e.identifier
+  pub authenticator : HasAuthenticator value e.authenticator
+  pub sent : HasOctets (codes "sent") value e.sent.now
+  pub reply : HasOctets (codes "reply") value e.reply.now
+  pub response : HasOctets (codes "response") value e.response.now
+  pub realm : MayHaveWords (codes "realm") (codes "realm_octets") value (option_copied e.realm)
+  pub session : MayHaveWords (codes "session") (codes "session_octets") value (option_copied e.session)
+  pub status : MayHaveNumber (codes "status") (2 ^ 32) value e.status
+
+-- The values of a list, in order, each of which is what stands at its place.
+abbrev pub AreEach : {X : Type 0} → (Json → X → Type 0) → Items → List X → Type 0
+AreEach Is no_items [] = ⊤
+AreEach Is no_items (x ∷ xs) = ⊥
+AreEach Is (item value values) [] = ⊥
+AreEach Is (item value values) (x ∷ xs) = Is value x × AreEach Is values xs
+
+pub record HasLanes {X : Type 0} (Is : Json → X → Type 0) (value : Json) (lanes : List X) : Type 0 where
   pub items : Items
-  pub there : get_member (codes "lanes") members ≡ Some (array items)
-  pub are : AreObjects Is items lanes
+  pub there : get (codes "lanes") value ≡ Some (array items)
+  pub are : AreEach Is items lanes
 
-pub record IsLaneStart (members : Members) (start : LaneStart) : Type 0 where
-  pub its_keys : HasKeys (codes "lane" ∷ codes "home" ∷ codes "serial" ∷ []) members
-  pub lane : HasNumber (codes "lane") (2 ^ 16) members start.lane
-  pub home : HasText (codes "home") members start.home.now
-  pub serial : HasNumber (codes "serial") (2 ^ 63) members start.serial
+pub record IsLaneStart (value : Json) (start : LaneStart) : Type 0 where
+  pub its_keys : HasKeys keys_of_start value
+  pub lane : HasNumber (codes "lane") (2 ^ 16) value start.lane
+  pub home : HasText (codes "home") value start.home.now
+  pub serial : HasNumber (codes "serial") (2 ^ 63) value start.serial
 
-pub record IsLaneCount (members : Members) (count : LaneCount) : Type 0 where
-  pub its_keys : HasKeys (codes "lane" ∷ codes "entries" ∷ []) members
-  pub lane : HasNumber (codes "lane") (2 ^ 16) members count.lane
-  pub entries : HasNumber (codes "entries") (2 ^ 64) members count.entries
+pub record IsLaneCount (value : Json) (count : LaneCount) : Type 0 where
+  pub its_keys : HasKeys keys_of_count value
+  pub lane : HasNumber (codes "lane") (2 ^ 16) value count.lane
+  pub entries : HasNumber (codes "entries") (2 ^ 64) value count.entries
 
-pub record IsBegin (members : Members) (begin : Begin) : Type 0 where
-  pub its_keys : HasKeys (codes "type" ∷ codes "run" ∷ codes "time" ∷ codes "version" ∷ codes "file" ∷ codes "lanes" ∷ []) members
-  pub head : IsHead (codes "begin") members begin.run begin.time.now
-  pub version : HasText (codes "version") members begin.version.now
-  pub file : HasNumber (codes "file") (2 ^ 64) members begin.file
-  pub lanes : HasLanes IsLaneStart members begin.lanes.items
+pub record IsBegin (value : Json) (begin : Begin) : Type 0 where
+  pub its_keys : HasKeys keys_of_begin value
+  pub type_is : HasText (codes "type") value (codes "begin")
+  pub run : HasRun value begin.run
+  pub time : HasTime value begin.time.now
+  pub version : HasText (codes "version") value begin.version.now
+  pub file : HasNumber (codes "file") (2 ^ 64) value begin.file
+  pub lanes : HasLanes IsLaneStart value begin.lanes.items
 
-pub record IsEnd (members : Members) (end : End) : Type 0 where
-  pub its_keys : HasKeys (codes "type" ∷ codes "run" ∷ codes "time" ∷ codes "lanes" ∷ []) members
-  pub head : IsHead (codes "end") members end.run end.time.now
-  pub lanes : HasLanes IsLaneCount members end.lanes.items
+pub record IsEnd (value : Json) (end : End) : Type 0 where
+  pub its_keys : HasKeys keys_of_end value
+  pub type_is : HasText (codes "type") value (codes "end")
+  pub run : HasRun value end.run
+  pub time : HasTime value end.time.now
+  pub lanes : HasLanes IsLaneCount value end.lanes.items
 
-abbrev pub IsLineOf : Members → Line → Type 0
-IsLineOf members (begins begin) = IsBegin members begin
-IsLineOf members (enters entry) = IsEntry members entry
-IsLineOf members (ends end) = IsEnd members end
+abbrev pub IsLineOf : Json → Line → Type 0
+IsLineOf value (begins begin) = IsBegin value begin
+IsLineOf value (enters entry) = IsEntry value entry
+IsLineOf value (ends end) = IsEnd value end
 
--- A text that is a line of a ledger: UTF-8, of at most so many octets.
-pub record IsLine (text : List ℕ) (line : Line) : Type 0 where
-  pub most : length text ≤ 65536
-  pub characters : IsUtf8 text
-  pub members : Members
-  pub read : document text ≡ Some (object members)
-  pub is : IsLineOf members line
+-- Octets that are a value, in which no object has a key twice.
+pub record IsValue (octets : List ℕ) (value : Json) : Type 0 where
+  pub characters : IsUtf8 octets
+  pub read : document octets ≡ Some value
+  pub once : HasUniqueKeys value
+
+-- Octets that are a line of a ledger, of at most so many.
+pub record IsLine (octets : List ℕ) (line : Line) : Type 0 where
+  pub most : length octets ≤ 65536
+  pub value : Json
+  pub its_value : IsValue octets value
+  pub is : IsLineOf value line
