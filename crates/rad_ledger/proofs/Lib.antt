@@ -1,5 +1,6 @@
 pub mod Whole
 pub mod Lines
+pub mod Values
 pub mod Last
 pub mod Marks
 pub mod Replies

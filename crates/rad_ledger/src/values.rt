@@ -47,29 +47,35 @@ pub(crate) fn has_keys(value: &Value<'_>, known: &[&str]) -> bool
 }
 
 /// The text at a key.
+#[tactic(auto, using(crate::proofs::Values::text_found, crate::proofs::Values::no_text, crate::proofs::Values::no_text_there))]
 pub(crate) fn text_at<'a>(value: &Value<'a>, key: &str) -> Result<&'a str, LineFault>
     ensures { MatchResult result (λ text. HasText key.now (value_view value.now) text.now) (λ fault. Denies fault ((text : List ℕ) × HasText key.now (value_view value.now) text)) }
 {
-    match value.get(key) {
-        Some(Value::String(text)) => Ok(*text),
-        _ => Err(LineFault::NotALine),
+    let Some(found) = value.get(key) else {
+        return Err(LineFault::NotALine);
+    };
+    match found.as_str() {
+        Some(text) => Ok(text),
+        None => Err(LineFault::NotALine),
     }
 }
 
 /// The number at a key, below 2^64.
+#[tactic(auto, using(crate::proofs::Values::number_found, crate::proofs::Values::no_number, crate::proofs::Values::no_number_there))]
 pub(crate) fn number_at(value: &Value<'_>, key: &str) -> Result<u64, LineFault>
     ensures { MatchResult result (λ its. HasNumber key.now (2 ^ 64) (value_view value.now) its) (λ fault. Denies fault ((its : ℕ) × HasNumber key.now (2 ^ 64) (value_view value.now) its)) }
 {
-    let Some(Value::Number(digits)) = value.get(key) else {
+    let Some(found) = value.get(key) else {
         return Err(LineFault::NotALine);
     };
-    match digits.parse::<u64>() {
-        Ok(number) => Ok(number),
-        Err(_) => Err(LineFault::NotALine),
+    match found.as_u64() {
+        Some(number) => Ok(number),
+        None => Err(LineFault::NotALine),
     }
 }
 
 /// The number at a key, below 2^63.
+#[tactic(auto, using(crate::proofs::Values::narrower, crate::proofs::Values::too_large, crate::proofs::Values::none_below))]
 pub(crate) fn serial_at(value: &Value<'_>, key: &str) -> Result<u64, LineFault>
     ensures { MatchResult result (λ its. HasNumber key.now (2 ^ 63) (value_view value.now) its) (λ fault. Denies fault ((its : ℕ) × HasNumber key.now (2 ^ 63) (value_view value.now) its)) }
 {
@@ -82,6 +88,7 @@ pub(crate) fn serial_at(value: &Value<'_>, key: &str) -> Result<u64, LineFault>
 }
 
 /// The number at a key, below 2^16.
+#[tactic(auto, using(crate::proofs::Values::narrower, crate::proofs::Values::too_large, crate::proofs::Values::none_below))]
 pub(crate) fn short_at(value: &Value<'_>, key: &str) -> Result<u16, LineFault>
     ensures { MatchResult result (λ its. HasNumber key.now (2 ^ 16) (value_view value.now) its) (λ fault. Denies fault ((its : ℕ) × HasNumber key.now (2 ^ 16) (value_view value.now) its)) }
 {
@@ -92,6 +99,7 @@ pub(crate) fn short_at(value: &Value<'_>, key: &str) -> Result<u16, LineFault>
 }
 
 /// The number at a key, below 2^8.
+#[tactic(auto, using(crate::proofs::Values::narrower, crate::proofs::Values::too_large, crate::proofs::Values::none_below))]
 pub(crate) fn octet_at(value: &Value<'_>, key: &str) -> Result<u8, LineFault>
     ensures { MatchResult result (λ its. HasNumber key.now (2 ^ 8) (value_view value.now) its) (λ fault. Denies fault ((its : ℕ) × HasNumber key.now (2 ^ 8) (value_view value.now) its)) }
 {
@@ -102,6 +110,7 @@ pub(crate) fn octet_at(value: &Value<'_>, key: &str) -> Result<u8, LineFault>
 }
 
 /// The octets whose digits stand at a key, in this room.
+#[tactic(auto, using(crate::proofs::Values::octets_found, crate::proofs::Values::no_octets, crate::proofs::Values::no_octets_text))]
 pub(crate) fn octets_at<'r>(
     alloc: Global,
     value: &Value<'_>,
