@@ -1,6 +1,7 @@
 pub mod Whole
 pub mod Lines
 pub mod Values
+pub mod Parts
 pub mod Last
 pub mod Marks
 pub mod Replies

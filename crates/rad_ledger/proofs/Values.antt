@@ -9,13 +9,16 @@ use Rattle.rad_ledger.specs.Lines.{Denies, HasText, HasNumber, HasOctets}
 use Rattle.rad_ledger.specs.declared.faults.LineFault.{LineFault}
 use Rattle.rad_ledger.proofs.Lines.{denied}
 
-differ : {A : Type 0} (o : Option A) (x : A) → None ≡ o → o ≡ Some x → ⊥
+abbrev nothing : Option ℕ
+nothing = None
+
+pub differ : {A : Type 0} (o : Option A) (x : A) → None ≡ o → o ≡ Some x → ⊥
 differ o x n s = subst (λ p. MatchOption p ⊤ (λ _. ⊥)) (n ∙ s) tt
 
-same_some : {A : Type 0} (x y : A) → Some x ≡ Some y → x ≡ y
+pub same_some : {A : Type 0} (x y : A) → Some x ≡ Some y → x ≡ y
 same_some x y e = subst (λ o. IfSome o (λ z. x ≡ z)) e refl
 
-string_by : (j : Json) (t : List ℕ) → as_str j ≡ Some t → j ≡ string t
+pub string_by : (j : Json) (t : List ℕ) → as_str j ≡ Some t → j ≡ string t
 string_by null t e = absurd (differ None t refl e)
 string_by (boolean b) t e = absurd (differ None t refl e)
 string_by (number s) t e = absurd (differ None t refl e)
@@ -69,11 +72,11 @@ module _ (key : List ℕ) (value : Json) where
     pub number_found : (n : ℕ) → MatchOption (as_number found) (Some n ≡ None) (λ s. ParsesUnsigned 64 10 s (ok_or (Some n) s)) → HasNumber key (2 ^ 64) value n
     number_found n p = by_digits n (as_number found) refl p
 
-    by_fails : (digits : Option (List ℕ)) → MatchOption digits (None {ℕ} ≡ None) (λ s. ParsesUnsigned 64 10 s (ok_or None s)) → MatchOption digits ⊤ (λ s. ¬ (IsNumeral 10 (without_leading_plus s) × (digits_value 10 (without_leading_plus s) < 2 ^ 64)))
+    by_fails : (digits : Option (List ℕ)) → MatchOption digits (nothing ≡ None) (λ s. ParsesUnsigned 64 10 s (ok_or None s)) → MatchOption digits ⊤ (λ s. ¬ (IsNumeral 10 (without_leading_plus s) × (digits_value 10 (without_leading_plus s) < 2 ^ 64)))
     by_fails None p = tt
     by_fails (Some s) p = p
 
-    pub no_number : MatchOption (as_number found) (None {ℕ} ≡ None) (λ s. ParsesUnsigned 64 10 s (ok_or None s)) → ¬ NumberThere (2 ^ 64)
+    pub no_number : MatchOption (as_number found) (nothing ≡ None) (λ s. ParsesUnsigned 64 10 s (ok_or None s)) → ¬ NumberThere (2 ^ 64)
     no_number p (n, h) =
         let is : as_number found ≡ Some h.digits = ap as_number (same_some found (number h.digits) (e ∙ h.there)) in
         let fails : ¬ (IsNumeral 10 (without_leading_plus h.digits) × (digits_value 10 (without_leading_plus h.digits) < 2 ^ 64)) =

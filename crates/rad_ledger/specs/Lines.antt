@@ -1,5 +1,5 @@
 -- Lines of a ledger (own): objects of JSON (RFC 8259), with their keys in any order, each once.
-use Rattle.std.specs.Prelude.{◌≡◌, ℕ, ◌<◌, ◌≤◌, ◌^◌, List, [], ◌∷◌, length, All, Contains, codes, Bool, option_copied, IsTrue, cond, ◌==◌, Option, Some, None, Ok, ◌⊎◌, ⊤}
+use Rattle.std.specs.Prelude.{◌≡◌, ℕ, ◌<◌, ◌≤◌, ◌*◌, ◌^◌, List, [], ◌∷◌, length, All, Contains, codes, Bool, option_copied, IsTrue, cond, ◌==◌, Option, Some, None, Ok, ◌⊎◌, ⊤}
 use Rattle.std.specs.List.{zip}
 use Rattle.std.specs.Int.{w64, from_be_bytes}
 use Rattle.std.specs.Char.{is_ascii_digit}
@@ -68,11 +68,17 @@ pub record IsTime (text : List ℕ) : Type 0 where
   pub long : length text ≡ 24
   pub formed : All (λ both. IsTrue (has_form both.0 both.1)) (zip (codes "dddd-dd-ddTdd:dd:dd.dddZ") text)
 
--- A run's name, of eight octets.
+-- So many octets, as twice as many digits.
+pub record HasArray (key : List ℕ) (count : ℕ) (value : Json) (octets : List ℕ) : Type 0 where
+  pub digits : List ℕ
+  pub there : HasText key value digits
+  pub long : length digits ≡ 2 * count
+  pub are : decode_of digits ≡ Ok octets
+
+-- A run's name: a number of eight octets.
 pub record HasRun (value : Json) (run : ℕ) : Type 0 where
   pub octets : List ℕ
-  pub there : HasOctets (codes "run") value octets
-  pub long : length octets ≡ 8
+  pub there : HasArray (codes "run") 8 value octets
   pub are : from_be_bytes w64 octets ≡ run
 
 pub record HasTime (value : Json) (time : List ℕ) : Type 0 where
@@ -85,9 +91,8 @@ pub record HasClient (value : Json) (client : List ℕ) : Type 0 where
   pub there : HasText (codes "client") value text
   pub is : address_in text ≡ Some client
 
-pub record HasAuthenticator (value : Json) (octets : List ℕ) : Type 0 where
-  pub there : HasOctets (codes "authenticator") value octets
-  pub long : length octets ≡ 16
+abbrev pub HasAuthenticator : Json → List ℕ → Type 0
+HasAuthenticator value octets = HasArray (codes "authenticator") 16 value octets
 
 abbrev pub keys_of_entry : List (List ℕ)
 keys_of_entry =

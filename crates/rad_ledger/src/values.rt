@@ -12,6 +12,7 @@ use rad_realms::read_address;
 use std::alloc::Global;
 
 /// The value that these octets are, where no object in it has a key twice.
+#[tactic(auto, using(crate::proofs::Parts::is_value, crate::proofs::Parts::no_utf8, crate::proofs::Parts::no_value))]
 pub(crate) fn read_value<'a>(
     alloc: Global,
     octets: &'a [u8],
@@ -131,6 +132,7 @@ pub(crate) fn octets_at<'r>(
 }
 
 /// A run's name: sixteen hexadecimal digits.
+#[tactic(auto, using(crate::proofs::Parts::array_found, crate::proofs::Parts::run_found, crate::proofs::Parts::no_run, crate::proofs::Parts::no_run_text))]
 pub(crate) fn run_at(value: &Value<'_>) -> Result<u64, LineFault>
     ensures { MatchResult result (λ run. HasRun (value_view value.now) run) (λ fault. Denies fault ((run : ℕ) × HasRun (value_view value.now) run)) }
 {
@@ -142,6 +144,7 @@ pub(crate) fn run_at(value: &Value<'_>) -> Result<u64, LineFault>
 }
 
 /// A request's Authenticator: thirty-two hexadecimal digits.
+#[tactic(auto, using(crate::proofs::Parts::array_found, crate::proofs::Parts::no_array, crate::proofs::Parts::no_array_text))]
 pub(crate) fn authenticator_at(value: &Value<'_>) -> Result<[u8; 16], LineFault>
     ensures { MatchResult result (λ octets. HasAuthenticator (value_view value.now) octets) (λ fault. Denies fault ((octets : List ℕ) × HasAuthenticator (value_view value.now) octets)) }
 {
@@ -153,6 +156,7 @@ pub(crate) fn authenticator_at(value: &Value<'_>) -> Result<[u8; 16], LineFault>
 }
 
 /// The moment of a line.
+#[tactic(auto, using(crate::proofs::Parts::time_found, crate::proofs::Parts::no_time, crate::proofs::Parts::no_time_text))]
 pub(crate) fn time_at<'a>(value: &Value<'a>) -> Result<&'a str, LineFault>
     ensures { MatchResult result (λ time. HasTime (value_view value.now) time.now) (λ fault. Denies fault ((time : List ℕ) × HasTime (value_view value.now) time)) }
 {
@@ -188,6 +192,7 @@ fn fits(form: u8, octet: u8) -> bool
 }
 
 /// The client's address.
+#[tactic(auto, using(crate::proofs::Parts::client_found, crate::proofs::Parts::no_client, crate::proofs::Parts::no_client_text))]
 pub(crate) fn client_at(value: &Value<'_>) -> Result<[u8; 4], LineFault>
     ensures { MatchResult result (λ client. HasClient (value_view value.now) client) (λ fault. Denies fault ((client : List ℕ) × HasClient (value_view value.now) client)) }
 {
@@ -198,6 +203,7 @@ pub(crate) fn client_at(value: &Value<'_>) -> Result<[u8; 4], LineFault>
 }
 
 /// A realm or a session: none, a text at the one key, or octets that are no text at the other, in this room.
+#[tactic(auto, using(crate::proofs::Parts::words_none, crate::proofs::Parts::words_text, crate::proofs::Parts::words_octets, crate::proofs::Parts::two_words, crate::proofs::Parts::no_words, crate::proofs::Parts::no_words_octets))]
 pub(crate) fn words_at<'a>(
     alloc: Global,
     value: &Value<'a>,
@@ -207,15 +213,23 @@ pub(crate) fn words_at<'a>(
 ) -> Result<Option<&'a [u8]>, LineFault>
     ensures { MatchResult result (λ words. MayHaveWords key.now other.now (value_view value.now) (option_copied words)) (λ fault. Denies fault ((words : Option (List ℕ)) × MayHaveWords key.now other.now (value_view value.now) words)) }
 {
-    match (value.get(key), value.get(other)) {
-        (None, None) => Ok(None),
-        (Some(Value::String(text)), None) => Ok(Some(text.as_bytes())),
-        (None, Some(_)) => Ok(Some(octets_at(alloc, value, other, room)?)),
-        _ => Err(LineFault::NotALine),
+    let Some(found) = value.get(key) else {
+        if value.get(other).is_none() {
+            return Ok(None);
+        }
+        return Ok(Some(octets_at(alloc, value, other, room)?));
+    };
+    if value.get(other).is_some() {
+        return Err(LineFault::NotALine);
+    }
+    match found.as_str() {
+        Some(text) => Ok(Some(text.as_bytes())),
+        None => Err(LineFault::NotALine),
     }
 }
 
 /// An Acct-Status-Type, where there is one.
+#[tactic(auto, using(crate::proofs::Parts::status_none, crate::proofs::Parts::status_found, crate::proofs::Parts::no_status, crate::proofs::Parts::no_status_number))]
 pub(crate) fn status_at(value: &Value<'_>) -> Result<Option<u32>, LineFault>
     ensures { MatchResult result (λ status. MayHaveNumber (codes "status") (2 ^ 32) (value_view value.now) status) (λ fault. Denies fault ((status : Option ℕ) × MayHaveNumber (codes "status") (2 ^ 32) (value_view value.now) status)) }
 {
