@@ -28,8 +28,8 @@ module _ (home sent reply : List ℕ) where
   other_identifier n r = n r.answers.reply_identifier
 
   -- Nor is what is refused, but for want of memory.
-  pub refused : (fault : ReplyFault) → IsAnsweredOrRefused sent reply home → RefusesReply sent reply home fault → fault ≢ OutOfMemory → ¬ IsReply home sent reply
-  refused fault law is other r = other (law r.head r.client r.response fault r.answers is)
+  pub refused : (fault : ReplyFault) → ((s r h : List ℕ) → IsAnsweredOrRefused s r h) → RefusesReply sent reply home fault → fault ≢ OutOfMemory → ¬ IsReply home sent reply
+  refused fault law is other r = other (law sent reply home r.head r.client r.response fault r.answers is)
 
   module _ (head : RequestHead) (client response : List ℕ) (answers : Answers head sent reply client home response) where
     -- After a reply that is right there is a response.
@@ -40,5 +40,5 @@ module _ (home sent reply : List ℕ) where
     pub is_response : (its : List ℕ) → response ≡ its → Answers head sent reply client home its
     is_response its e = subst (λ x. Answers head sent reply client home x) e answers
 
-    pub is_no_response : (its : List ℕ) → ((a b : List ℕ) → Answers head sent reply client home a → Answers head sent reply client home b → a ≡ b) → response ≢ its → ¬ Answers head sent reply client home its
-    is_no_response its one n other = n (one response its answers other)
+    pub is_no_response : (its : List ℕ) → ((h : RequestHead) (s r c o a b : List ℕ) → Answers h s r c o a → Answers h s r c o b → a ≡ b) → response ≢ its → ¬ Answers head sent reply client home its
+    is_no_response its one n other = n (one head sent reply client home response its answers other)

@@ -1,5 +1,6 @@
 -- How the serials go on.
-use Rattle.std.proofs.Common.{◌≡◌, ℕ, zero, suc, ◌+◌, ◌<◌, ◌≤◌, List, [], ◌∷◌, ◌++◌, length, refl, sym, ap, ◌∙◌, arith, add-zero, add-one, append_assoc, length-append, Option, Some, None, MatchOption, subst, inl, inr, ⊤}
+use Rattle.std.proofs.Common.{◌≡◌, ℕ, zero, suc, ◌+◌, ◌<◌, ◌≤◌, List, [], ◌∷◌, ◌++◌, length, refl, sym, ap, ◌∙◌, arith, add-zero, add-one, append_assoc, length-append, Option, Some, None, MatchOption, subst, inl, inr}
+use Rattle.std.specs.Prelude.{⊤}
 use Rattle.std.specs.List.{range_with_len}
 use Rattle.std.specs.Option.{option_or}
 use Rattle.rad_ledger.specs.Counting.{GoOnFrom, next_after, IsFirstGap, LeavesGap, Counts, Tells}
@@ -61,7 +62,7 @@ gap_comes first serials serial gap e leaves = record {
 
 -- how a tally stands after one entry more: where there was no gap, the one before it is the first
 module _ (old new : Tally) (serial : ℕ) (first : new.first ≡ old.first) (entries : new.entries ≡ old.entries + 1) (next : new.next ≡ serial + 1) (serials : List ℕ) (c : Counts old serials) where
-  more : List ℕ
+  abbrev pub more : List ℕ
   more = serials ++ serial ∷ []
 
   counted : new.entries ≡ length more

@@ -59,9 +59,9 @@ abbrev pub IsWrongPacket : Entry → Option (List ℕ) → Option (List ℕ) →
 IsWrongPacket e home client NotEntry = ⊥
 IsWrongPacket e home client NoPacket = ¬ ArePackets e
 IsWrongPacket e home client WrongSent = ArePackets e × MatchOption home ⊥ (λ secret. ¬ HasSent secret e)
-IsWrongPacket e home client WrongReply = ArePackets e × MatchOption home ⊥ (λ secret. HasSent secret e × ¬ IsReply secret e)
+IsWrongPacket e home client WrongReply = ArePackets e × MatchOption home ⊥ (λ secret. HasSent secret e × ¬ HasReply secret e)
 IsWrongPacket e home client WrongResponse =
-    ArePackets e × MatchOption home ⊥ (λ secret. HasSent secret e × IsReply secret e × MatchOption client ⊥ (λ its. ¬ HasResponse secret its e))
+    ArePackets e × MatchOption home ⊥ (λ secret. HasSent secret e × HasReply secret e × MatchOption client ⊥ (λ its. ¬ HasResponse secret its e))
 IsWrongPacket e home client SerialNotAbove = ⊥
 IsWrongPacket e home client UnknownLane = ⊥
 

@@ -57,9 +57,9 @@ fn judge_packets(
     let Some(reply) = whole_packet(entry.reply) else {
         return Ok(Some(Reason::NoPacket));
     };
-    if whole_packet(entry.response).is_none() {
+    let Some(_) = whole_packet(entry.response) else {
         return Ok(Some(Reason::NoPacket));
-    }
+    };
     let Some(home) = home else {
         return Ok(None);
     };
@@ -145,7 +145,10 @@ fn response_after(
     requires { (mark : TheMark) × IsSent home.now mark sent.now }
     ensures { IfOk result (λ made. MatchOption made (¬ IsReply home.now sent.now reply.now) (λ r. Answers head sent.now reply.now client.now home.now r.response)) }
 {
-    if reply.code() != ACCOUNTING_RESPONSE || reply.identifier() != sent.identifier() {
+    if reply.code() != ACCOUNTING_RESPONSE {
+        return Ok(None);
+    }
+    if reply.identifier() != sent.identifier() {
         return Ok(None);
     }
     refused_or_answered();

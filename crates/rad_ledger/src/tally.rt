@@ -1,11 +1,6 @@
 //! What is counted of one lane of a run.
 
-ghost use Rattle.std.specs.Prelude.{◌≡◌, ◌↔◌, ◌≤◌, ◌<◌, ◌+◌, ◌^◌, ◌++◌, [], ◌∷◌, ℕ, List, Some, None, OnOk, IfOk, IfErr};
-ghost use Rattle.rad_ledger.specs.declared.reason.Reason.TheVariants.{SerialNotAbove};
-ghost use Rattle.rad_lane.specs.declared.outgoing.Outgoing.{Outgoing};
-ghost use Rattle.rad_ledger.specs.declared.tally.Verdict.TheVariants.{Whole};
-ghost use Rattle.rad_ledger.specs.Outlets.{AreAllGiven, serials_of};
-ghost use Rattle.rad_ledger.specs.Counting.{Counts, LeavesGap, Tells};
+ghost use Rattle.std.specs.Prelude.{◌≤◌, ◌+◌, ◌^◌};
 
 use crate::reason::Reason;
 use std::fmt;
@@ -15,6 +10,25 @@ use std::fmt;
 pub struct Gap {
     pub first: u64,
     pub last: u64,
+}
+
+impl Gap {
+    ghost use Rattle.std.specs.Prelude.{◌≤◌};
+    ghost use Rattle.rad_ledger.specs.Counting.{LeavesGap};
+
+    /// The serials from this one on, up to the other one.
+    fn between(next: u64, serial: u64) -> Option<Gap>
+        requires { next ≤ serial }
+        ensures { LeavesGap next serial result }
+    {
+        if next == serial {
+            return None;
+        }
+        Some(Gap {
+            first: next,
+            last: serial - 1,
+        })
+    }
 }
 
 /// What the entries of a lane show together.
@@ -46,6 +60,13 @@ pub struct Tally {
 }
 
 impl Tally {
+    ghost use Rattle.std.specs.Prelude.{◌≡◌, ◌↔◌, ◌≤◌, ◌<◌, ◌^◌, ◌++◌, [], ◌∷◌, ℕ, List, Some, None, OnOk, IfOk, IfErr};
+    ghost use Rattle.rad_lane.specs.declared.outgoing.Outgoing.{Outgoing};
+    ghost use Rattle.rad_ledger.specs.declared.reason.Reason.TheVariants.{SerialNotAbove};
+    ghost use Rattle.rad_ledger.specs.declared.tally.Verdict.TheVariants.{Whole};
+    ghost use Rattle.rad_ledger.specs.Counting.{Counts, LeavesGap, Tells};
+    ghost use Rattle.rad_ledger.specs.Outlets.{AreAllGiven, serials_of};
+
     /// No entry yet of a lane whose next response has this serial.
     #[tactic(auto, using(crate::proofs::Serials::counts_none))]
     pub fn new(first: u64) -> Tally
@@ -99,7 +120,7 @@ impl Tally {
         if serial < self.next || serial >= 1 << 63 {
             return Err(Reason::SerialNotAbove);
         }
-        let gap = gap_between(self.next, serial);
+        let gap = Gap::between(self.next, serial);
         self.gap = self.gap.or(gap);
         self.entries += 1;
         self.next = serial + 1;
@@ -114,7 +135,7 @@ impl Tally {
     {
         self.end = Some(count);
         if self.next < count {
-            gap_between(self.next, count)
+            Gap::between(self.next, count)
         } else {
             None
         }
@@ -143,25 +164,11 @@ impl Tally {
         if count < self.next {
             return Verdict::Open;
         }
-        match gap_between(self.next, count) {
+        match Gap::between(self.next, count) {
             None => Verdict::Whole,
             Some(gap) => Verdict::Missing(gap),
         }
     }
-}
-
-/// The serials from this one on, up to the other one.
-fn gap_between(next: u64, serial: u64) -> Option<Gap>
-    requires { next ≤ serial }
-    ensures { LeavesGap next serial result }
-{
-    if next == serial {
-        return None;
-    }
-    Some(Gap {
-        first: next,
-        last: serial - 1,
-    })
 }
 
 impl fmt::Display for Gap {
