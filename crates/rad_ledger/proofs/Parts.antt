@@ -1,7 +1,6 @@
 -- What texts and numbers at the keys of a line show of its parts.
 use Rattle.std.proofs.Common.{◌≡◌, ◌≢◌, ℕ, ◌*◌, ◌<◌, ◌≤◌, ◌^◌, List, length, codes, Option, Some, None, MatchOption, Result, Ok, Err, MatchResult, refl, sym, ap, ◌∙◌, subst, arith, inl, inr}
 use Rattle.std.specs.Prelude.{IsSomeAnd, ⊤}
-
 use Rattle.std.specs.Int.{w64, from_be_bytes}
 use Rattle.std.specs.Str.{IsUtf8}
 use Rattle.json.specs.Json.{Json, string, number, document}

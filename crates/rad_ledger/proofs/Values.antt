@@ -10,7 +10,7 @@ use Rattle.rad_ledger.specs.Lines.{Denies, HasText, HasNumber, HasOctets}
 use Rattle.rad_ledger.specs.declared.faults.LineFault.{LineFault}
 use Rattle.rad_ledger.proofs.Lines.{denied}
 
-abbrev nothing : Option ℕ
+abbrev pub nothing : Option ℕ
 nothing = None
 
 pub differ : {A : Type 0} (o : Option A) (x : A) → None ≡ o → o ≡ Some x → ⊥

@@ -1,14 +1,15 @@
 //! Lines of a ledger, as they are read.
 
-ghost use Rattle.std.specs.Prelude.{MatchResult, List, codes};
+ghost use Rattle.std.specs.Prelude.{◌≡◌, ◌++◌, [], ◌∷◌, IfErr, List, MatchResult, OnOk, codes};
 ghost use Rattle.json.specs.Value.{value_view};
 ghost use Rattle.rad_ledger.specs.declared.begin.Begin.{Begin as TheBegin};
 ghost use Rattle.rad_ledger.specs.declared.begin.End.{End as TheEnd};
 ghost use Rattle.rad_ledger.specs.declared.begin.LaneStart.{LaneStart as TheStart};
 ghost use Rattle.rad_ledger.specs.declared.begin.LaneCount.{LaneCount as TheCount};
 ghost use Rattle.rad_ledger.specs.declared.entry.Entry.{Entry as TheEntry};
+ghost use Rattle.rad_ledger.specs.declared.faults.LineFault.TheVariants.{OutOfMemory};
 ghost use Rattle.rad_ledger.specs.declared.reading.Line.{Line as TheLine};
-ghost use Rattle.rad_ledger.specs.Lines.{AreEach, Denies, HasLanes, HasText, IsBegin, IsEnd, IsEntry, IsLaneCount, IsLaneStart, IsLine, IsLineOf};
+ghost use Rattle.rad_ledger.specs.Lines.{Denies, HasLanes, HasText, IsBegin, IsEnd, IsEntry, IsLaneCount, IsLaneStart, IsLine, IsLineOf};
 
 use crate::begin::{Begin, End, LaneCount, LaneStart};
 use crate::entry::Entry;
@@ -201,7 +202,7 @@ fn starts_of<'a>(alloc: Global, value: &Value<'a>) -> Result<Vec<LaneStart<'a>>,
     };
     let mut starts = Vec::with_capacity(alloc, values.len())?;
     for value in values.iter() {
-        starts.push(start_of(value)?)?;
+        push(&mut starts, start_of(value)?)?;
     }
     Ok(starts)
 }
@@ -246,7 +247,7 @@ fn counts_of(alloc: Global, value: &Value<'_>) -> Result<Vec<LaneCount>, LineFau
     };
     let mut counts = Vec::with_capacity(alloc, values.len())?;
     for value in values.iter() {
-        counts.push(count_of(value)?)?;
+        push(&mut counts, count_of(value)?)?;
     }
     Ok(counts)
 }
@@ -263,4 +264,15 @@ fn count_of(value: &Value<'_>) -> Result<LaneCount, LineFault>
         lane: short_at(value, "lane")?,
         entries: number_at(value, "entries")?,
     })
+}
+
+/// Puts a value behind the others.
+fn push<T: Drop>(list: &mut Vec<T>, value: T) -> Result<(), LineFault>
+    ensures pushed { OnOk result (list.new.items ≡ list.old.items ++ value ∷ []) }
+    ensures refused { IfErr result (λ fault. fault ≡ OutOfMemory) }
+{
+    match list.push(value) {
+        Ok(()) => Ok(()),
+        Err(_) => Err(LineFault::OutOfMemory),
+    }
 }
