@@ -109,8 +109,9 @@ module _ (old new : Tally) (serial : ℕ) (first : new.first ≡ old.first) (ent
   by_gap None was None is leaves = counts_next was is leaves
   by_gap None was (Some g) is leaves = counts_gap was g is leaves
 
-  pub counts_more : (gap : Option Gap) → new.gap ≡ option_or old.gap gap → LeavesGap old.next serial gap → Counts new (serials ++ serial ∷ [])
-  counts_more gap is leaves = by_gap old.gap refl gap is leaves
+-- so a tally counts one serial more
+pub counts_more : (old new : Tally) (serials : List ℕ) (serial : ℕ) (gap : Option Gap) → Counts old serials → LeavesGap old.next serial gap → new.gap ≡ option_or old.gap gap → new.first ≡ old.first → new.entries ≡ old.entries + 1 → new.next ≡ serial + 1 → Counts new (serials ++ serial ∷ [])
+counts_more old new serials serial gap c leaves is first entries next = by_gap old new serial first entries next serials c old.gap refl gap is leaves
 
 -- where nothing was counted
 pub counts_none : (tally : Tally) → tally.entries ≡ 0 → tally.next ≡ tally.first → tally.gap ≡ None → Counts tally []
@@ -121,8 +122,8 @@ counts_none tally entries next none = record {
 }
 
 -- what an end line changes is nothing that is counted
-pub counts_still : (old new : Tally) → new.first ≡ old.first → new.next ≡ old.next → new.entries ≡ old.entries → new.gap ≡ old.gap → (serials : List ℕ) → Counts old serials → Counts new serials
-counts_still old new first next entries gap serials c = record {
+pub counts_still : (old new : Tally) (serials : List ℕ) → Counts old serials → new.first ≡ old.first → new.next ≡ old.next → new.entries ≡ old.entries → new.gap ≡ old.gap → Counts new serials
+counts_still old new serials c first next entries gap = record {
   entries = entries ∙ c.entries;
   next = next ∙ c.next ∙ ap (λ n. next_after n serials) (sym first);
   gap = subst (λ n. MatchOption new.gap (GoOnFrom n serials) (λ h. IsFirstGap n serials h)) (sym first)
