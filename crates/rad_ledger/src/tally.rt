@@ -130,6 +130,8 @@ impl Tally {
     /// The end line says that there were so many responses in the run. It tells those that are missing behind the last entry.
     #[tactic(auto, using(crate::proofs::Serials::counts_still))]
     pub fn end(&mut self, count: u64) -> Option<Gap>
+        ensures gap { self.old.next ≤ count → LeavesGap self.old.next count result }
+        ensures none { count < self.old.next → result ≡ None }
         ensures counted { (serials : List ℕ) → Counts self.old serials → Counts self.new serials }
         ensures ended { (self.new.first ≡ self.old.first) × (self.new.end ≡ Some count) }
     {
