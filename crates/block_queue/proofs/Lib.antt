@@ -1,10 +1,12 @@
 mod Blocks
 mod Cells
 mod Ends
+mod Fronts
 mod Lending
 mod NodeSteps
 mod Places
 mod Ready
 mod Regions
 mod Rooms
+mod RowPlaces
 mod Sending

@@ -29,7 +29,8 @@ use denote.Steps.{opens, closes}
 use denote.Struct.Struct.{Struct}
 use denote.Struct.Owning.{shape}
 use denote.Struct.Lending.{lent_out}
-use Rattle.std.specs.Prelude.{Option, None}
+use denote.Slice.{elements_shared}
+use Rattle.std.specs.Prelude.{Option, Some, None}
 use Rattle.std.specs.Mem.{type_size}
 use Rattle.core.proofs.mem.Param.{El, R, el_x, elτ}
 use Rattle.core.proofs.alloc.Calls.{Al, token}
@@ -161,6 +162,19 @@ module _ (E : El) {M : Type 1} {𝓤 : Ura M} (𝓛 : Logic 𝓤) (b : ℕ) (κ 
       rewrite ! 0 (λ (k : ℕ). ‵ (place_lent (R E) b k c κ)) {x = at} (omega (arith, zero-mul (sz E))) refl $ done !
   place_seen (c ∷ cs) (suc i) o at lt e = let more : at ≡ suc i * sz E + o = e in
       qed 𝓛 (‵ (places_lent (R E) b o (c ∷ cs) κ) ∷ []) ∵ fsplit ! $ keep ! (1 ∷ []) $ by ! (place_seen cs i (o + sz E) at (omega arith) (omega (arith, suc-mul i (sz E))))
+
+module _ (E : El) {M : Type 1} {𝓤 : Ura M} (𝓛 : Logic 𝓤) (b : ℕ) (κ : Lft) where
+  -- all values of those that a `&` reaches, where they lie one after another
+  pub run_seen : (start : ℕ) (items : List (el_x E)) (rest o at : ℕ) → at ≡ start * sz E + o
+      → ent 𝓤 (sem 𝓛 (places_lent (R E) b o (laid start items rest) κ)) (sem 𝓛 (elements_shared (R E) items b at κ))
+  unfolding laid
+  run_seen zero [] rest o at e = qed 𝓛 (‵ (places_lent (R E) b o (laid zero [] rest) κ) ∷ []) ∵ keep ! [] $ done !
+  run_seen zero (item ∷ items) rest o at e =
+      qed 𝓛 (‵ (places_lent (R E) b o (Some item ∷ laid zero items rest) κ) ∷ []) ∵
+      rewrite ! 0 (λ (k : ℕ). ‵ (places_lent (R E) b k (Some item ∷ laid zero items rest) κ)) {x = at} (omega (arith, zero-mul (sz E))) refl $ fsplit ! $ move ! (1 ∷ []) $
+      use1 𝓛 (‵ (elements_shared (R E) items b (at + sz E) κ)) (run_seen zero items rest (at + sz E) (at + sz E) (omega (arith, zero-mul (sz E)))) $ move ! (1 ∷ 0 ∷ []) $ fjoin ! $ done !
+  run_seen (suc start) items rest o at e =
+      qed 𝓛 (‵ (places_lent (R E) b o (None ∷ laid start items rest) κ) ∷ []) ∵ fsplit ! $ keep ! (1 ∷ []) $ by ! (run_seen start items rest (o + sz E) at (omega (arith, suc-mul start (sz E), e)))
 
 module _ (E : El) (Z : Al) {M : Type 1} {𝓤 : Ura M} (𝓛 : Logic 𝓤) (κ : Lft) where
   -- a `&` to a region reaches its pointer, and the places

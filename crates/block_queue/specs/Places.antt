@@ -23,3 +23,15 @@ module _ {T : Type 0} where
     pub laid_out : places ≡ laid start (values places) (32 - (start + count))
     pub counted : count ≡ length (values places)
     pub within : start + count ≤ 32
+
+  -- the values lie one after another from a place on, as many as count says, and the other places are empty
+  pub record IsRun (start count : ℕ) (places : List (Option T)) : Type 0 where
+    pub laid_out : places ≡ laid start (values places) (length places - (start + count))
+    pub counted : count ≡ length (values places)
+    pub within : start + count ≤ length places
+    pub some : 1 ≤ length places
+
+  -- the items of a row lie so in its places
+  pub record IsRow (n start count : ℕ) (places : List (Option T)) : Type 0 where
+    pub run : IsRun start count places
+    pub all : length places ≡ n

@@ -17,8 +17,14 @@ mod linking;
 mod nodes;
 mod plain_queue;
 mod region;
+mod row;
+mod rows;
+mod sharing;
+mod sliding_list;
 
 pub use block_queue::BlockQueue;
 pub use fifo::Fifo;
 pub use iter::Iter;
 pub use plain_queue::PlainQueue;
+pub use sharing::Share;
+pub use sliding_list::SlidingList;

@@ -1,16 +1,20 @@
-//! Raw memory for the values of one block.
-ghost use Rattle.std.specs.Prelude.{◌≡◌, ℕ, ◌<◌, [], ◌∷◌, true, List, Option, Some, None, IfOk, get_or, length, slice_set};
-ghost use Rattle.block_queue.specs.Places.{laid, IsFilled};
+//! Raw memory for the values of one block, or of a row.
+ghost use Rattle.std.specs.Prelude.{◌≡◌, ℕ, ◌<◌, ◌≤◌, [], ◌∷◌, true, List, Option, Some, None, IfOk, get_or, length, slice_set};
+ghost use Rattle.block_queue.specs.Places.{laid, values, IsFilled, IsRun};
 ghost use Rattle.block_queue.specs.Region.{Fits, region_owns, region_lent};
 
 use std::alloc::{AllocError, Allocator};
 use std::marker::{Model, PhantomData, Send};
 use std::mem::{align_of, size_of};
+use std::slice::from_raw_parts;
 
 /// How many values a region has places for.
 pub(crate) const PLACES: usize = 32;
 
-/// Memory of its own for 32 values. Each place is empty or holds a value.
+/// The most places that a region is made with.
+const MOST_PLACES: usize = 0x1_0000_0000;
+
+/// Memory of its own for 32 values, or for as many as it is made for. Each place is empty or holds a value.
 ///
 /// It is given back to the allocator by [`Region::free`] alone, once no place holds a value.
 pub(crate) struct Region<T, A: Allocator> {
@@ -35,6 +39,13 @@ fn has_layout<T>() -> bool
     size_of::<T>() < 0x0400_0000_0000_0000
 }
 
+/// Whether as many values as a region can have places for have a layout.
+fn is_small<T>() -> bool
+    ensures { result ≡ true → Fits T.row 0x1_0000_0000 }
+{
+    size_of::<T>() < 0x8000_0000
+}
+
 impl<T, A: Allocator> Region<T, A> {
     /// A region with every place empty. An error means that memory was refused, or that 32 values
     /// have no layout.
@@ -55,6 +66,16 @@ impl<T, A: Allocator> Region<T, A> {
             return Err(AllocError);
         }
         Region::allocate(alloc, 1)
+    }
+
+    /// A region of so many places, which are empty. An error means that memory was refused, or that so many values have no layout.
+    pub(crate) fn with_places(alloc: &A, count: usize) -> Result<Region<T, A>, AllocError>
+        ensures { IfOk result (λ r. (r.places ≡ laid 0 [] count) × (r.heap ≡ alloc.now)) }
+    {
+        if count > MOST_PLACES || !is_small::<T>() {
+            return Err(AllocError);
+        }
+        Region::allocate(alloc, count)
     }
 
     fn allocate(alloc: &A, count: usize) -> Result<Region<T, A>, AllocError>
@@ -86,7 +107,8 @@ impl<T, A: Allocator> Region<T, A> {
         self.release(alloc, 1);
     }
 
-    fn release(self, alloc: &A, count: usize)
+    /// Gives the memory of a region of so many places back.
+    pub(crate) fn release(self, alloc: &A, count: usize)
         requires { (self.places ≡ laid 0 [] count) × (self.heap ≡ alloc.now) }
     {
         let Region { first, by: _ } = self;
@@ -121,5 +143,14 @@ impl<T, A: Allocator> Region<T, A> {
         ensures { get_or self.now.places index None ≡ Some result.now }
     {
         unsafe { &*self.first.add(index) }
+    }
+
+    /// The values of all places, which lie one after another from one place on.
+    #[inline]
+    pub(crate) fn values(&self, start: usize, count: usize) -> &[T]
+        requires { IsRun start count self.now.places }
+        ensures { result.now ≡ values self.now.places }
+    {
+        unsafe { from_raw_parts(self.first.add(start), count) }
     }
 }

@@ -1,7 +1,7 @@
 //! What is told of the lanes at the end.
 
 use crate::laws::RecordQueue;
-use rad_lane::{Answered, Counts, Entry, Outgoing, Series, Stamp};
+use rad_lane::{Answered, Counts, Entry, Held, Outgoing, Series, Stamp};
 use rad_tables::Slots;
 
 /// What is left of all lanes.
@@ -21,9 +21,9 @@ pub struct LaneEnd {
     /// How much the lane had.
     pub counts: Counts,
     /// The stamps of the requests that the book still held, in order of accepting.
-    pub accepted: Series<Stamp>,
+    pub accepted: Held<Stamp>,
     /// The answers that the book still held, in order of answering.
-    pub answered: Series<Answered>,
+    pub answered: Held<Answered>,
     /// What was sent and not answered, under its pairs. There is no probe among them.
     pub outstanding: Slots<Entry>,
     /// The responses that nobody took.

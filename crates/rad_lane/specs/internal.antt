@@ -2,4 +2,3 @@ pub mod AcceptReply
 pub mod Cutting
 pub mod NextDue
 pub mod Invariant
-pub mod ReservedList

@@ -8,9 +8,8 @@ ghost use Rattle.rad_lane.specs.Accepts.{Accepts, IsTaken, IsRefused, request_ke
 
 use crate::answered::Receipt;
 use crate::repeats::{Repeat, Seen};
-use crate::reserved_list::ReservedList;
 use crate::{Answered, Lane, Record, Stamp};
-use block_queue::Fifo;
+use block_queue::{Fifo, SlidingList};
 use rad_auth::{Buffer, MARK_LENGTH, Octets};
 use rad_packet::{Datagram, GREATEST_LENGTH, PacketRef};
 use rad_realms::Checked;
@@ -80,8 +79,8 @@ impl<Q: Fifo<Record>> Lane<Q> {
     /// waits for its answer is only told; and for a repeat of one that was answered less than a span ago the
     /// response is put into the datagram.
     ///
-    /// It takes time logarithmic in the size of the book. Where a list of the book has to grow for a new
-    /// request, that list may be moved, which takes time linear in its length.
+    /// It takes time logarithmic in the size of the book. Where a list of the book grows for a new request, no
+    /// more than a few of its items are moved.
     ///
     /// # Errors
     ///
@@ -248,8 +247,8 @@ fn record_of(
 
 /// Makes room for one more in each.
 fn make_room<Q: Fifo<Record>>(
-    accepted: &mut ReservedList<Stamp>,
-    receipts: &mut ReservedList<Option<Receipt>>,
+    accepted: &mut SlidingList<Stamp>,
+    receipts: &mut SlidingList<Option<Receipt>>,
     queued: &mut Q,
 ) -> Result<(), AllocError>
     ensures accepted { accepted.new.items ≡ accepted.old.items }

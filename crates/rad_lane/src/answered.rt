@@ -1,4 +1,5 @@
 use crate::{Outgoing, Stamp};
+use block_queue::Share;
 use rad_auth::Reply;
 use rad_tables::Moment;
 use std::alloc::{AllocError, Global};
@@ -117,16 +118,6 @@ impl Answered {
         })
     }
 
-    /// The same answer, which shares what is kept of it. An error means that too many share them.
-    pub(crate) fn share(&self) -> Result<Answered, AllocError>
-        ensures { IfOk result (λ answer. answer ≡ self.now) }
-    {
-        Ok(Answered {
-            serial: self.serial,
-            kept: Arc::try_clone(&self.kept)?,
-        })
-    }
-
     /// The response on its way to the client, with a copy of what it rests on.
     pub(crate) fn outgoing(&self, alloc: Global) -> Result<Outgoing, AllocError>
         ensures { IfOk result (GoesOut self.now) }
@@ -137,6 +128,16 @@ impl Answered {
             client,
             port: self.kept.stamp.port,
             reply: self.kept.reply.copy(alloc)?,
+        })
+    }
+}
+
+/// An error means that too many share what is kept of it.
+impl Share for Answered {
+    fn share(&self) -> Result<Answered, AllocError> {
+        Ok(Answered {
+            serial: self.serial,
+            kept: Arc::try_clone(&self.kept)?,
         })
     }
 }

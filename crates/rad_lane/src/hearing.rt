@@ -97,8 +97,7 @@ impl<Q: Fifo<Record>> Lane<Q> {
     /// Either takes a lane up that is down.
     ///
     /// It finds what was sent by the pair, and hashes the reply once and the response once. Going up changes
-    /// each outstanding sending. Where the list of answers has to grow, it may be moved, which takes time
-    /// linear in its length.
+    /// each outstanding sending. Where the list of answers grows, no more than a few of them are moved.
     ///
     /// # Errors
     ///

@@ -4,9 +4,8 @@ ghost use Rattle.rad_lane.specs.Drains.{drained_at};
 ghost use Rattle.rad_lane.specs.Empty.{empty_book};
 
 use crate::answered::Receipt;
-use crate::reserved_list::ReservedList;
 use crate::{Answered, Entry, Record, Setup, Stamp, Watch};
-use block_queue::Fifo;
+use block_queue::{Fifo, SlidingList};
 use rad_tables::{Duplicates, Moment, Slots};
 use std::alloc::{AllocError, Global};
 use std::marker::Model;
@@ -34,13 +33,13 @@ pub struct Lane<Q: Fifo<Record>> {
     /// The number of the first request that is kept.
     pub(crate) opening: u64,
     /// The stamps of the requests, in order: first those that were sent, then those that are queued.
-    pub(crate) accepted: ReservedList<Stamp>,
+    pub(crate) accepted: SlidingList<Stamp>,
     /// The records of the requests that wait to be sent, in order.
     pub(crate) queued: Q,
     /// The answers, in the order in which they came.
-    pub(crate) answered: ReservedList<Answered>,
+    pub(crate) answered: SlidingList<Answered>,
     /// For each of the requests accepted the receipt of its answer, where it is answered.
-    pub(crate) receipts: ReservedList<Option<Receipt>>,
+    pub(crate) receipts: SlidingList<Option<Receipt>>,
     /// How many answers there were.
     pub(crate) served: u64,
     /// What was sent and not answered, each under its pair of source port and identifier, and the probe.
@@ -96,10 +95,10 @@ impl<Q: Fifo<Record>> Lane<Q> {
             Ok(slots) => Ok(Lane {
                 setup,
                 opening: 0,
-                accepted: ReservedList::new(alloc),
+                accepted: SlidingList::new(alloc),
                 queued: Q::new(alloc),
-                answered: ReservedList::new(alloc),
-                receipts: ReservedList::new(alloc),
+                answered: SlidingList::new(alloc),
+                receipts: SlidingList::new(alloc),
                 served: 0,
                 slots,
                 outstanding: 0,

@@ -1,6 +1,5 @@
-use crate::reserved_list::ReservedList;
-use crate::{Answered, Entry, Record, Series, Stamp};
-use block_queue::Fifo;
+use crate::{Answered, Entry, Held, Record, Stamp};
+use block_queue::{Fifo, SlidingList};
 use rad_tables::Slots;
 use std::marker::Model;
 
@@ -13,9 +12,9 @@ pub struct Leftover<Q: Fifo<Record>> {
     /// The number of the first request that is still held.
     opening: u64,
     /// The stamps of the requests, in order: first those that were sent, then those that are queued.
-    accepted: ReservedList<Stamp>,
+    accepted: SlidingList<Stamp>,
     /// The answers, in order.
-    answered: ReservedList<Answered>,
+    answered: SlidingList<Answered>,
     /// What was sent and not answered, under its pairs. There is no probe among them.
     outstanding: Slots<Entry>,
     /// The records that were never sent, in order.
@@ -30,9 +29,9 @@ pub struct LeftoverParts<Q: Fifo<Record>> {
     /// The number of the first request that is still held.
     pub opening: u64,
     /// The stamps of the requests accepted, in order.
-    pub accepted: Series<Stamp>,
+    pub accepted: Held<Stamp>,
     /// The answers, in order.
-    pub answered: Series<Answered>,
+    pub answered: Held<Answered>,
     /// What was sent and not answered, under its pairs. There is no probe among them.
     pub outstanding: Slots<Entry>,
     /// The records that were never sent, in order.
@@ -64,8 +63,8 @@ impl<Q: Fifo<Record>> Leftover<Q> {
     pub(crate) fn new(
         lane: u16,
         opening: u64,
-        accepted: ReservedList<Stamp>,
-        answered: ReservedList<Answered>,
+        accepted: SlidingList<Stamp>,
+        answered: SlidingList<Answered>,
         outstanding: Slots<Entry>,
         queued: Q,
     ) -> Leftover<Q>
@@ -147,8 +146,8 @@ impl<Q: Fifo<Record>> Leftover<Q> {
         LeftoverParts {
             lane,
             opening,
-            accepted: accepted.into_series(),
-            answered: answered.into_series(),
+            accepted: Held::over(accepted),
+            answered: Held::over(answered),
             outstanding,
             queued,
         }

@@ -21,13 +21,13 @@ mod counts;
 mod draining;
 mod entry;
 mod hearing;
+mod held;
 mod lane;
 mod laws;
 mod leftover;
 mod outgoing;
 mod record;
 mod repeats;
-mod reserved_list;
 mod running;
 mod sending;
 mod series;
@@ -44,6 +44,7 @@ pub use answered::Answered;
 pub use counts::Counts;
 pub use entry::{Entry, Probe};
 pub use hearing::{HearFault, Heard};
+pub use held::Held;
 pub use lane::{Lane, SetupFault};
 pub use laws::{
     a_cut_loses_nothing, a_lane_takes_what_leads_to_it, a_port_that_a_lane_lacks_is_unknown,

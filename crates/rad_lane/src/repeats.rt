@@ -8,9 +8,8 @@ ghost use Rattle.rad_lane.specs.Repeat.{answer_to, found, repeats};
 ghost use Rattle.rad_lane.specs.internal.Invariant.{answer_of as the_answer, at_place, receipt_in, receipt_to, repeats_number};
 
 use crate::answered::Receipt;
-use crate::reserved_list::ReservedList;
 use crate::{Answered, Lane, Record, Setup};
-use block_queue::Fifo;
+use block_queue::{Fifo, SlidingList};
 use rad_tables::{Key, Moment};
 
 /// What a request repeats.
@@ -42,8 +41,8 @@ impl<'a> Seen<'a> {
     /// What was answered since the opening.
     pub(crate) fn since(
         opening: u64,
-        receipts: &'a ReservedList<Option<Receipt>>,
-        answered: &'a ReservedList<Answered>,
+        receipts: &'a SlidingList<Option<Receipt>>,
+        answered: &'a SlidingList<Answered>,
         setup: &Setup,
     ) -> Seen<'a>
         requires told { (number : ℕ) → opening ≤ number → receipt_in receipts.now.items opening number ≡ receipt_to number answered.now.items }

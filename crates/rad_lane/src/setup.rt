@@ -3,7 +3,7 @@ ghost use Rattle.std.specs.List.{list_any};
 ghost use Rattle.rad_realms.specs.Realm.{same_name};
 ghost use Rattle.rad_lane.specs.Setup.{realms_of as the_realms, is_lane};
 
-use crate::reserved_list::ReservedList;
+use crate::Series;
 use rad_auth::{Octets, Secret};
 use rad_realms::{Config, Limits, Realm};
 use std::alloc::{AllocError, Global};
@@ -20,7 +20,7 @@ pub struct Setup {
     /// What the home server's section of the configuration limits, its source ports among it.
     limits: Limits,
     /// The names of the realms that lead to it.
-    realms: ReservedList<Octets>,
+    realms: Series<Octets>,
     /// Whether requests without a realm lead to it.
     is_default: bool,
 }
@@ -30,7 +30,7 @@ impl Model for Setup {
 
     ghost Value = { LaneSetup };
 
-    ghost view = { λ s. record { lane = s.lane; ports = s.limits.ports; home_secret = s.home; limits = s.limits; realms = s.realms.items; is_default = s.is_default } };
+    ghost view = { λ s. record { lane = s.lane; ports = s.limits.ports; home_secret = s.home; limits = s.limits; realms = s.realms; is_default = s.is_default } };
 }
 
 impl Setup {
@@ -99,18 +99,17 @@ impl Setup {
 }
 
 /// The names of the realms that lead to a lane.
-fn realms_of(alloc: Global, realms: &[Realm], lane: u16) -> Result<ReservedList<Octets>, AllocError>
-    ensures { IfOk result (λ names. names.items ≡ the_realms realms.now lane) }
+fn realms_of(alloc: Global, realms: &[Realm], lane: u16) -> Result<Series<Octets>, AllocError>
+    ensures { IfOk result (λ names. names ≡ the_realms realms.now lane) }
 {
-    let mut names = ReservedList::new(alloc);
+    let mut names = Vec::new(alloc);
     for realm in realms {
         if realm.lane() == lane {
             let name = Octets::copy_of(alloc, realm.name().as_bytes())?;
-            names.reserve_one()?;
-            names.push(name);
+            names.push(name)?;
         }
     }
-    Ok(names)
+    Ok(Series::from_vec(names))
 }
 
 fn is_same_lane(lane: u16, other: Option<u16>) -> bool

@@ -1,4 +1,6 @@
+use block_queue::Share;
 use rad_tables::Moment;
+use std::alloc::AllocError;
 
 /// What identifies a request that a lane accepted: its number, who sent it, and which it was.
 #[derive(Clone, Copy, Debug, PartialEq, Eq)]
@@ -15,4 +17,10 @@ pub struct Stamp {
     pub authenticator: [u8; 16],
     /// When it was accepted.
     pub moment: Moment,
+}
+
+impl Share for Stamp {
+    fn share(&self) -> Result<Stamp, AllocError> {
+        Ok(*self)
+    }
 }

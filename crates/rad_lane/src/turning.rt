@@ -13,9 +13,8 @@ ghost use Rattle.rad_lane.specs.Volumes.{IsCut, Turns, answers_below as the_answ
 ghost use Rattle.rad_lane.specs.internal.Cutting.{HasUnderItsKey, IsOverBy, unless_of};
 
 use crate::answered::Receipt;
-use crate::reserved_list::ReservedList;
 use crate::{Answered, Lane, Record, Series, Stamp};
-use block_queue::Fifo;
+use block_queue::{Fifo, Share, SlidingList};
 use rad_tables::{Duplicates, Key, Moment};
 use std::alloc::{AllocError, Global};
 use std::fmt;
@@ -61,10 +60,8 @@ impl<Q: Fifo<Record>> Lane<Q> {
     /// their answers. A repeat of one of them would be taken as a new request before the cut too.
     ///
     /// It takes time linear in what it cuts and in the answers that came before the last one that it cuts, and for each
-    /// request of the cut the logarithm of how many keys there are. Nothing else of the book moves, but once in a while:
-    /// what was let go of stays in memory, without its packets, until it is more than half of a list, and then the rest of
-    /// that list is moved up, one list in a call. Room is made first, and for the volume alone. Where there is nothing to
-    /// cut it looks at one request alone and makes no room.
+    /// request of the cut the logarithm of how many keys there are. Nothing else of the book moves. Room is made first, and
+    /// for the volume alone. Where there is nothing to cut it looks at one request alone and makes no room.
     ///
     /// # Errors
     ///
@@ -106,29 +103,11 @@ impl<Q: Fifo<Record>> Lane<Q> {
         drop_below(&mut self.answered, end, next);
         self.opening = next;
         self.last = now;
-        self.tidy();
         Ok(Volume {
             opening,
             stamps: Series::from_vec(stamps),
             answered: Series::from_vec(answered),
         })
-    }
-
-    /// Makes one of the lists compact, where some have let go of more than they have: the one that let go of most, so that each
-    /// has its turn however large the cuts are. The others wait for the next call, so that no call moves two of them.
-    fn tidy(&mut self)
-        ensures { self.new ≡ self.old }
-    {
-        let accepted = self.accepted.to_give_back();
-        let receipts = self.receipts.to_give_back();
-        let answered = self.answered.to_give_back();
-        if accepted >= receipts && accepted >= answered {
-            self.accepted.make_compact();
-        } else if receipts >= answered {
-            self.receipts.make_compact();
-        } else {
-            self.answered.make_compact();
-        }
     }
 }
 
@@ -230,7 +209,7 @@ fn answers_below(
 
 /// Lets go of the answers to requests below a number, none of which stand behind this end. The others that stand before
 /// it move up to it, and then the list begins with them.
-fn drop_below(answers: &mut ReservedList<Answered>, end: usize, number: u64)
+fn drop_below(answers: &mut SlidingList<Answered>, end: usize, number: u64)
     requires within { end ≤ length answers.old.items }
     requires none_behind { the_answers_below number (drop end answers.old.items) ≡ [] }
     ensures { answers.new.items ≡ answers_since number answers.old.items }
@@ -244,25 +223,5 @@ fn drop_below(answers: &mut ReservedList<Answered>, end: usize, number: u64)
             answers.swap(first, place);
         }
     }
-    hollow(answers, first);
     answers.drop_front(first);
-}
-
-/// Puts one answer in the place of each of so many at the front, which are let go of next: the one that stands first in the
-/// row, and so the same in each call until the list is made compact. So all others let go of their packets at once, and not
-/// together when the list is moved.
-fn hollow(answers: &mut ReservedList<Answered>, count: usize)
-    requires { count ≤ length answers.old.items }
-    ensures long { length answers.new.items ≡ length answers.old.items }
-    ensures rest { drop count answers.new.items ≡ drop count answers.old.items }
-{
-    for place in 0..count {
-        let Some(first) = answers.first_of_row() else {
-            return;
-        };
-        let Ok(shell) = first.share() else {
-            return;
-        };
-        answers.set(place, shell);
-    }
 }

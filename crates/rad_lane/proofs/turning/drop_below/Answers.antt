@@ -51,4 +51,4 @@ loop-place-preserved-then-number-stamp c =
 pub returns : goal.returns
 returns c =
     let none : c.loop-place.place ≡ 0 = omega arith in
-    c.drop_front.ensures ∙ c.hollow.ensures.rest ∙ c.loop-place.invariant.rest ∙ ap (λ k. answers_since c.args.number (drop k c.args.answers.now.items)) none
+    c.drop_front.ensures ∙ c.loop-place.invariant.rest ∙ ap (λ k. answers_since c.args.number (drop k c.args.answers.now.items)) none

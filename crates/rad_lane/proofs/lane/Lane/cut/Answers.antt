@@ -28,5 +28,5 @@ returns-clause-ok g c =
     ∙ ap (λ xs. answers_below (c.self.inside.opening + c.args.count) (take c.end_of-end.result xs)) c.as_slice-3.ensures
     ∙ filter_front (is_below (c.self.inside.opening + c.args.count)) c.self.inside.answered.items c.end_of-end.result none
     in
-    rw (c.tidy.ensures, c.drop_front.ensures, c.drop_below.ensures, c.from_vec.ensures, c.in_ok-stamps.ensures.items, c.as_slice.ensures, c.from_vec-2.ensures, answered)
+    rw (c.drop_front.ensures, c.drop_below.ensures, c.from_vec.ensures, c.in_ok-stamps.ensures.items, c.as_slice.ensures, c.from_vec-2.ensures, answered)
     (cut_seen _ _ _ _ _ _ c.self.inside.slots _ _ _ _ c.self.view_is c.args.now c.args.count c.requires.later c.requires.is_cut c.requires.within _ _ _ _ c.self.invariant _ _ refl refl)

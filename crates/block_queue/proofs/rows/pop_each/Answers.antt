@@ -1,0 +1,13 @@
+use Rattle.std.proofs.Common.{◌∙◌, sym, ap, subst, length, ◌<◌, drop, arith}
+use Rattle.std.proofs.lemmas.List.{drop_min}
+use Rattle.block_queue.proofs.Fronts.{drop_popped, some_left}
+use Rattle.block_queue.proofs.rows.pop_each.Goals as goal
+
+pub pop-requires : goal.pop-requires
+pop-requires g c = subst (λ l. 0 < length l) (sym c.loop.invariant) (some_left c.loop.counter c.args.row.now.items (omega arith))
+
+pub loop-preserved : goal.loop-preserved
+loop-preserved g c = drop_popped c.loop.counter (c.loop.counter + 1) c.args.row.now.items c.pop.new.self.items c.pop.result (omega arith) (sym c.loop.invariant ∙ c.pop.ensures.items)
+
+pub returns : goal.returns
+returns g c = c.loop.invariant ∙ drop_min c.args.count c.args.row.now.items

@@ -1,0 +1,161 @@
+//! What no contract says of lists that slide: that they hold what they should through every row, that an item is let go of as
+//! its turn comes, and that no call copies more than a few.
+
+use block_queue::{Share, SlidingList};
+use std::alloc::{AllocError, Global};
+use std::process::Abort;
+use std::sync::atomic::{AtomicU64, Ordering};
+use std::test::Fail;
+
+/// The most items that a call may copy.
+const FEW: u64 = 16;
+
+/// What was made of all items of a list, and let go of.
+#[derive(Clone, Copy)]
+struct Counts<'a> {
+    made: &'a AtomicU64,
+    dropped: &'a AtomicU64,
+}
+
+/// An item that counts itself.
+struct Counted<'a> {
+    number: u64,
+    counts: Counts<'a>,
+}
+
+impl<'a> Counted<'a> {
+    fn new(number: u64, counts: Counts<'a>) -> Counted<'a> {
+        counts.made.fetch_add(1, Ordering::SeqCst);
+        Counted { number, counts }
+    }
+}
+
+impl Drop for Counted<'_> {
+    fn drop(self) {
+        let Counted { number: _, counts } = self;
+        counts.dropped.fetch_add(1, Ordering::SeqCst);
+    }
+}
+
+impl Share for Counted<'_> {
+    fn share(&self) -> Result<Self, AllocError> {
+        self.counts.made.fetch_add(1, Ordering::SeqCst);
+        Ok(Counted {
+            number: self.number,
+            counts: self.counts,
+        })
+    }
+}
+
+fn holds(rt: &impl Abort, is_right: bool) {
+    assert!(rt; is_right);
+}
+
+/// Whether a list has the numbers from `first` up to `end`, in order.
+fn is_from_to(list: &SlidingList<Counted<'_>>, first: u64, end: u64) -> bool {
+    let items = list.as_slice();
+    let mut number = first;
+    for item in items {
+        if item.number != number {
+            return false;
+        }
+        number = number.wrapping_add(1);
+    }
+    number == end
+}
+
+/// A list with the numbers from `first` up to `end`.
+#[derive(Drop)]
+struct Slid<'a> {
+    list: SlidingList<Counted<'a>>,
+    counts: Counts<'a>,
+    first: u64,
+    end: u64,
+}
+
+impl<'a> Slid<'a> {
+    fn new(alloc: Global, counts: Counts<'a>) -> Slid<'a> {
+        Slid {
+            list: SlidingList::new(alloc),
+            counts,
+            first: 0,
+            end: 0,
+        }
+    }
+
+    /// Pushes the next number, and copies few others.
+    fn push(&mut self, rt: &impl Abort) -> Result<(), AllocError> {
+        let before = self.counts.made.load(Ordering::SeqCst);
+        self.list.reserve_one()?;
+        self.list.push(Counted::new(self.end, self.counts));
+        self.end = self.end.wrapping_add(1);
+        let made = self.counts.made.load(Ordering::SeqCst).wrapping_sub(before);
+        holds(rt, made <= FEW.wrapping_add(1));
+        Ok(())
+    }
+
+    /// Lets go of so many of the first ones, or of all.
+    fn cut(&mut self, count: usize) {
+        let count = count.min(self.list.as_slice().len());
+        self.list.drop_front(count);
+        self.first = self.first.wrapping_add(count as u64);
+    }
+
+    /// Exchanges two items and puts them back.
+    fn exchange(&mut self, i: usize, j: usize) {
+        let count = self.list.as_slice().len();
+        if i < count && j < count {
+            self.list.swap(i, j);
+            self.list.swap(j, i);
+        }
+    }
+
+    /// Puts an item in the place of one that is equal.
+    fn renew(&mut self, place: usize) {
+        if place < self.list.as_slice().len() {
+            let item = Counted::new(self.first.wrapping_add(place as u64), self.counts);
+            self.list.set(place, item);
+        }
+    }
+
+    fn is_right(&self) -> bool {
+        is_from_to(&self.list, self.first, self.end)
+    }
+
+    /// So many pushes, after each of which as many are cut.
+    fn play(&mut self, rt: &impl Abort, pushes: usize, cut: usize) -> Result<(), AllocError> {
+        for turn in 0..pushes {
+            self.push(rt)?;
+            self.exchange(turn % 7, turn % 50);
+            self.renew(turn % 90);
+            self.cut(cut);
+            holds(rt, self.is_right());
+        }
+        Ok(())
+    }
+
+    fn end(self) {}
+}
+
+#[test]
+fn a_list_slides_through_its_rows(rt: HostRuntime) -> Result<(), Fail> {
+    let made = AtomicU64::new(0);
+    let dropped = AtomicU64::new(0);
+    let counts = Counts {
+        made: &made,
+        dropped: &dropped,
+    };
+    let mut slid = Slid::new(rt.alloc(), counts);
+    slid.play(&rt, 300, 0)?;
+    slid.play(&rt, 600, 1)?;
+    slid.play(&rt, 200, 2)?;
+    slid.play(&rt, 500, 0)?;
+    slid.cut(590);
+    slid.play(&rt, 200, 1)?;
+    slid.end();
+    holds(
+        &rt,
+        made.load(Ordering::SeqCst) == dropped.load(Ordering::SeqCst),
+    );
+    Ok(())
+}
