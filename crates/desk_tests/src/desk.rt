@@ -2,14 +2,15 @@
 //! when its ring is full, that a call through a lock reaches its own lane, what the workers make of wires that fail and of
 //! datagrams that are spoiled, and the octets of another implementation.
 
-mod again;
-mod ample;
+mod calls;
 mod closing;
 mod comparing;
 mod details;
 mod failing;
+mod home_workers;
 mod homes;
 mod memory;
+mod refused_memory;
 mod rings;
 mod sockets;
 mod spoiled;
@@ -19,4 +20,3 @@ mod test_proxy;
 mod threads;
 mod through_locks;
 mod workers;
-mod works;

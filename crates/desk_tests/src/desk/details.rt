@@ -2,9 +2,9 @@
 //! that leads nowhere, and which request bears Proxy-States of this proxy's form.
 
 use super::comparing::{holds, same};
+use super::home_workers::{CLIENT, HOME, turn_front, turn_lane};
 use super::memory::MemoryWire;
 use super::test_proxy::TestProxy;
-use super::works::{CLIENT, HOME, turn_front, turn_lane};
 use rad_desk::{Call, Gate, Go, Spent, UpReason, Worker};
 use rad_realms::Endpoint;
 use std::alloc::Global;

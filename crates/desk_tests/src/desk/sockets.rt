@@ -1,8 +1,10 @@
 //! By which sockets the workers send, and of which they hear, where there are two.
 
 use super::comparing::same;
+use super::home_workers::{
+    HOME, HomeWorkers, accepted, answered, front, lane, note, note_of, play, tally,
+};
 use super::workers::forward;
-use super::works::{HOME, Works, accepted, answered, front, lane, note, note_of, play, tally};
 use rad_desk::{DeskFault, Note};
 use rad_lane::HearFault;
 use std::process::Abort;
@@ -16,8 +18,8 @@ const TWO_PORTS: &str = "ports = 2\ntries = 1\nprobe_every = 1000\ndown_wait = 3
 
 #[test]
 fn a_lane_sends_and_hears_by_the_source_port(rt: HostRuntime) -> Result<(), Fail> {
-    let mut works = Works::new(rt.alloc(), TWO_PORTS)?;
-    probe_to_the_second_port(&rt, &mut works);
+    let mut workers = HomeWorkers::new(rt.alloc(), TWO_PORTS)?;
+    probe_to_the_second_port(&rt, &mut workers);
     let unknown = Note::Unheard(DeskFault::Lane(HearFault::Unknown));
     let turns = [
         lane(&SECOND_PROBE_ANSWER, [1, 0, 0], note_of(HOME, unknown), &[]),
@@ -29,20 +31,20 @@ fn a_lane_sends_and_hears_by_the_source_port(rt: HostRuntime) -> Result<(), Fail
         )
         .to(1),
     ];
-    works.play(&rt, &turns);
-    works.end();
+    workers.play(&rt, &turns);
+    workers.end();
     Ok(())
 }
 
 /// A request is with its home server, which is down. It is probed by each pair of the first source port that is free, and then
 /// by those of the second up to Identifier 2. Then the clock stands.
-fn probe_to_the_second_port<R: Wait + Abort>(rt: &R, works: &mut Works) {
-    forward(rt, works);
-    same(rt, works.lane(rt, 259), tally(259, [0, 257, 0]));
-    same(rt, works.gate.told(), note(Note::WentDown));
-    works.play(rt, &[lane(&[], [0, 1, 0], None, &SECOND_PROBE).by(1)]);
-    works.lane.start_at(260_000);
-    works.lane.tick = 0;
+fn probe_to_the_second_port<R: Wait + Abort>(rt: &R, workers: &mut HomeWorkers) {
+    forward(rt, workers);
+    same(rt, workers.lane(rt, 259), tally(259, [0, 257, 0]));
+    same(rt, workers.gate.told(), note(Note::WentDown));
+    workers.play(rt, &[lane(&[], [0, 1, 0], None, &SECOND_PROBE).by(1)]);
+    workers.lane.start_at(260_000);
+    workers.lane.tick = 0;
 }
 
 #[test]

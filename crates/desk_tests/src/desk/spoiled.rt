@@ -1,9 +1,9 @@
 //! What the workers make of datagrams that are spoiled, come twice or come late.
 
 use super::comparing::{holds, same};
+use super::home_workers::{CLIENT, HOME, HomeWorkers, answered, counts, lane, note_of};
 use super::test_gate::Telling;
 use super::workers::forward;
-use super::works::{CLIENT, HOME, Works, answered, counts, lane, note_of};
 use rad_desk::{DeskFault, Note, Worker};
 use rad_lane::HearFault::{self, BadAuthenticator, Unknown, Unread};
 use rad_packet::{Datagram, ReadFault};
@@ -16,13 +16,13 @@ use test_octets::nas::{REQUEST, SECOND_REQUEST};
 use test_octets::{reply_to, request};
 
 /// Has a datagram come from the client, which the front drops for this reason.
-fn drop_for<R: Wait + Abort>(rt: &R, works: &mut Works, octets: &[u8], reason: Dropped) {
-    works.front.comes(CLIENT, octets);
-    let _ = works.front(rt, 1);
+fn drop_for<R: Wait + Abort>(rt: &R, workers: &mut HomeWorkers, octets: &[u8], reason: Dropped) {
+    workers.front.comes(CLIENT, octets);
+    let _ = workers.front(rt, 1);
     let dropped = note_of(CLIENT, Note::Dropped(reason));
-    same(rt, works.gate.told(), dropped);
+    same(rt, workers.gate.told(), dropped);
     let octets = octets.get(..4096).unwrap_or(octets);
-    holds(rt, works.gate.has_received(Worker::Front, CLIENT, octets));
+    holds(rt, workers.gate.has_received(Worker::Front, CLIENT, octets));
 }
 
 /// The datagram of a lane was dropped for this reason.
@@ -40,30 +40,30 @@ fn fault_of_length(count: usize) -> ReadFault {
 }
 
 /// Drops each request that lacks octets at its end.
-fn drop_cut<R: Wait + Abort>(rt: &R, works: &mut Works) {
+fn drop_cut<R: Wait + Abort>(rt: &R, workers: &mut HomeWorkers) {
     for count in 0..REQUEST.len() {
         let reason = Dropped::Unread(fault_of_length(count));
-        drop_for(rt, works, &REQUEST[..count], reason);
+        drop_for(rt, workers, &REQUEST[..count], reason);
     }
 }
 
 #[test]
 fn short_reads_are_dropped(rt: HostRuntime) -> Result<(), Fail> {
-    let mut works = Works::new(rt.alloc(), "")?;
-    drop_cut(&rt, &mut works);
-    same(&rt, works.counts(&rt), counts(0, 0, 0, 0));
-    works.end();
+    let mut workers = HomeWorkers::new(rt.alloc(), "")?;
+    drop_cut(&rt, &mut workers);
+    same(&rt, workers.counts(&rt), counts(0, 0, 0, 0));
+    workers.end();
     Ok(())
 }
 
 #[test]
 fn the_longest_datagram_is_dropped(rt: HostRuntime) -> Result<(), Fail> {
     let ones = vec![in rt.alloc(); 255; 65_507]?;
-    let mut works = Works::new(rt.alloc(), "")?;
+    let mut workers = HomeWorkers::new(rt.alloc(), "")?;
     let reason = Dropped::Unread(ReadFault::BadLength);
-    drop_for(&rt, &mut works, ones.as_slice(), reason);
-    same(&rt, works.counts(&rt), counts(0, 0, 0, 0));
-    works.end();
+    drop_for(&rt, &mut workers, ones.as_slice(), reason);
+    same(&rt, workers.counts(&rt), counts(0, 0, 0, 0));
+    workers.end();
     Ok(())
 }
 
@@ -80,85 +80,88 @@ fn fault_of_bit(place: usize) -> Dropped {
 }
 
 /// Drops the second request with the last bit of each octet turned.
-fn drop_turned<R: Wait + Abort>(rt: &R, works: &mut Works) {
+fn drop_turned<R: Wait + Abort>(rt: &R, workers: &mut HomeWorkers) {
     for place in 0..SECOND_REQUEST.len() {
         let mut turned = SECOND_REQUEST;
         turned[place] ^= 1;
-        drop_for(rt, works, &turned, fault_of_bit(place));
+        drop_for(rt, workers, &turned, fault_of_bit(place));
     }
 }
 
 #[test]
 fn a_turned_bit_is_dropped(rt: HostRuntime) -> Result<(), Fail> {
-    let mut works = Works::new(rt.alloc(), "")?;
-    drop_turned(&rt, &mut works);
-    same(&rt, works.counts(&rt), counts(0, 0, 0, 0));
-    works.end();
+    let mut workers = HomeWorkers::new(rt.alloc(), "")?;
+    drop_turned(&rt, &mut workers);
+    same(&rt, workers.counts(&rt), counts(0, 0, 0, 0));
+    workers.end();
     Ok(())
 }
 
 #[test]
 fn spoiled_replies_leave_the_sending(rt: HostRuntime) -> Result<(), Fail> {
-    let mut works = Works::new(rt.alloc(), "")?;
-    forward(&rt, &mut works);
+    let mut workers = HomeWorkers::new(rt.alloc(), "")?;
+    forward(&rt, &mut workers);
     let short = unheard(Unread(ReadFault::Truncated));
-    works.play(&rt, &[lane(&REPLY[..41], [1, 0, 0], short, &[])]);
-    same(&rt, works.counts(&rt), counts(1, 0, 1, 0));
+    workers.play(&rt, &[lane(&REPLY[..41], [1, 0, 0], short, &[])]);
+    same(&rt, workers.counts(&rt), counts(1, 0, 1, 0));
     let turns = [
         lane(&REPLY, [1, 0, 0], answered(0), &[]),
         lane(&REPLY, [1, 0, 0], unheard(Unknown), &[]),
     ];
-    works.play(&rt, &turns);
-    same(&rt, works.counts(&rt), counts(1, 0, 0, 1));
-    works.end();
+    workers.play(&rt, &turns);
+    same(&rt, workers.counts(&rt), counts(1, 0, 0, 1));
+    workers.end();
     Ok(())
 }
 
 /// Has the request of this count sent to the home server, and gives the reply to it.
-fn send(rt: &impl Wait, works: &mut Works, count: u16) -> Option<Datagram> {
-    works.front.comes(CLIENT, request(count)?.bytes());
-    let _ = works.front(rt, 1);
-    let _ = works.lane(rt, 1);
-    let sent = works.lane.take_sent()?;
-    if !works.gate.has_sent(Worker::Lane(0), HOME, sent.as_slice()) {
+fn send(rt: &impl Wait, workers: &mut HomeWorkers, count: u16) -> Option<Datagram> {
+    workers.front.comes(CLIENT, request(count)?.bytes());
+    let _ = workers.front(rt, 1);
+    let _ = workers.lane(rt, 1);
+    let sent = workers.lane.take_sent()?;
+    if !workers
+        .gate
+        .has_sent(Worker::Lane(0), HOME, sent.as_slice())
+    {
         return None;
     }
     reply_to(sent.as_slice(), 0)
 }
 
 /// Has the requests of these counts answered, each before the next, and gives the reply to the first.
-fn answer_each(rt: &impl Wait, works: &mut Works, end: u16) -> Option<Datagram> {
-    let first = send(rt, works, 0)?;
-    works.lane.comes(HOME, first.bytes());
+fn answer_each(rt: &impl Wait, workers: &mut HomeWorkers, end: u16) -> Option<Datagram> {
+    let first = send(rt, workers, 0)?;
+    workers.lane.comes(HOME, first.bytes());
     for count in 1..end {
-        let _ = works.lane(rt, 1);
-        let _ = works.front(rt, 1);
-        let reply = send(rt, works, count)?;
-        works.lane.comes(HOME, reply.bytes());
+        let _ = workers.lane(rt, 1);
+        let _ = workers.front(rt, 1);
+        let reply = send(rt, workers, count)?;
+        workers.lane.comes(HOME, reply.bytes());
     }
-    let _ = works.lane(rt, 1);
+    let _ = workers.lane(rt, 1);
     Some(first)
 }
 
 #[test]
 fn a_late_reply_leaves_another_sending(rt: HostRuntime) -> Result<(), Fail> {
-    let mut works = Works::new(rt.alloc(), "")?;
-    let late = answer_each(&rt, &mut works, 256);
-    let reply = send(&rt, &mut works, 256);
+    let mut workers = HomeWorkers::new(rt.alloc(), "")?;
+    let late = answer_each(&rt, &mut workers, 256);
+    let reply = send(&rt, &mut workers, 256);
     if let (Some(late), Some(reply)) = (late, reply) {
-        compare_late(&rt, &mut works, late.bytes(), reply.bytes());
+        compare_late(&rt, &mut workers, late.bytes(), reply.bytes());
     } else {
         assert!(rt; false, "packets");
     }
-    works.end();
+    workers.end();
     Ok(())
 }
 
 /// Has the lane hear the reply to number 0 while number 256 is outstanding, and then the reply to that.
-fn compare_late<R: Wait + Abort>(rt: &R, works: &mut Works, late: &[u8], reply: &[u8]) {
-    same(rt, works.counts(rt), counts(257, 0, 1, 256));
-    works.play(rt, &[lane(late, [1, 0, 0], unheard(BadAuthenticator), &[])]);
-    same(rt, works.counts(rt), counts(257, 0, 1, 256));
-    works.play(rt, &[lane(reply, [1, 0, 0], answered(256), &[])]);
-    same(rt, works.counts(rt), counts(257, 0, 0, 257));
+fn compare_late<R: Wait + Abort>(rt: &R, workers: &mut HomeWorkers, late: &[u8], reply: &[u8]) {
+    same(rt, workers.counts(rt), counts(257, 0, 1, 256));
+    workers.play(rt, &[lane(late, [1, 0, 0], unheard(BadAuthenticator), &[])]);
+    same(rt, workers.counts(rt), counts(257, 0, 1, 256));
+    workers.play(rt, &[lane(reply, [1, 0, 0], answered(256), &[])]);
+    same(rt, workers.counts(rt), counts(257, 0, 0, 257));
 }

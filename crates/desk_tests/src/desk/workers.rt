@@ -1,11 +1,11 @@
 //! What the workers do in a turn, over wires in memory: what each counts and tells, and where what it sends goes.
 
 use super::comparing::{holds, same};
+use super::home_workers::{
+    CLIENT, HOME, HomeWorkers, accepted, answered, front, lane, note, note_of, play, tally,
+};
 use super::test_desk::OTHER_HOME;
 use super::test_gate::Telling;
-use super::works::{
-    CLIENT, HOME, Works, accepted, answered, front, lane, note, note_of, play, tally,
-};
 use rad_desk::{Call, Note};
 use rad_lane::Refusal;
 use rad_realms::{Dropped, Endpoint};
@@ -35,19 +35,19 @@ fn each_worker_does_its_part(rt: HostRuntime) -> Result<(), Fail> {
 
 #[test]
 fn the_front_holds_no_response_back(rt: HostRuntime) -> Result<(), Fail> {
-    let mut works = Works::new(rt.alloc(), "")?;
-    works.lane.tick = 1;
-    answer_both(&rt, &mut works);
-    assert_eq!(rt; works.front(&rt, 1), tally(1, [0, 1, 0]));
-    assert!(rt; works.front.sent(CLIENT, &RESPONSE));
-    assert_eq!(rt; works.front(&rt, 3), tally(3, [0, 1, 0]));
-    assert!(rt; works.front.sent(CLIENT, &SECOND_RESPONSE));
-    works.end();
+    let mut workers = HomeWorkers::new(rt.alloc(), "")?;
+    workers.lane.tick = 1;
+    answer_both(&rt, &mut workers);
+    assert_eq!(rt; workers.front(&rt, 1), tally(1, [0, 1, 0]));
+    assert!(rt; workers.front.sent(CLIENT, &RESPONSE));
+    assert_eq!(rt; workers.front(&rt, 3), tally(3, [0, 1, 0]));
+    assert!(rt; workers.front.sent(CLIENT, &SECOND_RESPONSE));
+    workers.end();
     Ok(())
 }
 
 /// Both requests are taken, and both are answered.
-fn answer_both<R: Wait + Abort>(rt: &R, works: &mut Works) {
+fn answer_both<R: Wait + Abort>(rt: &R, workers: &mut HomeWorkers) {
     let turns = [
         front(&REQUEST, [1, 0, 0], accepted(0), &[]),
         lane(&[], [0, 1, 0], None, &FORWARDED),
@@ -56,7 +56,7 @@ fn answer_both<R: Wait + Abort>(rt: &R, works: &mut Works) {
         lane(&REPLY, [1, 0, 0], answered(0), &[]),
         lane(&SECOND_REPLY, [1, 0, 0], answered(1), &[]),
     ];
-    works.play(rt, &turns);
+    workers.play(rt, &turns);
 }
 
 #[test]
@@ -69,34 +69,34 @@ fn a_reply_from_elsewhere_is_dropped(rt: HostRuntime) -> Result<(), Fail> {
 
 /// Has the reply come from there, which is not the home server.
 fn drop_from<R: Wait + Abort>(rt: &R, alloc: Global, elsewhere: Endpoint) -> Result<(), Fail> {
-    let mut works = Works::new(alloc, "")?;
-    forward(rt, &mut works);
+    let mut workers = HomeWorkers::new(alloc, "")?;
+    forward(rt, &mut workers);
     let dropped = note_of(elsewhere, Note::NotHome);
     let turns = [
         lane(&REPLY, [1, 0, 0], dropped, &[]).from(elsewhere),
         front(&[], [0, 0, 0], None, &[]),
     ];
-    works.play(rt, &turns);
-    works.end();
+    workers.play(rt, &turns);
+    workers.end();
     Ok(())
 }
 
 /// A turn of each worker, after which the request is with its home server.
-pub fn forward<R: Wait + Abort>(rt: &R, works: &mut Works) {
+pub fn forward<R: Wait + Abort>(rt: &R, workers: &mut HomeWorkers) {
     let turns = [
         front(&REQUEST, [1, 0, 0], accepted(0), &[]),
         lane(&[], [0, 1, 0], None, &FORWARDED),
     ];
-    works.play(rt, &turns);
+    workers.play(rt, &turns);
 }
 
 #[test]
 fn the_front_answers_and_drops(rt: HostRuntime) -> Result<(), Fail> {
-    let mut works = Works::new(rt.alloc(), "")?;
-    works.play(&rt, &[front(&STATUS, [1, 1, 0], None, &STATUS_ANSWER)]);
+    let mut workers = HomeWorkers::new(rt.alloc(), "")?;
+    workers.play(&rt, &[front(&STATUS, [1, 1, 0], None, &STATUS_ANSWER)]);
     let dropped = note_of(HOME, Note::Dropped(Dropped::UnknownClient));
-    works.play(&rt, &[front(&STATUS, [1, 0, 0], dropped, &[]).from(HOME)]);
-    works.end();
+    workers.play(&rt, &[front(&STATUS, [1, 0, 0], dropped, &[]).from(HOME)]);
+    workers.end();
     Ok(())
 }
 
@@ -123,14 +123,14 @@ fn a_refusal_is_of_what_came_last(rt: HostRuntime) -> Result<(), Fail> {
 
 #[test]
 fn a_gate_stops_each_worker(rt: HostRuntime) -> Result<(), Fail> {
-    let mut works = Works::new(rt.alloc(), "")?;
-    works.gate.stops = Some(Call::Take);
-    same(&rt, works.front(&rt, 9), tally(1, [0, 0, 0]));
-    works.gate.stops = Some(Call::Step);
-    works.play(&rt, &[front(&REQUEST, [1, 0, 0], accepted(0), &[])]);
-    same(&rt, works.lane(&rt, 9), tally(1, [0, 0, 0]));
-    holds(&rt, works.lane.sent(HOME, &[]));
-    works.end();
+    let mut workers = HomeWorkers::new(rt.alloc(), "")?;
+    workers.gate.stops = Some(Call::Take);
+    same(&rt, workers.front(&rt, 9), tally(1, [0, 0, 0]));
+    workers.gate.stops = Some(Call::Step);
+    workers.play(&rt, &[front(&REQUEST, [1, 0, 0], accepted(0), &[])]);
+    same(&rt, workers.lane(&rt, 9), tally(1, [0, 0, 0]));
+    holds(&rt, workers.lane.sent(HOME, &[]));
+    workers.end();
     Ok(())
 }
 
@@ -166,26 +166,26 @@ fn a_half_full_book_is_cut(rt: HostRuntime) -> Result<(), Fail> {
 
 #[test]
 fn a_request_is_cut_once_its_span_is_over(rt: HostRuntime) -> Result<(), Fail> {
-    let mut works = Works::new(rt.alloc(), "book = 2\nspan = 30000\n")?;
-    works.lane.tick = 0;
-    answer(&rt, &mut works);
-    works.lane.start_at(29_999);
-    works.lane.tick = 1;
+    let mut workers = HomeWorkers::new(rt.alloc(), "book = 2\nspan = 30000\n")?;
+    workers.lane.tick = 0;
+    answer(&rt, &mut workers);
+    workers.lane.start_at(29_999);
+    workers.lane.tick = 1;
     let turns = [
         lane(&[], [0, 0, 0], None, &[]),
         lane(&[], [0, 0, 0], note(Note::Cut(1)), &[]),
         lane(&[], [0, 0, 0], None, &[]),
     ];
-    works.play(&rt, &turns);
-    same(&rt, works.gate.turns(), 3);
-    works.end();
+    workers.play(&rt, &turns);
+    same(&rt, workers.gate.turns(), 3);
+    workers.end();
     Ok(())
 }
 
 /// The request is taken and answered.
-fn answer<R: Wait + Abort>(rt: &R, works: &mut Works) {
-    forward(rt, works);
-    works.play(rt, &[lane(&REPLY, [1, 0, 0], answered(0), &[])]);
+fn answer<R: Wait + Abort>(rt: &R, workers: &mut HomeWorkers) {
+    forward(rt, workers);
+    workers.play(rt, &[lane(&REPLY, [1, 0, 0], answered(0), &[])]);
 }
 
 #[test]
@@ -200,11 +200,11 @@ fn each_idle_step_turns_a_book_that_is_half_full(rt: HostRuntime) -> Result<(), 
 /// How many times a worker that has nothing else to do, and comes by each millisecond, has its lane cut off what is over, where
 /// the book holds one request that is out.
 fn turns_in_31_idle_steps<R: Wait + Abort>(rt: &R, alloc: Global, more: &str) -> Result<u64, Fail> {
-    let mut works = Works::new(alloc, more)?;
-    works.lane.tick = 1;
-    forward(rt, &mut works);
-    same(rt, works.lane(rt, 31), tally(31, [0, 0, 0]));
-    let turns = works.gate.turns();
-    works.end();
+    let mut workers = HomeWorkers::new(alloc, more)?;
+    workers.lane.tick = 1;
+    forward(rt, &mut workers);
+    same(rt, workers.lane(rt, 31), tally(31, [0, 0, 0]));
+    let turns = workers.gate.turns();
+    workers.end();
     Ok(turns)
 }

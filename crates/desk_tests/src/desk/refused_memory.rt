@@ -1,9 +1,9 @@
 //! Calls that are made again where memory was refused: nothing had changed, and they answer as ever.
 
 use super::comparing::{holds, same};
+use super::home_workers::counts;
 use super::test_desk::slot;
 use super::test_proxy::{TestProxy, close};
-use super::works::counts;
 use rad_desk::{CloseFault, DeskFault, Inlet, LaneEnd, Proxy, Report, Rest, Told};
 use rad_lane::{Action, HearFault, Refusal, Series, Taken, TurnFault};
 use std::alloc::Global;

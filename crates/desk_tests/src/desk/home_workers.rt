@@ -198,17 +198,17 @@ pub fn turn_lane<G: Gate>(
 
 /// The workers of a proxy, each with its wire, and the gate of both.
 #[derive(Drop)]
-pub struct Works {
+pub struct HomeWorkers {
     pub proxy: TestProxy,
     pub front: MemoryWire,
     pub lane: MemoryWire,
     pub gate: TestGate,
 }
 
-impl Works {
+impl HomeWorkers {
     /// Over the configuration that goes on with these lines.
-    pub fn new(alloc: Global, more: &str) -> Result<Works, Fail> {
-        Ok(Works {
+    pub fn new(alloc: Global, more: &str) -> Result<HomeWorkers, Fail> {
+        Ok(HomeWorkers {
             proxy: TestProxy::new(alloc, more)?,
             front: MemoryWire::new(alloc),
             lane: MemoryWire::new(alloc),
@@ -295,8 +295,8 @@ pub fn play<R: Wait + Abort>(
     more: &str,
     turns: &[Turn<'_>],
 ) -> Result<(), Fail> {
-    let mut works = Works::new(alloc, more)?;
-    works.play(rt, turns);
-    works.end();
+    let mut workers = HomeWorkers::new(alloc, more)?;
+    workers.play(rt, turns);
+    workers.end();
     Ok(())
 }
