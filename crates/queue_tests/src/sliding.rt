@@ -103,10 +103,15 @@ impl<'a> Slid<'a> {
 
     /// Exchanges two items and puts them back.
     fn exchange(&mut self, i: usize, j: usize) {
+        self.swap(i, j);
+        self.swap(j, i);
+    }
+
+    /// Exchanges two items, where the list has both.
+    fn swap(&mut self, i: usize, j: usize) {
         let count = self.list.as_slice().len();
         if i < count && j < count {
             self.list.swap(i, j);
-            self.list.swap(j, i);
         }
     }
 
