@@ -1,6 +1,6 @@
 -- A row holds a front of some items, and still does where the items and the row change alike.
-use Rattle.std.proofs.Common.{◌≡◌, ◌≢◌, ℕ, zero, suc, ◌+◌, ◌-◌, ◌<◌, ◌≤◌, ◌⊎◌, inl, inr, List, [], ◌∷◌, ◌++◌, Option, Some, None, refl, sym, ap, ◌∙◌, subst, arith, length, get_or, set, take, drop, slice_get}
-use Rattle.std.proofs.lemmas.List.{length-set, take-append-le, take-set-le}
+use Rattle.std.proofs.Common.{◌≡◌, ℕ, zero, suc, ◌<◌, ◌≤◌, List, [], ◌∷◌, ◌++◌, Some, refl, sym, ap, ◌∙◌, arith, length, get_or, set, take, drop, slice_get}
+use Rattle.std.proofs.lemmas.List.{take-append-le, take-set-le}
 
 module _ {T : Type 0} where
   -- a front is no longer than the items

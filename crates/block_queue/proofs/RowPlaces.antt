@@ -1,8 +1,8 @@
 -- What a row's places hold after one of them is written or read.
 use Rattle.std.proofs.Common.{◌≡◌, ◌≢◌, ℕ, zero, suc, ◌+◌, ◌-◌, ◌<◌, ◌≤◌, List, [], ◌∷◌, ◌++◌, Option, Some, None, refl, sym, ap, ◌∙◌, subst, arith, length, get_or, set, slice_get, length-append}
 use Rattle.std.proofs.lemmas.List.{length-set, set_comm, set-set, get_or-set_same, get_or-set_other}
-use Rattle.std.proofs.lemmas.Option.{get_or_from_slice_get, slice_get-get_or}
-use Rattle.block_queue.specs.Places.{laid, values, IsFilled, IsRun, IsRow}
+use Rattle.std.proofs.lemmas.Option.{get_or_from_slice_get}
+use Rattle.block_queue.specs.Places.{laid, values, IsFilled, IsRow}
 use Rattle.block_queue.proofs.Places.{values-laid, length-laid, laid-empty, behind, pushed-laid, popped-laid, get-laid}
 
 module _ {T : Type 0} where

@@ -1,6 +1,5 @@
 //! What a list does with its rows, each of which may not be there.
-ghost use Rattle.std.specs.Prelude.{◌≡◌, ◌≢◌, ◌<◌, ◌≤◌, ◌↔◌, [], ◌∷◌, ◌++◌, List, None, length, drop as drop_list, option_copied, slice_get, slice_set, slice_index_or};
-ghost use Rattle.std.specs.Bool.{OnTrue};
+ghost use Rattle.std.specs.Prelude.{◌≡◌, ◌≢◌, ◌<◌, ◌≤◌, ◌↔◌, [], ◌∷◌, ◌++◌, true, List, None, length, drop as drop_list, option_copied, slice_get, slice_set, slice_index_or};
 ghost use Rattle.block_queue.specs.Sliding.{items_in, room_in, IsFront};
 
 use crate::row::Row;
@@ -42,7 +41,7 @@ pub(crate) fn room_of<T>(row: &Option<Row<T>>) -> usize
 
 /// Whether there is a row that has so many items.
 pub(crate) fn has_all<T>(row: &Option<Row<T>>, count: usize) -> bool
-    ensures { OnTrue result (length (items_in row.now) ≡ count) }
+    ensures { result ≡ true → length (items_in row.now) ≡ count }
 {
     match row {
         Some(row) => row.len() == count,

@@ -1,15 +1,15 @@
-use Rattle.std.proofs.Common.{◌≤◌, ◌∙◌, length, set, sym, ap, subst, arith}
+use Rattle.std.proofs.Common.{◌∙◌, length, set, sym, ap, subst, arith}
 use Rattle.block_queue.specs.Sliding.{items_in, IsFront}
 use Rattle.block_queue.proofs.Fronts.{front_set, front_set_behind}
 use Rattle.block_queue.proofs.rows.follow_set.Goals as goal
 
-pub returns-then-place-len : goal.returns-then-place-len
-returns-then-place-len g c = λ items e.
+pub returns-then-place-slice_of : goal.returns-then-place-slice_of
+returns-then-place-slice_of g c = λ items e.
     let long = ap length c.slice_of.ensures in
-    front_set_behind (items_in c.args.row.now) items c.args.place c.args.item.now (omega (arith, long, c.if-place-len.true)) e
+    front_set_behind (items_in c.args.row.now) items c.args.place c.args.item.now (omega (arith, long, c.if-place-slice_of.true)) e
 
 pub set_in-requires : goal.set_in-requires
-set_in-requires g c = let long = ap length c.slice_of.ensures in omega (arith, long, c.if-place-len.false)
+set_in-requires g c = let long = ap length c.slice_of.ensures in omega (arith, long, c.if-place-slice_of.false)
 
 pub returns-in-Ok : goal.returns-in-Ok
 returns-in-Ok g c = λ items e.

@@ -1,4 +1,4 @@
-use Rattle.std.proofs.Common.{arith}
+use Rattle.std.proofs.Common.{◌^◌, arith}
 use Rattle.std.specs.Mem.{type_size}
 use Rattle.core.proofs.ptr.Rows.{times_below}
 use Rattle.block_queue.proofs.region.Region.with_places.Goals as goal

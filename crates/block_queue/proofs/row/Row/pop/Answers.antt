@@ -1,5 +1,5 @@
 use Rattle.std.proofs.Common.{◌<◌, ◌∙◌, length, sym, ap, subst, arith}
-use Rattle.block_queue.proofs.RowPlaces.{inside, first_filled, row_popped}
+use Rattle.block_queue.proofs.RowPlaces.{first_filled, row_popped}
 use Rattle.block_queue.proofs.row.Row.pop.Goals as goal
 
 pub read-requires : goal.read-requires

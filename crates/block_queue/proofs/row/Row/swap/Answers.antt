@@ -1,4 +1,4 @@
-use Rattle.std.proofs.Common.{◌+◌, ◌<◌, Some, None, ◌∙◌, length, get_or, set, sym, ap, subst, arith}
+use Rattle.std.proofs.Common.{◌+◌, ◌<◌, Some, None, ◌∙◌, length, get_or, set, sym, ap, subst}
 use Rattle.block_queue.specs.Places.{IsFilled}
 use Rattle.block_queue.proofs.RowPlaces.{filled_at, other_filled, here_free, row_swapped}
 use Rattle.block_queue.proofs.row.Row.swap.Goals as goal

@@ -1,5 +1,5 @@
 use Rattle.std.proofs.Common.{◌≤◌, ◌++◌, [], ◌∷◌, ◌∙◌, sym, ap, subst}
-use Rattle.block_queue.specs.Sliding.{items_in, room_in, IsFront}
+use Rattle.block_queue.specs.Sliding.{items_in, IsFront}
 use Rattle.block_queue.proofs.Fronts.{front_pushed}
 use Rattle.block_queue.proofs.sliding_list.SlidingList.push.Goals as goal
 
