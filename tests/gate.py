@@ -44,6 +44,7 @@ SCRIPTS = {
     "telling": ("hostile/telling.py", "PROGRAM"),
     "ending": ("hostile/ending.py", "PROGRAM"),
     "moments": ("hostile/moments.py", "PROGRAM"),
+    "metrics": ("hostile/metrics.py", "PROGRAM"),
     "lists": ("hostile/lists.py", "PROGRAM"),
     "calls": ("hostile/calls.py", "PROGRAM"),
     "blocks": ("hostile/blocks.py", str(QUEUE_TESTS)),

@@ -34,7 +34,7 @@ TICKS = os.sysconf("SC_CLK_TCK")
 # A worker that nobody wakes looks again after 20 milliseconds.
 LATE = 0.012
 NOTHING_LEFT = "end: queued 0 outstanding 0 untaken 0"
-FACES = ["down", "up"]
+UP_REASONS = ["answered", "probe answered", "down_wait over"]
 LEVELS = {"error", "warn", "info", "debug", "trace"}
 
 
@@ -136,7 +136,7 @@ class Stage:
         hope(is_so(self.proxy.counters.exists), "there is no file of counters")
         lines = self.proxy.counters.read_text("utf-8").splitlines()
         pairs = [line.rsplit(" ", 1) for line in lines if not line.startswith("#")]
-        found = {name: int(count) for name, count in pairs}
+        found = {name: float(count) if "." in count else int(count) for name, count in pairs}
         hope(len(found) == len(pairs), "a counter stands there twice")
         return found
 
@@ -365,7 +365,8 @@ def counts_each_lane(program, folder, count):
         for lane in range(count):
             labels = f'lane="{lane}",home="h{lane}"'
             wanted |= {f"rad_proxy_sent_total{{{labels}}}": asked[lane], f"rad_proxy_probes_total{{{labels}}}": 0}
-            wanted |= {f"rad_proxy_{face}s_total{{{labels}}}": 0 for face in FACES}
+            wanted |= {f'rad_proxy_ups_total{{{labels},reason="{reason}"}}': 0 for reason in UP_REASONS}
+            wanted[f"rad_proxy_downs_total{{{labels}}}"] = 0
             wanted |= {f"rad_proxy_{way}_faults_total{{{labels}}}": 0 for way in ("send", "receive")}
             wanted |= {f"rad_proxy_marked_total{{{labels}}}": 0, f"rad_proxy_cut_total{{{labels}}}": 0}
             for reason in ("Unread", "Unknown"):

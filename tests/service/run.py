@@ -8,6 +8,7 @@ systemd, and uses loopback alone; what needs another user is tried where root ru
 line is `N passed, M failed`.
 """
 import contextlib
+import json
 import os
 import pathlib
 import pty
@@ -16,10 +17,15 @@ import resource
 import shutil
 import signal
 import socket
+import socketserver
 import stat
 import subprocess
 import sys
+import threading
 import time
+import urllib.error
+import urllib.parse
+import urllib.request
 
 sys.dont_write_bytecode = True
 
@@ -320,6 +326,17 @@ def counters_that_are_not_written_are_told(service):
     hope("old counters", "of yesterday" in done.stdout, False)
 
 
+def kind_of(family):
+    if family in ("rad_proxy_reply_seconds", "rad_proxy_response_seconds"):
+        return "histogram"
+    return "counter" if family.endswith("_total") else "gauge"
+
+
+def names_of(family):
+    """The names that the samples of a family may have."""
+    return [f"{family}_{part}" for part in ("bucket", "sum", "count")] if kind_of(family) == "histogram" else [family]
+
+
 def metrics_are_as_prometheus_reads_them(service):
     """Each family of `metrics` stands once, behind its HELP and its TYPE; `promtool check metrics` finds no fault, where it is here."""
     service.start()
@@ -333,13 +350,13 @@ def metrics_are_as_prometheus_reads_them(service):
             families.append(family)
             hope(f"what {family} counts", len(line.split(None, 3)), 4)
         elif line.startswith("# TYPE "):
-            kind = "counter" if family.endswith("_total") else "gauge"
-            hope("type", line, f"# TYPE {family} {kind}")
+            hope("type", line, f"# TYPE {family} {kind_of(family)}")
         else:
-            hope("family", re.fullmatch(r"(\w+)\{[^{}]*\} \d+", line)[1], family)
+            name = re.fullmatch(r"(\w+)(?:\{[^{}]*\})? \d+(?:\.\d{3}|\.\d{6})?", line)[1]
+            hope(f"{name} of {family}", name in names_of(family), True)
             samples += 1
     hope("families that stand twice", [name for name in set(families) if families.count(name) > 1], [])
-    hope("numbers", samples > len(families) > 10, True)
+    hope("numbers", samples > len(families) > 40, True)
     if shutil.which("promtool"):
         checked = subprocess.run(["promtool", "check", "metrics"], input=done.stdout, capture_output=True, text=True)
         hope("promtool", (checked.returncode, checked.stdout + checked.stderr), (0, ""))
@@ -367,6 +384,39 @@ def metrics_go_to_a_file(service):
         kept.seek(0)
         hope("the file before", kept.read(), text)
         hope("another file", os.fstat(kept.fileno()).st_ino != file.stat().st_ino, True)
+
+
+def top_draws_what_is_there(service):
+    """`top` prints its tables once where its output is no terminal; on one it draws them again and again, in place of those before."""
+    service.start()
+    until("counters", (service.run / "counters").exists)
+    service.send(b"no packet")
+    done = service.ask("top")
+    hope("it ends", (done.returncode, done.stderr), (0, ""))
+    first, *lines = done.stdout.splitlines()
+    hope("head", re.sub(r"\d+\.\ds", "SECONDS", first), "rad_proxy 0.1.0, running for SECONDS")
+    rows = [line.split() for line in lines if line]
+    hope("heads", [row[0] for row in rows[::2]], ["HOME", "CLIENT", "DROPS"])
+    hope("home", (rows[1][:2], rows[1][3:]), (["h1", "up"], ["0.0", "0.0", "0.0", "0.0", "-", "-", "0", "0", "0%", "never"]))
+    hope("client", rows[3][0], "127.0.0.1")
+    ours, theirs = pty.openpty()
+    drawing = subprocess.Popen([service.ctl, "top"], stdin=theirs, stdout=theirs, stderr=theirs, env=service.environment)
+    os.close(theirs)
+    try:
+        drawn = b""
+        while drawn.count(b"\033[H\033[2J") < 3:
+            drawn += os.read(ours, 4096)
+        hope("tables", drawn.count(b"HOME") >= 2, True)
+    finally:
+        drawing.terminate()
+        drawing.wait(PATIENCE)
+        os.close(ours)
+
+
+def top_of_no_proxy_ends(service):
+    """Where no proxy answers, `top` says so, and ends with 4."""
+    done = service.ask("top")
+    hope("no service", (done.returncode, done.stdout, done.stderr), (4, "", f"rad_proxyctl: no service in {service.run}, or no right to ask it\n"))
 
 
 def metrics_of_no_proxy_are_removed(service):
@@ -469,6 +519,72 @@ def alerts_fire_where_they_should(service):
     hope("promtool", (done.returncode, done.stderr), (0, ""))
     tried = set(re.findall(r"alertname: (\w+)", (service.room / "alerts-test.yml").read_text()))
     hope("alerts", tried, set(re.findall(r"alert: (\w+)", (service.room / "alerts.yml").read_text())))
+
+
+def each_panel_of_the_dashboard_draws(service):
+    """Each expression of examples/grafana-dashboard.json gives numbers, where a real Prometheus scrapes the service under load."""
+    if shutil.which("prometheus") is None:
+        raise LeftOut("Prometheus is not here")
+    service.start()
+    until("counters", (service.run / "counters").exists)
+    panels = json.loads((HERE / "examples" / "grafana-dashboard.json").read_text())["panels"]
+    asked = {target["expr"].replace("$__rate_interval", "8s") for panel in panels for target in panel["targets"]}
+    sender = subprocess.Popen(
+        [sys.executable, "-c", NASES, str(service.port), str(service.home.fileno())], pass_fds=[service.home.fileno()])
+    try:
+        with answering(service) as port, prometheus(service, port) as has_numbers:
+            last = time.monotonic() + 2 * PATIENCE
+            while time.monotonic() < last and asked:
+                time.sleep(1)
+                asked = {each for each in asked if not has_numbers(each)}
+            hope("without numbers", asked, set())
+    finally:
+        sender.kill()
+        sender.wait()
+
+
+@contextlib.contextmanager
+def answering(service):
+    """A port at which each connection is answered by `rad_proxyctl http`, as systemd does it."""
+
+    class Handler(socketserver.BaseRequestHandler):
+        def handle(self):
+            subprocess.run([service.ctl, "http"], stdin=self.request, stdout=self.request, env=service.environment)
+
+    with socketserver.ThreadingTCPServer(("127.0.0.1", 0), Handler) as server:
+        threading.Thread(target=server.serve_forever, daemon=True).start()
+        try:
+            yield server.server_address[1]
+        finally:
+            server.shutdown()
+
+
+@contextlib.contextmanager
+def prometheus(service, port):
+    """A Prometheus that scrapes this port, and whether it has numbers of an expression."""
+    with socket.socket() as free:
+        free.bind(("127.0.0.1", 0))
+        own = free.getsockname()[1]
+    file, kept = service.room / "prometheus.yml", service.room / f"prometheus{own}"
+    file.write_text("scrape_configs: [{job_name: rad_proxy, scrape_interval: 2s, scrape_timeout: 2s, "
+                    f"static_configs: [{{targets: ['127.0.0.1:{port}']}}]}}]\n")
+    words = ["prometheus", f"--config.file={file}", f"--storage.tsdb.path={kept}", f"--web.listen-address=127.0.0.1:{own}"]
+    with open(service.room / "prometheus.log", "wb") as log:
+        running = subprocess.Popen(words, stdout=log, stderr=log)
+
+    def has_numbers(expression):
+        url = f"http://127.0.0.1:{own}/api/v1/query?" + urllib.parse.urlencode({"query": expression})
+        try:
+            with urllib.request.urlopen(url, timeout=PATIENCE) as answer:
+                return bool(json.load(answer)["data"]["result"])
+        except (urllib.error.URLError, ConnectionError):
+            return False
+
+    try:
+        yield has_numbers
+    finally:
+        running.kill()
+        running.wait()
 
 
 def sent_again_is_never_less_than_nothing(service):
@@ -678,7 +794,7 @@ TESTS = [
     a_hand_over_that_dies_is_started_anew, nobody_reads_its_output, its_output_is_full, what_is_left_over_is_a_warning,
     counters_elsewhere_are_told, counters_that_are_not_written_are_told,
     metrics_are_as_prometheus_reads_them, alerts_fire_where_they_should, metrics_go_to_a_file,
-    metrics_of_no_proxy_are_removed, metrics_go_to_no_other_file, metrics_are_had_by_http, http_waits_for_no_client, sent_again_is_never_less_than_nothing, counters_that_are_written_late_are_waited_for,
+    top_draws_what_is_there, top_of_no_proxy_ends, metrics_of_no_proxy_are_removed, metrics_go_to_no_other_file, metrics_are_had_by_http, http_waits_for_no_client, each_panel_of_the_dashboard_draws, sent_again_is_never_less_than_nothing, counters_that_are_written_late_are_waited_for,
     memory_is_refused_and_nothing_ends, relative_paths_hold, an_answer_that_cannot_be_written_is_told,
     whoever_keeps_the_pipe_is_not_waited_for, the_unit_takes_no_core_dump, root_asks_as_the_owner,
     the_owner_gets_nothing_of_roots, root_serves_nobody_elses_folder,

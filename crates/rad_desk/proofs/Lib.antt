@@ -13,3 +13,4 @@ pub mod FrontWork
 pub mod Responses
 pub mod OutletAfterTurn
 pub mod MarksCounted
+pub mod Standings

@@ -15,3 +15,4 @@ pub mod Turned
 pub mod Printed
 pub mod Spent
 pub mod Marks
+pub mod Standing

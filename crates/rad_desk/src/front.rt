@@ -5,7 +5,7 @@ ghost use Rattle.rad_realms.specs.Configuration.{Configuration};
 ghost use Rattle.rad_desk.specs.Calls.{Passes};
 ghost use Rattle.rad_desk.specs.Once.{WorksInFront, SendsBack, SendsAnAnswer, Hands, Fits};
 
-use crate::gate::{Call, Gate, Note, Worker};
+use crate::gate::{Call, Gate, Note, Repeat, Worker};
 use crate::handling::{Handled, handle};
 use crate::inlet::Inlet;
 use crate::marks::count_marks;
@@ -166,8 +166,9 @@ fn serve<W: Wire, G: Gate>(
     }
     match handled {
         Ok(Handled::Taken(lane, Taken::New(number))) => shift.gate.accepted(lane, number),
-        Ok(Handled::Taken(_, Taken::Waiting(_))) => {}
+        Ok(Handled::Taken(_, Taken::Waiting(_))) => shift.gate.repeated(Repeat::Waiting),
         Ok(Handled::Taken(_, Taken::Again(_))) => {
+            shift.gate.repeated(Repeat::Answered);
             if fits(incoming, datagram) {
                 shift.send(wire, socket, from, datagram.bytes());
             }

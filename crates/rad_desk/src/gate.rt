@@ -1,8 +1,9 @@
 //! What a worker asks before each call, and what it tells.
 
-use crate::{DeskFault, Spent};
+use crate::{DeskFault, Spent, Standing};
 use rad_lane::Refusal;
 use rad_realms::{Dropped, Endpoint};
+use rad_tables::{Moment, Slot};
 use std::io::Error;
 
 /// Who works.
@@ -74,6 +75,15 @@ pub enum UpReason {
     DownWaitOver,
 }
 
+/// What a repeat of a request meets.
+#[derive(Clone, Copy, Debug, PartialEq, Eq)]
+pub enum Repeat {
+    /// The request waits for its answer.
+    Waiting,
+    /// The request was answered, less than a span ago.
+    Answered,
+}
+
 /// What a worker asks before each call, and tells. A gate has to answer [`Gate::before`] and [`Gate::after`]; it may leave out
 /// the rest.
 pub trait Gate {
@@ -86,6 +96,9 @@ pub trait Gate {
     /// A worker tells something.
     fn note(&self, _worker: Worker, _note: Note) {}
 
+    /// A worker has received, or waited for a datagram in vain: what it does until it waits again is done at one time.
+    fn woke(&self, _worker: Worker) {}
+
     /// A worker received a datagram from there. A note of it, where one comes, is the worker's next.
     fn received(&self, _worker: Worker, _from: Endpoint, _octets: &[u8]) {}
 
@@ -94,6 +107,24 @@ pub trait Gate {
 
     /// A lane took a new request, as this number, so that its worker has something to send.
     fn accepted(&self, _lane: u16, _number: u64) {}
+
+    /// The request that the front received last is a repeat, which meets this.
+    fn repeated(&self, _repeat: Repeat) {}
+
+    /// Whether the worker of a lane is to tell how its lane stands.
+    fn asks(&self, _lane: u16) -> bool {
+        false
+    }
+
+    /// A lane stands like this at this moment, as its worker was to tell. All that it has sent was told before.
+    fn stands(&self, _lane: u16, _moment: Moment, _standing: Standing) {}
+
+    /// A lane's request of this number is about to be sent for the first time, under this pair of source port and Identifier.
+    fn first_sent(&self, _lane: u16, _number: u64, _slot: Slot) {}
+
+    /// The request that is out under this pair is answered, by the response of this serial. That it went into the lane's ring is
+    /// told next.
+    fn replied(&self, _lane: u16, _serial: u64, _slot: Slot) {}
 
     /// The response of this serial went into a lane's ring, so that the front has something to take.
     fn answered(&self, _lane: u16, _serial: u64) {}
@@ -112,6 +143,9 @@ pub trait Gate {
     /// The front received a request from there that leads to this lane, and that has so many Proxy-States, at least one, as this
     /// proxy adds them: it, or another one like it, sent the request before.
     fn came_marked(&self, _lane: u16, _from: Endpoint, _marks: u64) {}
+
+    /// A socket of this worker is bound to this address and port. The system granted it a receive buffer of so many octets.
+    fn bound(&self, _worker: Worker, _at: Endpoint, _buffer: u32) {}
 
     /// No socket can be had at this address and port, for this reason of the system's. The service ends.
     fn unbound(&self, _at: Endpoint, _error: &Error) {}

@@ -12,7 +12,7 @@ use crate::wire::{Received, Wire};
 use rad_lane::Action;
 use rad_packet::Datagram;
 use rad_realms::{Endpoint, Home};
-use rad_tables::Moment;
+use rad_tables::{Moment, Slot};
 use std::alloc::Global;
 use std::sync::Wait;
 
@@ -105,11 +105,28 @@ fn hear<W: Wire, G: Gate>(
     let told = proxy.hear(rt, alloc, lane, wire.now(), socket, &octets[..count]);
     shift.made(Call::Hear);
     match told {
-        Ok(Told::Answer(serial)) => shift.gate.answered(lane, serial),
+        Ok(Told::Answer(serial)) => {
+            let identifier = octets[1];
+            tell_answer(
+                lane,
+                serial,
+                Slot {
+                    port: socket,
+                    identifier,
+                },
+                shift,
+            );
+        }
         Ok(Told::ProbeAnswered) => tell_up(lane, UpReason::ProbeAnswered, shift),
         Err(fault) => shift.note(Note::Unheard(fault)),
     }
     true
+}
+
+/// Tells that a request was answered, and under which pair it was out.
+fn tell_answer<G: Gate>(lane: u16, serial: u64, slot: Slot, shift: &Shift<'_, G>) {
+    shift.gate.replied(lane, serial, slot);
+    shift.gate.answered(lane, serial);
 }
 
 /// Has the lane do what is next, and sends what that gives. It answers whether the worker goes on.
@@ -130,8 +147,10 @@ fn step<W: Wire, G: Gate>(
     if !shift.may(Call::Step) {
         return false;
     }
+    let now = wire.now();
+    tell_standing(rt, proxy, lane, now, shift);
     let secret = home.secret();
-    let stepped = proxy.step_for(rt, lane, secret, wire.now(), wire.random(), datagram);
+    let stepped = proxy.step_for(rt, lane, secret, now, wire.random(), datagram);
     shift.made(Call::Step);
     let Some(stepped) = stepped else {
         return true;
@@ -139,8 +158,31 @@ fn step<W: Wire, G: Gate>(
     let Some(port) = port_of(&stepped.action) else {
         return follow(rt, alloc, proxy, lane, home, &stepped, wire, shift);
     };
+    tell_first(lane, &stepped.action, shift);
     send_home(home, port, wire, shift, datagram);
     true
+}
+
+/// Tells of a request that it is about to be sent for the first time, where that is what the lane did.
+fn tell_first<G: Gate>(lane: u16, action: &Action, shift: &Shift<'_, G>) {
+    if let Action::Sent(number, slot) = action {
+        shift.gate.first_sent(lane, *number, *slot);
+    }
+}
+
+/// Tells how the lane stands at this moment, where that is asked for.
+fn tell_standing<G: Gate>(
+    rt: &impl Wait,
+    proxy: &Proxy,
+    lane: u16,
+    now: Moment,
+    shift: &Shift<'_, G>,
+)
+    requires { lane < proxy.now }
+{
+    if shift.gate.asks(lane) {
+        shift.gate.stands(lane, now, proxy.standing(rt, lane));
+    }
 }
 
 /// The source port from which an action sends, where it does.

@@ -8,8 +8,8 @@
 //! The definitions that the contracts cite stand in specs: `Desk` and `Inlet` are what a contract sees of either end
 //! of a ring, `Outlet` is what the ring was given beside the lane's book, `Tells` is hearing the home server, and
 //! `Departures` and `Lawful` are what a call through a lock tells, `Spent` what is told of the request by which a lane went down,
-//! and `Marks` how many Proxy-States of this proxy's form a request has. `Traffic` is what passes over a wire, `Working` what of it a
-//! lane's worker may send, and `Once` what the front may.
+//! `Standing` how a lane stands, and `Marks` how many Proxy-States of this proxy's form a request has. `Traffic` is what passes
+//! over a wire, `Working` what of it a lane's worker may send, and `Once` what the front may.
 #![tactic(auto)]
 
 mod agreeing;
@@ -28,6 +28,7 @@ mod numbered;
 mod proxy;
 mod report;
 mod spent;
+mod standing;
 mod tally;
 mod turning;
 mod wire;
@@ -36,7 +37,7 @@ mod working;
 pub use closing::CloseFault;
 pub use desk::OpenFault;
 pub use front::front_worker;
-pub use gate::{Call, Gate, Go, Note, UpReason, Worker};
+pub use gate::{Call, Gate, Go, Note, Repeat, UpReason, Worker};
 pub use hearing::{DeskFault, Told};
 pub use inlet::Inlet;
 pub use lanes::lane_worker;
@@ -44,5 +45,6 @@ pub use marks::count_marks;
 pub use proxy::{Proxy, open};
 pub use report::{LaneEnd, Report, Rest};
 pub use spent::{Session, Spent};
+pub use standing::Standing;
 pub use tally::Tally;
 pub use wire::{Delivery, Received, Traffic, Wire};

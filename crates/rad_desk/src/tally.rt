@@ -75,6 +75,7 @@ impl<'a, G: Gate> Shift<'a, G> {
         ensures turns { self.new.tally.turns ≡ self.old.tally.turns }
     {
         let received = wire.receive(datagram);
+        self.gate.woke(self.worker);
         match received {
             Received::Got {
                 address,

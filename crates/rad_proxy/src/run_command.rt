@@ -16,7 +16,7 @@ use std::alloc::{AllocError, AllocGlobal, Global};
 use std::io::{self, Error, Read, Write};
 use std::net::Net;
 use std::random::RandomSource;
-use std::rt::Runtime;
+use std::rt::{Files, Runtime};
 use std::sync::{Arc, Wait};
 use std::thread::{self, Scope, Threads};
 use std::time::{Clock, Duration, Instant};
@@ -98,7 +98,7 @@ where
     let Ok(texts) = Arc::new(alloc, CounterTexts::new(alloc)) else {
         return Err(Fault::Memory);
     };
-    let Ok(telemetry) = Telemetry::new(alloc, config, log) else {
+    let Ok(telemetry) = Telemetry::new(alloc, rt, config, log) else {
         return Err(Fault::Memory);
     };
     if !start_writers(rt, alloc, log, &texts, file, files) {
@@ -116,12 +116,13 @@ fn serve_told<'a, R, L, A>(
     addresses: &'a A,
     alloc: Global,
     config: &'a Config,
-    telemetry: &'a Telemetry<'a, L>,
+    telemetry: &'a Telemetry<'a, L, R>,
     texts: Option<&'a CounterTexts>,
     log: &'a L,
 ) -> Result<EndLine, Fault>
 where
     R: Runtime + AllocGlobal + Net + RandomSource + Threads + Wait + Sync,
+    R::File: Drop,
     L: Log + Sync,
     A: LocalAddresses + Sync,
 {
@@ -196,8 +197,8 @@ struct Service<'a, R, L, A> {
     addresses: &'a A,
     alloc: Global,
     config: &'a Config,
-    telemetry: &'a Telemetry<'a, L>,
-    reporter: Reporter<'a, L>,
+    telemetry: &'a Telemetry<'a, L, R>,
+    reporter: Reporter<'a, L, R>,
 }
 
 impl<R, L, A> Clone for Service<'_, R, L, A> {
@@ -215,7 +216,8 @@ fn serve<R, L, A, I, O>(
     writer: O,
 ) -> Result<EndLine, ServeFault>
 where
-    R: Clock + Net + RandomSource + Threads + Wait + Sync,
+    R: Clock + Files + Net + RandomSource + Threads + Wait + Sync,
+    R::File: Drop,
     L: Log + Sync,
     A: LocalAddresses + Sync,
     I: Read + Drop,
@@ -246,7 +248,8 @@ fn start_reporter<'s, E, R, L, A>(
     stop: &'s StopFlag,
 ) -> bool
 where
-    R: Clock + Wait + Sync + 's,
+    R: Clock + Files + Wait + Sync + 's,
+    R::File: Drop,
     L: Log + Sync + 's,
     A: Sync + 's,
 {

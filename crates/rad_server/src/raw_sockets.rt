@@ -2,7 +2,7 @@
 
 use libc::net::{
     _SS_SIZE, AF_INET, SO_RCVBUF, SO_REUSEADDR, SOCK_CLOEXEC, SOCK_DGRAM, SOCK_NONBLOCK,
-    SOL_SOCKET, bind, setsockopt, socket,
+    SOL_SOCKET, bind, getsockopt, setsockopt, socket,
 };
 use os::FromRawFd;
 use rad_realms::Endpoint;
@@ -19,6 +19,19 @@ pub(crate) fn widen(socket: &UdpSocket, octets: i32) {
     let value = option_value(octets);
     let descriptor = socket.as_raw_fd();
     let _ = unsafe { setsockopt(descriptor, SOL_SOCKET, SO_RCVBUF, &value, 4) };
+}
+
+/// How many octets the receive buffer has that was granted, as `widen` asks for them; 0 where the system does not tell.
+pub(crate) fn granted(socket: &UdpSocket) -> u32 {
+    let mut value = [0; 16];
+    let mut length = 4;
+    let descriptor = socket.as_raw_fd();
+    let answer = unsafe { getsockopt(descriptor, SOL_SOCKET, SO_RCVBUF, &mut value, &mut length) };
+    if answer < 0 {
+        return 0;
+    }
+    // Linux doubles what it is asked for, for what it keeps beside the octets, and tells the double.
+    u32::from_ne_bytes([value[0], value[1], value[2], value[3]]) / 2
 }
 
 /// Whether others that are shared too may be bound to the same address and port from now on.

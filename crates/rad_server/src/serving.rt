@@ -55,6 +55,7 @@ where
     let mut output = open_output(alloc, config, writer, descriptors)?;
     output.add(&ListeningLine { endpoint: listen })?;
     let sockets = BoundSockets::bind(rt, addresses, alloc, config, gate)?;
+    sockets.tell(gate);
     let wires = make_wires(rt, addresses, alloc, config, gate, sockets)?;
     let reader = make_reader(rt, alloc, reader, descriptors.input)?;
     let Ok(notifiers) = notifiers_of(alloc, &wires, &reader) else {

@@ -3,8 +3,8 @@
 use crate::client_sockets::ClientSockets;
 use crate::faults::ServeFault;
 use crate::local_addresses::LocalAddresses;
-use crate::raw_sockets::widen;
-use rad_desk::Gate;
+use crate::raw_sockets::{granted, widen};
+use rad_desk::{Gate, Worker};
 use rad_realms::{Config, Endpoint, Home};
 use std::alloc::Global;
 use std::io::{self, Error};
@@ -44,6 +44,30 @@ impl BoundSockets {
         let front = ClientSockets::bind(rt, addresses, alloc, config.listen(), gate)?;
         let lanes = bind_lanes(rt, alloc, config.homes(), gate)?;
         Ok(BoundSockets { front, lanes })
+    }
+}
+
+impl BoundSockets {
+    /// Tells a gate of each socket, and of the room that it was granted.
+    pub(crate) fn tell<G: Gate>(&self, gate: &G) {
+        tell_each(self.front.sockets.as_slice(), Worker::Front, gate);
+        for (lane, sockets) in self.lanes.iter().enumerate() {
+            let worker = Worker::Lane(u16::try_from(lane).unwrap_or(u16::MAX));
+            tell_each(sockets.as_slice(), worker, gate);
+        }
+    }
+}
+
+/// Tells of a worker's sockets. One of which the system does not say where it is bound is left out.
+fn tell_each<G: Gate>(sockets: &[UdpSocket], worker: Worker, gate: &G) {
+    for socket in sockets {
+        if let Ok(SocketAddr::V4(at)) = socket.local_addr() {
+            let at = Endpoint {
+                address: at.ip().octets(),
+                port: at.port(),
+            };
+            gate.bound(worker, at, granted(socket));
+        }
     }
 }
 

@@ -2,8 +2,9 @@
 
 use crate::beginning::Beginnings;
 use crate::notifying::Notifiers;
-use rad_desk::{Call, Gate, Go, Note, Spent, UpReason, Worker};
+use rad_desk::{Call, Gate, Go, Note, Repeat, Spent, Standing, UpReason, Worker};
 use rad_realms::Endpoint;
+use rad_tables::{Moment, Slot};
 use std::alloc::{AllocError, Global};
 use std::sync::atomic::{AtomicBool, AtomicU64, Ordering};
 use std::sync::{OnceLock, Wait};
@@ -214,6 +215,10 @@ impl<G: Gate> Gate for Supervisor<'_, G> {
         }
     }
 
+    fn woke(&self, worker: Worker) {
+        self.outer.woke(worker);
+    }
+
     fn received(&self, worker: Worker, from: Endpoint, octets: &[u8]) {
         self.outer.received(worker, from, octets);
     }
@@ -225,6 +230,26 @@ impl<G: Gate> Gate for Supervisor<'_, G> {
     fn accepted(&self, lane: u16, number: u64) {
         self.notifiers.notify(Worker::Lane(lane));
         self.outer.accepted(lane, number);
+    }
+
+    fn repeated(&self, repeat: Repeat) {
+        self.outer.repeated(repeat);
+    }
+
+    fn asks(&self, lane: u16) -> bool {
+        self.outer.asks(lane)
+    }
+
+    fn stands(&self, lane: u16, moment: Moment, standing: Standing) {
+        self.outer.stands(lane, moment, standing);
+    }
+
+    fn first_sent(&self, lane: u16, number: u64, slot: Slot) {
+        self.outer.first_sent(lane, number, slot);
+    }
+
+    fn replied(&self, lane: u16, serial: u64, slot: Slot) {
+        self.outer.replied(lane, serial, slot);
     }
 
     /// An answer takes a home server up without a step.

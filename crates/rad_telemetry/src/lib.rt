@@ -1,9 +1,9 @@
 //! What is told and counted of the workers that serve: log lines on standard error, counters, and the file that the counters
 //! are written to.
 //!
-//! [`Telemetry`] is a gate that lets every worker pass. What a worker notes it counts by its [`EventKind`] and logs; the
-//! Accounting-Requests and Status-Servers that a lane's worker sends it counts too. A [`Reporter`] logs once a second what was
-//! counted since, and writes all counters in Prometheus' text format.
+//! [`Telemetry`] is a gate that lets every worker pass. It hands what it is told to the numbers of `rad_metrics` too. What a
+//! worker notes it counts by its [`EventKind`] and logs; the Accounting-Requests and Status-Servers that a lane's worker sends it
+//! counts too. A [`Reporter`] logs once a second what was counted since, and writes all counters in Prometheus' text format.
 //!
 //! The layer above uses one contract: [`EventKind::of`] says as what a note is counted. What stands behind a lock or in an
 //! atomic, such as a count, no contract tells, and tests show it. The definitions stand in specs: `EventKinds` has the kinds and
@@ -33,6 +33,7 @@ mod metric_lines;
 mod packet_words;
 mod peer_text;
 mod reporter;
+mod stop_flag;
 mod telemetry;
 mod telling;
 mod told_stream;
@@ -56,7 +57,8 @@ pub use log::span::Spans;
 pub use log::{LevelFilter, Log, Logged, Metadata, Record};
 pub use metric::Metric;
 pub use packet_words::{Escaped, PacketWords};
-pub use reporter::{Reporter, StopFlag, report};
+pub use reporter::{Reporter, report};
+pub use stop_flag::StopFlag;
 pub use telemetry::Telemetry;
 pub use telling::{open_log_if_asked, tell_error, tell_reason, tell_warning, warn_of_reason};
 pub use told_stream::ToldStream;

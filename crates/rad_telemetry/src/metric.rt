@@ -24,15 +24,15 @@ pub enum Metric {
     Marked,
 }
 
-/// The metrics, in the order in which they are written.
-pub const METRICS: [Metric; 11] = [
+/// The metrics that are written, in their order. What took a home server up is told with its reasons, among the numbers of
+/// `rad_metrics`.
+pub const METRICS: [Metric; 10] = [
     Metric::Dropped,
     Metric::Refused,
     Metric::Unheard,
     Metric::SendFault,
     Metric::ReceiveFault,
     Metric::WentDown,
-    Metric::WentUp,
     Metric::Sent,
     Metric::Probed,
     Metric::Cut,

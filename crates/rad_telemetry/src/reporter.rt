@@ -8,99 +8,75 @@ use crate::event_kind::{EVENT_KINDS, EventKind};
 use crate::last_realm::LastRealm;
 use crate::metric::{METRICS, Metric};
 use crate::metric_lines::{CounterLine, HelpLine, Labels, TypeLine};
+use crate::stop_flag::StopFlag;
 use crate::workers::{worker_name, worker_of_lane};
 use log::{Log, info, warn};
 use rad_desk::Worker;
+use rad_metrics::{Draft, Numbers};
 use rad_realms::{Config, Dropped};
 use std::alloc::{AllocError, Global};
+use std::fs::Files;
 use std::io::{self, Write};
-use std::sync::atomic::{AtomicU64, Ordering};
 use std::sync::{Wait, WaitMethods};
-use std::time::{Clock, Duration, Instant};
+use std::time::Clock;
 
 /// How long it is from one report to the next, in milliseconds.
 const PERIOD: u64 = 1000;
 
-/// Whether a reporter is to stop, which it shares with the others.
-#[derive(Drop)]
-pub struct StopFlag {
-    is_set: AtomicU64,
-}
-
-impl StopFlag {
-    pub fn new() -> StopFlag {
-        StopFlag {
-            is_set: AtomicU64::new(0),
-        }
-    }
-
-    /// Has the reporter report once more and stop.
-    pub fn set(&self) {
-        self.is_set.store(1, Ordering::SeqCst);
-        self.is_set.wake_all();
-    }
-
-    fn is_set(&self) -> bool {
-        self.is_set.load(Ordering::SeqCst) != 0
-    }
-
-    /// Waits until the period is over or the flag is set.
-    fn wait<R: Clock + Wait>(&self, rt: &R) {
-        let Ok(start) = Instant::now(rt) else {
-            return;
-        };
-        for _ in rt.forever() {
-            let Ok(passed) = start.elapsed(rt) else {
-                return;
-            };
-            let Some(left) = Duration::from_millis(PERIOD).checked_sub(passed) else {
-                return;
-            };
-            if left.is_zero() || self.is_set() {
-                return;
-            }
-            self.is_set.park_timeout(rt, 0, left);
-        }
-    }
-}
+/// How long the workers are waited for at most to tell how their lanes stand, in milliseconds: each looks for that at least every
+/// 20 milliseconds. They are asked so long before a report.
+const ASKED: u64 = 40;
 
 /// What a reporter reports, and where to.
-pub struct Reporter<'a, L> {
+pub struct Reporter<'a, L, R> {
     pub(crate) config: &'a Config,
     pub(crate) counters: &'a Counters,
+    pub(crate) numbers: &'a Numbers<'a, R>,
     pub(crate) log: &'a L,
     /// What takes the texts of the counters, where they go to a file.
     pub(crate) texts: Option<&'a CounterTexts>,
 }
 
-impl<L> Clone for Reporter<'_, L> {
+impl<L, R> Clone for Reporter<'_, L, R> {
     fn clone(&self) -> Result<Self, AllocError> {
         Ok(*self)
     }
 }
 
-impl<L> Copy for Reporter<'_, L> {}
+impl<L, R> Copy for Reporter<'_, L, R> {}
 
-/// Reports once a second until the flag is set, and then once more. A text of all counters is made anew each time, in the
-/// memory of an earlier one.
-pub fn report<R, L>(rt: &R, alloc: Global, reporter: Reporter<'_, L>, stop: &StopFlag)
+/// Reports once a second until the flag is set, and then once more. A text of all numbers is made anew each time, in the
+/// memory of an earlier one; the workers are asked right before how their lanes stand.
+pub fn report<R, L>(rt: &R, alloc: Global, reporter: Reporter<'_, L, R>, stop: &StopFlag)
 where
-    R: Clock + Wait,
+    R: Clock + Files + Wait,
+    R::File: Drop,
     L: Log,
 {
-    let mut text = Vec::new(alloc);
+    let mut draft = Draft::new(alloc);
     for _ in rt.forever() {
         let is_last = stop.is_set();
+        if !is_last {
+            reporter.ask();
+            stop.wait(rt, ASKED);
+        }
         reporter.log_deltas();
-        reporter.leave_text(rt, &mut text);
+        reporter.leave_text(rt, &mut draft);
         if is_last {
             return;
         }
-        stop.wait(rt);
+        stop.wait(rt, PERIOD - ASKED);
     }
 }
 
-impl<L: Log> Reporter<'_, L> {
+impl<L: Log, R> Reporter<'_, L, R> {
+    /// Has the workers tell how their lanes stand, where that is reported.
+    fn ask(&self) {
+        if self.texts.is_some() {
+            self.numbers.ask_each();
+        }
+    }
+
     /// Logs what was counted since the last time, a line for each worker and kind of which there was any.
     pub fn log_deltas(&self) {
         self.log_deltas_of(Worker::Front);
@@ -140,21 +116,8 @@ impl<L: Log> Reporter<'_, L> {
         }
     }
 
-    /// Leaves a text of the counters to whoever writes it to their file, where there is one; and logs what speaks against one
-    /// that was left before, once.
-    pub fn leave_text<R: Wait>(&self, rt: &R, text: &mut Vec<u8>) {
-        let Some(texts) = self.texts else {
-            return;
-        };
-        self.log_fault(rt, texts);
-        text.clear();
-        if self.write(text).is_ok() {
-            texts.leave(rt, text);
-        }
-    }
-
     /// Logs what speaks against the last text that was written, once.
-    fn log_fault<R: Wait>(&self, rt: &R, texts: &CounterTexts) {
+    fn log_fault<S: Wait>(&self, rt: &S, texts: &CounterTexts) {
         if let Some(fault) = texts.take_fault(rt) {
             log_fault(self.log, fault);
         }
@@ -259,6 +222,29 @@ impl<L: Log> Reporter<'_, L> {
             count: self.counters.get(worker, kind),
         };
         writeln!(writer, "{line}")
+    }
+}
+
+impl<L: Log, R: Clock> Reporter<'_, L, R> {
+    /// Leaves a text of all numbers to whoever writes it to their file, where there is one; and logs what speaks against one
+    /// that was left before, once.
+    pub fn leave_text<S: Files + Wait>(&self, rt: &S, draft: &mut Draft)
+    where
+        S::File: Drop,
+    {
+        let Some(texts) = self.texts else {
+            return;
+        };
+        self.log_fault(rt, texts);
+        if draft.read(rt, self.numbers).is_ok() && self.write_all(draft).is_ok() {
+            texts.leave(rt, draft.text());
+        }
+    }
+
+    /// Writes all counters, and then all that is told of the clients, the home servers and the sockets.
+    fn write_all(&self, draft: &mut Draft) -> io::Result<()> {
+        self.write(draft.begin())?;
+        draft.finish(self.config, self.numbers)
     }
 }
 

@@ -2,44 +2,51 @@
 
 use crate::counter_texts::CounterTexts;
 use crate::counters::Counters;
+use crate::event_kind::EventKind;
 use crate::event_log::EventLog;
 use crate::last_peers::LastPeers;
 use crate::reporter::Reporter;
 use log::Log;
-use rad_desk::{Call, Gate, Go, Note, Spent, UpReason, Worker};
+use rad_desk::{Call, Gate, Go, Note, Repeat, Spent, Standing, UpReason, Worker};
+use rad_metrics::Numbers;
 use rad_realms::{Config, Endpoint};
+use rad_tables::{Moment, Slot};
 use std::alloc::{AllocError, Global};
 use std::io::Error;
+use std::time::Clock;
 
 /// Counts and logs what the workers of a configuration do. As a gate it lets every worker pass, and takes no memory; it waits
 /// for a lock no longer than `LineQueue` says.
 ///
 /// That a home server went down or up it counts each time that a worker notes it, and logs each time that it is told how.
 #[derive(Drop)]
-pub struct Telemetry<'a, L> {
+pub struct Telemetry<'a, L, R> {
     config: &'a Config,
     log: &'a L,
     counters: Counters,
+    numbers: Numbers<'a, R>,
     events: EventLog<'a, L>,
     peers: LastPeers,
 }
 
-impl<'a, L: Log> Telemetry<'a, L> {
-    /// Counts nothing yet, and writes its lines to a log.
+impl<'a, L: Log, R: Clock> Telemetry<'a, L, R> {
+    /// Counts nothing yet, and writes its lines to a log. The program starts now.
     ///
     /// # Errors
     ///
     /// Where memory is refused.
     pub fn new(
         alloc: Global,
+        rt: &'a R,
         config: &'a Config,
         log: &'a L,
-    ) -> Result<Telemetry<'a, L>, AllocError> {
+    ) -> Result<Telemetry<'a, L, R>, AllocError> {
         let lanes = config.homes().len();
         Ok(Telemetry {
             config,
             log,
             counters: Counters::new(alloc, lanes)?,
+            numbers: Numbers::new(alloc, rt, config)?,
             events: EventLog::new(alloc, config, log)?,
             peers: LastPeers::new(alloc, lanes)?,
         })
@@ -50,23 +57,41 @@ impl<'a, L: Log> Telemetry<'a, L> {
         &self.counters
     }
 
+    /// What was told of the clients and the home servers.
+    pub fn numbers(&self) -> &Numbers<'a, R> {
+        &self.numbers
+    }
+
     /// Logs that a worker ended, which it was not told to.
     pub fn tell_end(&self, worker: Worker) {
         self.events.ended(worker);
     }
 
     /// A reporter of what is counted, which leaves the texts of the counters to what takes them, if anything.
-    pub fn reporter<'b>(&'b self, texts: Option<&'b CounterTexts>) -> Reporter<'b, L> {
+    pub fn reporter<'b>(&'b self, texts: Option<&'b CounterTexts>) -> Reporter<'b, L, R> {
         Reporter {
             config: self.config,
             counters: &self.counters,
+            numbers: &self.numbers,
             log: self.log,
             texts,
         }
     }
 }
 
-impl<L: Log> Gate for Telemetry<'_, L> {
+impl<L: Log, R> Telemetry<'_, L, R> {
+    /// Counts a worker's note of a client's datagram, or that its home server went down or up.
+    fn tell_numbers(&self, worker: Worker, note: Note) {
+        match (worker, note) {
+            (Worker::Lane(lane), Note::WentDown | Note::WentUp) => self.numbers.turned(lane),
+            (Worker::Front, Note::Took(lane, serial)) => self.numbers.left(lane, serial),
+            (Worker::Front, note) => self.numbers.noted(note),
+            _ => {}
+        }
+    }
+}
+
+impl<L: Log, R: Clock> Gate for Telemetry<'_, L, R> {
     fn before(&self, _worker: Worker, _call: Call) -> Go {
         Go::On
     }
@@ -76,25 +101,59 @@ impl<L: Log> Gate for Telemetry<'_, L> {
     fn note(&self, worker: Worker, note: Note) {
         let peer = self.peers.peer_of(worker, note);
         self.counters.count(worker, note, peer);
+        self.tell_numbers(worker, note);
         self.events.note(worker, note, peer);
+    }
+
+    fn woke(&self, worker: Worker) {
+        self.numbers.woke(worker);
     }
 
     fn received(&self, worker: Worker, from: Endpoint, octets: &[u8]) {
         self.peers.received(worker, from);
+        if worker == Worker::Front {
+            self.numbers.received(from);
+        }
         self.events.received(worker, from, octets);
     }
 
     fn sends(&self, worker: Worker, to: Endpoint, octets: &[u8]) {
         self.peers.sends(worker, to);
         self.counters.count_sent(worker, to, octets);
+        if worker == Worker::Front {
+            self.numbers.responds(to);
+        }
         self.events.sends(worker, to, octets);
     }
 
     fn accepted(&self, lane: u16, number: u64) {
+        self.numbers.accepted(lane, number);
         self.events.accepted(lane, number);
     }
 
+    fn repeated(&self, repeat: Repeat) {
+        self.numbers.repeated(repeat);
+    }
+
+    fn asks(&self, lane: u16) -> bool {
+        self.numbers.asks(lane)
+    }
+
+    fn stands(&self, lane: u16, moment: Moment, standing: Standing) {
+        let sent = self.counters.get(Worker::Lane(lane), EventKind::Sent);
+        self.numbers.stands(lane, moment, standing, sent);
+    }
+
+    fn first_sent(&self, lane: u16, number: u64, slot: Slot) {
+        self.numbers.first_sent(lane, number, slot);
+    }
+
+    fn replied(&self, lane: u16, serial: u64, slot: Slot) {
+        self.numbers.replied(lane, serial, slot);
+    }
+
     fn answered(&self, lane: u16, serial: u64) {
+        self.numbers.answered(lane);
         self.events.answered(lane, serial);
     }
 
@@ -103,6 +162,7 @@ impl<L: Log> Gate for Telemetry<'_, L> {
     }
 
     fn went_up(&self, lane: u16, reason: UpReason) {
+        self.numbers.went_up(lane, reason);
         self.events.went_up(lane, reason);
     }
 
@@ -112,6 +172,10 @@ impl<L: Log> Gate for Telemetry<'_, L> {
 
     fn came_marked(&self, lane: u16, from: Endpoint, marks: u64) {
         self.counters.count_marked(lane, from, marks);
+    }
+
+    fn bound(&self, worker: Worker, at: Endpoint, buffer: u32) {
+        self.numbers.bound(worker, at, buffer);
     }
 
     fn unbound(&self, at: Endpoint, error: &Error) {

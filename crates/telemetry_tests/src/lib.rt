@@ -11,6 +11,10 @@ mod levels;
 #[cfg(test)]
 mod logging;
 #[cfg(test)]
+mod number_texts;
+#[cfg(test)]
+mod numbers;
+#[cfg(test)]
 mod packets;
 #[cfg(test)]
 mod reporting;

@@ -2,7 +2,7 @@
 
 use crate::comparing::holds;
 use crate::packets::SHORT;
-use crate::shared::{HOME, MemoryLog, NAS, Story, logs};
+use crate::shared::{HOME, MemoryLog, NAS, Still, Story, logs};
 use rad_desk::{DeskFault, Gate, Note, Session, Spent, UpReason, Worker};
 use rad_lane::{HearFault, Refusal};
 use rad_packet::read;
@@ -77,7 +77,7 @@ fn spent() -> Spent {
 }
 
 /// Tells of each event that is about no datagram that was received.
-fn tell_events(telemetry: &Telemetry<'_, MemoryLog>) {
+fn tell_events(telemetry: &Telemetry<'_, MemoryLog, Still>) {
     telemetry.tell_end(Worker::Lane(0));
     telemetry.note(Worker::Lane(1), Note::WentDown);
     telemetry.went_down(1, &spent());
@@ -92,7 +92,7 @@ fn tell_events(telemetry: &Telemetry<'_, MemoryLog>) {
 }
 
 /// Tells of what came to the second lane, and of a full ring of the first.
-fn tell_of_lanes(telemetry: &Telemetry<'_, MemoryLog>) {
+fn tell_of_lanes(telemetry: &Telemetry<'_, MemoryLog, Still>) {
     let unknown = DeskFault::Lane(HearFault::Unknown);
     telemetry.received(Worker::Lane(1), HOME, &NAME_ONLY_REPLY);
     telemetry.note(Worker::Lane(1), Note::Unheard(unknown));
@@ -102,7 +102,7 @@ fn tell_of_lanes(telemetry: &Telemetry<'_, MemoryLog>) {
 }
 
 /// Tells of what came to the front.
-fn tell_of_the_front(telemetry: &Telemetry<'_, MemoryLog>) {
+fn tell_of_the_front(telemetry: &Telemetry<'_, MemoryLog, Still>) {
     telemetry.received(Worker::Front, NAS, &SEVENTH);
     telemetry.accepted(0, 3);
     telemetry.note(Worker::Front, Note::Refused(Refusal::BookFull));
@@ -121,7 +121,7 @@ enum Told {
 }
 
 impl Story for Told {
-    fn tell<'x>(&'x self, telemetry: &'x Telemetry<'_, MemoryLog>) {
+    fn tell<'x>(&'x self, telemetry: &'x Telemetry<'_, MemoryLog, Still>) {
         match self {
             Told::Lanes => tell_of_lanes(telemetry),
             Told::Front => tell_of_the_front(telemetry),
@@ -132,7 +132,7 @@ impl Story for Told {
 }
 
 /// Tells of a datagram that the front dropped.
-fn tell_of_a_drop(telemetry: &Telemetry<'_, MemoryLog>) {
+fn tell_of_a_drop(telemetry: &Telemetry<'_, MemoryLog, Still>) {
     telemetry.received(Worker::Front, NAS, &SEVENTH);
     telemetry.note(Worker::Front, Note::Dropped(Dropped::NoRealm));
 }

@@ -1,15 +1,17 @@
 //! What no clause says of a report: the text of the counters, how it comes into its file, and the lines of sums.
 
 use crate::comparing::holds;
-use crate::shared::{HOME, MemoryLog, NAS, Setup, Story, TWO_HOMES, logs};
+use crate::shared::{HOME, MemoryLog, NAS, Setup, Still, Story, TWO_HOMES, logs};
 use rad_desk::{Gate, Note, Worker};
 use rad_lane::Refusal;
+use rad_metrics::Draft;
 use rad_realms::{Dropped, Endpoint};
 use rad_telemetry::{
     CounterFile, CounterTexts, FileFault, LevelFilter, ReplaceFile, Reporter, Telemetry,
 };
 use std::alloc::Global;
 use std::result::Result;
+use std::rt::Files;
 use std::sync::{Mutex, Wait};
 use std::test::Fail;
 
@@ -77,10 +79,6 @@ const TAIL: &str = "# HELP rad_proxy_send_faults_total Sends that failed.\n\
     # TYPE rad_proxy_downs_total counter\n\
     rad_proxy_downs_total{lane=\"0\",home=\"h1\"} 0\n\
     rad_proxy_downs_total{lane=\"1\",home=\"h2\"} 1\n\
-    # HELP rad_proxy_ups_total How often the home server went up again.\n\
-    # TYPE rad_proxy_ups_total counter\n\
-    rad_proxy_ups_total{lane=\"0\",home=\"h1\"} 0\n\
-    rad_proxy_ups_total{lane=\"1\",home=\"h2\"} 0\n\
     # HELP rad_proxy_sent_total Accounting-Requests sent to the home server, for the first time and again.\n\
     # TYPE rad_proxy_sent_total counter\n\
     rad_proxy_sent_total{lane=\"0\",home=\"h1\"} 0\n\
@@ -118,7 +116,7 @@ const EARLIER: Endpoint = Endpoint {
 };
 
 /// Tells of what is counted in the texts above.
-fn tell_all(telemetry: &Telemetry<'_, MemoryLog>) {
+fn tell_all(telemetry: &Telemetry<'_, MemoryLog, Still>) {
     telemetry.note(Worker::Front, Note::Dropped(Dropped::UnknownClient));
     telemetry.note(Worker::Front, Note::Refused(Refusal::BookFull));
     telemetry.note(Worker::Lane(0), Note::NotHome);
@@ -133,7 +131,7 @@ fn tell_all(telemetry: &Telemetry<'_, MemoryLog>) {
 }
 
 /// Tells of what is summed up above.
-fn tell_sums(telemetry: &Telemetry<'_, MemoryLog>) {
+fn tell_sums(telemetry: &Telemetry<'_, MemoryLog, Still>) {
     for from in [EARLIER, NAS] {
         telemetry.received(Worker::Front, from, &[]);
         telemetry.note(Worker::Front, Note::Dropped(Dropped::NoRealm));
@@ -150,7 +148,7 @@ fn tell_sums(telemetry: &Telemetry<'_, MemoryLog>) {
 struct Sums;
 
 impl Story for Sums {
-    fn tell<'x>(&'x self, telemetry: &'x Telemetry<'_, MemoryLog>) {
+    fn tell<'x>(&'x self, telemetry: &'x Telemetry<'_, MemoryLog, Still>) {
         tell_sums(telemetry);
         for _ in 0..2 {
             telemetry.reporter(None).log_deltas();
@@ -161,7 +159,7 @@ impl Story for Sums {
 /// Whether the text of all counters begins and ends like this.
 fn writes(
     alloc: Global,
-    telemetry: &Telemetry<'_, MemoryLog>,
+    telemetry: &Telemetry<'_, MemoryLog, Still>,
     head: &str,
     tail: &str,
 ) -> Result<bool, Fail> {
@@ -184,40 +182,49 @@ struct Texts<'a, R> {
     untaken: u32,
 }
 
-impl<R: Wait> Texts<'_, R> {
+impl<R: Files + Wait> Texts<'_, R>
+where
+    R::File: Drop,
+{
     /// Leaves a text, and has it written as the last one.
-    fn write_last(&self, reporter: Reporter<'_, MemoryLog>) {
-        reporter.leave_text(self.rt, &mut Vec::new(self.alloc));
+    fn write_last(&self, reporter: Reporter<'_, MemoryLog, Still>) {
+        reporter.leave_text(self.rt, &mut Draft::new(self.alloc));
         self.texts.end();
         self.texts
             .write_all(self.rt, self.alloc, &self.file, self.memory);
     }
 }
 
-impl<R: Wait> Story for Texts<'_, R> {
-    fn tell<'x>(&'x self, telemetry: &'x Telemetry<'_, MemoryLog>) {
+impl<R: Files + Wait> Story for Texts<'_, R>
+where
+    R::File: Drop,
+{
+    fn tell<'x>(&'x self, telemetry: &'x Telemetry<'_, MemoryLog, Still>) {
         for _ in 0..self.written {
             self.write_last(telemetry.reporter(Some(&self.texts)));
         }
-        let mut text = Vec::new(self.alloc);
+        let mut draft = Draft::new(self.alloc);
         for _ in 0..self.untaken {
             telemetry
                 .reporter(Some(&self.texts))
-                .leave_text(self.rt, &mut text);
+                .leave_text(self.rt, &mut draft);
         }
     }
 }
 
 /// Whether a file is given a text that begins like this, and these lines are logged, where so many texts are written and then so
 /// many left. The file may have a fault.
-fn gives(
-    rt: &impl Wait,
+fn gives<R: Files + Wait>(
+    rt: &R,
     alloc: Global,
     fault: Option<FileFault>,
     (written, untaken): (u32, u32),
     given: &str,
     expected: &str,
-) -> Result<bool, Fail> {
+) -> Result<bool, Fail>
+where
+    R::File: Drop,
+{
     let memory = Memory::new(alloc, fault);
     let story = Texts {
         rt,

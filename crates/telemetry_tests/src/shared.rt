@@ -4,10 +4,11 @@ use rad_realms::{Config, Endpoint, read_config};
 use rad_telemetry::{LevelFilter, Log, Logged, Metadata, Record, Source, Spans, Telemetry};
 use std::alloc::{AllocError, Global};
 use std::fmt::Display;
-use std::io::Write;
+use std::io::{self, Write};
 use std::result::Result;
 use std::sync::Mutex;
 use std::test::Fail;
+use std::time::{Clock, Duration};
 
 /// One client and two home servers.
 pub const TWO_HOMES: &str = r#"
@@ -49,8 +50,23 @@ pub type MemoryLog = Logged<(), Kept>;
 /// What a telemetry counts and logs for.
 #[derive(Drop)]
 pub struct Setup {
+    clock: Still,
     config: Config,
     log: MemoryLog,
+}
+
+/// A clock that stands still, at 1,234.567 seconds since 1970.
+#[derive(Clone, Copy)]
+pub struct Still;
+
+impl Clock for Still {
+    fn monotonic(&self) -> io::Result<Duration> {
+        Ok(Duration::from_millis(5000))
+    }
+
+    fn since_1970(&self) -> io::Result<Duration> {
+        Ok(Duration::from_millis(1_234_567))
+    }
 }
 
 /// Keeps the text of each record, in a line. One thread at a time logs.
@@ -63,14 +79,15 @@ impl Setup {
     /// A configuration, and a log in memory up to a level.
     pub fn new(alloc: Global, config: &str, level: LevelFilter) -> Result<Setup, Fail> {
         Ok(Setup {
+            clock: Still,
             config: read_config(alloc, config)?,
             log: Logged::new((), level, Kept::new(alloc)),
         })
     }
 
     /// A telemetry over them.
-    pub fn telemetry(&self, alloc: Global) -> Result<Telemetry<'_, MemoryLog>, AllocError> {
-        Telemetry::new(alloc, &self.config, &self.log)
+    pub fn telemetry(&self, alloc: Global) -> Result<Telemetry<'_, MemoryLog, Still>, AllocError> {
+        Telemetry::new(alloc, &self.clock, &self.config, &self.log)
     }
 
     /// The configuration.
@@ -86,7 +103,7 @@ impl Setup {
 
 /// What a telemetry is told.
 pub trait Story {
-    fn tell<'x>(&'x self, telemetry: &'x Telemetry<'_, MemoryLog>);
+    fn tell<'x>(&'x self, telemetry: &'x Telemetry<'_, MemoryLog, Still>);
 }
 
 /// Whether these lines are logged, up to a level, where a telemetry over two home servers is told this.

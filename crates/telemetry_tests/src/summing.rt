@@ -2,7 +2,7 @@
 //! makes.
 
 use crate::comparing::holds;
-use crate::shared::{MemoryLog, NAS, Story, logs};
+use crate::shared::{MemoryLog, NAS, Still, Story, logs};
 use rad_desk::{Gate, Note, Worker};
 use rad_realms::{Dropped, Endpoint};
 use rad_telemetry::{LevelFilter, Telemetry};
@@ -47,19 +47,19 @@ const LOOPS: &str = "event=marked home=h1 count=2 proxy_states=7 client=10.0.0.2
     event=marked home=h1 count=1 proxy_states=2 client=10.0.0.1 client_port=40000\n";
 
 /// Tells of a packet that was dropped for its realm.
-fn drop_for_its_realm(telemetry: &Telemetry<'_, MemoryLog>, packet: &[u8]) {
+fn drop_for_its_realm(telemetry: &Telemetry<'_, MemoryLog, Still>, packet: &[u8]) {
     telemetry.received(Worker::Front, NAS, packet);
     telemetry.no_realm(packet);
     telemetry.note(Worker::Front, Note::Dropped(Dropped::NoRealm));
 }
 
 /// Logs what is new.
-fn log_deltas(telemetry: &Telemetry<'_, MemoryLog>) {
+fn log_deltas(telemetry: &Telemetry<'_, MemoryLog, Still>) {
     telemetry.reporter(None).log_deltas();
 }
 
 /// Tells of drops, and has them logged one after the other.
-fn tell_drops(telemetry: &Telemetry<'_, MemoryLog>) {
+fn tell_drops(telemetry: &Telemetry<'_, MemoryLog, Still>) {
     drop_for_its_realm(telemetry, &SEVENTH);
     drop_for_its_realm(telemetry, &NAME_ONLY_REQUEST);
     log_deltas(telemetry);
@@ -72,7 +72,7 @@ fn tell_drops(telemetry: &Telemetry<'_, MemoryLog>) {
 }
 
 /// Tells of requests with so many Proxy-States of this proxy's form, and has them logged.
-fn tell_marks(telemetry: &Telemetry<'_, MemoryLog>) {
+fn tell_marks(telemetry: &Telemetry<'_, MemoryLog, Still>) {
     telemetry.came_marked(0, NAS, 1);
     telemetry.came_marked(0, OTHER_PROXY, 1);
     log_deltas(telemetry);
@@ -84,7 +84,7 @@ fn tell_marks(telemetry: &Telemetry<'_, MemoryLog>) {
 }
 
 /// Tells of two cuts, and has them logged.
-fn tell_cuts(telemetry: &Telemetry<'_, MemoryLog>) {
+fn tell_cuts(telemetry: &Telemetry<'_, MemoryLog, Still>) {
     telemetry.note(Worker::Lane(1), Note::Cut(3));
     telemetry.note(Worker::Lane(1), Note::Cut(5));
     log_deltas(telemetry);
@@ -100,7 +100,7 @@ enum Told {
 }
 
 impl Story for Told {
-    fn tell<'x>(&'x self, telemetry: &'x Telemetry<'_, MemoryLog>) {
+    fn tell<'x>(&'x self, telemetry: &'x Telemetry<'_, MemoryLog, Still>) {
         match self {
             Told::Drops => tell_drops(telemetry),
             Told::Cuts => tell_cuts(telemetry),

@@ -4,7 +4,7 @@ ghost use Rattle.std.specs.Prelude.{Some};
 
 use crate::comparing::holds;
 use crate::packets::SHORT;
-use crate::shared::{MemoryLog, NAS, Setup};
+use crate::shared::{MemoryLog, NAS, Setup, Still};
 use rad_desk::{Delivery, Received, Traffic, Wire, front_worker, open};
 use rad_realms::{Config, Endpoint};
 use rad_tables::Moment;
@@ -90,7 +90,7 @@ fn work(
     rt: &impl Wait,
     alloc: Global,
     config: &Config,
-    telemetry: &Telemetry<'_, MemoryLog>,
+    telemetry: &Telemetry<'_, MemoryLog, Still>,
     turns: u64,
 ) -> Result<(), Fail> {
     let Ok((proxy, mut inlets)) = open(alloc, config) else {

@@ -1,0 +1,40 @@
+-- Samples in Prometheus' text format, without the line feeds (own).
+use Rattle.std.specs.Prelude.{ℕ, List, ◌++◌, codes}
+use Rattle.std.specs.Fmt.{decimal}
+use Rattle.rad_realms.specs.Printed.{address_text, endpoint_text}
+use Rattle.rad_desk.specs.declared.gate.UpReason.{UpReason}
+use Rattle.rad_desk.specs.declared.gate.UpReason.TheVariants as reason
+use Rattle.rad_metrics.specs.Values.{value_text}
+use Rattle.rad_metrics.specs.ClientEvents.{reason_label}
+use Rattle.rad_metrics.specs.declared.sample.Labels.{Labels}
+use Rattle.rad_metrics.specs.declared.sample.Labels.TheVariants as labels
+use Rattle.rad_metrics.specs.declared.sample.Sample.{Sample}
+
+-- A client, by its address.
+abbrev pub client_label : List ℕ → List ℕ
+client_label address = codes "client=\"" ++ address_text address ++ codes "\""
+
+-- A lane and its home server.
+abbrev pub home_labels : ℕ → List ℕ → List ℕ
+home_labels lane home = codes "lane=\"" ++ decimal lane ++ codes "\",home=\"" ++ home ++ codes "\""
+
+-- Why a home server went up.
+abbrev pub up_text : UpReason → List ℕ
+up_text reason.Answered = codes "answered"
+up_text reason.ProbeAnswered = codes "probe answered"
+up_text reason.DownWaitOver = codes "down_wait over"
+
+abbrev pub labels_text : Labels → List ℕ
+labels_text labels.None = codes ""
+labels_text (labels.Version version) = codes "{version=\"" ++ version.now ++ codes "\"}"
+labels_text (labels.Client address) = codes "{" ++ client_label address ++ codes "}"
+labels_text (labels.ClientReason address event) = codes "{" ++ client_label address ++ codes "," ++ reason_label event ++ codes "}"
+labels_text (labels.Home lane home) = codes "{" ++ home_labels lane home.now ++ codes "}"
+labels_text (labels.HomeUp lane home why) = codes "{" ++ home_labels lane home.now ++ codes ",reason=\"" ++ up_text why ++ codes "\"}"
+labels_text (labels.HomeBound lane home bound) = codes "{" ++ home_labels lane home.now ++ codes ",le=\"" ++ bound.now ++ codes "\"}"
+labels_text (labels.Socket at) = codes "{side=\"clients\",socket=\"" ++ endpoint_text at ++ codes "\"}"
+labels_text (labels.HomeSocket lane home place) = codes "{" ++ home_labels lane home.now ++ codes ",port=\"" ++ decimal place ++ codes "\"}"
+
+-- A number under its name.
+abbrev pub sample_line : Sample → List ℕ
+sample_line sample = codes "rad_proxy_" ++ sample.name.now ++ labels_text sample.labels ++ codes " " ++ value_text sample.value

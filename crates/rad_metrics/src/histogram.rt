@@ -1,0 +1,119 @@
+//! How long something took, by how often it took no longer than each of some bounds.
+
+ghost use Rattle.std.specs.Prelude.{◌≡◌, ◌<◌, ◌≤◌, ◌-◌};
+ghost use Rattle.rad_metrics.specs.Buckets.{bound_of, bound_text};
+
+use std::sync::atomic::{AtomicU64, Ordering};
+
+/// How many buckets there are: one for each bound, and one for what took longer than all of them.
+pub(crate) const BUCKETS: usize = 18;
+
+/// How often something took how long. Counting takes no lock and no memory.
+#[derive(Drop)]
+pub(crate) struct Histogram {
+    counts: [AtomicU64; BUCKETS],
+    /// How long it took in all, in microseconds.
+    sum: AtomicU64,
+}
+
+impl Histogram {
+    /// Nothing took any time yet.
+    pub(crate) fn new() -> Histogram {
+        Histogram {
+            counts: [
+                AtomicU64::new(0),
+                AtomicU64::new(0),
+                AtomicU64::new(0),
+                AtomicU64::new(0),
+                AtomicU64::new(0),
+                AtomicU64::new(0),
+                AtomicU64::new(0),
+                AtomicU64::new(0),
+                AtomicU64::new(0),
+                AtomicU64::new(0),
+                AtomicU64::new(0),
+                AtomicU64::new(0),
+                AtomicU64::new(0),
+                AtomicU64::new(0),
+                AtomicU64::new(0),
+                AtomicU64::new(0),
+                AtomicU64::new(0),
+                AtomicU64::new(0),
+            ],
+            sum: AtomicU64::new(0),
+        }
+    }
+
+    /// Something took so many microseconds.
+    pub(crate) fn count(&self, microseconds: u64) {
+        self.counts[bucket_of(microseconds)].fetch_add(1, Ordering::SeqCst);
+        self.sum.fetch_add(microseconds, Ordering::SeqCst);
+    }
+
+    /// How often something took longer than the bound before that of a bucket, and no longer than that.
+    pub(crate) fn get(&self, bucket: usize) -> u64 {
+        match self.counts.get(bucket) {
+            Some(count) => count.load(Ordering::SeqCst),
+            None => 0,
+        }
+    }
+
+    /// How long it took in all, in microseconds.
+    pub(crate) fn sum(&self) -> u64 {
+        self.sum.load(Ordering::SeqCst)
+    }
+}
+
+/// The bucket of so many microseconds: the first whose bound is not below, and the last where each is.
+pub(crate) fn bucket_of(microseconds: u64) -> usize
+    ensures most { result ≤ 17 }
+    ensures within { result < 17 → microseconds ≤ bound_of result }
+    ensures above { 0 < result → bound_of (result - 1) < microseconds }
+{
+    match microseconds {
+        ..=250 => 0,
+        ..=500 => 1,
+        ..=1000 => 2,
+        ..=2500 => 3,
+        ..=5000 => 4,
+        ..=10000 => 5,
+        ..=25000 => 6,
+        ..=50000 => 7,
+        ..=100000 => 8,
+        ..=250000 => 9,
+        ..=500000 => 10,
+        ..=1000000 => 11,
+        ..=2500000 => 12,
+        ..=5000000 => 13,
+        ..=10000000 => 14,
+        ..=30000000 => 15,
+        ..=60000000 => 16,
+        _ => 17,
+    }
+}
+
+/// The bound of a bucket in seconds, as a label.
+pub(crate) fn bound_label(bucket: usize) -> &'static str
+    ensures { result.now ≡ bound_text bucket }
+{
+    match bucket {
+        0 => "0.00025",
+        1 => "0.0005",
+        2 => "0.001",
+        3 => "0.0025",
+        4 => "0.005",
+        5 => "0.01",
+        6 => "0.025",
+        7 => "0.05",
+        8 => "0.1",
+        9 => "0.25",
+        10 => "0.5",
+        11 => "1",
+        12 => "2.5",
+        13 => "5",
+        14 => "10",
+        15 => "30",
+        16 => "60",
+        _ => "+Inf",
+    }
+}

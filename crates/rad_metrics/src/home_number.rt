@@ -1,0 +1,116 @@
+//! What is told of a home server.
+
+ghost use Rattle.std.specs.Prelude.{◌≡◌};
+ghost use Rattle.rad_metrics.specs.HomeNumbers.{home_name, home_help, home_kind};
+
+use crate::family::Family;
+
+/// A number of a home server.
+#[derive(Clone, Copy)]
+pub enum HomeNumber {
+    /// Whether it is taken to be up.
+    Up,
+    /// Since when it is that.
+    Since,
+    /// When its numbers were told.
+    Told,
+    /// Whether its lane is drained.
+    Draining,
+    /// How many requests were accepted.
+    Accepted,
+    /// How many requests were answered.
+    Answered,
+    /// How many requests wait to be sent.
+    Queued,
+    /// How many requests were sent and not answered.
+    Outstanding,
+    /// How many requests the book holds.
+    Held,
+    /// How many sendings were not the first of their request.
+    Resent,
+    /// How long the first request of the queue has waited.
+    OldestQueued,
+    /// How long ago the first request was sent that is not answered.
+    OldestOutstanding,
+    /// How long ago the first request was accepted that the book holds.
+    OldestHeld,
+    /// When it answered last.
+    LastAnswer,
+}
+
+/// The numbers, in the order in which they are written.
+pub(crate) const HOME_NUMBERS: [HomeNumber; 14] = [
+    HomeNumber::Up,
+    HomeNumber::Since,
+    HomeNumber::Told,
+    HomeNumber::Draining,
+    HomeNumber::Accepted,
+    HomeNumber::Answered,
+    HomeNumber::Queued,
+    HomeNumber::Outstanding,
+    HomeNumber::Held,
+    HomeNumber::Resent,
+    HomeNumber::OldestQueued,
+    HomeNumber::OldestOutstanding,
+    HomeNumber::OldestHeld,
+    HomeNumber::LastAnswer,
+];
+
+impl HomeNumber {
+    /// What stands before its samples.
+    pub fn family(self) -> Family
+        ensures name { result.name.now ≡ home_name self }
+        ensures kind { result.kind ≡ home_kind self }
+        ensures help { result.help.now ≡ home_help self }
+    {
+        match self {
+            HomeNumber::Up => {
+                Family::gauge("home_up", "Whether the home server is taken to be up.")
+            }
+            HomeNumber::Since => Family::gauge(
+                "home_since_time_seconds",
+                "Since when the home server is up or down, in seconds since 1970.",
+            ),
+            HomeNumber::Told => Family::gauge(
+                "home_report_time_seconds",
+                "When the lane told these numbers, in seconds since 1970.",
+            ),
+            HomeNumber::Draining => {
+                Family::gauge("draining", "Whether the lane takes no new requests.")
+            }
+            HomeNumber::Accepted => Family::counter(
+                "accepted_total",
+                "Requests accepted since the start.",
+            ),
+            HomeNumber::Answered => Family::counter(
+                "answered_total",
+                "Requests answered by the home server since the start.",
+            ),
+            HomeNumber::Queued => Family::gauge("queued", "Requests that wait to be sent."),
+            HomeNumber::Outstanding => {
+                Family::gauge("outstanding", "Requests sent and not answered.")
+            }
+            HomeNumber::Held => Family::gauge("book", "Requests that the book holds."),
+            HomeNumber::Resent => Family::counter(
+                "resent_total",
+                "Accounting-Requests sent to the home server again.",
+            ),
+            HomeNumber::OldestQueued => Family::gauge(
+                "oldest_queued_age_seconds",
+                "How long the first request of the queue has waited.",
+            ),
+            HomeNumber::OldestOutstanding => Family::gauge(
+                "oldest_outstanding_age_seconds",
+                "How long ago the first request was sent that is not answered.",
+            ),
+            HomeNumber::OldestHeld => Family::gauge(
+                "oldest_held_age_seconds",
+                "How long ago the first request was accepted that the book holds.",
+            ),
+            HomeNumber::LastAnswer => Family::gauge(
+                "last_answer_time_seconds",
+                "When the home server answered a request last, in seconds since 1970, and 0 before that.",
+            ),
+        }
+    }
+}

@@ -1,0 +1,48 @@
+//! What has a reporter stop.
+
+use std::sync::atomic::{AtomicU64, Ordering};
+use std::sync::{Wait, WaitMethods};
+use std::time::{Clock, Duration, Instant};
+
+/// Whether a reporter is to stop, which it shares with the others.
+#[derive(Drop)]
+pub struct StopFlag {
+    is_set: AtomicU64,
+}
+
+impl StopFlag {
+    pub fn new() -> StopFlag {
+        StopFlag {
+            is_set: AtomicU64::new(0),
+        }
+    }
+
+    /// Has the reporter report once more and stop.
+    pub fn set(&self) {
+        self.is_set.store(1, Ordering::SeqCst);
+        self.is_set.wake_all();
+    }
+
+    pub(crate) fn is_set(&self) -> bool {
+        self.is_set.load(Ordering::SeqCst) != 0
+    }
+
+    /// Waits so many milliseconds, or until the flag is set.
+    pub(crate) fn wait<R: Clock + Wait>(&self, rt: &R, milliseconds: u64) {
+        let Ok(start) = Instant::now(rt) else {
+            return;
+        };
+        for _ in rt.forever() {
+            let Ok(passed) = start.elapsed(rt) else {
+                return;
+            };
+            let Some(left) = Duration::from_millis(milliseconds).checked_sub(passed) else {
+                return;
+            };
+            if left.is_zero() || self.is_set() {
+                return;
+            }
+            self.is_set.park_timeout(rt, 0, left);
+        }
+    }
+}
