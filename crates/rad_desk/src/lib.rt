@@ -21,6 +21,7 @@ mod gate;
 mod handling;
 mod hearing;
 mod inlet;
+mod lane_calls;
 mod lanes;
 pub mod laws;
 mod marks;
@@ -32,7 +33,6 @@ mod standing;
 mod tally;
 mod turning;
 mod wire;
-mod working;
 
 pub use closing::CloseFault;
 pub use desk::OpenFault;

@@ -2,7 +2,7 @@
 
 ghost use Rattle.rad_server.specs.internal.Wires.{FitsRoom};
 
-use crate::address_watch::AddressWatch;
+use crate::address_monitor::AddressMonitor;
 use crate::local_addresses::LocalAddresses;
 use crate::origins::Origins;
 use rad_desk::{Gate, Received};
@@ -13,16 +13,16 @@ use std::time::Clock;
 #[derive(Drop)]
 pub(crate) struct Answering<'a, R, G, A> {
     origins: Origins,
-    watch: AddressWatch<'a, R, G, A>,
+    monitor: AddressMonitor<'a, R, G, A>,
 }
 
 impl<'a, R, G, A> Answering<'a, R, G, A> {
     /// Nothing came yet.
     pub(crate) fn new(
         origins: Origins,
-        watch: AddressWatch<'a, R, G, A>,
+        monitor: AddressMonitor<'a, R, G, A>,
     ) -> Answering<'a, R, G, A> {
-        Answering { origins, watch }
+        Answering { origins, monitor }
     }
 
     /// The socket from which this peer is answered.
@@ -34,7 +34,7 @@ impl<'a, R, G, A> Answering<'a, R, G, A> {
     fn note(&mut self, peer: Endpoint, socket: u16) {
         self.origins.note(peer, socket);
         if socket == 0 {
-            self.watch.set_come();
+            self.monitor.set_come();
         }
     }
 }
@@ -61,7 +61,7 @@ impl<R: Clock, G: Gate, A: LocalAddresses> Answering<'_, R, G, A> {
                 }
             }
             Received::Nothing => {
-                self.watch.look_if_due();
+                self.monitor.look_if_due();
                 Received::Nothing
             }
             Received::Fault => Received::Fault,

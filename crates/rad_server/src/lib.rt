@@ -6,7 +6,7 @@
 //! of `rad_desk`. What is received, sent and noted only the gate is told: this crate knows no log and no counters.
 #![tactic(auto)]
 
-mod address_watch;
+mod address_monitor;
 mod answering;
 mod attending;
 mod beginning;
@@ -25,9 +25,9 @@ mod raw_sockets;
 mod ready_socket;
 mod serving;
 mod sockets;
+mod streams;
 mod supervising;
 mod threads;
-mod watching;
 mod wires;
 mod wiring;
 mod worker_sockets;
@@ -39,5 +39,5 @@ pub use interrupting::Interruptible;
 pub use local_addresses::{LocalAddresses, RuntimeAddresses, read_local_addresses};
 pub use notifying::{Notifier, Notifiers};
 pub use serving::{run, serve};
-pub use watching::Descriptors;
+pub use streams::Descriptors;
 pub use wiring::Wires;

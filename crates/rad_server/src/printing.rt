@@ -3,7 +3,7 @@
 
 use crate::faults::ServeFault;
 use crate::lingering::has_passed;
-use crate::watching::{Descriptors, Watch};
+use crate::streams::{Descriptors, StreamPoll};
 use std::alloc::Global;
 use std::fmt::Display;
 use std::io::{ErrorKind, Write};
@@ -60,7 +60,7 @@ impl Patience {
 #[derive(Drop)]
 pub(crate) struct Output<O: Drop> {
     writer: O,
-    watch: Watch,
+    streams: StreamPoll,
     patience: Patience,
     /// The lines that were printed since all had gone out.
     text: Vec<u8>,
@@ -87,7 +87,7 @@ impl<O: Write + Drop> Output<O> {
         };
         Ok(Output {
             writer,
-            watch: Watch::new(descriptors),
+            streams: StreamPoll::new(descriptors),
             patience: Patience {
                 most,
                 first: None,
@@ -117,7 +117,7 @@ impl<O: Write + Drop> Output<O> {
 
     /// Whether the input was seen to have ended while the output was waited for.
     pub(crate) fn has_input_ended(&self) -> bool {
-        self.watch.has_ended()
+        self.streams.has_ended()
     }
 
     /// When the output was first waited for after the end of the input, where it was.
@@ -131,7 +131,7 @@ impl<O: Write + Drop> Output<O> {
     ///
     /// As [`Output::advance`].
     pub(crate) fn finish<R: Clock + Wait>(&mut self, rt: &R) -> Result<(), ServeFault> {
-        self.watch.end();
+        self.streams.end();
         for _ in rt.forever() {
             if self.advance(rt)? == Progress::Done {
                 return Ok(());
@@ -149,11 +149,11 @@ impl<O: Write + Drop> Output<O> {
         if self.gone >= self.text.len() {
             return self.clear();
         }
-        if self.watch.look() {
+        if self.streams.look() {
             self.write()?;
             return Ok(Progress::Went);
         }
-        if self.watch.has_ended() && self.patience.is_over(clock) {
+        if self.streams.has_ended() && self.patience.is_over(clock) {
             return Err(ServeFault::Output);
         }
         Ok(Progress::Waits)
@@ -172,7 +172,7 @@ impl<O: Write + Drop> Output<O> {
     /// Writes the next line, or as much of it as the output takes.
     fn write(&mut self) -> Result<(), ServeFault> {
         let at = self.gone.min(self.text.len());
-        let part = first_line(&self.text.as_slice()[at..], self.watch.most());
+        let part = first_line(&self.text.as_slice()[at..], self.streams.most());
         match self.writer.write(part) {
             Ok(0) => Err(ServeFault::Output),
             Ok(count) => {

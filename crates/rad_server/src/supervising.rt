@@ -66,7 +66,7 @@ impl LaneStates {
     }
 
     /// A lane's home server is down or up from now on. It answers whether that is news.
-    fn mark(&self, lane: u16, is_down: bool) -> bool {
+    fn set_down(&self, lane: u16, is_down: bool) -> bool {
         match self.of(lane) {
             Some(state) => state.is_down.swap(is_down, Ordering::SeqCst) != is_down,
             None => false,
@@ -167,11 +167,11 @@ impl<'a, G> Supervisor<'a, G> {
 
 impl<G: Gate> Supervisor<'_, G> {
     /// A worker's home server is down or up from now on, which is passed on where it is news. It answers whether it is.
-    fn mark(&self, worker: Worker, is_down: bool) -> bool {
+    fn set_down(&self, worker: Worker, is_down: bool) -> bool {
         let Worker::Lane(lane) = worker else {
             return false;
         };
-        let is_news = self.lanes.mark(lane, is_down);
+        let is_news = self.lanes.set_down(lane, is_down);
         if is_news {
             let note = if is_down {
                 Note::WentDown
@@ -185,8 +185,8 @@ impl<G: Gate> Supervisor<'_, G> {
 
     /// A worker's home server went down or up. Its worker has more to do then: going down is all that a step did, and so
     /// is going up, but where an answer took it up.
-    fn turn(&self, worker: Worker, is_down: bool) {
-        self.mark(worker, is_down);
+    fn home_changed(&self, worker: Worker, is_down: bool) {
+        self.set_down(worker, is_down);
         self.notifiers.notify(worker);
     }
 }
@@ -205,8 +205,8 @@ impl<G: Gate> Gate for Supervisor<'_, G> {
 
     fn note(&self, worker: Worker, note: Note) {
         match note {
-            Note::WentDown => self.turn(worker, true),
-            Note::WentUp => self.turn(worker, false),
+            Note::WentDown => self.home_changed(worker, true),
+            Note::WentUp => self.home_changed(worker, false),
             Note::Took(lane, _) => {
                 self.lanes.count_taken(lane);
                 self.outer.note(worker, note);
@@ -254,7 +254,7 @@ impl<G: Gate> Gate for Supervisor<'_, G> {
 
     /// An answer takes a home server up without a step.
     fn answered(&self, lane: u16, serial: u64) {
-        if self.mark(Worker::Lane(lane), false) {
+        if self.set_down(Worker::Lane(lane), false) {
             self.outer.went_up(lane, UpReason::Answered);
         }
         self.notifiers.notify(Worker::Front);

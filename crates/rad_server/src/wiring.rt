@@ -1,6 +1,6 @@
 //! The wires over a configuration's sockets, and what notifies those who wait there.
 
-use crate::address_watch::AddressWatch;
+use crate::address_monitor::AddressMonitor;
 use crate::answering::Answering;
 use crate::client_sockets::{ClientSockets, fault_at};
 use crate::faults::ServeFault;
@@ -73,8 +73,8 @@ impl<'a, R: Clock + Net + RandomSource, G: Gate, A> WireMaker<'a, R, G, A> {
         random: u64,
     ) -> Result<Answering<'a, R, G, A>, AllocError> {
         let origins = Origins::new(self.alloc, clients, random)?;
-        let watch = AddressWatch::new(self.rt, self.addresses, self.alloc, self.gate, known);
-        Ok(Answering::new(origins, watch))
+        let monitor = AddressMonitor::new(self.rt, self.addresses, self.alloc, self.gate, known);
+        Ok(Answering::new(origins, monitor))
     }
 
     /// A wire over these sockets.

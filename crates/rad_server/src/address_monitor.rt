@@ -1,4 +1,4 @@
-//! Watching for addresses that this machine has later than the start.
+//! Looking for addresses that this machine has later than the start.
 
 use crate::known_addresses::KnownAddresses;
 use crate::local_addresses::LocalAddresses;
@@ -14,7 +14,7 @@ const LOOK: u64 = 10;
 /// What is asked at such an address comes to the socket that is bound to all of them. So the machine's addresses are read
 /// anew only after a datagram came there, where the front has nothing else to receive, and once in ten seconds at most.
 #[derive(Drop)]
-pub(crate) struct AddressWatch<'a, R, G, A> {
+pub(crate) struct AddressMonitor<'a, R, G, A> {
     clock: &'a R,
     addresses: &'a A,
     alloc: Global,
@@ -26,7 +26,7 @@ pub(crate) struct AddressWatch<'a, R, G, A> {
     looked: Option<Instant>,
 }
 
-impl<'a, R, G, A> AddressWatch<'a, R, G, A> {
+impl<'a, R, G, A> AddressMonitor<'a, R, G, A> {
     /// These addresses are known, and no datagram came yet.
     pub(crate) fn new(
         clock: &'a R,
@@ -34,8 +34,8 @@ impl<'a, R, G, A> AddressWatch<'a, R, G, A> {
         alloc: Global,
         gate: &'a G,
         known: KnownAddresses,
-    ) -> AddressWatch<'a, R, G, A> {
-        AddressWatch {
+    ) -> AddressMonitor<'a, R, G, A> {
+        AddressMonitor {
             clock,
             addresses,
             alloc,
@@ -52,7 +52,7 @@ impl<'a, R, G, A> AddressWatch<'a, R, G, A> {
     }
 }
 
-impl<R: Clock, G: Gate, A: LocalAddresses> AddressWatch<'_, R, G, A> {
+impl<R: Clock, G: Gate, A: LocalAddresses> AddressMonitor<'_, R, G, A> {
     /// Looks for new addresses, where it is time. The clock is read only where a datagram came to the socket of all addresses.
     pub(crate) fn look_if_due(&mut self) {
         if self.has_come && self.is_due() {

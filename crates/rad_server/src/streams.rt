@@ -42,7 +42,7 @@ impl Descriptors {
 
 /// Looks at the output and at the input.
 #[derive(Clone, Copy)]
-pub(crate) struct Watch {
+pub(crate) struct StreamPoll {
     descriptors: Descriptors,
     /// The most octets of one write.
     most: usize,
@@ -50,10 +50,10 @@ pub(crate) struct Watch {
     has_ended: bool,
 }
 
-impl Watch {
+impl StreamPoll {
     /// Watches these. An input that can be sought in, as a regular file and the null device can, has its end in it from the
     /// start: to read it never waits. A poll never tells that.
-    pub(crate) fn new(descriptors: Descriptors) -> Watch {
+    pub(crate) fn new(descriptors: Descriptors) -> StreamPoll {
         let has_ended = match descriptors.input {
             Some(input) => lseek(input, 0, SEEK_CUR) >= 0,
             None => false,
@@ -62,7 +62,7 @@ impl Watch {
             Some(output) => isatty(output) == 1,
             None => false,
         };
-        Watch {
+        StreamPoll {
             descriptors,
             most: if is_terminal { MOST_OF_TERMINAL } else { MOST },
             has_ended,
