@@ -1,25 +1,42 @@
-use Rattle.std.proofs.Common.{◌≡◌, ◌<◌, ◌^◌, ◌∙◌, refl, ap, arith, []}
-use Rattle.block_queue.specs.Blocks.{room_of}
-use Rattle.block_queue.specs.Chain.{joined}
-use Rattle.block_queue.proofs.Blocks.{queue_settled, queue_grown}
-use Rattle.block_queue.proofs.Ends.{no_kept}
+use Rattle.std.proofs.Common.{◌≡◌, ◌<◌, ◌^◌, ◌∙◌, sym, ap, subst, arith}
+use Rattle.std.specs.Prelude.{OnOk, OnErr}
+use Rattle.block_queue.specs.Blocks.{linked_of, IsSettled, IsGrown}
+use Rattle.block_queue.proofs.Blocks.{queue_grown, queue_begun}
 use Rattle.block_queue.proofs.block_queue.BlockQueueFifo.reserve_one.Goals as goal
 
 pub invariant_of-self : goal.invariant_of-self
 invariant_of-self g c =
-    let q = c.self.inside in let same = ap (λ v. v.room) c.self.view_is in let full : room_of (joined q.blocks) ≡ 0 = omega arith in let few : q.count < 2 ^ 63 = omega arith in
-    let to = c.settle.ensures.blocks in let is = queue_settled q.count (joined q.blocks) (joined c.settle.new.blocks) c.self.invariant.0 to in
-    let none = no_kept (λ load. load.block.items ≡ []) c.add.new.kept (joined c.add.new.blocks) c.add.ensures.kept in
-    ((queue_grown c.add.result q.count (joined c.settle.new.blocks) _ _ is to.chained (to.room ∙ full) few refl refl c.add.ensures.ok c.add.ensures.refused).0, none.0, none.1)
+    let q = c.self.inside in let r = c.add.result in let new = c.add.new.self.linked in let few : q.count < 2 ^ 63 = omega arith in
+    let grown = subst (λ o. OnOk r (IsGrown (linked_of o) new)) (sym c.in-Some.is) c.add.ensures.ok in
+    let same = subst (λ o. OnErr r (IsSettled (linked_of o) new)) (sym c.in-Some.is) c.add.ensures.refused in
+    (queue_grown r q.count (linked_of q.blocks) new c.self.invariant few grown same).0
 
-pub returns-clause-items : goal.returns-clause-items
-returns-clause-items g c =
-    let q = c.self.inside in let same = ap (λ v. v.room) c.self.view_is in let full : room_of (joined q.blocks) ≡ 0 = omega arith in let few : q.count < 2 ^ 63 = omega arith in
-    let to = c.settle.ensures.blocks in let is = queue_settled q.count (joined q.blocks) (joined c.settle.new.blocks) c.self.invariant.0 to in
-    (queue_grown c.add.result q.count (joined c.settle.new.blocks) _ _ is to.chained (to.room ∙ full) few refl refl c.add.ensures.ok c.add.ensures.refused).1 ∙ to.items ∙ ap (λ v. v.items) c.self.view_is
+pub returns-in-Some-clause-items : goal.returns-in-Some-clause-items
+returns-in-Some-clause-items g c =
+    let q = c.self.inside in let r = c.add.result in let new = c.add.new.self.linked in let few : q.count < 2 ^ 63 = omega arith in
+    let grown = subst (λ o. OnOk r (IsGrown (linked_of o) new)) (sym c.in-Some.is) c.add.ensures.ok in
+    let same = subst (λ o. OnErr r (IsSettled (linked_of o) new)) (sym c.in-Some.is) c.add.ensures.refused in
+    (queue_grown r q.count (linked_of q.blocks) new c.self.invariant few grown same).1 ∙ ap (λ v. v.items) c.self.view_is
 
-pub returns-clause-ok : goal.returns-clause-ok
-returns-clause-ok g c =
-    let q = c.self.inside in let same = ap (λ v. v.room) c.self.view_is in let full : room_of (joined q.blocks) ≡ 0 = omega arith in let few : q.count < 2 ^ 63 = omega arith in
-    let to = c.settle.ensures.blocks in let is = queue_settled q.count (joined q.blocks) (joined c.settle.new.blocks) c.self.invariant.0 to in
-    (queue_grown c.add.result q.count (joined c.settle.new.blocks) _ _ is to.chained (to.room ∙ full) few refl refl c.add.ensures.ok c.add.ensures.refused).3
+pub returns-in-Some-clause-ok : goal.returns-in-Some-clause-ok
+returns-in-Some-clause-ok g c =
+    let q = c.self.inside in let r = c.add.result in let new = c.add.new.self.linked in let few : q.count < 2 ^ 63 = omega arith in
+    let grown = subst (λ o. OnOk r (IsGrown (linked_of o) new)) (sym c.in-Some.is) c.add.ensures.ok in
+    let same = subst (λ o. OnErr r (IsSettled (linked_of o) new)) (sym c.in-Some.is) c.add.ensures.refused in
+    (queue_grown r q.count (linked_of q.blocks) new c.self.invariant few grown same).2
+
+pub invariant_of-self-in-None : goal.invariant_of-self-in-None
+invariant_of-self-in-None g c =
+    let q = c.self.inside in
+    (queue_begun q.count (linked_of q.blocks) (linked_of c.replace.new.self) c.self.invariant (ap linked_of c.in-None.is) (ap linked_of c.replace.ensures.after ∙ c.in_ok-blocks-in-None.ensures)).0
+
+pub returns-in-None-replace-clause-items : goal.returns-in-None-replace-clause-items
+returns-in-None-replace-clause-items g c =
+    let q = c.self.inside in
+    (queue_begun q.count (linked_of q.blocks) (linked_of c.replace.new.self) c.self.invariant (ap linked_of c.in-None.is) (ap linked_of c.replace.ensures.after ∙ c.in_ok-blocks-in-None.ensures)).1
+    ∙ ap (λ v. v.items) c.self.view_is
+
+pub returns-in-None-replace-clause-ok : goal.returns-in-None-replace-clause-ok
+returns-in-None-replace-clause-ok g c =
+    let q = c.self.inside in
+    (queue_begun q.count (linked_of q.blocks) (linked_of c.replace.new.self) c.self.invariant (ap linked_of c.in-None.is) (ap linked_of c.replace.ensures.after ∙ c.in_ok-blocks-in-None.ensures)).2
