@@ -5,7 +5,7 @@ use Rattle.std.specs.Borrow.{Bor}
 use Rattle.std.specs.Option.{option_copied}
 use Rattle.std.specs.Map.Iter.{TakesFirst, deref}
 use Rattle.block_queue.specs.Queue.{Queue, oldest}
-use Rattle.block_queue.specs.Blocks.{fresh, items_of, left_in, room_of, pushed, has_none, begins_empty, AllHaveItems, IsChain, BeginsEmptied, IsLine, HasOneEmpty, IsSettled, IsGrown, IsQueue}
+use Rattle.block_queue.specs.Blocks.{fresh, items_of, left_in, room_of, pushed, has_none, begins_empty, AllHaveItems, IsChain, BeginsEmptied, IsLine, HasAtMostOneEmpty, IsSettled, IsGrown, IsQueue}
 
 module _ {T : Type 0} where
   pub some_with_room : (bs : List (Queue T)) → 1 ≤ room_of bs → 0 < length bs
@@ -150,7 +150,7 @@ module _ {T : Type 0} where
   lined_pushed bs item (inl h) = inl (shape_pushed bs item h)
   lined_pushed bs item (inr e) = inr (emptied_pushed bs item e)
 
-  pub held_pushed : (bs : List (Queue T)) (item : T) (spare : Bool) → HasOneEmpty bs spare → HasOneEmpty (pushed bs item) spare
+  pub held_pushed : (bs : List (Queue T)) (item : T) (spare : Bool) → HasAtMostOneEmpty bs spare → HasAtMostOneEmpty (pushed bs item) spare
   held_pushed bs item spare is = record { lined = lined_pushed bs item is.lined; alone = λ some. pushed_have bs item (is.alone some) }
 
   pub queue_new : (bs : List (Queue T)) → bs ≡ [] → IsQueue 0 bs × (items_of bs ≡ [])

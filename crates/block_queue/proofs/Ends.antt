@@ -4,7 +4,7 @@ use Rattle.std.specs.Prelude.{Bool, Option, Some}
 use Rattle.std.specs.Borrow.{Bor}
 use Rattle.std.specs.Map.Iter.{TakesFirst, deref}
 use Rattle.block_queue.specs.Queue.{Queue, oldest}
-use Rattle.block_queue.specs.Blocks.{fresh, items_of, first_items, first_count, room_of, pushed, has_none, begins_empty, ends_empty, AllHaveItems, IsChain, BeginsEmptied, IsLine, HasOneEmpty, EndsWith, IsFirstPopped, IsSettled, IsJoined}
+use Rattle.block_queue.specs.Blocks.{fresh, items_of, first_items, first_count, room_of, pushed, has_none, begins_empty, ends_empty, AllHaveItems, IsChain, BeginsEmptied, IsLine, HasAtMostOneEmpty, EndsWith, IsFirstPopped, IsSettled, IsJoined}
 use Rattle.block_queue.proofs.Blocks.{none_is, some_is, have_chained, chain_begins, oldest_first, items_of_joined, room_of_joined, chained, last_room, last_items, last_chained, freed_first}
 
 module _ {T : Type 0} where
@@ -37,10 +37,10 @@ module _ {T : Type 0} where
   none_have (b ∷ bs) e = cc
 
   -- with no block to spare
-  pub held_alone : (bs : List (Queue T)) → IsLine bs → HasOneEmpty bs false
+  pub held_alone : (bs : List (Queue T)) → IsLine bs → HasAtMostOneEmpty bs false
   held_alone bs h = record { lined = h; alone = λ some. absurd (cc) }
 
-  pub held_new : (bs : List (Queue T)) (q : Queue T) → bs ≡ q ∷ [] → q ≡ fresh → HasOneEmpty bs false
+  pub held_new : (bs : List (Queue T)) (q : Queue T) → bs ≡ q ∷ [] → q ≡ fresh → HasAtMostOneEmpty bs false
   held_new bs q e is = held_alone bs (inl (subst IsChain (sym e) (last_chained q (subst (λ (b : Queue T). 0 < b.room) (sym is) (omega arith)))))
 
   front_has : (front : List (Queue T)) (q : Queue T) → IsChain (front ++ q ∷ []) → AllHaveItems front
@@ -223,7 +223,7 @@ module _ {T : Type 0} where
       (record { chained = have_chained rest (subst AllHaveItems same is.filled); items = without.0; room = without.1 }, without.2)
 
   -- and is the one to spare then
-  pub held_without : (bs rest : List (Queue T)) (first : Queue T) (spare : Bool) → bs ≡ first ∷ rest → BeginsEmptied bs → HasOneEmpty rest spare
+  pub held_without : (bs rest : List (Queue T)) (first : Queue T) (spare : Bool) → bs ≡ first ∷ rest → BeginsEmptied bs → HasAtMostOneEmpty rest spare
   held_without bs rest first spare e is =
       let all = subst AllHaveItems (ap (drop 1) e) is.filled in record { lined = inl (have_chained rest all); alone = λ some. all }
 

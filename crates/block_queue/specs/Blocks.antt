@@ -80,8 +80,8 @@ module _ {T : Type 0} where
   abbrev pub IsLine : List (Queue T) → Type 0
   IsLine blocks = IsChain blocks ⊎ BeginsEmptied blocks
 
-  -- the first one is empty, which the last pop emptied, or the last one, or one to spare, or none
-  pub record HasOneEmpty (linked : List (Queue T)) (has_spare : Bool) : Type 0 where
+  -- no more than one block is empty: the first one, which the last pop emptied, or the last one, or the one to spare
+  pub record HasAtMostOneEmpty (linked : List (Queue T)) (has_spare : Bool) : Type 0 where
     pub lined : IsLine linked
     pub alone : has_spare ≡ true → AllHaveItems linked
 

@@ -57,7 +57,7 @@ impl<T> Fifo<T> for BlockQueue<T> {
             return Err(AllocError);
         }
         match &mut self.blocks {
-            Some(blocks) => blocks.add(self.alloc),
+            Some(blocks) => blocks.add_block(self.alloc),
             None => {
                 let blocks = HeldBlocks::new(self.alloc)?;
                 match self.blocks.replace(blocks) {
@@ -100,7 +100,7 @@ impl<T> Fifo<T> for BlockQueue<T> {
     #[inline]
     fn front(&self) -> Option<&T> {
         match &self.blocks {
-            Some(blocks) => blocks.first(),
+            Some(blocks) => blocks.first_item(),
             None => None,
         }
     }
@@ -140,16 +140,16 @@ impl<T> BlockQueue<T> {
             alloc: _,
         } = other;
         if count == 0 {
-            replace_with(&mut self.blocks, blocks, joined_in_front);
+            replace_with(&mut self.blocks, blocks, prepended);
         } else {
-            replace_with(&mut self.blocks, blocks, joined);
+            replace_with(&mut self.blocks, blocks, appended);
         }
         self.count += count;
     }
 }
 
 /// The blocks of two queues, one's behind the other's.
-fn joined<T>(
+fn appended<T>(
     blocks: Option<HeldBlocks<T>>,
     others: Option<HeldBlocks<T>>,
 ) -> (Option<HeldBlocks<T>>, ())
@@ -157,18 +157,18 @@ fn joined<T>(
 {
     match (blocks, others) {
         (Some(blocks), Some(others)) => (Some(blocks.append(others)), ()),
-        (Some(blocks), None) => (Some(blocks.settled()), ()),
-        (None, Some(others)) => (Some(others.settled()), ()),
+        (Some(blocks), None) => (Some(blocks.with_emptied_detached()), ()),
+        (None, Some(others)) => (Some(others.with_emptied_detached()), ()),
         (None, None) => (None, ()),
     }
 }
 
-/// [`joined`], the others first.
-fn joined_in_front<T>(
+/// [`appended`], the others first.
+fn prepended<T>(
     blocks: Option<HeldBlocks<T>>,
     others: Option<HeldBlocks<T>>,
 ) -> (Option<HeldBlocks<T>>, ())
     ensures { IsJoined (linked_of others) (linked_of blocks) (linked_of result.0) }
 {
-    joined(others, blocks)
+    appended(others, blocks)
 }

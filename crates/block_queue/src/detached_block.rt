@@ -14,7 +14,7 @@ pub(crate) struct DetachedBlock<T> {
 
 impl<T> DetachedBlock<T> {
     /// This block as one without items.
-    pub(crate) fn emptied(self) -> EmptyBlock<T>
+    pub(crate) fn into_empty(self) -> EmptyBlock<T>
         requires { self.block.items ≡ [] }
         ensures { result.detached ≡ self }
     {
@@ -36,7 +36,7 @@ impl<T> EmptyBlock<T> {
     {
         let block = Block::new(alloc)?;
         match Allocation::new(alloc) {
-            Ok(link) => Ok(DetachedBlock { block, link }.emptied()),
+            Ok(link) => Ok(DetachedBlock { block, link }.into_empty()),
             Err(refused) => {
                 block.free();
                 Err(refused)
@@ -63,7 +63,7 @@ impl<T> EmptyBlock<T> {
 }
 
 /// One of two blocks, where there are two, and the one where there is one. The other is freed.
-pub(crate) fn one_of<T>(
+pub(crate) fn free_surplus<T>(
     block: Option<EmptyBlock<T>>,
     other: Option<EmptyBlock<T>>,
 ) -> Option<EmptyBlock<T>> {

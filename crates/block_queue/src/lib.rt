@@ -19,7 +19,6 @@ mod front;
 mod held_blocks;
 mod iter;
 mod linked_blocks;
-mod moving_items;
 mod nodes;
 mod plain_queue;
 mod region;

@@ -1,4 +1,3 @@
-use Rattle.std.proofs.Common.{sym, subst, []}
 use Rattle.std.specs.Map.Iter.{deref}
 use Rattle.std_collections.proofs.IterRuns.{shows_in_order}
 use Rattle.block_queue.proofs.Blocks.{none_chained}

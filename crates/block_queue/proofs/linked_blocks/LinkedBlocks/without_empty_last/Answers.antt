@@ -12,8 +12,8 @@ pub returns-then-is_empty-clause-shape : goal.returns-then-is_empty-clause-shape
 returns-then-is_empty-clause-shape g c =
     let p = c.split_last-front in (without_last (joined p.result.0) c.args.self p.result.1.block (sym p.ensures) c.requires (sym c.is_empty.ensures ∙ c.if-is_empty.true)).0
 
-pub emptied-requires : goal.emptied-requires
-emptied-requires g c =
+pub into_empty-requires : goal.into_empty-requires
+into_empty-requires g c =
     let p = c.split_last-front in (without_last (joined p.result.0) c.args.self p.result.1.block (sym p.ensures) c.requires (sym c.is_empty.ensures ∙ c.if-is_empty.true)).2
 
 pub returns-in-Some-clause-shape : goal.returns-in-Some-clause-shape

@@ -1,7 +1,7 @@
 use Rattle.std.proofs.Common.{◌<◌, ◌∙◌, sym, subst, arith, length}
 use Rattle.block_queue.specs.Blocks.{items_of, IsChain}
 use Rattle.block_queue.proofs.Ends.{some_first}
-use Rattle.block_queue.proofs.held_blocks.HeldBlocks.prepare_at_border.Goals as goal
+use Rattle.block_queue.proofs.held_blocks.HeldBlocks.prepare_pop_at_border.Goals as goal
 
 pub replace_with-requires : goal.replace_with-requires
 replace_with-requires g c =

@@ -2,7 +2,7 @@ use Rattle.std.proofs.Common.{inl, subst, arith}
 use Rattle.block_queue.specs.Blocks.{IsReady}
 use Rattle.block_queue.proofs.Ends.{filled_chain}
 use Rattle.block_queue.proofs.Ready.{ready_same}
-use Rattle.block_queue.proofs.held_blocks.HeldBlocks.prepare.Goals as goal
+use Rattle.block_queue.proofs.held_blocks.HeldBlocks.prepare_pop.Goals as goal
 
 pub returns-else-count-lt2-clause-ready : goal.returns-else-count-lt2-clause-ready
 returns-else-count-lt2-clause-ready g c =

@@ -2,7 +2,7 @@ use Rattle.std.proofs.Common.{◌∙◌, ap, subst}
 use Rattle.std.specs.Map.Iter.{TakesFirst, deref}
 use Rattle.block_queue.specs.Queue.{oldest}
 use Rattle.block_queue.proofs.Ends.{oldest_taken, none_taken}
-use Rattle.block_queue.proofs.held_blocks.HeldBlocks.first.Goals as goal
+use Rattle.block_queue.proofs.held_blocks.HeldBlocks.first_item.Goals as goal
 
 pub returns-in-Some : goal.returns-in-Some
 returns-in-Some g c =

@@ -8,7 +8,7 @@ use crate::linked_blocks::LinkedBlocks;
 impl<T> LinkedBlocks<T> {
     /// Joins the first block's only item with the next one, where the last block has none: so the pop of it
     /// leaves no second block without an item.
-    pub(crate) fn join_first(self, _nothing: ()) -> (LinkedBlocks<T>, ())
+    pub(crate) fn merge_first_block(self, _nothing: ()) -> (LinkedBlocks<T>, ())
         requires chained { IsChain self }
         requires one { first_count self ≡ 1 }
         requires empty { has_empty_end self ≡ true }
@@ -18,7 +18,7 @@ impl<T> LinkedBlocks<T> {
         let oldest = first.block.pop();
         let left = rest.first_len();
         if left == 0 {
-            first.emptied().free();
+            first.into_empty().free();
             rest.push(oldest);
             return (rest, ());
         }
@@ -41,7 +41,7 @@ impl<T> LinkedBlocks<T> {
             return self;
         }
         let (rest, first) = self.split_first(());
-        first.emptied().free();
+        first.into_empty().free();
         rest
     }
 }

@@ -1,10 +1,10 @@
 use Rattle.std.proofs.Common.{sym, subst}
 use Rattle.block_queue.specs.Blocks.{BeginsEmptied, IsSettled}
 use Rattle.block_queue.proofs.Ends.{settled_without, held_without}
-use Rattle.block_queue.proofs.held_blocks.HeldBlocks.spare_first.Goals as goal
+use Rattle.block_queue.proofs.held_blocks.HeldBlocks.detach_first.Goals as goal
 
-pub emptied-requires : goal.emptied-requires
-emptied-requires g c =
+pub into_empty-requires : goal.into_empty-requires
+into_empty-requires g c =
     let h = c.self.inside in let r = c.replace_with-first in let is = subst (λ v. BeginsEmptied v.linked) (sym c.self.view_is) c.requires in
     (settled_without h.linked r.new.dest r.result.block r.ensures is).1
 

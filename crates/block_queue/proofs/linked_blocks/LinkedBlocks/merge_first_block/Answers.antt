@@ -2,7 +2,7 @@ use Rattle.std.proofs.Common.{◌≡◌, [], ◌∷◌, ◌++◌, sym, ap, ◌�
 use Rattle.block_queue.specs.Blocks.{first_count, IsReady}
 use Rattle.block_queue.proofs.Ends.{at_first}
 use Rattle.block_queue.proofs.Ready.{ends_apart, rest_ends, rest_chained, rest_some, sole_popped, sole_room, moved_behind, popped_length, popped_chained, joined_next}
-use Rattle.block_queue.proofs.linked_blocks.LinkedBlocks.join_first.Goals as goal
+use Rattle.block_queue.proofs.linked_blocks.LinkedBlocks.merge_first_block.Goals as goal
 
 pub split_first-rest-requires : goal.split_first-rest-requires
 split_first-rest-requires g c = let one = c.requires.one in ends_apart c.args.self c.requires.empty (omega arith)
@@ -11,8 +11,8 @@ pub pop-oldest-requires : goal.pop-oldest-requires
 pop-oldest-requires g c =
     let r = c.split_first-rest in let n = ap length (at_first c.args.self r.result.0 r.result.1.block r.ensures) in let one = c.requires.one in omega arith
 
-pub emptied-requires : goal.emptied-requires
-emptied-requires g c =
+pub into_empty-requires : goal.into_empty-requires
+into_empty-requires g c =
     let r = c.split_first-rest in let n = ap length (at_first c.args.self r.result.0 r.result.1.block r.ensures) in
     let p = c.pop-oldest in let one = c.requires.one in ap (λ q. q.items) (sole_popped r.result.1.block p.new.self p.result p.ensures (omega arith)).0
 
