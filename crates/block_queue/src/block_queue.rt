@@ -1,4 +1,4 @@
-ghost use Rattle.std.specs.Prelude.{◌≡◌, ◌+◌, ◌^◌, ◌<◌, ◌++◌, length};
+ghost use Rattle.std.specs.Prelude.{◌≡◌, ◌+◌, ◌^◌, ◌<◌, ◌≤◌, ◌++◌, OnOk, length};
 ghost use Rattle.std.specs.Map.Iter.{ShowsInOrder, deref};
 ghost use Rattle.block_queue.specs.Blocks.{linked_of, IsJoined};
 
@@ -56,16 +56,7 @@ impl<T> Fifo<T> for BlockQueue<T> {
         if self.count >= MOST {
             return Err(AllocError);
         }
-        match &mut self.blocks {
-            Some(blocks) => blocks.add_block(self.alloc),
-            None => {
-                let blocks = HeldBlocks::new(self.alloc)?;
-                match self.blocks.replace(blocks) {
-                    Some(_) => unreachable!(),
-                    None => Ok(()),
-                }
-            }
-        }
+        self.add_block()
     }
 
     #[inline]
@@ -125,6 +116,26 @@ impl<T> BlockQueue<T> {
         match &self.blocks {
             Some(blocks) => Iter::new(blocks.walk()),
             None => Iter::new(BlockIter::none()),
+        }
+    }
+
+    /// Makes room by an empty block. An error means that memory was refused.
+    #[inline(never)]
+    fn add_block(&mut self) -> Result<(), AllocError>
+        requires full { self.old.room ≡ 0 }
+        requires few { length self.old.items < 2 ^ 63 }
+        ensures items { self.new.items ≡ self.old.items }
+        ensures ok { OnOk result (1 ≤ self.new.room) }
+    {
+        match &mut self.blocks {
+            Some(blocks) => blocks.add_block(self.alloc),
+            None => {
+                let blocks = HeldBlocks::new(self.alloc)?;
+                match self.blocks.replace(blocks) {
+                    Some(_) => unreachable!(),
+                    None => Ok(()),
+                }
+            }
         }
     }
 
