@@ -1,11 +1,11 @@
 -- What a chain of blocks is after a step at one of its ends.
 use Rattle.std.proofs.Common.{◌≡◌, ℕ, zero, suc, ◌+◌, ◌-◌, ◌^◌, ◌<◌, ◌≤◌, inl, inr, true, false, List, [], ◌∷◌, ◌++◌, Some, None, refl, sym, ap, ◌∙◌, subst, arith, length, get_or, drop, append-nil, append_assoc, length-append}
-use Rattle.std.specs.Prelude.{Result, Ok, Err, OnOk, OnErr, Option, slice_get}
+use Rattle.std.specs.Prelude.{Bool, Result, Ok, Err, OnOk, OnErr, Option, slice_get}
 use Rattle.std.specs.Borrow.{Bor}
 use Rattle.std.specs.Option.{option_copied}
 use Rattle.std.specs.Map.Iter.{TakesFirst, deref}
 use Rattle.block_queue.specs.Queue.{Queue, oldest}
-use Rattle.block_queue.specs.Blocks.{items_of, left_in, room_of, pushed, has_none, begins_empty, AllHaveItems, IsChain, BeginsEmptied, IsLine, IsSettled, IsQueue}
+use Rattle.block_queue.specs.Blocks.{fresh, items_of, left_in, room_of, pushed, has_none, begins_empty, AllHaveItems, IsChain, BeginsEmptied, IsLine, HasAtMostOneEmpty, IsSettled, IsGrown, IsQueue}
 
 module _ {T : Type 0} where
   pub some_with_room : (bs : List (Queue T)) → 1 ≤ room_of bs → 0 < length bs
@@ -136,8 +136,8 @@ module _ {T : Type 0} where
   few_lined bs (inl h) = let few = few_blocks bs h in omega arith
   few_lined bs (inr e) = few_behind bs e
 
-  pub blocks_fit : (count : ℕ) (bs : List (Queue T)) → IsQueue count bs → length bs < 2 ^ 64
-  blocks_fit count bs is = let few = few_lined bs is.lined in let n = is.counted in let fits = is.fits in omega arith
+  pub blocks_fit : (bs : List (Queue T)) → IsLine bs → length (items_of bs) + room_of bs + 1 < 2 ^ 64 → length bs < 2 ^ 64
+  blocks_fit bs h fits = let few = few_lined bs h in omega arith
 
   emptied_pushed : (bs : List (Queue T)) (item : T) → BeginsEmptied bs → BeginsEmptied (pushed bs item)
   unfolding pushed begins_empty
@@ -150,9 +150,20 @@ module _ {T : Type 0} where
   lined_pushed bs item (inl h) = inl (shape_pushed bs item h)
   lined_pushed bs item (inr e) = inr (emptied_pushed bs item e)
 
+  pub held_pushed : (bs : List (Queue T)) (item : T) (spare : Bool) → HasAtMostOneEmpty bs spare → HasAtMostOneEmpty (pushed bs item) spare
+  held_pushed bs item spare is = record { lined = lined_pushed bs item is.lined; alone = λ some. pushed_have bs item (is.alone some) }
+
   pub queue_new : (bs : List (Queue T)) → bs ≡ [] → IsQueue 0 bs × (items_of bs ≡ [])
-  unfolding items_of room_of IsChain
-  queue_new bs e = subst (λ (l : List (Queue T)). IsQueue 0 l × (items_of l ≡ [])) (sym e) (record { lined = inl tt; counted = refl; one_block = omega arith; fits = omega arith }, refl)
+  unfolding items_of room_of
+  queue_new bs e = subst (λ (l : List (Queue T)). IsQueue 0 l × (items_of l ≡ [])) (sym e) (record { counted = refl; one_block = omega arith; fits = omega arith }, refl)
+
+  pub queue_none : (count : ℕ) (bs : List (Queue T)) → IsQueue count bs → bs ≡ [] → count ≡ 0
+  unfolding items_of
+  queue_none count bs is e = is.counted ∙ ap (λ l. length (items_of l)) e
+
+  pub none_chained : (bs : List (Queue T)) → bs ≡ [] → IsChain bs
+  unfolding IsChain
+  none_chained bs e = subst IsChain (sym e) tt
 
   pub last_room : (q : Queue T) → room_of (q ∷ []) ≡ q.room
   unfolding room_of
@@ -166,21 +177,15 @@ module _ {T : Type 0} where
   unfolding IsChain
   last_chained q room = inr room
 
-  pub queue_added : (count : ℕ) (bs new : List (Queue T)) (q : Queue T) → IsQueue count bs → IsChain bs → room_of bs ≡ 0 → count < 2 ^ 63 → q.items ≡ [] → q.room ≡ 32 → new ≡ bs ++ q ∷ []
-      → IsQueue count new × (items_of new ≡ items_of bs) × (room_of new ≡ 32)
-  queue_added count bs new q is h full few none room e =
-      let some : 0 < length (q ∷ []) = omega arith in
-      let items = ap items_of e ∙ items_of_joined bs (q ∷ []) ∙ ap (λ l. items_of bs ++ l) (last_items q none) ∙ append-nil (items_of bs) in
-      let left : room_of new ≡ 32 = ap room_of e ∙ room_of_joined bs (q ∷ []) some ∙ last_room q ∙ room in (
-        record {
-          lined = inl (subst IsChain (sym e) (chained bs (q ∷ []) (all_have bs h full) (last_chained q (omega arith)) some));
-          counted = is.counted ∙ ap length (sym items);
-          one_block = omega arith;
-          fits = omega arith;
-        },
-        items,
-        left,
-      )
+  -- a block with room behind blocks that have none
+  pub chain_grown : (bs new : List (Queue T)) (q : Queue T) → IsChain bs → room_of bs ≡ 0 → 0 < q.room → new ≡ bs ++ q ∷ [] → IsChain new
+  chain_grown bs new q h full room e = subst IsChain (sym e) (chained bs (q ∷ []) (all_have bs h full) (last_chained q room) (omega arith))
+
+  pub grown_is : (old new : List (Queue T)) → IsGrown old new → (items_of new ≡ items_of old) × (room_of new ≡ 32)
+  grown_is old new (settled, same, e) = (
+    ap items_of e ∙ items_of_joined settled (fresh ∷ []) ∙ ap (λ l. items_of settled ++ l) (last_items fresh refl) ∙ append-nil (items_of settled) ∙ same.items,
+    ap room_of e ∙ room_of_joined settled (fresh ∷ []) (omega arith) ∙ last_room fresh,
+  )
 
   pub queue_pushed : (count : ℕ) (bs new : List (Queue T)) (item : T) → IsQueue count bs → 1 ≤ room_of bs → new ≡ pushed bs item
       → IsQueue (count + 1) new × (items_of new ≡ items_of bs ++ item ∷ []) × (room_of bs ≡ room_of new + 1)
@@ -189,7 +194,7 @@ module _ {T : Type 0} where
       let less : room_of new ≡ room_of bs - 1 = ap room_of e ∙ room_of_pushed bs item in
       let n = is.counted in let fits = is.fits in let most = is.one_block in
       let more : count + 1 ≡ length (items_of new) = (omega (arith, length-append (items_of bs) (item ∷ []))) ∙ ap length (sym items) in
-      (record { lined = subst IsLine (sym e) (lined_pushed bs item is.lined); counted = more; one_block = omega arith; fits = omega arith }, items, omega arith)
+      (record { counted = more; one_block = omega arith; fits = omega arith }, items, omega arith)
 
   pub chain_begins : (bs : List (Queue T)) → IsChain (drop 1 bs) → begins_empty bs ≡ false → IsChain bs
   unfolding IsChain begins_empty
@@ -200,14 +205,23 @@ module _ {T : Type 0} where
   pub queue_settled : (count : ℕ) (bs new : List (Queue T)) → IsQueue count bs → IsSettled bs new → IsQueue count new
   queue_settled count bs new is to =
       let most = is.one_block in let fits = is.fits in let same = to.room in
-      record { lined = inl to.chained; counted = is.counted ∙ ap length (sym to.items); one_block = omega arith; fits = omega arith }
+      record { counted = is.counted ∙ ap length (sym to.items); one_block = omega arith; fits = omega arith }
 
-  pub queue_grown : {A E : Type 0} (r : Result A E) (count : ℕ) (bs new : List (Queue T)) (q : Queue T) → IsQueue count bs → IsChain bs → room_of bs ≡ 0 → count < 2 ^ 63 → q.items ≡ [] → q.room ≡ 32
-      → OnOk r (new ≡ bs ++ q ∷ []) → OnErr r (new ≡ bs) → IsQueue count new × (items_of new ≡ items_of bs) × (room_of bs ≤ room_of new) × OnOk r (1 ≤ room_of new)
-  queue_grown (Ok a) count bs new q is h full few none room added same =
-      let made = queue_added count bs new q is h full few none room added in let left = made.2 in (made.0, made.1, omega arith, omega arith)
-  queue_grown (Err e) count bs new q is h full few none room added same =
-      let left = ap room_of same in (subst (IsQueue count) (sym same) is, ap items_of same, omega arith, tt)
+  queue_with_room : (count : ℕ) (bs new : List (Queue T)) → IsQueue count bs → count < 2 ^ 63 → items_of new ≡ items_of bs → room_of new ≡ 32 → IsQueue count new
+  queue_with_room count bs new is few items room = record { counted = is.counted ∙ ap length (sym items); one_block = omega arith; fits = omega arith }
+
+  -- the first block of a queue
+  pub queue_begun : (count : ℕ) (bs new : List (Queue T)) → IsQueue count bs → bs ≡ [] → new ≡ fresh ∷ [] → IsQueue count new × (items_of new ≡ items_of bs) × (1 ≤ room_of new)
+  unfolding items_of room_of
+  queue_begun count bs new is none e =
+      let n = queue_none count bs is none in let items = ap items_of e ∙ ap items_of (sym none) in let room : room_of new ≡ 32 = ap room_of e in
+      (queue_with_room count bs new is (omega arith) items room, items, omega arith)
+
+  pub queue_grown : {A E : Type 0} (r : Result A E) (count : ℕ) (bs new : List (Queue T)) → IsQueue count bs → count < 2 ^ 63
+      → OnOk r (IsGrown bs new) → OnErr r (IsSettled bs new) → IsQueue count new × (items_of new ≡ items_of bs) × OnOk r (1 ≤ room_of new)
+  queue_grown (Ok a) count bs new is few grown same =
+      let to = grown_is bs new grown in let room = to.1 in (queue_with_room count bs new is few to.0 room, to.0, omega arith)
+  queue_grown (Err e) count bs new is few grown same = (queue_settled count bs new is same, same.items, tt)
 
   drop_at : (items : List T) (index : ℕ) (x : T) → Some x ≡ slice_get items index → drop index items ≡ x ∷ drop (index + 1) items
   drop_at [] index x e = cc

@@ -1,11 +1,11 @@
 -- A list of blocks whose first or last one is at hand.
 use Rattle.std.proofs.Common.{◌≡◌, ◌-◌, ◌<◌, ◌≤◌, ◌⊎◌, inl, inr, true, false, List, [], ◌∷◌, ◌++◌, None, refl, sym, ap, ◌∙◌, subst, arith, length, get_or, drop, append-nil}
-use Rattle.std.specs.Prelude.{Option, Some, IfSome, IsSome}
+use Rattle.std.specs.Prelude.{Bool, Option, Some}
 use Rattle.std.specs.Borrow.{Bor}
 use Rattle.std.specs.Map.Iter.{TakesFirst, deref}
 use Rattle.block_queue.specs.Queue.{Queue, oldest}
-use Rattle.block_queue.specs.Blocks.{fresh, items_of, first_items, first_count, room_of, pushed, has_none, begins_empty, ends_empty, AllHaveItems, IsChain, BeginsEmptied, IsLine, EndsWith, IsFirstPopped, IsSettled, IsJoined}
-use Rattle.block_queue.proofs.Blocks.{none_is, some_is, have_chained, chain_begins, oldest_first, items_of_joined, room_of_joined, chained, last_room, last_items, freed_first}
+use Rattle.block_queue.specs.Blocks.{fresh, items_of, first_items, first_count, room_of, pushed, has_none, begins_empty, ends_empty, AllHaveItems, IsChain, BeginsEmptied, IsLine, HasAtMostOneEmpty, EndsWith, IsFirstPopped, IsSettled, IsJoined}
+use Rattle.block_queue.proofs.Blocks.{none_is, some_is, have_chained, chain_begins, oldest_first, items_of_joined, room_of_joined, chained, last_room, last_items, last_chained, freed_first}
 
 module _ {T : Type 0} where
   pub room_at_end : (front : List (Queue T)) (q : Queue T) → room_of (front ++ q ∷ []) ≡ q.room
@@ -36,9 +36,12 @@ module _ {T : Type 0} where
   none_have [] e = tt
   none_have (b ∷ bs) e = cc
 
-  pub no_kept : {K : Type 0} (P : K → Type 0) (kept : Option K) (bs : List (Queue T)) → kept ≡ None → IfSome kept P × (IsSome kept → AllHaveItems bs)
-  no_kept P None bs e = (tt, λ some. cc)
-  no_kept P (Some k) bs e = absurd cc
+  -- with no block to spare
+  pub held_alone : (bs : List (Queue T)) → IsLine bs → HasAtMostOneEmpty bs false
+  held_alone bs h = record { lined = h; alone = λ some. absurd (cc) }
+
+  pub held_new : (bs : List (Queue T)) (q : Queue T) → bs ≡ q ∷ [] → q ≡ fresh → HasAtMostOneEmpty bs false
+  held_new bs q e is = held_alone bs (inl (subst IsChain (sym e) (last_chained q (subst (λ (b : Queue T). 0 < b.room) (sym is) (omega arith)))))
 
   front_has : (front : List (Queue T)) (q : Queue T) → IsChain (front ++ q ∷ []) → AllHaveItems front
   unfolding IsChain AllHaveItems
@@ -89,13 +92,35 @@ module _ {T : Type 0} where
         room = inr (ap room_of e ∙ room_of_joined front cs some);
       }
 
-  pub linked_none : (bs : List (Queue T)) → IsChain bs → IsJoined bs [] bs
-  unfolding items_of
-  linked_none bs h = record { chained = h; items = sym (append-nil (items_of bs)); room = inl refl }
+  pub linked_settled : (bs cs first second new : List (Queue T)) → IsSettled bs first → IsSettled cs second → IsJoined first second new → IsJoined bs cs new
+  linked_settled bs cs first second new same also is =
+      record {
+        chained = is.chained;
+        items = is.items ∙ (λ i. same.items i ++ also.items i);
+        room = elim is.room [
+          | inl r ↦ inl (r ∙ same.room)
+          | inr r ↦ inr (r ∙ also.room)
+        ];
+      }
 
-  pub none_linked : (cs : List (Queue T)) → IsChain cs → IsJoined [] cs cs
+  pub linked_none : (bs cs new : List (Queue T)) → cs ≡ [] → IsSettled bs new → IsJoined bs cs new
   unfolding items_of
-  none_linked cs h = record { chained = h; items = refl; room = inr refl }
+  linked_none bs cs new e same =
+      record {
+        chained = same.chained;
+        items = same.items ∙ sym (append-nil (items_of bs)) ∙ ap (λ l. items_of bs ++ items_of l) (sym e);
+        room = inl same.room;
+      }
+
+  pub none_linked : (bs cs new : List (Queue T)) → bs ≡ [] → IsSettled cs new → IsJoined bs cs new
+  unfolding items_of
+  none_linked bs cs new e same =
+      record { chained = same.chained; items = same.items ∙ ap (λ l. items_of l ++ items_of cs) (sym e); room = inr same.room }
+
+  pub none_both : (bs cs : List (Queue T)) → bs ≡ [] → cs ≡ [] → IsJoined bs cs []
+  unfolding items_of IsChain
+  none_both bs cs e f =
+      record { chained = tt; items = (λ i. items_of (sym e i) ++ items_of (sym f i)); room = inl (ap room_of (sym e)) }
 
   pub at_first : (bs rest : List (Queue T)) (first : Queue T) → bs ≡ first ∷ rest → first.items ≡ first_items bs
   unfolding first_items
@@ -196,6 +221,11 @@ module _ {T : Type 0} where
   settled_without bs rest first e is =
       let without = without_first bs rest first e is.emptied is.followed in let same : drop 1 bs ≡ rest = ap (drop 1) e in
       (record { chained = have_chained rest (subst AllHaveItems same is.filled); items = without.0; room = without.1 }, without.2)
+
+  -- and is the one to spare then
+  pub held_without : (bs rest : List (Queue T)) (first : Queue T) (spare : Bool) → bs ≡ first ∷ rest → BeginsEmptied bs → HasAtMostOneEmpty rest spare
+  held_without bs rest first spare e is =
+      let all = subst AllHaveItems (ap (drop 1) e) is.filled in record { lined = inl (have_chained rest all); alone = λ some. all }
 
   pub idle : (bs : List (Queue T)) → IsLine bs → begins_empty bs ≡ true → 2 ≤ length bs → BeginsEmptied bs
   idle bs (inl h) none two = let some = chain_first bs h two in let none : first_count bs ≡ 0 = none_first bs none in absurd (omega arith)

@@ -7,6 +7,11 @@ use Rattle.block_queue.specs.Queue.{Queue}
 abbrev pub fresh : {T : Type 0} → Queue T
 fresh = record { items = []; room = 32 }
 
+-- the blocks that a queue holds: those that are linked to one another, and whether there is one to spare
+pub record Held (T : Type 0) : Type 0 where
+  pub linked : List (Queue T)
+  pub has_spare : Bool
+
 module _ {T : Type 0} where
   -- the items of all blocks, in order
   unfoldable pub items_of : List (Queue T) → List T
@@ -75,6 +80,16 @@ module _ {T : Type 0} where
   abbrev pub IsLine : List (Queue T) → Type 0
   IsLine blocks = IsChain blocks ⊎ BeginsEmptied blocks
 
+  -- no more than one block is empty: the first one, which the last pop emptied, or the last one, or the one to spare
+  pub record HasAtMostOneEmpty (linked : List (Queue T)) (has_spare : Bool) : Type 0 where
+    pub lined : IsLine linked
+    pub alone : has_spare ≡ true → AllHaveItems linked
+
+  -- those of the blocks, if there are any, that are linked to one another
+  abbrev pub linked_of : Option (Held T) → List (Queue T)
+  linked_of None = []
+  linked_of (Some held) = held.linked
+
   -- the block is the last one
   abbrev pub EndsWith : List (Queue T) → Queue T → Type 0
   EndsWith blocks last = (front : List (Queue T)) × (front ++ last ∷ [] ≡ blocks)
@@ -84,6 +99,10 @@ module _ {T : Type 0} where
     pub chained : IsChain new
     pub items : items_of new ≡ items_of old
     pub room : room_of new ≡ room_of old
+
+  -- the same, and then a block without items
+  abbrev pub IsGrown : List (Queue T) → List (Queue T) → Type 0
+  IsGrown old new = (settled : List (Queue T)) × IsSettled old settled × (new ≡ settled ++ fresh ∷ [])
 
   -- there is one block, with one item
   abbrev pub IsLone : List (Queue T) → Type 0
@@ -115,7 +134,6 @@ module _ {T : Type 0} where
 
   -- the blocks of a queue that counts its items. A `usize` can hold the count and the blocks' number
   pub record IsQueue (count : ℕ) (blocks : List (Queue T)) : Type 0 where
-    pub lined : IsLine blocks
     pub counted : count ≡ length (items_of blocks)
     pub one_block : room_of blocks ≤ 32
     pub fits : count + room_of blocks + 1 < 2 ^ 64

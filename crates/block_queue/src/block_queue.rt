@@ -1,9 +1,11 @@
-ghost use Rattle.std.specs.Prelude.{◌≡◌, ◌+◌, ◌^◌, ◌<◌, ◌++◌, length};
+ghost use Rattle.std.specs.Prelude.{◌≡◌, ◌+◌, ◌^◌, ◌<◌, ◌≤◌, ◌++◌, OnOk, length};
 ghost use Rattle.std.specs.Map.Iter.{ShowsInOrder, deref};
+ghost use Rattle.block_queue.specs.Blocks.{linked_of, IsJoined};
 
+use crate::Fifo;
+use crate::block_iter::BlockIter;
+use crate::held_blocks::HeldBlocks;
 use crate::iter::Iter;
-use crate::linking::{Blocks, Load};
-use crate::{Fifo, linking};
 use core::mem::replace_with;
 use std::alloc::{AllocError, Global};
 use std::marker::Model;
@@ -13,29 +15,24 @@ const MOST: usize = 0x8000_0000_0000_0000;
 
 /// A queue in a chain of blocks, whose items stay where they are while it grows.
 ///
-/// At most one block is empty: the last one, or the first one, which the last pop emptied, or one that is
-/// kept for later. The next pop, append or new block takes an emptied first one out of the chain, and it
-/// is the kept one then.
+/// At most one block is empty: the last one, or the first one, which the last pop emptied, or a spare one that is
+/// kept for later.
 #[derive(Drop)]
 pub struct BlockQueue<T> {
-    blocks: Option<Blocks<T>>,
-    kept: Option<Load<T>>,
+    blocks: Option<HeldBlocks<T>>,
     count: usize,
     alloc: Global,
 }
 
 impl<T> Model for BlockQueue<T> {
     ghost use Rattle.block_queue.specs.Queue.{Queue};
-    ghost use Rattle.std.specs.Prelude.{◌≡◌, [], IfSome, IsSome};
-    ghost use Rattle.block_queue.specs.Blocks.{items_of, room_of, AllHaveItems, IsQueue};
-    ghost use Rattle.block_queue.specs.Chain.{joined};
+    ghost use Rattle.block_queue.specs.Blocks.{items_of, room_of, linked_of, IsQueue};
 
     ghost Value = { Queue T };
 
-    ghost view = { λ q. record { items = items_of (joined q.blocks); room = room_of (joined q.blocks) } };
+    ghost view = { λ q. record { items = items_of (linked_of q.blocks); room = room_of (linked_of q.blocks) } };
 
-    ghost invariant = { λ q.
-        IsQueue q.count (joined q.blocks) × IfSome q.kept (λ load. load.block.items ≡ []) × (IsSome q.kept → AllHaveItems (joined q.blocks)) };
+    ghost invariant = { λ q. IsQueue q.count (linked_of q.blocks) };
 }
 
 impl<T> Fifo<T> for BlockQueue<T> {
@@ -46,7 +43,6 @@ impl<T> Fifo<T> for BlockQueue<T> {
     fn new(alloc: Global) -> Self {
         BlockQueue {
             blocks: None,
-            kept: None,
             count: 0,
             alloc,
         }
@@ -60,18 +56,23 @@ impl<T> Fifo<T> for BlockQueue<T> {
         if self.count >= MOST {
             return Err(AllocError);
         }
-        linking::settle(&mut self.blocks, &mut self.kept);
-        linking::add(&mut self.blocks, &mut self.kept, self.alloc)
+        self.add_block()
     }
 
     #[inline]
     fn spare(&self) -> usize {
-        linking::spare(&self.blocks)
+        match &self.blocks {
+            Some(blocks) => blocks.room(),
+            None => 0,
+        }
     }
 
     #[inline]
     fn push_back(&mut self, item: T) {
-        linking::push(&mut self.blocks, item);
+        match &mut self.blocks {
+            Some(blocks) => blocks.push(item),
+            None => unreachable!(),
+        }
         self.count += 1;
     }
 
@@ -81,12 +82,18 @@ impl<T> Fifo<T> for BlockQueue<T> {
             return None;
         }
         self.count -= 1;
-        Some(linking::pop(&mut self.blocks, &mut self.kept))
+        match &mut self.blocks {
+            Some(blocks) => Some(blocks.pop()),
+            None => unreachable!(),
+        }
     }
 
     #[inline]
     fn front(&self) -> Option<&T> {
-        linking::first_item(&self.blocks)
+        match &self.blocks {
+            Some(blocks) => blocks.first_item(),
+            None => None,
+        }
     }
 
     #[inline]
@@ -106,7 +113,30 @@ impl<T> BlockQueue<T> {
         ensures rest { result ≡ self.now.items }
         ensures runs { ShowsInOrder (deref {X = T}) }
     {
-        Iter::new(linking::walk(&self.blocks))
+        match &self.blocks {
+            Some(blocks) => Iter::new(blocks.walk()),
+            None => Iter::new(BlockIter::none()),
+        }
+    }
+
+    /// Makes room by an empty block. An error means that memory was refused.
+    #[inline(never)]
+    fn add_block(&mut self) -> Result<(), AllocError>
+        requires full { self.old.room ≡ 0 }
+        requires few { length self.old.items < 2 ^ 63 }
+        ensures items { self.new.items ≡ self.old.items }
+        ensures ok { OnOk result (1 ≤ self.new.room) }
+    {
+        match &mut self.blocks {
+            Some(blocks) => blocks.add_block(self.alloc),
+            None => {
+                let blocks = HeldBlocks::new(self.alloc)?;
+                match self.blocks.replace(blocks) {
+                    Some(_) => unreachable!(),
+                    None => Ok(()),
+                }
+            }
+        }
     }
 
     /// Puts the items of another queue behind these. It takes no memory, and may give one block
@@ -115,22 +145,41 @@ impl<T> BlockQueue<T> {
         requires { length self.old.items + length other.items < 2 ^ 63 }
         ensures { self.new.items ≡ self.old.items ++ other.items }
     {
-        linking::settle(&mut self.blocks, &mut self.kept);
         let BlockQueue {
-            mut blocks,
-            mut kept,
+            blocks,
             count,
             alloc: _,
         } = other;
-        linking::settle(&mut blocks, &mut kept);
-        let empty = if count == 0 {
-            replace_with(&mut self.blocks, blocks, linking::linked_in_front)
+        if count == 0 {
+            replace_with(&mut self.blocks, blocks, prepended);
         } else {
-            replace_with(&mut self.blocks, blocks, linking::linked)
-        };
-        linking::keep(&mut self.kept, empty);
-        linking::keep(&mut self.kept, kept);
-        linking::keep_one(&self.blocks, &mut self.kept);
+            replace_with(&mut self.blocks, blocks, appended);
+        }
         self.count += count;
     }
+}
+
+/// The blocks of two queues, one's behind the other's.
+fn appended<T>(
+    blocks: Option<HeldBlocks<T>>,
+    others: Option<HeldBlocks<T>>,
+) -> (Option<HeldBlocks<T>>, ())
+    ensures { IsJoined (linked_of blocks) (linked_of others) (linked_of result.0) }
+{
+    match (blocks, others) {
+        (Some(blocks), Some(others)) => (Some(blocks.append(others)), ()),
+        (Some(blocks), None) => (Some(blocks.with_emptied_detached()), ()),
+        (None, Some(others)) => (Some(others.with_emptied_detached()), ()),
+        (None, None) => (None, ()),
+    }
+}
+
+/// [`appended`], the others first.
+fn prepended<T>(
+    blocks: Option<HeldBlocks<T>>,
+    others: Option<HeldBlocks<T>>,
+) -> (Option<HeldBlocks<T>>, ())
+    ensures { IsJoined (linked_of others) (linked_of blocks) (linked_of result.0) }
+{
+    appended(others, blocks)
 }

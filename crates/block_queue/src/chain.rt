@@ -15,16 +15,16 @@ pub(crate) struct Node<E> {
 }
 
 /// Memory for a node, before it is linked and after it was taken out.
-pub(crate) struct Seat<E> {
+pub(crate) struct Allocation<E> {
     node: Region<Node<E>, Global>,
     alloc: Global,
     ghost empty: { node.places ≡ None ∷ [] },
 }
 
-impl<E> Seat<E> {
+impl<E> Allocation<E> {
     /// An error means that memory was refused, or that a node has no layout.
-    pub(crate) fn new(alloc: Global) -> Result<Seat<E>, AllocError> {
-        Ok(Seat {
+    pub(crate) fn new(alloc: Global) -> Result<Allocation<E>, AllocError> {
+        Ok(Allocation {
             node: Region::single(&alloc)?,
             alloc,
         })
@@ -34,19 +34,19 @@ impl<E> Seat<E> {
     fn fill(self, elem: E) -> (Region<Node<E>, Global>, Global)
         ensures { result.0.places ≡ Some (record { next = None; elem = elem }) ∷ [] }
     {
-        let Seat { mut node, alloc } = self;
+        let Allocation { mut node, alloc } = self;
         node.write(0, Node { next: None, elem });
         (node, alloc)
     }
 
     /// Gives the memory back.
     pub(crate) fn free(self) {
-        let Seat { node, alloc } = self;
+        let Allocation { node, alloc } = self;
         node.free_single(&alloc);
     }
 }
 
-impl<E> Drop for Seat<E> {
+impl<E> Drop for Allocation<E> {
     fn drop(self) {
         self.free();
     }
@@ -74,16 +74,16 @@ impl<E> Model for Chain<E> {
 /// The first element of a chain, the memory of its node, and the chain of the others.
 pub(crate) struct Parted<E> {
     pub(crate) elem: E,
-    pub(crate) seat: Seat<E>,
+    pub(crate) allocation: Allocation<E>,
     pub(crate) rest: Option<Chain<E>>,
 }
 
 impl<E> Chain<E> {
     /// A chain of one element.
-    pub(crate) fn one(seat: Seat<E>, elem: E) -> Chain<E>
+    pub(crate) fn one(allocation: Allocation<E>, elem: E) -> Chain<E>
         ensures { result ≡ elem ∷ [] }
     {
-        let (node, alloc) = seat.fill(elem);
+        let (node, alloc) = allocation.fill(elem);
         let (nodes, place) = Nodes::one(node);
         Chain {
             head: place,
@@ -139,11 +139,11 @@ impl<E> Chain<E> {
         } = self;
         let (mut node, others) = nodes.take_first(head);
         let Node { next, elem } = node.read(0);
-        let seat = Seat { node, alloc };
+        let allocation = Allocation { node, alloc };
         match next {
             Some(head) => Parted {
                 elem,
-                seat,
+                allocation,
                 rest: Some(Chain {
                     head,
                     tail,
@@ -155,7 +155,7 @@ impl<E> Chain<E> {
                 others.end();
                 Parted {
                     elem,
-                    seat,
+                    allocation,
                     rest: None,
                 }
             }
@@ -181,7 +181,7 @@ impl<E: Drop> Drop for Chain<E> {
         while let Some(chain) = left {
             let Parted {
                 elem: _,
-                seat: _,
+                allocation: _,
                 rest,
             } = chain.split();
             left = rest;

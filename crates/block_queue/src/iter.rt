@@ -4,13 +4,13 @@ ghost use Rattle.std.specs.Map.Iter.{TakesFirst, deref};
 ghost use Rattle.block_queue.specs.Blocks.{items_of, left_in, IsChain};
 
 use crate::block::Block;
-use crate::linking::Rest;
+use crate::block_iter::BlockIter;
 use std::marker::Model;
 
 /// The items of a queue, the oldest first.
 #[derive(Drop)]
 pub struct Iter<'a, T> {
-    blocks: Rest<'a, T>,
+    blocks: BlockIter<'a, T>,
     block: Option<&'a Block<T>>,
     next: usize,
 }
@@ -27,7 +27,7 @@ impl<'a, T> Model for Iter<'a, T> {
 }
 
 impl<'a, T> Iter<'a, T> {
-    pub(crate) fn new(blocks: Rest<'a, T>) -> Iter<'a, T>
+    pub(crate) fn new(blocks: BlockIter<'a, T>) -> Iter<'a, T>
         requires { IsChain blocks }
         ensures { result ≡ items_of blocks.entry }
     {

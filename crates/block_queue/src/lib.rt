@@ -8,12 +8,17 @@
 //! The words that the contracts cite stand in `specs/Queue.antt`.
 #![tactic(auto)]
 
+mod back;
 mod block;
+mod block_iter;
 mod block_queue;
 mod chain;
+mod detached_block;
 mod fifo;
+mod front;
+mod held_blocks;
 mod iter;
-mod linking;
+mod linked_blocks;
 mod nodes;
 mod plain_queue;
 mod region;

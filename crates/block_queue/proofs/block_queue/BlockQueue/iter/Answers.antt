@@ -1,11 +1,13 @@
 use Rattle.std.specs.Map.Iter.{deref}
 use Rattle.std_collections.proofs.IterRuns.{shows_in_order}
-use Rattle.block_queue.specs.Chain.{joined}
-use Rattle.block_queue.proofs.Blocks.{blocks_fit}
+use Rattle.block_queue.proofs.Blocks.{none_chained}
 use Rattle.block_queue.proofs.block_queue.BlockQueue.iter.Goals as goal
 
-pub walk-requires-clause-fits : goal.walk-requires-clause-fits
-walk-requires-clause-fits g c = let q = c.self.inside in blocks_fit q.count (joined q.blocks) c.self.invariant.0
+pub new-requires-in-None : goal.new-requires-in-None
+new-requires-in-None g c = none_chained c.none.result c.none.ensures
 
-pub returns-clause-runs : goal.returns-clause-runs
-returns-clause-runs g c = shows_in_order deref
+pub returns-in-Some-clause-runs : goal.returns-in-Some-clause-runs
+returns-in-Some-clause-runs g c = shows_in_order deref
+
+pub returns-in-None-clause-runs : goal.returns-in-None-clause-runs
+returns-in-None-clause-runs g c = shows_in_order deref

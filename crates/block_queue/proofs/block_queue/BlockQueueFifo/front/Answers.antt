@@ -1,6 +1,8 @@
-use Rattle.block_queue.specs.Chain.{joined}
-use Rattle.block_queue.proofs.Blocks.{blocks_fit}
+use Rattle.std.proofs.Common.{◌∙◌, ap}
+use Rattle.block_queue.specs.Queue.{oldest}
+use Rattle.block_queue.specs.Blocks.{linked_of}
+use Rattle.block_queue.proofs.Ends.{no_oldest}
 use Rattle.block_queue.proofs.block_queue.BlockQueueFifo.front.Goals as goal
 
-pub first_item-requires-clause-fits : goal.first_item-requires-clause-fits
-first_item-requires-clause-fits g c = let q = c.self.inside in blocks_fit q.count (joined q.blocks) c.self.invariant.0
+pub returns-in-None : goal.returns-in-None
+returns-in-None g c = no_oldest (linked_of c.self.inside.blocks) (ap linked_of c.in-None.is) ∙ ap (λ v. oldest v.items) c.self.view_is

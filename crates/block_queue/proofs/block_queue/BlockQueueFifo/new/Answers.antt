@@ -1,10 +1,9 @@
 use Rattle.std.proofs.Common.{[], refl}
 use Rattle.block_queue.proofs.Blocks.{queue_new}
-use Rattle.block_queue.proofs.Ends.{none_have}
 use Rattle.block_queue.proofs.block_queue.BlockQueueFifo.new.Goals as goal
 
 pub invariant_of-result : goal.invariant_of-result
-invariant_of-result g c = ((queue_new [] refl).0, tt, λ some. none_have [] refl)
+invariant_of-result g c = (queue_new [] refl).0
 
 pub returns : goal.returns
 returns g c = (queue_new [] refl).1

@@ -1,0 +1,63 @@
+//! How blocks come in addition.
+ghost use Rattle.std.specs.Prelude.{◌≡◌, OnOk, OnErr};
+ghost use Rattle.block_queue.specs.Blocks.{room_of, IsChain, IsSettled, IsJoined, IsGrown};
+
+use crate::detached_block::{EmptyBlock, free_surplus};
+use crate::held_blocks::HeldBlocks;
+use crate::linked_blocks::LinkedBlocks;
+use core::mem::replace_with;
+use std::alloc::{AllocError, Global};
+
+impl<T> HeldBlocks<T> {
+    /// Links an empty block behind the others: the spare one, if there is one. An error means that memory was refused.
+    #[inline(never)]
+    pub(crate) fn add_block(&mut self, alloc: Global) -> Result<(), AllocError>
+        requires { room_of self.old.linked ≡ 0 }
+        ensures ok { OnOk result (IsGrown self.old.linked self.new.linked) }
+        ensures refused { OnErr result (IsSettled self.old.linked self.new.linked) }
+    {
+        self.detach_emptied();
+        let empty = match self.spare.take() {
+            Some(empty) => empty,
+            None => EmptyBlock::new(alloc)?,
+        };
+        replace_with(&mut self.linked, empty.cleared(), LinkedBlocks::add);
+        Ok(())
+    }
+
+    /// Links the blocks of another queue behind these. A block between them that has no item is taken out, and one of
+    /// those without items is kept. It takes no memory.
+    pub(crate) fn append(self, others: HeldBlocks<T>) -> HeldBlocks<T>
+        ensures { IsJoined self.linked others.linked result.linked }
+    {
+        let HeldBlocks { linked, spare } = self.with_emptied_detached();
+        let HeldBlocks {
+            linked: next,
+            spare: other,
+        } = others.with_emptied_detached();
+        let (front, between) = linked.without_empty_last();
+        HeldBlocks::with_spare(
+            next.prepend(front),
+            free_surplus(free_surplus(spare, between), other),
+        )
+    }
+
+    /// Blocks, and one to spare, if there is one, which is freed where the last of the others has no item either.
+    fn with_spare(linked: LinkedBlocks<T>, spare: Option<EmptyBlock<T>>) -> HeldBlocks<T>
+        requires { IsChain linked }
+        ensures { result.linked ≡ linked }
+    {
+        let empty = linked.ends_empty();
+        if empty {
+            match spare {
+                Some(spare) => spare.free(),
+                None => {}
+            }
+            return HeldBlocks {
+                linked,
+                spare: None,
+            };
+        }
+        HeldBlocks { linked, spare }
+    }
+}
