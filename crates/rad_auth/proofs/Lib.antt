@@ -2,6 +2,7 @@ pub mod Cuts
 pub mod Digests
 pub mod Exclusive
 pub mod Forwards
+pub mod LastStates
 pub mod Marks
 pub mod OneKind
 pub mod Packets

@@ -1,7 +1,9 @@
 -- The mark that a reply returns, and the response without it.
-use Rattle.std.proofs.Common.{◌≡◌, ◌≢◌, ℕ, ◌+◌, ◌-◌, ◌<◌, ◌≤◌, List, [], ◌∷◌, ◌++◌, length, take, drop, slice_range, refl, sym, ap, ◌∙◌, subst, Bool, false, Option, Some, None, is_some, MatchOption, Decides, eqb, arith, length-append, length-drop, length-take}
+use Rattle.std.proofs.Common.{◌≡◌, ◌≢◌, ℕ, ◌+◌, ◌-◌, ◌<◌, ◌≤◌, List, [], ◌∷◌, ◌++◌, length, take, drop, slice_range, refl, sym, ap, ◌∙◌, subst, Bool, true, false, Decides, eqb, arith, length-append, length-drop, length-take}
+use Rattle.std.specs.Bool.{OnTrue, OnFalse}
 use Rattle.std.specs.List.{AllByRecursion}
 use Rattle.std.proofs.lemmas.List.{append-nil, same_from_push, take_rest}
+use Rattle.std.proofs.lemmas.Bool.{false≢true}
 use Rattle.std.proofs.lemmas.Bool.Decides.{Decides-eqb}
 use Rattle.std.proofs.lemmas.Slice.Eq.{slice_eq-Decides}
 use Rattle.std.specs.Cmp.Lexicographic.{pointwise}
@@ -154,10 +156,14 @@ response-packet text place len identifier authenticator secret p h i =
     IsPacketText-accounting_response identifier authenticator (before ++ after) secret i octets most
     (AreAttributes-append before after (AreAttributes-before text place len p h) (AreAttributes-after text place len p h))
 
--- where nothing was found
-pub none_found : {X : Type 0} (o : Option X) (P : Type 0) (Q : X → Type 0) → is_some o ≡ false → MatchOption o P Q → P
-none_found None P Q n m = m
-none_found (Some x) P Q n m = cc
+-- what follows from a comparison
+pub on_true : (b : Bool) (P Q : Type 0) → Decides b P → (P → Q) → OnTrue b Q
+on_true true P Q d h = h (d.0 refl)
+on_true false P Q d h = tt
+
+pub on_false : (b : Bool) (P Q : Type 0) → Decides b P → ((P → ⊥) → Q) → OnFalse b Q
+on_false true P Q d h = tt
+on_false false P Q d h = h (λ p. false≢true (d.1 p))
 
 -- the response that is made answers the request
 pub Answers-made : (head : RequestHead) (sending reply client home response : List ℕ) (place len : ℕ)

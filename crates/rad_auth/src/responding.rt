@@ -1,14 +1,17 @@
 //! The response to a request, out of a home server's reply.
 
-ghost use Rattle.std.specs.Prelude.{◌≡◌, ◌+◌, ◌≤◌, ◌++◌, length, IfOk, IfErr, MatchOption};
-ghost use Rattle.rad_packet.specs.Attribute.{AreAttributes};
-ghost use Rattle.rad_packet.specs.Packet.{IsPacketText, code_of, identifier_of};
+ghost use Rattle.std.specs.Prelude.{◌≡◌, ◌≢◌, ◌+◌, ◌≤◌, ◌++◌, [], length, IfOk, IfErr, MatchResult};
+ghost use Rattle.std.specs.Bool.{OnTrue, OnFalse};
+ghost use Rattle.rad_packet.specs.Attribute.{AreAttributes, of_kind};
+ghost use Rattle.rad_packet.specs.Packet.{IsPacketText, code_of, identifier_of, packet_attributes};
+ghost use Rattle.rad_packet.specs.Place.{IsLastAt};
 ghost use Rattle.rad_auth.specs.Mark.{EndsWithMark};
 ghost use Rattle.rad_auth.specs.Authenticator.{accounting_response};
 ghost use Rattle.rad_auth.specs.Replied.{IsAnswer};
-ghost use Rattle.rad_auth.specs.Returning.{HasAttributeAt, IsReturnedAt, octets_without};
+ghost use Rattle.rad_auth.specs.Returning.{HasAttributeAt, IsLastOrNone, IsReturnedAt, octets_without};
 ghost use Rattle.rad_auth.specs.Refusing.{RefusesReply, ReturnsItsMark};
 ghost use Rattle.rad_auth.specs.declared.mark.Mark.{Mark};
+ghost use Rattle.rad_auth.specs.declared.responding.ReplyFault.TheVariants.{MessageAuthenticatorHere};
 
 use crate::authenticators::{check_response, digest_of_parts};
 use crate::mark::MARK_LENGTH;
@@ -64,7 +67,7 @@ impl From<AllocError> for ReplyFault {
 
 /// The response to a request after the home server's reply to its sending (RFC 2866 section 2.1, Proxy): the
 /// reply without its last Proxy-State, under the request's Identifier and the client's secret. Hashes the
-/// reply and the response once each. Writes the response where it is kept, with copies of the two other packets
+/// reply and the response once each, and looks at each of the reply's attributes once. Writes the response where it is kept, with copies of the two other packets
 /// and of the secrets behind it, in one allocation.
 ///
 /// # Errors
@@ -88,31 +91,53 @@ pub fn respond(
     if !check_response(reply, &sending.authenticator(), home) {
         return Err(ReplyFault::BadAuthenticator);
     }
-    if reply.first_of(MESSAGE_AUTHENTICATOR).is_some() {
-        return Err(ReplyFault::MessageAuthenticatorHere);
-    }
-    let Some(mark) = returned_mark(sending, reply) else {
+    let Some(last) = last_proxy_state(reply)? else {
         return Err(ReplyFault::NoProxyState);
     };
+    if !is_returned_mark(sending, reply, last) {
+        return Err(ReplyFault::NoProxyState);
+    }
     let room = room_behind(sending, reply, client, home);
-    let response = write_response(alloc, head, reply, mark, client, room)?;
+    let response = write_response(alloc, head, reply, last, client, room)?;
     Ok(Reply::keep(head, response, sending, reply, client, home)?)
 }
 
-/// Where the reply's last Proxy-State stands, if it is the sending's mark: what `forward` added is the last
-/// attribute of the sending.
-fn returned_mark(sending: &PacketRef<'_>, reply: &PacketRef<'_>) -> Option<AttributePlace>
-    requires { (mark : Mark) × EndsWithMark mark sending.now }
-    ensures { MatchOption result (¬ ReturnsItsMark sending.now reply.now) (λ at. IsReturnedAt sending.now reply.now at.place at.length) }
+/// Where the last Proxy-State stands of a reply that has no Message-Authenticator, if it has a Proxy-State. It looks
+/// at each attribute once at most.
+///
+/// # Errors
+///
+/// Where the reply has a Message-Authenticator.
+fn last_proxy_state(reply: &PacketRef<'_>) -> Result<Option<AttributePlace>, ReplyFault>
+    ensures { MatchResult result
+        (λ last. (of_kind 80 (packet_attributes reply.now) ≡ []) × IsLastOrNone reply.now last)
+        (λ fault. (fault ≡ MessageAuthenticatorHere) × (of_kind 80 (packet_attributes reply.now) ≢ [])) }
 {
-    let at = reply.last_of(PROXY_STATE)?;
+    let mut place = HEADER_LENGTH;
+    let mut last = None;
+    for attribute in reply.attributes() {
+        let length = 2 + attribute.value.len();
+        match attribute.kind {
+            MESSAGE_AUTHENTICATOR => return Err(ReplyFault::MessageAuthenticatorHere),
+            PROXY_STATE => last = Some(AttributePlace { place, length }),
+            _ => {}
+        }
+        place += length;
+    }
+    Ok(last)
+}
+
+/// Whether the reply's last Proxy-State, which stands at this place, is the sending's mark: what `forward` added is
+/// the last attribute of the sending.
+fn is_returned_mark(sending: &PacketRef<'_>, reply: &PacketRef<'_>, last: AttributePlace) -> bool
+    requires mark { (mark : Mark) × EndsWithMark mark sending.now }
+    requires last { IsLastAt reply.now 33 last.place last.length }
+    ensures returned { OnTrue result (IsReturnedAt sending.now reply.now last.place last.length) }
+    ensures other { OnFalse result (¬ ReturnsItsMark sending.now reply.now) }
+{
     let sent = sending.octets();
     let mark = &sent[sent.len() - MARK_LENGTH..];
-    if &reply.octets()[at.place..at.place + at.length] == mark {
-        Some(at)
-    } else {
-        None
-    }
+    &reply.octets()[last.place..last.place + last.length] == mark
 }
 
 /// The octets of the attributes before the one at this place, and of those after it.

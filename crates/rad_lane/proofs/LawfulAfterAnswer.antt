@@ -1,7 +1,6 @@
 -- A lane that keeps an answer is lawful still.
 use Rattle.std.proofs.Common.{◌≡◌, ℕ, zero, suc, ◌+◌, ◌-◌, ◌<◌, ◌≤◌, Bool, true, false, cond, eqb, List, [], ◌∷◌, ◌++◌, length, get_or, set, Option, Some, None, inl, inr, refl, sym, ap, ◌∙◌, subst, arith, append_assoc, length-append}
-use Rattle.std.specs.Prelude.{map as each, All, IfErr, IsErr, Result, Ok, Err, ◌==◌, slice_get, option_map}
-use Rattle.std.specs.Result.{IsErrAnd}
+use Rattle.std.specs.Prelude.{map as each, All, ◌==◌, slice_get, option_map}
 use Rattle.std.specs.Option.{option_flatten, option_or}
 use Rattle.std.specs.List.{AllByRecursion, IsDistinct, range_with_len, Contains}
 use Rattle.std.specs.Ordering.{eq_by_cmp}
@@ -32,17 +31,12 @@ use Rattle.rad_lane.specs.Setup.{IsOfItsRealms}
 use Rattle.rad_lane.specs.Entries.{sendings_in}
 use Rattle.rad_lane.specs.Book.{Book, next_number, outstanding_at}
 use Rattle.rad_lane.specs.Repeat.{answer_to}
-use Rattle.rad_lane.specs.declared.outgoing.Outgoing.{Outgoing}
-use Rattle.rad_lane.specs.declared.hearing.HearFault.{HearFault}
-use Rattle.rad_lane.specs.declared.hearing.HearFault.TheVariants.{OutOfMemory}
-use Rattle.rad_lane.specs.Hears.{KeepsAnswer, GoesOut, with_answer, fault_of}
-use Rattle.rad_lane.specs.internal.AcceptReply.{AnswerIsKept, AnswerIsRefused}
+use Rattle.rad_lane.specs.Hears.{KeepsAnswer, with_answer}
 use Rattle.rad_lane.specs.Lawful.{IsLawful, IsVerified, ProbeStands}
 use Rattle.rad_lane.specs.internal.Invariant.{IsConsistent, receipt_of, receipt_in, receipt_to}
 use Rattle.rad_packet.specs.Packet.{identifier_of}
 use Rattle.rad_auth.specs.Forwarding.{forwarded}
 use Rattle.rad_auth.specs.Refusing.{RefusesReply}
-use Rattle.rad_auth.specs.declared.responding.ReplyFault.{ReplyFault}
 use Rattle.rad_auth.specs.declared.responding.ReplyFault.TheVariants as reply
 use Rattle.rad_auth.proofs.Forwards.{forwarded-identifier}
 use Rattle.rad_lane.proofs.HeldLemmas.{stamps_in, sending_leaves}
@@ -348,28 +342,3 @@ identifier_is book slot entry l there = ap identifier_of (l.forwards_its_record 
 
 pub there_by : (o : Option Entry) (x : Entry) (entry : Outstanding) → Some x ≡ o → x ≡ sending entry → o ≡ Some (sending entry)
 there_by o x entry found is = sym found ∙ ap (λ y. Some y) is
-
--- the same of the book as it is seen
-pub refused_for_memory : (book value : Book) (same : book ≡ value) (slot : Slot) (entry : Outstanding) (there : outstanding_at book slot entry) (now : ℕ) (packet : List ℕ) (answer : AnswerKept) → KeepsAnswer book.setup.home_secret now book.served entry packet answer → AnswerIsRefused value slot packet OutOfMemory
-refused_for_memory book value same slot entry there now packet answer keeps =
-    subst (λ (b : Book). AnswerIsRefused b slot packet OutOfMemory) same
-    (record { entry = entry; there = there; reason = reply.OutOfMemory; is = refl; refuses = remembers _ _ _ entry packet answer keeps })
-
-pub refused_here : (book value : Book) (same : book ≡ value) (kept : List Kept) (ports : ℕ) (numbers : map.FinMap key_cmp ℕ) (cells : List (Option Receipt)) (outstanding : ℕ) → IsConsistent book kept ports numbers cells outstanding → (slot : Slot) (entry : Outstanding) → outstanding_at book slot entry → (packet : List ℕ) (reason : ReplyFault) (result : Result (Outgoing) HearFault) → RefusesReply entry.octets packet entry.home reason → IsErr result × IsErrAnd result (λ fault. fault ≡ fault_of reason) → IfErr result (λ fault. AnswerIsRefused value slot packet fault × (value ≡ value))
-refused_here book value same kept ports numbers cells outstanding s slot entry there packet reason (Err fault) refuses is =
-    let home = (s.lawful.holds_its_own slot (sending entry) there).1.0 in (
-      subst (λ (b : Book). AnswerIsRefused b slot packet fault) same
-          (record { entry = entry; there = there; reason = reason; is = is.1; refuses = subst (λ secret. RefusesReply entry.octets packet secret reason) home refuses }),
-      refl,
-    )
-refused_here book value same kept ports numbers cells outstanding s slot entry there packet reason (Ok outgoing) refuses is = tt
-
-pub kept_seen : (book value new : Book) (same : book ≡ value) (slot : Slot) (entry : Outstanding) (there : outstanding_at book slot entry) (now : ℕ) (packet : List ℕ) (answer : AnswerKept) (outgoing : Outgoing) → KeepsAnswer book.setup.home_secret now book.served entry packet answer → GoesOut answer outgoing → new ≡ with_answer book now slot answer → AnswerIsKept value now slot packet outgoing new
-kept_seen book value new same slot entry there now packet answer outgoing keeps out is =
-    subst (λ (b : Book). AnswerIsKept b now slot packet outgoing new) same
-    (record { entry = entry; there = there; answer = answer; keeps = keeps; out = out; book = is })
-
--- an answer by the secret of the sending is one by the lane's
-pub keeps_here : (book : Book) (kept : List Kept) (ports : ℕ) (numbers : map.FinMap key_cmp ℕ) (cells : List (Option Receipt)) (outstanding : ℕ) → IsConsistent book kept ports numbers cells outstanding → (slot : Slot) (entry : Outstanding) → outstanding_at book slot entry → (now count : ℕ) (packet : List ℕ) (answer : AnswerKept) → KeepsAnswer entry.home now count entry packet answer → KeepsAnswer book.setup.home_secret now count entry packet answer
-keeps_here book kept ports numbers cells outstanding s slot entry there now count packet answer keeps =
-    subst (λ home. KeepsAnswer home now count entry packet answer) ((s.lawful.holds_its_own slot (sending entry) there).1.0) keeps

@@ -4,7 +4,8 @@ use Rattle.std.specs.Prelude.{option_map, min, List}
 use Rattle.std.specs.FinMap as map
 use Rattle.std.proofs.lemmas.Bool.Decides.{leb_tells}
 use Rattle.rad_tables.specs.declared.slots.Slot.{Slot}
-use Rattle.rad_tables.specs.Dues.{NotAfter, IsLeastDue}
+use Rattle.rad_tables.specs.declared.slots.Due.{Due}
+use Rattle.rad_tables.specs.Dues.{NotAfter, IsFirstDue}
 use Rattle.rad_lane.specs.Outstanding.{Outstanding, is_spent}
 use Rattle.rad_lane.specs.declared.entry.Entry.{Entry}
 use Rattle.rad_lane.specs.declared.entry.Entry.TheVariants.{Sending as sending, Probe as probe}
@@ -50,32 +51,25 @@ module _ (book : Book) (none : (slot : Slot) (octets : _) → map.get book.held 
     least = λ other e there_too kind_too. at_or_after _ _ (first other (sending e) there_too kind_too);
   }
 
-  due_is : (x : Entry) (o : Option Entry) (due : ℕ) → o ≡ Some x → option_map due_in o ≡ Some due → due_in x ≡ due
-  due_is x None due there is = cc
-  due_is x (Some y) due there is = cc
+  module _ (found : Due) (f : IsFirstDue due_in number_in is_spent_in book.held which found) where
+    next_of : found.due ≤ now → FindsNextDue book now which (Now found.slot)
+    next_of past = next_by found.slot f.at.least f.at.there f.at.kind f.at.first (subst (λ n. n ≤ now) f.due_is past)
 
-  module _ (slot : Slot) (l : IsLeastDue due_in number_in is_spent_in book.held which slot) (due : ℕ) (is : option_map due_in (map.get book.held slot) ≡ Some due) where
-    next_of : due ≤ now → FindsNextDue book now which (Now slot)
-    next_of past = next_by slot l.least l.there l.kind l.first (subst (λ n. n ≤ now) (sym (due_is l.least _ due l.there is)) past)
-
-    least_of : now < due → IsLeastLater book now which due
+    least_of : now < found.due → IsLeastLater book now which found.due
     least_of ahead =
-        let same = due_is l.least _ due l.there is in
-        subst (λ n. IsLeastLater book now which n) same (least_by slot l.least l.there l.kind l.first (subst (λ n. now < n) (sym same) ahead))
+        subst (λ n. IsLeastLater book now which n) (sym f.due_is)
+        (least_by found.slot f.at.least f.at.there f.at.kind f.at.first (subst (λ n. now < n) f.due_is ahead))
 
 -- the same of the book as it is seen
-module _ (book value : Book) (same : book ≡ value) (is_up : value.watch ≡ up) (apart : ProbeStands book book.watch) (now : ℕ) (which : Bool) (slot : Slot) (l : IsLeastDue due_in number_in is_spent_in book.held which slot) (due : ℕ) (is : option_map due_in (map.get value.held slot) ≡ Some due) where
+module _ (book value : Book) (same : book ≡ value) (is_up : value.watch ≡ up) (apart : ProbeStands book book.watch) (now : ℕ) (which : Bool) (found : Due) (f : IsFirstDue due_in number_in is_spent_in book.held which found) where
   none : (at : Slot) (octets : _) → map.get book.held at ≡ Some (probe octets) → ⊥
   none = no_probe book (ap (λ (b : Book). b.watch) same ∙ is_up) apart
 
-  due_here : option_map due_in (map.get book.held slot) ≡ Some due
-  due_here = ap (λ (b : Book). option_map due_in (map.get b.held slot)) same ∙ is
+  pub next_seen : found.due ≤ now → FindsNextDue value now which (Now found.slot)
+  next_seen past = subst (λ (b : Book). FindsNextDue b now which (Now found.slot)) same (next_of book none now which found f past)
 
-  pub next_seen : due ≤ now → FindsNextDue value now which (Now slot)
-  next_seen past = subst (λ (b : Book). FindsNextDue b now which (Now slot)) same (next_of book none now which slot l due due_here past)
-
-  pub least_seen : now < due → IsLeastLater value now which due
-  least_seen ahead = subst (λ (b : Book). IsLeastLater b now which due) same (least_of book none now which slot l due due_here ahead)
+  pub least_seen : now < found.due → IsLeastLater value now which found.due
+  least_seen ahead = subst (λ (b : Book). IsLeastLater b now which found.due) same (least_of book none now which found f ahead)
 
 -- nothing of this kind is due
 pub none_due : (book : Book) (now : ℕ) (which : Bool) (next : Option ℕ) → FindsNextDue book now which (Later next) → NoneDue book now which

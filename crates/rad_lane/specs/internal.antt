@@ -1,4 +1,4 @@
-pub mod AcceptReply
+pub mod KeepAnswer
 pub mod Cutting
 pub mod NextDue
 pub mod Invariant

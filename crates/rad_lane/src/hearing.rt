@@ -1,17 +1,15 @@
 //! Hearing the home server.
 
 ghost use Rattle.std.specs.Prelude.{◌≡◌, ◌≤◌, IfOk, IfErr};
-ghost use Rattle.rad_packet.specs.Packet.{code_of, identifier_of};
-ghost use Rattle.rad_lane.specs.Outstanding.{Outstanding};
-ghost use Rattle.rad_lane.specs.Book.{outstanding_at};
-ghost use Rattle.rad_lane.specs.Hears.{Hears};
-ghost use Rattle.rad_lane.specs.internal.AcceptReply.{AnswerIsKept, AnswerIsRefused};
+ghost use Rattle.rad_lane.specs.declared.hearing.HearFault.TheVariants.{OutOfMemory};
+ghost use Rattle.rad_lane.specs.Hears.{Hears, with_answer};
+ghost use Rattle.rad_lane.specs.internal.KeepAnswer.{AnswersSending};
 
 use crate::answered::Receipt;
-use crate::{Entry, Lane, Outgoing, Record};
+use crate::{Answered, Entry, Lane, Outgoing, Record};
 use block_queue::Fifo;
 use rad_auth::{ACCOUNTING_RESPONSE, ReplyFault, check_response};
-use rad_packet::{PacketRef, ReadFault, read};
+use rad_packet::{ReadFault, read};
 use rad_tables::{Moment, Slot};
 use std::alloc::Global;
 use std::fmt;
@@ -96,7 +94,7 @@ impl<Q: Fifo<Record>> Lane<Q> {
     /// kept as the answer of its request, and the response goes out; the right answer to the probe is told.
     /// Either takes a lane up that is down.
     ///
-    /// It finds what was sent by the pair, and hashes the reply once and the response once. Going up changes
+    /// It looks up once what was sent under the pair, and hashes the reply once and the response once. Going up changes
     /// each outstanding sending. Where the list of answers grows, no more than a few of them are moved.
     ///
     /// # Errors
@@ -129,36 +127,27 @@ impl<Q: Fifo<Record>> Lane<Q> {
                 self.go_up_if_down(now);
                 Ok(Heard::ProbeAnswered)
             }
-            Some(Entry::Sending(_)) => match self.accept_reply(alloc, slot, &packet, now) {
-                Ok(outgoing) => {
-                    self.go_up_if_down(now);
-                    Ok(Heard::Answer(outgoing))
-                }
-                Err(fault) => Err(fault),
-            },
+            Some(Entry::Sending(sending)) => {
+                let (answer, outgoing) = sending.answer(alloc, &packet, now, self.served)?;
+                self.keep_answer(slot, answer, now)?;
+                self.go_up_if_down(now);
+                Ok(Heard::Answer(outgoing))
+            }
         }
     }
 
-    /// Keeps a reply as the answer to the request whose sending is outstanding under its pair, and tells the
-    /// response. All that needs memory is made before anything changes.
-    fn accept_reply(
-        &mut self,
-        alloc: Global,
-        slot: Slot,
-        packet: &PacketRef<'_>,
-        now: Moment,
-    ) -> Result<Outgoing, HearFault>
+    /// Keeps the answer to the request whose sending is outstanding under a pair. What needs memory is made before
+    /// anything changes: where the list of answers grows, no more than a few of them are moved.
+    ///
+    /// # Errors
+    ///
+    /// Where memory is refused. The lane stays, and the answer is dropped.
+    fn keep_answer(&mut self, slot: Slot, answer: Answered, now: Moment) -> Result<(), HearFault>
         requires later { self.old.last ≤ now }
-        requires there { (entry : Outstanding) × outstanding_at self.old slot entry }
-        requires code { code_of packet.now ≡ 5 }
-        requires identifier { identifier_of packet.now ≡ slot.identifier }
-        ensures ok { IfOk result (λ outgoing. AnswerIsKept self.old now slot packet.now outgoing self.new) }
-        ensures err { IfErr result (λ fault. AnswerIsRefused self.old slot packet.now fault × (self.new ≡ self.old)) }
+        requires answers { AnswersSending self.old now slot answer }
+        ensures ok { IfOk result (λ _. self.new ≡ with_answer self.old now slot answer) }
+        ensures err { IfErr result (λ fault. (fault ≡ OutOfMemory) × (self.new ≡ self.old)) }
     {
-        let (answer, outgoing) = match self.slots.get(slot) {
-            Some(Entry::Sending(sending)) => sending.answer(alloc, packet, now, self.served)?,
-            _ => unreachable!(),
-        };
         let Ok(()) = self.answered.reserve_one() else {
             return Err(HearFault::OutOfMemory);
         };
@@ -175,6 +164,6 @@ impl<Q: Fifo<Record>> Lane<Q> {
         self.served += 1;
         self.outstanding -= 1;
         self.last = now;
-        Ok(outgoing)
+        Ok(())
     }
 }

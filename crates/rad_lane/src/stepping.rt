@@ -1,6 +1,6 @@
 //! What a lane does by itself, one thing at a time.
 
-ghost use Rattle.std.specs.Prelude.{◌≡◌, ◌≢◌, ◌≤◌, Some, None, IsSome, option_map, false, true};
+ghost use Rattle.std.specs.Prelude.{◌≡◌, ◌≢◌, ◌≤◌, Some, None, option_map, false, true};
 ghost use Rattle.std.specs.Bool.{OnTrue, OnFalse};
 ghost use Rattle.std.specs.FinMap as map;
 ghost use Rattle.rad_tables.specs.Pairs.{IsFirstFree, IsInRange};
@@ -9,13 +9,12 @@ ghost use Rattle.rad_lane.specs.Outstanding.{Outstanding};
 ghost use Rattle.rad_lane.specs.Datagrams.{Datagrams};
 ghost use Rattle.rad_lane.specs.Dues.{IsNextDue, NoneDue, as_moment};
 ghost use Rattle.rad_lane.specs.Steps.{AllotsAnother, Steps, StepsWhileUp, NothingToSend};
-ghost use Rattle.rad_lane.specs.Entries.{due_in};
 ghost use Rattle.rad_lane.specs.internal.NextDue.{FindsNextDue, MaySend, earlier as the_earlier};
 
 use crate::{Entry, Lane, Record, Sending, Setup, Watch};
 use block_queue::Fifo;
 use rad_packet::Datagram;
-use rad_tables::{Moment, Slot, Slots, Timed};
+use rad_tables::{Moment, Slot, Slots};
 
 /// What a step did. Of what was sent, the octets are in the datagram.
 #[derive(Clone, Copy, Debug, PartialEq, Eq)]
@@ -120,14 +119,13 @@ impl<Q: Fifo<Record>> Lane<Q> {
         requires { self.now.watch ≡ up }
         ensures { FindsNextDue self.now now spent result }
     {
-        match self.slots.least_due(spent) {
+        match self.slots.first_due(spent) {
             None => NextDue::Later(None),
-            Some(slot) => {
-                let due = self.due_at(slot);
-                if due <= now.get() {
-                    NextDue::Now(slot)
+            Some(first) => {
+                if first.due <= now.get() {
+                    NextDue::Now(first.slot)
                 } else {
-                    NextDue::Later(Some(due))
+                    NextDue::Later(Some(first.due))
                 }
             }
         }
@@ -168,14 +166,6 @@ impl<Q: Fifo<Record>> Lane<Q> {
         self.outstanding += 1;
         self.last = now;
         Action::Sent(number, slot)
-    }
-
-    /// When the sending under a pair is due.
-    fn due_at(&self, slot: Slot) -> u64
-        requires { IsSome (map.get self.now.held slot) }
-        ensures { option_map due_in (map.get self.now.held slot) ≡ Some result }
-    {
-        self.slots.get(slot).unwrap().due()
     }
 
     /// Whether a request waits to be sent for the first time, and the window has room for it.

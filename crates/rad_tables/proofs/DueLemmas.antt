@@ -4,7 +4,7 @@ use Rattle.std.specs.Option.{MatchOption, unwrap_or}
 use Rattle.std.proofs.lemmas.Bool.{cases_lt}
 use Rattle.rad_tables.specs.declared.slots.Slot.{Slot}
 use Rattle.rad_tables.specs.declared.cells.Waiting.{Waiting}
-use Rattle.rad_tables.specs.Dues.{NotAfter, IsLeastDue, NoneIs}
+use Rattle.rad_tables.specs.Dues.{NotAfter, IsLeastDue, IsFirstDue, NoneIs}
 use Rattle.rad_tables.specs.internal.Least.{NoneAmong, IsLeastAmong, due_and_number, IsEarlier}
 use Rattle.rad_tables.specs.internal.Kept.{place_of, slot_at, at, entries_of, IsIndex}
 use Rattle.rad_tables.proofs.ContentsLemmas.{get_place, stored}
@@ -30,7 +30,7 @@ module _ {T : Type 0} (due number : T → ℕ) (spent : T → Bool) (contents : 
       let place = among slot entry (stored contents slot entry found) in
       none place.0 entry place.1 place.2 kind
 
-  pub least_is : (waiting : Waiting) → IsLeastAmong due number spent contents places which (length places) waiting → IsLeastDue due number spent (entries_of contents) which (slot_at waiting.place)
+  least_is : (waiting : Waiting) → IsLeastAmong due number spent contents places which (length places) waiting → IsLeastDue due number spent (entries_of contents) which (slot_at waiting.place)
   least_is waiting among_places =
       record {
         least = among_places.least;
@@ -42,6 +42,10 @@ module _ {T : Type 0} (due number : T → ℕ) (spent : T → Bool) (contents : 
             (subst (λ (n : ℕ). NotAfter (waiting.due, n) (due entry, number entry)) among_places.number_is
             (among_places.first place.0 entry place.1 place.2 kind));
       }
+
+  pub first_is : (waiting : Waiting) → IsLeastAmong due number spent contents places which (length places) waiting → IsFirstDue due number spent (entries_of contents) which (record { slot = slot_at waiting.place; due = waiting.due })
+  unfolding least_is
+  first_is waiting among_places = record { at = least_is waiting among_places; due_is = among_places.due_is }
 
 module _ {T : Type 0} (due number : T → ℕ) (spent : T → Bool) (contents : List (Option T)) (places : List ℕ) (which : Bool) where
   -- the first to be due of the first places, if there is an entry of the kind

@@ -2,6 +2,7 @@
 use Rattle.std.specs.Prelude.{◌≡◌, ℕ, ◌<◌, ◌≤◌, ◌⊎◌, Bool, Some}
 use Rattle.std.specs.FinMap as map
 use Rattle.rad_tables.specs.declared.slots.Slot.{Slot}
+use Rattle.rad_tables.specs.declared.slots.Due.{Due}
 use Rattle.rad_tables.specs.Pairs.{slot_cmp}
 
 -- one due and number stands before another, or they are the same: by due, and at one due by number
@@ -16,6 +17,11 @@ module _ {T : Type 0} (due number : T → ℕ) (spent : T → Bool) where
     pub there : map.get entries slot ≡ Some least
     pub kind : spent least ≡ which
     pub first : (other : Slot) (entry : T) → map.get entries other ≡ Some entry → spent entry ≡ which → NotAfter (due least, number least) (due entry, number entry)
+
+  -- the same, and this is when that entry is due
+  pub record IsFirstDue (entries : map.FinMap slot_cmp T) (which : Bool) (found : Due) : Type 0 where
+    pub at : IsLeastDue entries which found.slot
+    pub due_is : found.due ≡ due at.least
 
 -- there is no entry that is spent, or none that is not
 abbrev pub NoneIs : {T : Type 0} → (T → Bool) → map.FinMap slot_cmp T → Bool → Type 0

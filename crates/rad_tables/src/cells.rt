@@ -128,7 +128,7 @@ fn first_free<T>(cells: &[Cell<T>], from: usize, to: usize) -> Option<usize>
 #[derive(Clone, Copy)]
 pub(crate) struct Waiting {
     /// When the entry is due, in milliseconds.
-    due: u64,
+    pub(crate) due: u64,
     /// The entry's number.
     number: u64,
     /// The entry's index among the cells.

@@ -23,5 +23,5 @@ mod timed;
 pub use changing::Change;
 pub use duplicates::{Duplicates, Key};
 pub use moment::{Moment, wait_after};
-pub use slots::{Slot, Slots};
+pub use slots::{Due, Slot, Slots};
 pub use timed::Timed;

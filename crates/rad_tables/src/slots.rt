@@ -5,7 +5,7 @@ ghost use Rattle.std.specs.Option.{option_copied, option_copied_mut, option_map}
 ghost use Rattle.std.specs.Borrow.{sem};
 ghost use Rattle.std.specs.FinMap as map;
 ghost use Rattle.rad_tables.specs.Pairs.{AllInUse, IsFirstFree, IsInRange};
-ghost use Rattle.rad_tables.specs.Dues.{IsLeastDue, NoneIs};
+ghost use Rattle.rad_tables.specs.Dues.{IsFirstDue, IsLeastDue, NoneIs};
 ghost use Rattle.rad_tables.specs.internal.Kept.{place_of as the_place, slot_at as the_slot, start_of as the_start};
 
 use crate::cells::{Cell, change_each, first_free_behind, free_cells, least_of};
@@ -21,6 +21,15 @@ pub struct Slot {
     pub port: u16,
     /// The packet's Identifier.
     pub identifier: u8,
+}
+
+/// What is due, and when.
+#[derive(Clone, Copy, Debug, PartialEq, Eq)]
+pub struct Due {
+    /// The pair at which the entry stands.
+    pub slot: Slot,
+    /// When the entry is due, in milliseconds.
+    pub due: u64,
 }
 
 /// The entries outstanding, each at a pair of its own.
@@ -204,8 +213,25 @@ impl<T: Drop> Slots<T> {
             (NoneIs T.spent_of self.now.entries spent)
             (IsLeastDue T.due_of T.number_of T.spent_of self.now.entries spent) }
     {
+        let first = self.first_due(spent)?;
+        Some(first.slot)
+    }
+
+    /// The slot that [`Slots::least_due`] tells, and when its entry is due.
+    ///
+    /// It looks at each entry in use once, and reads no more of it than that does.
+    pub fn first_due(&self, spent: bool) -> Option<Due>
+    where
+        T: Timed,
+        ensures { MatchOption result
+            (NoneIs T.spent_of self.now.entries spent)
+            (IsFirstDue T.due_of T.number_of T.spent_of self.now.entries spent) }
+    {
         let waiting = least_of(&self.cells, &self.places, spent)?;
-        Some(slot_at(waiting.place))
+        Some(Due {
+            slot: slot_at(waiting.place),
+            due: waiting.due,
+        })
     }
 }
 

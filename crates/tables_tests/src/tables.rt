@@ -173,6 +173,13 @@ fn are_due(rt: &impl Abort, slots: &Slots<Note>, unspent: Option<Slot>, spent: O
     holds(rt, slots.least_due(true) == spent);
 }
 
+/// Checks when what is due next is due.
+fn is_due_at(rt: &impl Abort, slots: &Slots<Note>, spent: bool, due: u64) {
+    let first = slots.first_due(spent);
+    holds(rt, first.is_some_and(|first| first.due == due));
+    holds(rt, first.map(|first| first.slot) == slots.least_due(spent));
+}
+
 /// Has the entry of a pair spent.
 fn spend(slots: &mut Slots<Note>, slot: Slot) {
     if let Some(entry) = slots.get_mut(slot) {
@@ -190,8 +197,10 @@ fn are_due_by_number(rt: &impl Abort, slots: &mut Slots<Note>)
     are_due(rt, slots, Some(pair(0, 1)), None);
     spend(slots, pair(0, 1));
     are_due(rt, slots, Some(pair(0, 0)), Some(pair(0, 1)));
+    is_due_at(rt, slots, false, 5);
     slots.change_each(&Renewal { now: 8 });
     are_due(rt, slots, Some(pair(0, 2)), None);
+    is_due_at(rt, slots, false, 8);
     takes(rt, slots, pair(0, 1), Some(unspent(8, 3)));
     holds(rt, slots.used() == 2);
 }

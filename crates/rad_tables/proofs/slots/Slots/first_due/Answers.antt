@@ -1,13 +1,13 @@
 use Rattle.std.proofs.Common.{List, length, Option, sym, subst}
 use Rattle.std.specs.Option.{MatchOption}
-use Rattle.rad_tables.specs.declared.slots.Slot.{Slot}
+use Rattle.rad_tables.specs.declared.slots.Due.{Due}
 use Rattle.rad_tables.specs.declared.cells.Cell.{Cell}
 use Rattle.rad_tables.specs.Pairs.{Table}
-use Rattle.rad_tables.specs.Dues.{NoneIs, IsLeastDue}
+use Rattle.rad_tables.specs.Dues.{NoneIs, IsFirstDue}
 use Rattle.rad_tables.specs.internal.Least.{NoneAmong, IsLeastAmong}
 use Rattle.rad_tables.specs.internal.Kept.{slot_at, contents_of}
-use Rattle.rad_tables.proofs.DueLemmas.{none_is, least_is}
-use Rattle.rad_tables.proofs.slots.Slots.least_due.Goals as goal
+use Rattle.rad_tables.proofs.DueLemmas.{none_is, first_is}
+use Rattle.rad_tables.proofs.slots.Slots.first_due.Goals as goal
 
 pub returns-in_err-waiting : goal.returns-in_err-waiting
 returns-in_err-waiting g c =
@@ -18,7 +18,7 @@ returns-in_err-waiting g c =
     let none =
     subst (λ (l : List (Cell g.row.T.Denot)). NoneAmong t.spent_of (contents_of l) places spent (length places)) c.deref.ensures.value
     (subst (λ l. NoneAmong t.spent_of (contents_of c.deref.result.now) l spent (length l)) c.deref-2.ensures.value c.in_err-waiting.ensures) in
-    subst (λ (o : Option Slot). MatchOption o (NoneIs t.spent_of c.args.self.now.entries spent) (IsLeastDue t.due_of t.number_of t.spent_of c.args.self.now.entries spent)) (sym c.from_residual.ensures)
+    subst (λ (o : Option Due). MatchOption o (NoneIs t.spent_of c.args.self.now.entries spent) (IsFirstDue t.due_of t.number_of t.spent_of c.args.self.now.entries spent)) (sym c.from_residual.ensures)
     (subst (λ (s : Table g.row.T.Denot). NoneIs t.spent_of s.entries spent) c.self.view_is
     (none_is t.due_of t.number_of t.spent_of (contents_of cells) places _ c.self.invariant.index spent none))
 
@@ -32,6 +32,6 @@ returns g c =
     let least =
     subst (λ (l : List (Cell g.row.T.Denot)). IsLeastAmong t.due_of t.number_of t.spent_of (contents_of l) places spent (length places) waiting) c.deref.ensures.value
     (subst (λ l. IsLeastAmong t.due_of t.number_of t.spent_of (contents_of c.deref.result.now) l spent (length l) waiting) c.deref-2.ensures.value c.in_ok-waiting.ensures) in
-    subst (λ slot. IsLeastDue t.due_of t.number_of t.spent_of c.args.self.now.entries spent slot) (sym c.slot_at.ensures)
-    (subst (λ (s : Table g.row.T.Denot). IsLeastDue t.due_of t.number_of t.spent_of s.entries spent (slot_at waiting.place)) c.self.view_is
-    (least_is t.due_of t.number_of t.spent_of (contents_of cells) places _ c.self.invariant.index spent waiting least))
+    subst (λ slot. IsFirstDue t.due_of t.number_of t.spent_of c.args.self.now.entries spent (record { slot = slot; due = waiting.due })) (sym c.slot_at.ensures)
+    (subst (λ (s : Table g.row.T.Denot). IsFirstDue t.due_of t.number_of t.spent_of s.entries spent (record { slot = slot_at waiting.place; due = waiting.due })) c.self.view_is
+    (first_is t.due_of t.number_of t.spent_of (contents_of cells) places _ c.self.invariant.index spent waiting least))
