@@ -67,7 +67,7 @@ impl<T> LinkedBlocks<T> {
         }
     }
 
-    /// Takes the first block out, where others follow.
+    /// Takes the first block out, where others follow. Its form is that which `replace_with` calls.
     pub(crate) fn split_first(self, _nothing: ()) -> (LinkedBlocks<T>, DetachedBlock<T>)
         requires { 2 ≤ length self }
         ensures { self ≡ result.1.block ∷ result.0 }
@@ -95,7 +95,7 @@ impl<T> LinkedBlocks<T> {
         }
     }
 
-    /// Links a block behind these.
+    /// Links a block behind these. Its form is that which `replace_with` calls.
     pub(crate) fn add(self, block: DetachedBlock<T>) -> (LinkedBlocks<T>, ())
         ensures { result.0 ≡ self ++ block.block ∷ [] }
     {

@@ -6,8 +6,8 @@ use crate::front::Front;
 use crate::linked_blocks::LinkedBlocks;
 
 impl<T> LinkedBlocks<T> {
-    /// Joins the first block's only item with the next one, where the last block has none: so the pop of it
-    /// leaves no second block without an item.
+    /// Puts the first block's only item and the next one into one block, where the last block has no item: so the pop
+    /// of it leaves no second block without an item. Its form is that which `replace_with` calls.
     pub(crate) fn merge_first_block(self, _nothing: ()) -> (LinkedBlocks<T>, ())
         requires chained { IsChain self }
         requires one { first_count self ≡ 1 }
