@@ -37,7 +37,7 @@ module _ {T : Type 0} where
   pub front_pushed : (front items : List T) (x : T) → front ≡ take (length front) items → front ≡ take (length front) (items ++ x ∷ [])
   front_pushed front items x e = e ∙ sym (take-append-le (length front) items (x ∷ []) (front_short front items e))
 
-  -- the first items are let go of in both
+  -- the first items are dropped in both
   pub front_dropped : (n : ℕ) (front items : List T) → front ≡ take (length front) items → drop n front ≡ take (length (drop n front)) (drop n items)
   front_dropped zero front items e = e
   front_dropped (suc n) [] items e = refl
@@ -62,7 +62,7 @@ module _ {T : Type 0} where
   item_at (item ∷ items) zero lt = (item, refl)
   item_at (item ∷ items) (suc i) lt = item_at items i (omega arith)
 
-  -- one item more is let go of
+  -- one item more is dropped
   pub drop_popped : (n next : ℕ) (items rest : List T) (x : T) → next ≡ suc n → drop n items ≡ x ∷ rest → rest ≡ drop next items
   drop_popped n zero items rest x e is = absurd (omega (arith, e))
   drop_popped zero (suc next) items rest x e is =

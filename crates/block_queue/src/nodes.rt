@@ -97,7 +97,7 @@ impl<T, A: Allocator> Nodes<T, A> {
         unsafe { &*(place.at as *mut T) }
     }
 
-    /// Lets go of the nodes where there are none.
+    /// Ends a list of nodes that has none.
     pub(crate) fn end(self)
         requires { self.cells ≡ [] }
     {

@@ -97,8 +97,8 @@ pub(crate) fn swap_in<T>(row: &mut Option<Row<T>>, i: usize, j: usize)
     }
 }
 
-/// Lets go of so many of the first items, or of all.
-pub(crate) fn let_go<T: Drop>(row: &mut Option<Row<T>>, count: usize)
+/// Drops so many of the first items, or all of them.
+pub(crate) fn drop_first<T: Drop>(row: &mut Option<Row<T>>, count: usize)
     ensures { items_in row.new ≡ drop_list count (items_in row.old) }
 {
     if let Some(row) = row {

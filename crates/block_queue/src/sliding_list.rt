@@ -3,20 +3,20 @@ ghost use Rattle.std.specs.Prelude.{◌≡◌, ◌<◌, ◌≤◌, [], ◌∷◌
 
 use crate::row::Row;
 use crate::rows::{
-    copy_to, follow_set, follow_swap, has_all, let_go, places_for, push_to, room_of, set_in,
+    copy_to, drop_first, follow_set, follow_swap, has_all, places_for, push_to, room_of, set_in,
     slice_of, swap_in, take_next,
 };
 use crate::sharing::Share;
 use std::alloc::{AllocError, Global};
 use std::marker::Model;
 
-/// How many items a call copies into the next row at most, and how many of the row before it lets go of.
+/// How many items a call copies into the next row at most, and how many of the row before it drops.
 const STEP: usize = 16;
 
 /// A list of items whose room is made before it is needed. They stand in one row, whose front is given back item by item.
 ///
 /// Before the row is full a larger one is made, and each call that makes room copies a few items into it. Once it has all, it
-/// takes the place of the first one, whose items are let go of in the same manner. So no call moves more than a few items,
+/// takes the place of the first one, whose items are dropped in the same manner. So no call moves more than a few items,
 /// unless memory was refused again and again until the row was full.
 #[derive(Drop)]
 pub struct SlidingList<T> {
@@ -24,7 +24,7 @@ pub struct SlidingList<T> {
     row: Option<Row<T>>,
     /// The row that takes its place, with a front of the items.
     next: Option<Row<T>>,
-    /// The row whose place was taken, until its items are let go of.
+    /// The row whose place was taken, until its items are dropped.
     spent: Option<Row<T>>,
     alloc: Global,
 }
@@ -96,11 +96,11 @@ impl<T: Share + Drop> SlidingList<T> {
         self.move_all()
     }
 
-    /// Lets go of some items of the row before, and of its memory once it has none.
+    /// Drops some items of the row before, and releases its memory once it has none.
     fn spend(&mut self, count: usize)
         ensures { self.new ≡ self.old }
     {
-        let_go(&mut self.spent, count);
+        drop_first(&mut self.spent, count);
         if slice_of(&self.spent).is_empty() {
             self.spent = None;
         }
@@ -182,13 +182,13 @@ impl<T: Share + Drop> SlidingList<T> {
         swap_in(&mut self.row, i, j);
     }
 
-    /// Lets go of so many of the first items.
+    /// Drops so many of the first items.
     pub fn drop_front(&mut self, count: usize)
         requires { count ≤ length self.old.items }
         ensures { self.new.items ≡ drop_list count self.old.items }
     {
         self.spend(STEP.max(count));
-        let_go(&mut self.next, count);
-        let_go(&mut self.row, count);
+        drop_first(&mut self.next, count);
+        drop_first(&mut self.row, count);
     }
 }

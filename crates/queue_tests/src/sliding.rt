@@ -1,4 +1,4 @@
-//! What no contract says of lists that slide: that they hold what they should through every row, that an item is let go of as
+//! What no contract says of lists that slide: that they hold what they should through every row, that an item is dropped as
 //! its turn comes, and that no call copies more than a few.
 
 use block_queue::{Share, SlidingList};
@@ -10,7 +10,7 @@ use std::test::Fail;
 /// The most items that a call may copy.
 const FEW: u64 = 16;
 
-/// What was made of all items of a list, and let go of.
+/// How many items of a list were made, and how many were dropped.
 #[derive(Clone, Copy)]
 struct Counts<'a> {
     made: &'a AtomicU64,
@@ -94,7 +94,7 @@ impl<'a> Slid<'a> {
         Ok(())
     }
 
-    /// Lets go of so many of the first ones, or of all.
+    /// Drops so many of the first ones, or all of them.
     fn cut(&mut self, count: usize) {
         let count = count.min(self.list.as_slice().len());
         self.list.drop_front(count);

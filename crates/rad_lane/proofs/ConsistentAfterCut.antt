@@ -13,7 +13,7 @@ use Rattle.rad_tables.specs.declared.duplicates.Key.{Key}
 use Rattle.rad_tables.specs.Keys.{key_cmp}
 use Rattle.rad_tables.specs.Pairs.{Table}
 use Rattle.rad_lane.specs.declared.stamp.Stamp.{Stamp}
-use Rattle.rad_lane.specs.declared.answered.Receipt.{Receipt}
+use Rattle.rad_lane.specs.declared.answered.AnswerIndex.{AnswerIndex}
 use Rattle.rad_lane.specs.declared.entry.Entry.{Entry}
 use Rattle.rad_lane.specs.declared.watch.Watch.{Watch}
 use Rattle.rad_lane.specs.declared.turning.Volume.{Volume}
@@ -22,7 +22,7 @@ use Rattle.rad_lane.specs.Setup.{LaneSetup}
 use Rattle.rad_lane.specs.Outstanding.{AnswerKept}
 use Rattle.rad_lane.specs.Book.{Book}
 use Rattle.rad_lane.specs.Repeat.{of_key, last_of, answer_to}
-use Rattle.rad_lane.specs.internal.Invariant.{IsConsistent, book_of, last_number, receipt_in, receipt_of, receipt_to}
+use Rattle.rad_lane.specs.internal.Invariant.{IsConsistent, book_of, last_number, answer_index_in, answer_index_of, answer_index_to}
 use Rattle.rad_lane.specs.Volumes.{IsOver, BeginsUnended, IsCut, answers_below, answers_since, volume_of, without_cut}
 use Rattle.rad_lane.specs.internal.Cutting.{IsOverBy, unless_of, HasUnderItsKey}
 use Rattle.rad_lane.proofs.ListLemmas.{All-right}
@@ -70,7 +70,7 @@ module _ (cut : List Stamp) where
   all_cut_off : All IsCutOff cut
   all_cut_off k d within = list_any_at (λ s. s.number == (get_or cut k d).number) cut k d within (eq-eqb (get_or cut k d).number (get_or cut k d).number refl)
 
-module _ (book : Book) (kept_records : List Kept) (ports : ℕ) (numbers : map.FinMap key_cmp ℕ) (cells : List (Option Receipt)) (count : ℕ) (s : IsConsistent book kept_records ports numbers cells count) where
+module _ (book : Book) (kept_records : List Kept) (ports : ℕ) (numbers : map.FinMap key_cmp ℕ) (cells : List (Option AnswerIndex)) (count : ℕ) (s : IsConsistent book kept_records ports numbers cells count) where
   module _ (now : ℕ) (later : book.last ≤ now) (cut kept : List Stamp) (is : IsCut book now cut kept) where
     abbrev after : Book
     after = without_cut book now cut kept
@@ -123,12 +123,12 @@ module _ (book : Book) (kept_records : List Kept) (ports : ℕ) (numbers : map.F
           in
           omega (arith, found.1, found.2)
 
-      receipts_still : (number : ℕ) → book.opening + length cut ≤ number → receipt_in (drop (length cut) cells) (book.opening + length cut) number ≡ receipt_to number after.answered
-      receipts_still number since =
+      answer_indices_still : (number : ℕ) → book.opening + length cut ≤ number → answer_index_in (drop (length cut) cells) (book.opening + length cut) number ≡ answer_index_to number after.answered
+      answer_indices_still number since =
           let place : length cut + (number - (book.opening + length cut)) ≡ number - book.opening = omega arith in
           ap (λ o. option_flatten o) (get_drop (length cut) cells (number - (book.opening + length cut)) ∙ ap (λ k. slice_get cells k) place)
-          ∙ s.receipts number (omega arith)
-          ∙ ap (λ o. option_map receipt_of o) (sym (found_still book s.lawful now later cut kept is number since))
+          ∙ s.indices number (omega arith)
+          ∙ ap (λ o. option_map answer_index_of o) (sym (found_still book s.lawful now later cut kept is number since))
 
       stands_without : IsConsistent after kept_records ports forgotten (drop (length cut) cells) count
       stands_without = record {
@@ -139,20 +139,20 @@ module _ (book : Book) (kept_records : List Kept) (ports : ℕ) (numbers : map.F
         last_numbers = last_numbers_still;
         since_opening = since_still;
         cells_are = let fewer = length-drop (length cut) cells in let all = accepted_count book s.lawful now later cut kept is in let before = s.cells_are in omega (arith, fewer, all, before);
-        receipts = receipts_still;
+        indices = answer_indices_still;
         numbers_fit = let next = next_same book s.lawful now later cut kept is in let before = s.numbers_fit in omega (arith, next, before);
       }
 
-  -- the receipts tell what is over
-  receipt_at : (k : ℕ) (d : Stamp) → k < length book.accepted → get_or cells k None ≡ receipt_to (get_or book.accepted k d).number book.answered
-  receipt_at k d within =
+  -- the answer indices tell what is over
+  answer_index_at : (k : ℕ) (d : Stamp) → k < length book.accepted → get_or cells k None ≡ answer_index_to (get_or book.accepted k d).number book.answered
+  answer_index_at k d within =
       let number = numbered_at book.accepted book.opening s.lawful.numbered k d within in
       let place : (get_or book.accepted k d).number - book.opening ≡ k = omega (arith, number) in
       let inside : k < length cells = let same = s.cells_are in omega (arith, same, within) in
       ap (λ o. option_flatten o) (sym (get_is cells k None inside) ∙ ap (λ i. slice_get cells i) (sym place))
-      ∙ s.receipts (get_or book.accepted k d).number (omega (arith, number))
+      ∙ s.indices (get_or book.accepted k d).number (omega (arith, number))
 
-  over_by : (now : ℕ) (answer : Option AnswerKept) → IsOverBy book.setup.limits.span now (option_map receipt_of answer) → (a : AnswerKept) × (answer ≡ Some a) × (a.moment + book.setup.limits.span ≤ now)
+  over_by : (now : ℕ) (answer : Option AnswerKept) → IsOverBy book.setup.limits.span now (option_map answer_index_of answer) → (a : AnswerKept) × (answer ≡ Some a) × (a.moment + book.setup.limits.span ≤ now)
   over_by now None h = absurd h
   over_by now (Some a) h = (a, refl, h)
 
@@ -160,7 +160,7 @@ module _ (book : Book) (kept_records : List Kept) (ports : ℕ) (numbers : map.F
   unended_by now [] h = tt
   unended_by now (next ∷ later) h = h next (omega arith)
 
-  module _ (now n : ℕ) (within : n ≤ length cells) (over : All (IsOverBy book.setup.limits.span now) (take n cells)) (longest : (d : Option Receipt) → n < length cells → ¬ IsOverBy book.setup.limits.span now (get_or cells n d)) where
+  module _ (now n : ℕ) (within : n ≤ length cells) (over : All (IsOverBy book.setup.limits.span now) (take n cells)) (longest : (d : Option AnswerIndex) → n < length cells → ¬ IsOverBy book.setup.limits.span now (get_or cells n d)) where
     over_here : (k : ℕ) (d : Stamp) → k < length (take n book.accepted) → IsOver book now (get_or (take n book.accepted) k d)
     over_here k d inside =
         let same = s.cells_are in
@@ -171,13 +171,13 @@ module _ (book : Book) (kept_records : List Kept) (ports : ℕ) (numbers : map.F
         subst (IsOverBy book.setup.limits.span now) (get_or-take n cells k None below) (over k None (omega (arith, counted_cells, below))) in
         subst (λ (t : Stamp). IsOver book now t) (sym (get_or-take n book.accepted k d below))
         (over_by now (answer_to (get_or book.accepted k d).number book.answered)
-        (subst (IsOverBy book.setup.limits.span now) (receipt_at k d (omega (arith, same, within, below))) told))
+        (subst (IsOverBy book.setup.limits.span now) (answer_index_at k d (omega (arith, same, within, below))) told))
 
     not_over_here : (d : Stamp) → n < length book.accepted → ¬ IsOver book now (get_or book.accepted n d)
     not_over_here d inside is =
         let same = s.cells_are in
         longest None (omega (arith, same, inside))
-        (subst (IsOverBy book.setup.limits.span now) (sym (receipt_at n d inside ∙ ap (λ o. option_map receipt_of o) is.1)) is.2)
+        (subst (IsOverBy book.setup.limits.span now) (sym (answer_index_at n d inside ∙ ap (λ o. option_map answer_index_of o) is.1)) is.2)
 
     pub cut_found : IsCut book now (take n book.accepted) (drop n book.accepted)
     cut_found = record {
@@ -191,8 +191,8 @@ module _ (book : Book) (kept_records : List Kept) (ports : ℕ) (numbers : map.F
     }
 
 -- the same of the book as it is seen
-module _ (book value : Book) (same : book ≡ value) (kept_records : List Kept) (ports : ℕ) (numbers : map.FinMap key_cmp ℕ) (cells : List (Option Receipt)) (count : ℕ) (s : IsConsistent book kept_records ports numbers cells count) where
-  module _ (seen : List (Option Receipt)) (are : seen ≡ cells) (span : ℕ) (is_span : span ≡ book.setup.limits.span) (now n : ℕ) (within : n ≤ length seen) (over : All (IsOverBy span now) (take n seen)) (longest : (d : Option Receipt) → n < length seen → ¬ IsOverBy span now (get_or seen n d)) where
+module _ (book value : Book) (same : book ≡ value) (kept_records : List Kept) (ports : ℕ) (numbers : map.FinMap key_cmp ℕ) (cells : List (Option AnswerIndex)) (count : ℕ) (s : IsConsistent book kept_records ports numbers cells count) where
+  module _ (seen : List (Option AnswerIndex)) (are : seen ≡ cells) (span : ℕ) (is_span : span ≡ book.setup.limits.span) (now n : ℕ) (within : n ≤ length seen) (over : All (IsOverBy span now) (take n seen)) (longest : (d : Option AnswerIndex) → n < length seen → ¬ IsOverBy span now (get_or seen n d)) where
     pub cut_within : n ≤ length value.accepted
     cut_within = subst (λ (b : Book). n ≤ length b.accepted) same (let as_many = ap length are in let all = s.cells_are in omega (arith, within, as_many, all))
 
@@ -202,8 +202,8 @@ module _ (book value : Book) (same : book ≡ value) (kept_records : List Kept) 
         (cut_found book kept_records ports numbers cells count s now n
         (subst (λ xs. n ≤ length xs) are within)
         (subst (λ xs. All (IsOverBy book.setup.limits.span now) (take n xs)) are (subst (λ m. All (IsOverBy m now) (take n seen)) is_span over))
-        (subst (λ xs. (d : Option Receipt) → n < length xs → ¬ IsOverBy book.setup.limits.span now (get_or xs n d)) are
-        (subst (λ m. (d : Option Receipt) → n < length seen → ¬ IsOverBy m now (get_or seen n d)) is_span longest)))
+        (subst (λ xs. (d : Option AnswerIndex) → n < length xs → ¬ IsOverBy book.setup.limits.span now (get_or xs n d)) are
+        (subst (λ m. (d : Option AnswerIndex) → n < length seen → ¬ IsOverBy m now (get_or seen n d)) is_span longest)))
 
     pub cut_some : (n ≡ 0 → ⊥) → 1 ≤ length (take n value.accepted)
     cut_some some = let few = length-take-le n value.accepted cut_within in omega (arith, few, some)
@@ -217,7 +217,7 @@ module _ (setup : LaneSetup) (opening : ℕ) (accepted : List Stamp) (kept : Lis
   abbrev before : Book
   before = book_of setup opening accepted kept answered served slots drain watch last
 
-  module _ (value : Book) (same : before ≡ value) (now n : ℕ) (later : value.last ≤ now) (cuts : IsCut value now (take n value.accepted) (drop n value.accepted)) (within : n ≤ length value.accepted) (ports : ℕ) (numbers : map.FinMap key_cmp ℕ) (cells : List (Option Receipt)) (count : ℕ) (s : IsConsistent before kept ports numbers cells count) where
+  module _ (value : Book) (same : before ≡ value) (now n : ℕ) (later : value.last ≤ now) (cuts : IsCut value now (take n value.accepted) (drop n value.accepted)) (within : n ≤ length value.accepted) (ports : ℕ) (numbers : map.FinMap key_cmp ℕ) (cells : List (Option AnswerIndex)) (count : ℕ) (s : IsConsistent before kept ports numbers cells count) where
     later_here : before.last ≤ now
     later_here = subst (λ (b : Book). b.last ≤ now) (sym same) later
 

@@ -14,7 +14,7 @@ use Rattle.rad_tables.specs.Keys.{key_cmp}
 use Rattle.rad_tables.specs.Pairs.{Table}
 use Rattle.rad_tables.proofs.KeyLemmas.{keys_total}
 use Rattle.rad_realms.specs.Checking.{Request}
-use Rattle.rad_lane.specs.declared.answered.Receipt.{Receipt}
+use Rattle.rad_lane.specs.declared.answered.AnswerIndex.{AnswerIndex}
 use Rattle.rad_lane.specs.declared.stamp.Stamp.{Stamp}
 use Rattle.rad_lane.specs.declared.entry.Entry.{Entry}
 use Rattle.rad_lane.specs.declared.watch.Watch.{Watch}
@@ -102,7 +102,7 @@ module _ (book : Book) (request : Request) (now : ℕ) (later : book.last ≤ no
     drained_count = not_drained book book.drain _ free.0;
   }
 
-  stands_with_request : (kept : List Kept) (k : Kept) (ports : ℕ) (numbers : map.FinMap key_cmp ℕ) (cells : List (Option Receipt)) (outstanding : ℕ) → HasRoom k → IsConsistent book kept ports numbers cells outstanding → IsConsistent (with_request book request now) (kept ++ k ∷ []) ports (map.insert numbers (request_key request) (next_number book)) (cells ++ None ∷ []) outstanding
+  stands_with_request : (kept : List Kept) (k : Kept) (ports : ℕ) (numbers : map.FinMap key_cmp ℕ) (cells : List (Option AnswerIndex)) (outstanding : ℕ) → HasRoom k → IsConsistent book kept ports numbers cells outstanding → IsConsistent (with_request book request now) (kept ++ k ∷ []) ports (map.insert numbers (request_key request) (next_number book)) (cells ++ None ∷ []) outstanding
   stands_with_request kept k ports numbers cells outstanding room s = record {
     lawful = accepted_lawful s.lawful;
     rooms = All-push HasRoom kept k s.rooms room;
@@ -111,7 +111,7 @@ module _ (book : Book) (request : Request) (now : ℕ) (later : book.last ≤ no
     last_numbers = numbers_more numbers book.accepted (stamp_of (next_number book) request now) s.last_numbers;
     since_opening = since_more numbers book.opening (request_key request) (next_number book) (omega arith) s.since_opening;
     cells_are = length-append cells (None ∷ []) ∙ ap (λ n. n + 1) s.cells_are ∙ sym (length-append book.accepted (stamp_of (next_number book) request now ∷ []));
-    receipts = λ number h. none_more cells (number - book.opening) ∙ s.receipts number h;
+    indices = λ number h. none_more cells (number - book.opening) ∙ s.indices number h;
     numbers_fit = rw (length-append book.accepted (stamp_of (next_number book) request now ∷ [])) (numbers_below book.opening (length book.accepted) (λ full. free.1 (inr full)));
   }
 
@@ -135,7 +135,7 @@ module _ (setup : LaneSetup) (opening : ℕ) (accepted : List Stamp) (kept : Lis
       ∙ ap (λ (xs : List Recorded). let b : Book = record before { accepted = accepted ++ k.recorded.stamp ∷ []; queued = xs; last = now } in b) queued
       ∙ ap (λ (q : Recorded). let b : Book = record before { accepted = accepted ++ q.stamp ∷ []; queued = each (λ q. q.recorded) kept ++ q ∷ []; last = now } in b) is
 
-  module _ (value : Book) (same : before ≡ value) (ports : ℕ) (numbers : map.FinMap key_cmp ℕ) (cells : List (Option Receipt)) (outstanding : ℕ) (request : Request) (now number : ℕ) (k : Kept) where
+  module _ (value : Book) (same : before ≡ value) (ports : ℕ) (numbers : map.FinMap key_cmp ℕ) (cells : List (Option AnswerIndex)) (outstanding : ℕ) (request : Request) (now number : ℕ) (k : Kept) where
     pub stands_accepted : IsConsistent before kept ports numbers cells outstanding → value.last ≤ now → IsTaken value request → repeats value (request_key request) now ≡ fresh → IsRefused value request OutOfMemory → number ≡ next_number value → k.recorded ≡ record_of number request now → IsRecord k.recorded → HasRoom k → IsConsistent (book_of setup opening (accepted ++ k.recorded.stamp ∷ []) (kept ++ k ∷ []) answered served slots drain watch now) (kept ++ k ∷ []) ports (map.insert numbers (request_key request) number) (cells ++ None ∷ []) outstanding
     stands_accepted s later taken new free count is is_record room =
         let count_here : number ≡ opening + length accepted = count ∙ ap (λ (b : Book). next_number b) (sym same) in

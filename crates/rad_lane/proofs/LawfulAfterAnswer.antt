@@ -19,7 +19,7 @@ use Rattle.rad_tables.specs.declared.slots.Slot.{Slot}
 use Rattle.rad_tables.specs.Keys.{key_cmp}
 use Rattle.rad_tables.specs.Pairs.{slot_cmp}
 use Rattle.rad_tables.proofs.SlotLemmas.{slots_total, tied}
-use Rattle.rad_lane.specs.declared.answered.Receipt.{Receipt}
+use Rattle.rad_lane.specs.declared.answered.AnswerIndex.{AnswerIndex}
 use Rattle.rad_lane.specs.declared.stamp.Stamp.{Stamp}
 use Rattle.rad_lane.specs.declared.entry.Entry.{Entry}
 use Rattle.rad_lane.specs.declared.entry.Entry.TheVariants.{Sending as sending, Probe as probe}
@@ -33,7 +33,7 @@ use Rattle.rad_lane.specs.Book.{Book, next_number, outstanding_at}
 use Rattle.rad_lane.specs.Repeat.{answer_to}
 use Rattle.rad_lane.specs.Hears.{KeepsAnswer, with_answer}
 use Rattle.rad_lane.specs.Lawful.{IsLawful, IsVerified, ProbeStands}
-use Rattle.rad_lane.specs.internal.Invariant.{IsConsistent, receipt_of, receipt_in, receipt_to}
+use Rattle.rad_lane.specs.internal.Invariant.{IsConsistent, answer_index_of, answer_index_in, answer_index_to}
 use Rattle.rad_packet.specs.Packet.{identifier_of}
 use Rattle.rad_auth.specs.Forwarding.{forwarded}
 use Rattle.rad_auth.specs.Refusing.{RefusesReply}
@@ -263,17 +263,17 @@ module _ (book : Book) (l : IsLawful book) (slot : Slot) (entry : Outstanding) (
       drained_count = l.drained_count;
     }
 
-    module _ (cells : List (Option Receipt)) (as_many : length cells ≡ length book.accepted) (receipts : (number : ℕ) → book.opening ≤ number → receipt_in cells book.opening number ≡ receipt_to number book.answered) where
-      abbrev receipt : Receipt
-      receipt = record { serial = book.served; moment = now }
+    module _ (cells : List (Option AnswerIndex)) (as_many : length cells ≡ length book.accepted) (indices : (number : ℕ) → book.opening ≤ number → answer_index_in cells book.opening number ≡ answer_index_to number book.answered) where
+      abbrev answer_index : AnswerIndex
+      answer_index = record { serial = book.served; moment = now }
 
-      abbrev noted : List (Option Receipt)
-      noted = set cells (stamp.number - book.opening) (Some receipt)
+      abbrev noted : List (Option AnswerIndex)
+      noted = set cells (stamp.number - book.opening) (Some answer_index)
 
-      receipt_is : receipt ≡ receipt_of answer
-      receipt_is =
-          ap (λ n. let r : Receipt = record { serial = n; moment = now } in r) (sym keeps.serial)
-          ∙ ap (λ n. let r : Receipt = record { serial = answer.serial; moment = n } in r) (sym keeps.moment)
+      answer_index_is : answer_index ≡ answer_index_of answer
+      answer_index_is =
+          ap (λ n. let r : AnswerIndex = record { serial = n; moment = now } in r) (sym keeps.serial)
+          ∙ ap (λ n. let r : AnswerIndex = record { serial = answer.serial; moment = n } in r) (sym keeps.moment)
 
       -- no other request gets this answer
       other_number : (number : ℕ) → (number ≡ stamp.number → ⊥) → answer_to number after.answered ≡ answer_to number book.answered
@@ -292,19 +292,19 @@ module _ (book : Book) (l : IsLawful book) (slot : Slot) (entry : Outstanding) (
           ∙ ap (λ o. option_or o (answer_to stamp.number (answer ∷ []))) not_answered
           ∙ this_by _ (eq-eqb answer.stamp.number stamp.number (ap (λ (s : Stamp). s.number) keeps.stamp))
 
-      receipts_kept : (number : ℕ) → book.opening ≤ number → receipt_in noted book.opening number ≡ receipt_to number after.answered
-      receipts_kept number since = elim (eqb_tells number stamp.number) [
+      answer_indices_kept : (number : ℕ) → book.opening ≤ number → answer_index_in noted book.opening number ≡ answer_index_to number after.answered
+      answer_indices_kept number since = elim (eqb_tells number stamp.number) [
         | inl same ↦
-            let here : slice_get noted (number - book.opening) ≡ Some (Some receipt) = ap (λ n. slice_get noted (n - book.opening)) same.1 ∙ get_set_same cells (stamp.number - book.opening) (Some receipt) (omega (arith, as_many, number_within)) in
+            let here : slice_get noted (number - book.opening) ≡ Some (Some answer_index) = ap (λ n. slice_get noted (n - book.opening)) same.1 ∙ get_set_same cells (stamp.number - book.opening) (Some answer_index) (omega (arith, as_many, number_within)) in
             ap (λ o. option_flatten o) here
-            ∙ ap (λ (r : Receipt). Some r) receipt_is
-            ∙ ap (λ o. option_map receipt_of o) (sym this_number)
-            ∙ ap (λ n. receipt_to n after.answered) (sym same.1)
+            ∙ ap (λ (r : AnswerIndex). Some r) answer_index_is
+            ∙ ap (λ o. option_map answer_index_of o) (sym this_number)
+            ∙ ap (λ n. answer_index_to n after.answered) (sym same.1)
         | inr other ↦
             let elsewhere : number - book.opening ≡ stamp.number - book.opening → ⊥ = λ e. other.1 (omega (arith, e, since, number_since)) in
-            ap (λ o. option_flatten o) (get_set_other cells (stamp.number - book.opening) (number - book.opening) (Some receipt) elsewhere)
-            ∙ receipts number since
-            ∙ ap (λ o. option_map receipt_of o) (sym (other_number number other.1))
+            ap (λ o. option_flatten o) (get_set_other cells (stamp.number - book.opening) (number - book.opening) (Some answer_index) elsewhere)
+            ∙ indices number since
+            ∙ ap (λ o. option_map answer_index_of o) (sym (other_number number other.1))
       ]
 
       pub stands_answered : (kept : List Kept) (ports : ℕ) (numbers : map.FinMap key_cmp ℕ) (count : ℕ) → IsConsistent book kept ports numbers cells count → IsConsistent after kept ports numbers noted (count - 1)
@@ -315,8 +315,8 @@ module _ (book : Book) (l : IsLawful book) (slot : Slot) (entry : Outstanding) (
         counted = let before = s.counted in omega (arith, one_less, before);
         last_numbers = s.last_numbers;
         since_opening = s.since_opening;
-        cells_are = length-set cells (stamp.number - book.opening) (Some receipt) ∙ s.cells_are;
-        receipts = receipts_kept;
+        cells_are = length-set cells (stamp.number - book.opening) (Some answer_index) ∙ s.cells_are;
+        indices = answer_indices_kept;
         numbers_fit = s.numbers_fit;
       }
 

@@ -3,7 +3,7 @@ use Rattle.std.proofs.Common.{◌≡◌, ℕ, List, Option, Some, None, refl, sy
 use Rattle.std.specs.Prelude.{IfSome}
 use Rattle.std.specs.FinMap as map
 use Rattle.rad_tables.specs.Keys.{key_cmp}
-use Rattle.rad_lane.specs.declared.answered.Receipt.{Receipt}
+use Rattle.rad_lane.specs.declared.answered.AnswerIndex.{AnswerIndex}
 use Rattle.rad_lane.specs.Stamp.{Kept}
 use Rattle.rad_lane.specs.Book.{Book, next_number}
 use Rattle.rad_lane.specs.Drains.{drained_at}
@@ -40,7 +40,7 @@ drained_lawful book l = record {
   drained_count = count_kept book book.drain l.drained_count;
 }
 
-pub stands_drained : (book : Book) (kept : List Kept) (ports : ℕ) (numbers : map.FinMap key_cmp ℕ) (cells : List (Option Receipt)) (count : ℕ) → IsConsistent book kept ports numbers cells count → IsConsistent (record book { drain = Some (drained_at book book.drain) }) kept ports numbers cells count
+pub stands_drained : (book : Book) (kept : List Kept) (ports : ℕ) (numbers : map.FinMap key_cmp ℕ) (cells : List (Option AnswerIndex)) (count : ℕ) → IsConsistent book kept ports numbers cells count → IsConsistent (record book { drain = Some (drained_at book book.drain) }) kept ports numbers cells count
 stands_drained book kept ports numbers cells count s = record {
   lawful = drained_lawful book s.lawful;
   rooms = s.rooms;
@@ -49,12 +49,12 @@ stands_drained book kept ports numbers cells count s = record {
   last_numbers = s.last_numbers;
   since_opening = s.since_opening;
   cells_are = s.cells_are;
-  receipts = s.receipts;
+  indices = s.indices;
   numbers_fit = s.numbers_fit;
 }
 
 -- the same where the book is seen as another, and the count is known by an equation
-pub stands_drained_by : (book value : Book) (kept : List Kept) (ports : ℕ) (numbers : map.FinMap key_cmp ℕ) (cells : List (Option Receipt)) (outstanding count : ℕ) → book ≡ value → count ≡ drained_at value value.drain → IsConsistent book kept ports numbers cells outstanding → IsConsistent (record book { drain = Some count }) kept ports numbers cells outstanding
+pub stands_drained_by : (book value : Book) (kept : List Kept) (ports : ℕ) (numbers : map.FinMap key_cmp ℕ) (cells : List (Option AnswerIndex)) (outstanding count : ℕ) → book ≡ value → count ≡ drained_at value value.drain → IsConsistent book kept ports numbers cells outstanding → IsConsistent (record book { drain = Some count }) kept ports numbers cells outstanding
 stands_drained_by book value kept ports numbers cells outstanding count same counted s =
     let here : count ≡ drained_at book book.drain = counted ∙ ap (λ (b : Book). drained_at b b.drain) (sym same) in
     rw here (stands_drained book kept ports numbers cells outstanding s)

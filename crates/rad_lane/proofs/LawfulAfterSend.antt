@@ -11,7 +11,7 @@ use Rattle.rad_tables.specs.declared.slots.Slot.{Slot}
 use Rattle.rad_tables.specs.Keys.{key_cmp}
 use Rattle.rad_tables.specs.Pairs.{slot_cmp, Table, IsFirstFree, IsInRange}
 use Rattle.rad_tables.proofs.SlotLemmas.{slots_total, tied}
-use Rattle.rad_lane.specs.declared.answered.Receipt.{Receipt}
+use Rattle.rad_lane.specs.declared.answered.AnswerIndex.{AnswerIndex}
 use Rattle.rad_lane.specs.declared.stamp.Stamp.{Stamp}
 use Rattle.rad_lane.specs.declared.entry.Entry.{Entry}
 use Rattle.rad_lane.specs.declared.entry.Entry.TheVariants.{Sending as sending, Probe as probe}
@@ -97,7 +97,7 @@ module _ (book : Book) (now : ℕ) (r : Recorded) (rest : List Recorded) (slot :
         drained_count = l.drained_count;
       }
 
-  stands_after : (k : Kept) (kept : List Kept) (ports : ℕ) (numbers : map.FinMap key_cmp ℕ) (cells : List (Option Receipt)) (count : ℕ) → IsConsistent book (k ∷ kept) ports numbers cells count → IsConsistent after kept ports numbers cells (count + 1)
+  stands_after : (k : Kept) (kept : List Kept) (ports : ℕ) (numbers : map.FinMap key_cmp ℕ) (cells : List (Option AnswerIndex)) (count : ℕ) → IsConsistent book (k ∷ kept) ports numbers cells count → IsConsistent after kept ports numbers cells (count + 1)
   stands_after k kept ports numbers cells count s = record {
     lawful = sent_lawful s.lawful;
     rooms = All-tail HasRoom k kept s.rooms;
@@ -106,7 +106,7 @@ module _ (book : Book) (now : ℕ) (r : Recorded) (rest : List Recorded) (slot :
     last_numbers = s.last_numbers;
     since_opening = s.since_opening;
     cells_are = s.cells_are;
-    receipts = s.receipts;
+    indices = s.indices;
     numbers_fit = s.numbers_fit;
   }
 
@@ -151,7 +151,7 @@ module _ (setup : LaneSetup) (opening : ℕ) (accepted : List Stamp) (k : Kept) 
           let book = as_sent l ∙ ap (λ (b : Book). with_sending b now k.recorded (each (λ q. q.recorded) kept) slot) same in
           (fresh, spent, room, k.recorded, each (λ q. q.recorded) kept, queue, refl, first_there, sent, book)
 
-      pub stands_sent : (later : value.last ≤ now) (is_up : value.watch ≡ up) (free : map.get value.held slot ≡ None) (room : outstanding_count value < value.setup.limits.window) (ports : ℕ) (in_range : IsInRange ports slot) (numbers : map.FinMap key_cmp ℕ) (cells : List (Option Receipt)) (count : ℕ) → IsConsistent before (k ∷ kept) ports numbers cells count → IsConsistent (book_of setup opening accepted kept answered served (record { ports = slots.ports; entries = after_it.held; allotted = Some slot }) drain watch now) kept ports numbers cells (count + 1)
+      pub stands_sent : (later : value.last ≤ now) (is_up : value.watch ≡ up) (free : map.get value.held slot ≡ None) (room : outstanding_count value < value.setup.limits.window) (ports : ℕ) (in_range : IsInRange ports slot) (numbers : map.FinMap key_cmp ℕ) (cells : List (Option AnswerIndex)) (count : ℕ) → IsConsistent before (k ∷ kept) ports numbers cells count → IsConsistent (book_of setup opening accepted kept answered served (record { ports = slots.ports; entries = after_it.held; allotted = Some slot }) drain watch now) kept ports numbers cells (count + 1)
       stands_sent later is_up free room ports in_range numbers cells count s =
           let later_here : before.last ≤ now = subst (λ (b : Book). b.last ≤ now) (sym same) later in
           let up_here : before.watch ≡ up = subst (λ (b : Book). b.watch ≡ up) (sym same) is_up in

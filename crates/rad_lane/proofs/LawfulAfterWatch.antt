@@ -10,7 +10,7 @@ use Rattle.rad_tables.specs.Keys.{key_cmp}
 use Rattle.rad_tables.specs.Pairs.{slot_cmp, Table, IsInRange}
 use Rattle.rad_tables.proofs.SlotLemmas.{slots_total, tied, itself}
 use Rattle.rad_auth.specs.Status.{status_server}
-use Rattle.rad_lane.specs.declared.answered.Receipt.{Receipt}
+use Rattle.rad_lane.specs.declared.answered.AnswerIndex.{AnswerIndex}
 use Rattle.rad_lane.specs.declared.entry.Entry.{Entry}
 use Rattle.rad_lane.specs.declared.entry.Entry.TheVariants.{Sending as sending, Probe as probe}
 use Rattle.rad_lane.specs.declared.watch.Watch.{Watch}
@@ -146,7 +146,7 @@ module _ (setup : LaneSetup) (opening : ℕ) (accepted : List Stamp) (kept : Lis
   abbrev before : Book
   before = book_of setup opening accepted kept answered served slots drain watch last
 
-  module _ (value : Book) (is : before ≡ value) (now : ℕ) (later : value.last ≤ now) (numbers : map.FinMap key_cmp ℕ) (cells : List (Option Receipt)) (count : ℕ) (s : IsConsistent before kept slots.ports numbers cells count) where
+  module _ (value : Book) (is : before ≡ value) (now : ℕ) (later : value.last ≤ now) (numbers : map.FinMap key_cmp ℕ) (cells : List (Option AnswerIndex)) (count : ℕ) (s : IsConsistent before kept slots.ports numbers cells count) where
     -- the slots once the probe's pair is free and each round begins anew
     module _ (out : Option Slot) (its : out ≡ probe_of watch) (free new : Table Entry) (free_is : free ≡ record slots { entries = freed slots.entries out }) (changed : (slot : Slot) → map.get new.entries slot ≡ option_map (renewed_in now) (map.get free.entries slot)) (new_is : new ≡ record free { entries = new.entries }) where
       changed_here : (slot : Slot) → map.get new.entries slot ≡ option_map (renewed_in now) (map.get (freed slots.entries (probe_of watch)) slot)
@@ -226,7 +226,7 @@ module _ (setup : LaneSetup) (opening : ℕ) (accepted : List Stamp) (kept : Lis
           )
 
   -- what is left once the probe's pair is free
-  module _ (value : Book) (is : before ≡ value) (ports : ℕ) (numbers : map.FinMap key_cmp ℕ) (cells : List (Option Receipt)) (count : ℕ) (s : IsConsistent before kept ports numbers cells count) where
+  module _ (value : Book) (is : before ≡ value) (ports : ℕ) (numbers : map.FinMap key_cmp ℕ) (cells : List (Option AnswerIndex)) (count : ℕ) (s : IsConsistent before kept ports numbers cells count) where
     pub leaves_freed : (its : slots.ports ≡ ports) (out : Option Slot) → out ≡ probe_of watch → (free : Table Entry) → free ≡ record slots { entries = freed slots.entries out } → (lane : ℕ) → lane ≡ setup.lane → (left : Left) → left ≡ left_of lane opening accepted kept answered free → Leaves value left
     leaves_freed its out out_is free free_is lane lane_is left left_is =
         let here : Leaves before left = record {

@@ -9,7 +9,7 @@ use Rattle.rad_tables.specs.declared.slots.Slot.{Slot}
 use Rattle.rad_tables.specs.Keys.{key_cmp}
 use Rattle.rad_tables.specs.Pairs.{slot_cmp, Table, IsInRange}
 use Rattle.rad_tables.proofs.SlotLemmas.{slots_total, tied, itself}
-use Rattle.rad_lane.specs.declared.answered.Receipt.{Receipt}
+use Rattle.rad_lane.specs.declared.answered.AnswerIndex.{AnswerIndex}
 use Rattle.rad_lane.specs.declared.entry.Entry.{Entry}
 use Rattle.rad_lane.specs.declared.entry.Entry.TheVariants.{Sending as sending, Probe as probe}
 use Rattle.rad_lane.specs.declared.watch.Watch.{Watch}
@@ -159,7 +159,7 @@ module _ (book : Book) (held : map.FinMap slot_cmp Entry) (allotted : Option Slo
     drained_count = l.drained_count;
   }
 
-  pub stands_rested : (kept : List Kept) (ports : ℕ) (numbers : map.FinMap key_cmp ℕ) (cells : List (Option Receipt)) (count : ℕ) → ProbeStands after watch → IsConsistent book kept ports numbers cells count → IsConsistent after kept ports numbers cells count
+  pub stands_rested : (kept : List Kept) (ports : ℕ) (numbers : map.FinMap key_cmp ℕ) (cells : List (Option AnswerIndex)) (count : ℕ) → ProbeStands after watch → IsConsistent book kept ports numbers cells count → IsConsistent after kept ports numbers cells count
   stands_rested kept ports numbers cells count apart s = record {
     lawful = rested_lawful apart s.lawful;
     rooms = s.rooms;
@@ -168,7 +168,7 @@ module _ (book : Book) (held : map.FinMap slot_cmp Entry) (allotted : Option Slo
     last_numbers = s.last_numbers;
     since_opening = s.since_opening;
     cells_are = s.cells_are;
-    receipts = s.receipts;
+    indices = s.indices;
     numbers_fit = s.numbers_fit;
   }
 
@@ -183,7 +183,7 @@ module _ (setup : LaneSetup) (opening : ℕ) (accepted : List Stamp) (kept : Lis
   abbrev before : Book
   before = book_of setup opening accepted kept answered served slots drain watch last
 
-  module _ (value : Book) (is : before ≡ value) (now : ℕ) (later : value.last ≤ now) (ports : ℕ) (numbers : map.FinMap key_cmp ℕ) (cells : List (Option Receipt)) (count : ℕ) (s : IsConsistent before kept ports numbers cells count) where
+  module _ (value : Book) (is : before ≡ value) (now : ℕ) (later : value.last ≤ now) (ports : ℕ) (numbers : map.FinMap key_cmp ℕ) (cells : List (Option AnswerIndex)) (count : ℕ) (s : IsConsistent before kept ports numbers cells count) where
     pub stands_as : (other : Table Entry) (w : Watch) → AreTheSame slots.entries other.entries → HoldsItsOwn setup other.entries → IfSome other.allotted (IsInRange setup.ports) → ProbeStands (rested before other.entries other.allotted w now) w → IsConsistent (book_of setup opening accepted kept answered served other drain w now) kept ports numbers cells count
     stands_as other w same own in_range apart =
         let later_here : before.last ≤ now = subst (λ (b : Book). b.last ≤ now) (sym is) later in

@@ -57,6 +57,6 @@ stands_empty setup least most = record {
   last_numbers = λ key. map.get-empty key_cmp key;
   since_opening = λ key number h. zero-le;
   cells_are = refl;
-  receipts = λ number h. refl;
+  indices = λ number h. refl;
   numbers_fit = zero-le;
 }

@@ -9,10 +9,10 @@ use Rattle.std.proofs.lemmas.Bool.{ne_eqb, eq-eqb}
 use Rattle.std.proofs.lemmas.Bool.Decides.{leb_tells}
 use Rattle.std.proofs.lemmas.Cmp.{ranked, nat_cmp_total}
 use Rattle.std.proofs.lemmas.List.Sorted.{searchable_from_sorted}
-use Rattle.rad_lane.specs.declared.answered.Receipt.{Receipt}
+use Rattle.rad_lane.specs.declared.answered.AnswerIndex.{AnswerIndex}
 use Rattle.rad_lane.specs.Outstanding.{AnswerKept}
 use Rattle.rad_lane.specs.Repeat.{answer_to}
-use Rattle.rad_lane.specs.internal.Invariant.{at_place, answer_of, receipt_of, receipt_to}
+use Rattle.rad_lane.specs.internal.Invariant.{at_place, answer_of, answer_index_of, answer_index_to}
 use Rattle.rad_lane.proofs.ListLemmas.{AllPairs-right, found_holds, pairs_rise}
 use Rattle.rad_lane.proofs.NumberLemmas.{test_since}
 
@@ -89,20 +89,20 @@ found_again number [] found rise is = cc
 found_again number (a ∷ answers) found rise is =
     found_by (eqb a.stamp.number number) number a answers found rise (found_again number answers found (behind_rise a answers rise)) is
 
-by_answer : (number : ℕ) (receipt : Receipt) (answers : List AnswerKept) (answer : Option AnswerKept) → answer ≡ answer_to number answers → Rise answers → Some receipt ≡ option_map receipt_of answer → answer_of receipt.serial answers ≡ answer_to number answers
-by_answer number receipt answers None is rise h = cc
-by_answer number receipt answers (Some found) is rise h =
-    let noted : receipt ≡ receipt_of found = cc in
-    let same : receipt.serial ≡ found.serial = ap (λ (r : Receipt). r.serial) noted in
+by_answer : (number : ℕ) (answer_index : AnswerIndex) (answers : List AnswerKept) (answer : Option AnswerKept) → answer ≡ answer_to number answers → Rise answers → Some answer_index ≡ option_map answer_index_of answer → answer_of answer_index.serial answers ≡ answer_to number answers
+by_answer number answer_index answers None is rise h = cc
+by_answer number answer_index answers (Some found) is rise h =
+    let noted : answer_index ≡ answer_index_of found = cc in
+    let same : answer_index.serial ≡ found.serial = ap (λ (r : AnswerIndex). r.serial) noted in
     ap (λ n. answer_of n answers) same ∙ found_again number answers found rise (sym is) ∙ is
 
-by_none : (answer : Option AnswerKept) → None ≡ option_map receipt_of answer → None ≡ answer
+by_none : (answer : Option AnswerKept) → None ≡ option_map answer_index_of answer → None ≡ answer
 by_none None h = refl
 by_none (Some found) h = cc
 
-pub none_placed : (number : ℕ) (answers : List AnswerKept) → None ≡ receipt_to number answers → None ≡ answer_to number answers
+pub none_placed : (number : ℕ) (answers : List AnswerKept) → None ≡ answer_index_to number answers → None ≡ answer_to number answers
 none_placed number answers h = by_none (answer_to number answers) h
 
-pub answer_placed : (number : ℕ) (receipt : Receipt) (answers : List AnswerKept) (place : Option ℕ) → IsStrictlyIncreasing (each (λ a. a.serial) answers) → Some receipt ≡ receipt_to number answers → at_place answers place ≡ answer_of receipt.serial answers → at_place answers place ≡ answer_to number answers
-answer_placed number receipt answers place rises has placed =
-    placed ∙ by_answer number receipt answers _ refl (pairs_rise (λ (a : AnswerKept). a.serial) answers rises) has
+pub answer_placed : (number : ℕ) (answer_index : AnswerIndex) (answers : List AnswerKept) (place : Option ℕ) → IsStrictlyIncreasing (each (λ a. a.serial) answers) → Some answer_index ≡ answer_index_to number answers → at_place answers place ≡ answer_of answer_index.serial answers → at_place answers place ≡ answer_to number answers
+answer_placed number answer_index answers place rises has placed =
+    placed ∙ by_answer number answer_index answers _ refl (pairs_rise (λ (a : AnswerKept). a.serial) answers rises) has

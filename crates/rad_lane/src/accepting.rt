@@ -6,7 +6,7 @@ ghost use Rattle.rad_lane.specs.internal.Invariant.{HasRoom};
 ghost use Rattle.rad_lane.specs.Datagrams.{Datagrams};
 ghost use Rattle.rad_lane.specs.Accepts.{Accepts, IsTaken, IsRefused, request_key, stamp_of as the_stamp, record_of as the_record};
 
-use crate::answered::Receipt;
+use crate::answered::AnswerIndex;
 use crate::repeats::{Repeat, Seen};
 use crate::{Answered, Lane, Record, Stamp};
 use block_queue::{Fifo, SlidingList};
@@ -165,7 +165,7 @@ impl<Q: Fifo<Record>> Lane<Q> {
         let now = self.moment_of(moment);
         let number = self.next_number();
         let key = key_of(request);
-        let seen = Seen::since(self.opening, &self.receipts, &self.answered, &self.setup);
+        let seen = Seen::since(self.opening, &self.indices, &self.answered, &self.setup);
         let Ok(last) = self.duplicates.replace(key, number) else {
             return Err(Refusal::OutOfMemory);
         };
@@ -175,13 +175,13 @@ impl<Q: Fifo<Record>> Lane<Q> {
                     self.duplicates.restore(&key, last);
                     return Err(Refusal::OutOfMemory);
                 };
-                let Ok(()) = make_room(&mut self.accepted, &mut self.receipts, &mut self.queued)
+                let Ok(()) = make_room(&mut self.accepted, &mut self.indices, &mut self.queued)
                 else {
                     self.duplicates.restore(&key, last);
                     return Err(Refusal::OutOfMemory);
                 };
                 self.accepted.push(record.stamp());
-                self.receipts.push(None);
+                self.indices.push(None);
                 self.queued.push_back(record);
                 self.last = now;
                 Ok(Taken::New(number))
@@ -248,18 +248,18 @@ fn record_of(
 /// Makes room for one more in each.
 fn make_room<Q: Fifo<Record>>(
     accepted: &mut SlidingList<Stamp>,
-    receipts: &mut SlidingList<Option<Receipt>>,
+    indices: &mut SlidingList<Option<AnswerIndex>>,
     queued: &mut Q,
 ) -> Result<(), AllocError>
     ensures accepted { accepted.new.items ≡ accepted.old.items }
-    ensures receipts { receipts.new.items ≡ receipts.old.items }
+    ensures indices { indices.new.items ≡ indices.old.items }
     ensures queued { Q.items queued.new ≡ Q.items queued.old }
     ensures accepted_room { IfOk result (λ _. 1 ≤ accepted.new.room) }
-    ensures receipts_room { IfOk result (λ _. 1 ≤ receipts.new.room) }
+    ensures answer_indices_room { IfOk result (λ _. 1 ≤ indices.new.room) }
     ensures queued_room { IfOk result (λ _. 1 ≤ Q.room queued.new) }
 {
     accepted.reserve_one()?;
-    receipts.reserve_one()?;
+    indices.reserve_one()?;
     queued.reserve_one()
 }
 

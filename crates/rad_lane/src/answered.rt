@@ -15,7 +15,7 @@ pub struct Answered {
     /// How many answers of the lane there were before it.
     serial: u64,
     /// What else is known of it. It stands apart, so that a list of answers is small, and that a volume shares it with the
-    /// list that it was cut from, until that list lets go of it.
+    /// list that it was cut from, until that list drops it.
     kept: Arc<Kept, Global>,
 }
 
@@ -33,7 +33,7 @@ struct Kept {
 /// What a lane notes of an answer beside its request: the answer's serial number, by which it is found, and when it
 /// was given.
 #[derive(Clone, Copy)]
-pub(crate) struct Receipt {
+pub(crate) struct AnswerIndex {
     /// How many answers of the lane there were before it.
     pub(crate) serial: u64,
     /// When it was given.

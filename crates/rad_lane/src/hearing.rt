@@ -5,7 +5,7 @@ ghost use Rattle.rad_lane.specs.declared.hearing.HearFault.TheVariants.{OutOfMem
 ghost use Rattle.rad_lane.specs.Hears.{Hears, with_answer};
 ghost use Rattle.rad_lane.specs.internal.KeepAnswer.{AnswersSending};
 
-use crate::answered::Receipt;
+use crate::answered::AnswerIndex;
 use crate::{Answered, Entry, Lane, Outgoing, Record};
 use block_queue::Fifo;
 use rad_auth::{ACCOUNTING_RESPONSE, ReplyFault, check_response};
@@ -153,9 +153,9 @@ impl<Q: Fifo<Record>> Lane<Q> {
         };
         let place = (answer.stamp().number - self.opening) as usize;
         self.slots.take(slot);
-        self.receipts.set(
+        self.indices.set(
             place,
-            Some(Receipt {
+            Some(AnswerIndex {
                 serial: self.served,
                 moment: now,
             }),

@@ -3,7 +3,7 @@ ghost use Rattle.rad_lane.specs.Book.{moment_in, next_number};
 ghost use Rattle.rad_lane.specs.Drains.{drained_at};
 ghost use Rattle.rad_lane.specs.Empty.{empty_book};
 
-use crate::answered::Receipt;
+use crate::answered::AnswerIndex;
 use crate::{Answered, Entry, Record, Setup, Stamp, Watch};
 use block_queue::{Fifo, SlidingList};
 use rad_tables::{Duplicates, Moment, Slots};
@@ -38,8 +38,8 @@ pub struct Lane<Q: Fifo<Record>> {
     pub(crate) queued: Q,
     /// The answers, in the order in which they came.
     pub(crate) answered: SlidingList<Answered>,
-    /// For each of the requests accepted the receipt of its answer, where it is answered.
-    pub(crate) receipts: SlidingList<Option<Receipt>>,
+    /// For each of the requests accepted the index of its answer, if it is answered.
+    pub(crate) indices: SlidingList<Option<AnswerIndex>>,
     /// How many answers there were.
     pub(crate) served: u64,
     /// What was sent and not answered, each under its pair of source port and identifier, and the probe.
@@ -71,7 +71,7 @@ impl<Q: Fifo<Record>> Model for Lane<Q> {
 
     ghost view = { λ l. book_of l.setup l.opening l.accepted.items (Q.items l.queued) l.answered.items l.served l.slots l.drain l.watch l.last };
 
-    ghost invariant = { λ l. IsConsistent (book_of l.setup l.opening l.accepted.items (Q.items l.queued) l.answered.items l.served l.slots l.drain l.watch l.last) (Q.items l.queued) l.slots.ports l.duplicates l.receipts.items l.outstanding };
+    ghost invariant = { λ l. IsConsistent (book_of l.setup l.opening l.accepted.items (Q.items l.queued) l.answered.items l.served l.slots l.drain l.watch l.last) (Q.items l.queued) l.slots.ports l.duplicates l.indices.items l.outstanding };
 }
 
 /// Why there is no lane.
@@ -98,7 +98,7 @@ impl<Q: Fifo<Record>> Lane<Q> {
                 accepted: SlidingList::new(alloc),
                 queued: Q::new(alloc),
                 answered: SlidingList::new(alloc),
-                receipts: SlidingList::new(alloc),
+                indices: SlidingList::new(alloc),
                 served: 0,
                 slots,
                 outstanding: 0,

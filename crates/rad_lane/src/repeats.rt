@@ -5,9 +5,9 @@ ghost use Rattle.std.specs.List.Sorted.{IsStrictlyIncreasing};
 ghost use Rattle.std.specs.Option.{option_copied};
 ghost use Rattle.rad_lane.specs.Book.{Book};
 ghost use Rattle.rad_lane.specs.Repeat.{answer_to, found, repeats};
-ghost use Rattle.rad_lane.specs.internal.Invariant.{answer_of as the_answer, at_place, receipt_in, receipt_to, repeats_number};
+ghost use Rattle.rad_lane.specs.internal.Invariant.{answer_of as the_answer, at_place, answer_index_in, answer_index_to, repeats_number};
 
-use crate::answered::Receipt;
+use crate::answered::AnswerIndex;
 use crate::{Answered, Lane, Record, Setup};
 use block_queue::{Fifo, SlidingList};
 use rad_tables::{Key, Moment};
@@ -27,13 +27,13 @@ pub(crate) enum Repeat<'a> {
 pub(crate) struct Seen<'a> {
     /// The number of the first request that is kept.
     opening: u64,
-    /// For each request from that number on the receipt of its answer, where it is answered.
-    receipts: &'a [Option<Receipt>],
+    /// For each request from that number on the index of its answer, if it is answered.
+    indices: &'a [Option<AnswerIndex>],
     /// The answers, in the order in which they came.
     answered: &'a [Answered],
     /// For so many milliseconds after its answer a request may be repeated.
     span: u32,
-    ghost told: { (number : ℕ) → opening ≤ number → receipt_in receipts.now opening number ≡ receipt_to number answered.now },
+    ghost told: { (number : ℕ) → opening ≤ number → answer_index_in indices.now opening number ≡ answer_index_to number answered.now },
     ghost rising: { IsStrictlyIncreasing (each (λ a. a.serial) answered.now) },
 }
 
@@ -41,11 +41,11 @@ impl<'a> Seen<'a> {
     /// What was answered since the opening.
     pub(crate) fn since(
         opening: u64,
-        receipts: &'a SlidingList<Option<Receipt>>,
+        indices: &'a SlidingList<Option<AnswerIndex>>,
         answered: &'a SlidingList<Answered>,
         setup: &Setup,
     ) -> Seen<'a>
-        requires told { (number : ℕ) → opening ≤ number → receipt_in receipts.now.items opening number ≡ receipt_to number answered.now.items }
+        requires told { (number : ℕ) → opening ≤ number → answer_index_in indices.now.items opening number ≡ answer_index_to number answered.now.items }
         requires rising { IsStrictlyIncreasing (each (λ a. a.serial) answered.now.items) }
         ensures opening { result.opening ≡ opening }
         ensures answered { result.answered.now ≡ answered.now.items }
@@ -53,7 +53,7 @@ impl<'a> Seen<'a> {
     {
         Seen {
             opening,
-            receipts: receipts.as_slice(),
+            indices: indices.as_slice(),
             answered: answered.as_slice(),
             span: setup.limits().numbers().span,
         }
@@ -90,19 +90,19 @@ impl<'a> Seen<'a> {
         requires { self.now.opening ≤ number }
         ensures { at_place self.now.answered.now result ≡ answer_to number self.now.answered.now }
     {
-        match self.receipt_of(number) {
-            Some(receipt) => place_of_serial(self.answered, receipt.serial),
+        match self.answer_index_of(number) {
+            Some(answer_index) => place_of_serial(self.answered, answer_index.serial),
             None => None,
         }
     }
 
-    /// The receipt of the answer to the request of a number, if it is answered.
-    fn receipt_of(&self, number: u64) -> Option<Receipt>
+    /// The index of the answer to the request of a number, if it is answered.
+    fn answer_index_of(&self, number: u64) -> Option<AnswerIndex>
         requires { self.now.opening ≤ number }
-        ensures { result ≡ receipt_to number self.now.answered.now }
+        ensures { result ≡ answer_index_to number self.now.answered.now }
     {
         let place = (number - self.opening) as usize;
-        self.receipts.get(place).copied().flatten()
+        self.indices.get(place).copied().flatten()
     }
 }
 
@@ -111,7 +111,7 @@ impl<Q: Fifo<Record>> Lane<Q> {
     pub(crate) fn find_repeat(&self, key: &Key, now: Moment) -> Repeat<'_>
         ensures { found result ≡ repeats self.now key.now now }
     {
-        let seen = Seen::since(self.opening, &self.receipts, &self.answered, &self.setup);
+        let seen = Seen::since(self.opening, &self.indices, &self.answered, &self.setup);
         seen.repeat_of(self.duplicates.find(key), now)
     }
 }

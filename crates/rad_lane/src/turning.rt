@@ -5,14 +5,14 @@ ghost use Rattle.std.specs.Bool.{OnTrue, OnFalse};
 ghost use Rattle.std.specs.List.Sorted.{IsPermutation};
 ghost use Rattle.std.specs.FinMap as map;
 ghost use Rattle.rad_tables.specs.declared.duplicates.Key.{Key as the_key};
-ghost use Rattle.rad_lane.specs.declared.answered.Receipt.{Receipt as the_receipt};
+ghost use Rattle.rad_lane.specs.declared.answered.AnswerIndex.{AnswerIndex as the_answer_index};
 ghost use Rattle.rad_lane.specs.Stamp.{key_of as the_key_of};
 ghost use Rattle.rad_lane.specs.Book.{moment_in};
 ghost use Rattle.rad_lane.specs.Repeat.{repeats};
 ghost use Rattle.rad_lane.specs.Volumes.{IsCut, Turns, answers_below as the_answers_below, answers_since, volume_of, without_cut};
 ghost use Rattle.rad_lane.specs.internal.Cutting.{HasUnderItsKey, IsOverBy, unless_of};
 
-use crate::answered::Receipt;
+use crate::answered::AnswerIndex;
 use crate::{Answered, Lane, Record, Series, Stamp};
 use block_queue::{Fifo, Share, SlidingList};
 use rad_tables::{Duplicates, Key, Moment};
@@ -74,7 +74,7 @@ impl<Q: Fifo<Record>> Lane<Q> {
     {
         let now = self.moment_of(moment);
         let span = self.setup.limits().numbers().span;
-        let count = count_over(self.receipts.as_slice(), span, now);
+        let count = count_over(self.indices.as_slice(), span, now);
         if count == 0 {
             return Err(TurnFault::NothingToTurn);
         }
@@ -99,7 +99,7 @@ impl<Q: Fifo<Record>> Lane<Q> {
         let answered = answers_below(alloc, &self.answered.as_slice()[..end], next, count)?;
         forget(&mut self.duplicates, stamps.as_slice());
         self.accepted.drop_front(count);
-        self.receipts.drop_front(count);
+        self.indices.drop_front(count);
         drop_below(&mut self.answered, end, next);
         self.opening = next;
         self.last = now;
@@ -111,15 +111,15 @@ impl<Q: Fifo<Record>> Lane<Q> {
     }
 }
 
-/// How many receipts at the front are a span old. It looks at these, and at the next one.
-fn count_over(receipts: &[Option<Receipt>], span: u32, now: Moment) -> usize
-    ensures within { result ≤ length receipts.now }
-    ensures over { All (IsOverBy span now) (take result receipts.now) }
-    ensures longest { (d : Option the_receipt) → result < length receipts.now → ¬ IsOverBy span now (slice_index_or receipts.now result d) }
+/// How many of the first requests were answered a span ago or longer. It looks at their answer indices, and at the next one.
+fn count_over(indices: &[Option<AnswerIndex>], span: u32, now: Moment) -> usize
+    ensures within { result ≤ length indices.now }
+    ensures over { All (IsOverBy span now) (take result indices.now) }
+    ensures longest { (d : Option the_answer_index) → result < length indices.now → ¬ IsOverBy span now (slice_index_or indices.now result d) }
 {
     let mut count = 0;
-    for receipt in receipts {
-        if !is_over(receipt, span, now) {
+    for answer_index in indices {
+        if !is_over(answer_index, span, now) {
             return count;
         }
         count += 1;
@@ -127,13 +127,13 @@ fn count_over(receipts: &[Option<Receipt>], span: u32, now: Moment) -> usize
     count
 }
 
-/// Whether there is a receipt and a span went by since.
-fn is_over(receipt: &Option<Receipt>, span: u32, now: Moment) -> bool
-    ensures over { OnTrue result (IsOverBy span now receipt.now) }
-    ensures not { OnFalse result (¬ IsOverBy span now receipt.now) }
+/// Whether there is an answer index and a span went by since the answer.
+fn is_over(answer_index: &Option<AnswerIndex>, span: u32, now: Moment) -> bool
+    ensures over { OnTrue result (IsOverBy span now answer_index.now) }
+    ensures not { OnFalse result (¬ IsOverBy span now answer_index.now) }
 {
-    match receipt {
-        Some(receipt) => receipt.moment.get() + u64::from(span) <= now.get(),
+    match answer_index {
+        Some(answer_index) => answer_index.moment.get() + u64::from(span) <= now.get(),
         None => false,
     }
 }
@@ -207,7 +207,7 @@ fn answers_below(
     Ok(below)
 }
 
-/// Lets go of the answers to requests below a number, none of which stand behind this end. The others that stand before
+/// Drops the answers to requests below a number, none of which stand behind this end. The others that stand before
 /// it move up to it, and then the list begins with them.
 fn drop_below(answers: &mut SlidingList<Answered>, end: usize, number: u64)
     requires within { end ≤ length answers.old.items }

@@ -140,7 +140,7 @@ impl Run {
         let broken = match went {
             Ok(()) => run.end().err(),
             Err(rule) => {
-                run.let_go();
+                run.discard();
                 Some(rule)
             }
         };
@@ -315,7 +315,7 @@ impl Run {
     }
 
     /// Lets it go.
-    fn let_go(self) {}
+    fn discard(self) {}
 }
 
 fn worker_of(lane: Option<u16>) -> Worker {

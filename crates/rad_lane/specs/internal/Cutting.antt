@@ -5,13 +5,13 @@ use Rattle.std.specs.FinMap as map
 use Rattle.rad_tables.specs.declared.duplicates.Key.{Key}
 use Rattle.rad_tables.specs.Keys.{key_cmp}
 use Rattle.rad_lane.specs.declared.stamp.Stamp.{Stamp}
-use Rattle.rad_lane.specs.declared.answered.Receipt.{Receipt}
+use Rattle.rad_lane.specs.declared.answered.AnswerIndex.{AnswerIndex}
 use Rattle.rad_lane.specs.Stamp.{key_of}
 
--- There is a receipt, and a span went by since.
-abbrev pub IsOverBy : ℕ → ℕ → Option Receipt → Type 0
+-- There is an answer index, and a span went by since.
+abbrev pub IsOverBy : ℕ → ℕ → Option AnswerIndex → Type 0
 IsOverBy span now None = ⊥
-IsOverBy span now (Some receipt) = receipt.moment + span ≤ now
+IsOverBy span now (Some answer_index) = answer_index.moment + span ≤ now
 
 -- A number that none of the stamps has.
 abbrev pub unless_of : List Stamp → Option ℕ → Option ℕ

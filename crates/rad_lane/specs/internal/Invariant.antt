@@ -7,7 +7,7 @@ use Rattle.rad_tables.specs.Keys.{key_cmp}
 use Rattle.rad_tables.specs.Pairs.{Table}
 use Rattle.rad_lane.specs.declared.stamp.Stamp.{Stamp}
 use Rattle.rad_lane.specs.declared.entry.Entry.{Entry}
-use Rattle.rad_lane.specs.declared.answered.Receipt.{Receipt}
+use Rattle.rad_lane.specs.declared.answered.AnswerIndex.{AnswerIndex}
 use Rattle.rad_lane.specs.declared.watch.Watch.{Watch}
 use Rattle.rad_lane.specs.Stamp.{Kept}
 use Rattle.rad_lane.specs.Outstanding.{AnswerKept}
@@ -33,17 +33,17 @@ book_of setup opening accepted kept answered served slots drain watch last = rec
   last = last;
 }
 
--- The receipt of an answer: its serial, by which it is found, and when it was given.
-abbrev pub receipt_of : AnswerKept → Receipt
-receipt_of answer = record { serial = answer.serial; moment = answer.moment }
+-- The index of an answer: its serial, by which it is found, and when it was given.
+abbrev pub answer_index_of : AnswerKept → AnswerIndex
+answer_index_of answer = record { serial = answer.serial; moment = answer.moment }
 
--- The receipt of the request of a number, if it is answered: as it is kept, in cells that begin at the opening, and as
+-- The index of the answer to the request of a number, if it is answered: as it is kept, in cells that begin at the opening, and as
 -- its answer has it.
-abbrev pub receipt_in : List (Option Receipt) → ℕ → ℕ → Option Receipt
-receipt_in cells opening number = option_flatten (slice_get cells (number - opening))
+abbrev pub answer_index_in : List (Option AnswerIndex) → ℕ → ℕ → Option AnswerIndex
+answer_index_in cells opening number = option_flatten (slice_get cells (number - opening))
 
-abbrev pub receipt_to : ℕ → List AnswerKept → Option Receipt
-receipt_to number answered = option_map receipt_of (answer_to number answered)
+abbrev pub answer_index_to : ℕ → List AnswerKept → Option AnswerIndex
+answer_index_to number answered = option_map answer_index_of (answer_to number answered)
 
 -- The answer at a place, if there is a place; and the answer of a serial.
 abbrev pub at_place : List AnswerKept → Option ℕ → Option AnswerKept
@@ -66,9 +66,9 @@ abbrev pub HasRoom : Kept → Type 0
 HasRoom k = length k.recorded.text + 12 ≤ k.room
 
 -- What is kept beside the book is in step with it: each queued record has its room; the slots have the source ports
--- of the setup, and their sendings are counted; and by the last number of each key, and the receipt of each
+-- of the setup, and their sendings are counted; and by the last number of each key, and the answer index of each
 -- answer, a repeat is found without a look through the book.
-pub record IsConsistent (book : Book) (kept : List Kept) (ports : ℕ) (numbers : map.FinMap key_cmp ℕ) (cells : List (Option Receipt)) (count : ℕ) : Type 0 where
+pub record IsConsistent (book : Book) (kept : List Kept) (ports : ℕ) (numbers : map.FinMap key_cmp ℕ) (cells : List (Option AnswerIndex)) (count : ℕ) : Type 0 where
   pub lawful : IsLawful book
   pub rooms : All HasRoom kept
   pub ports_are : ports ≡ book.setup.ports
@@ -76,5 +76,5 @@ pub record IsConsistent (book : Book) (kept : List Kept) (ports : ℕ) (numbers 
   pub last_numbers : (key : Key) → map.get numbers key ≡ last_number key book.accepted
   pub since_opening : (key : Key) (number : ℕ) → map.get numbers key ≡ Some number → book.opening ≤ number
   pub cells_are : length cells ≡ length book.accepted
-  pub receipts : (number : ℕ) → book.opening ≤ number → receipt_in cells book.opening number ≡ receipt_to number book.answered
+  pub indices : (number : ℕ) → book.opening ≤ number → answer_index_in cells book.opening number ≡ answer_index_to number book.answered
   pub numbers_fit : next_number book ≤ 2 ^ 62

@@ -32,7 +32,7 @@ restore-requires-in_default-make_room g c = rw c.in-Ok.ensures.ok (there_inserte
 pub invariant_of-self-in_default-make_room : goal.invariant_of-self-in_default-make_room
 invariant_of-self-in_default-make_room g c =
     let table = as_before _ _ _ _ c.in-Ok.ensures.last _ _ c.in-Ok.ensures.ok c.restore-in_default-make_room.ensures in
-    rw (c.make_room.ensures.accepted, c.make_room.ensures.receipts, c.make_room.ensures.queued, table) c.self.invariant
+    rw (c.make_room.ensures.accepted, c.make_room.ensures.indices, c.make_room.ensures.queued, table) c.self.invariant
 
 pub returns-in_default-make_room : goal.returns-in_default-make_room
 returns-in_default-make_room g c =
@@ -44,7 +44,7 @@ pub invariant_of-self-in-Fresh : goal.invariant_of-self-in-Fresh
 invariant_of-self-in-Fresh g c =
     let last = c.in-Ok.ensures.last ∙ ap (λ key. map.get c.self.inside.duplicates key) c.key_of-key.ensures in
     let new = repeats_seen _ _ c.self.view_is c.self.inside.duplicates c.self.invariant.last_numbers (request_key c.args.request.now) c.moment_of-now.result _ _ _ _ last c.since-seen.ensures.span c.since-seen.ensures.answered c.in-Fresh.ensures in
-    rw (c.push.ensures, c.make_room.ensures.accepted, c.stamp.ensures.value, c.push_back.ensures.items, c.make_room.ensures.queued, c.in-Ok.ensures.ok, c.key_of-key.ensures, c.push-in-Fresh.ensures, c.make_room.ensures.receipts)
+    rw (c.push.ensures, c.make_room.ensures.accepted, c.stamp.ensures.value, c.push_back.ensures.items, c.make_room.ensures.queued, c.in-Ok.ensures.ok, c.key_of-key.ensures, c.push-in-Fresh.ensures, c.make_room.ensures.indices)
     (stands_accepted _ _ _ _ _ _ c.self.inside.slots _ _ _ _ c.self.view_is _ _ _ _ _ _ _ _ c.self.invariant c.moment_of-now.ensures.later c.requires.taken new c.requires.free c.next_number-number.ensures.value c.in-Ok-record_of.ensures.record c.stamp.ensures.is_record c.in-Ok-record_of.ensures.room)
 
 pub returns-in-Ok-make_room : goal.returns-in-Ok-make_room

@@ -36,4 +36,4 @@ invariant_of-self-2 g c =
     let later = c.requires.later in
     let number = ap (λ (s : Stamp). s.number) (c.stamp.ensures.value ∙ a.keeps.stamp) in
     rw (c.push.ensures, c.take.ensures.taken, c.set.ensures, c.reserve_one.ensures.items, number)
-    (stands_answered _ c.self.invariant.lawful c.args.slot a.entry a.there c.args.now (omega (arith, last, later)) _ _ a.keeps _ c.self.invariant.cells_are c.self.invariant.receipts _ _ _ _ c.self.invariant)
+    (stands_answered _ c.self.invariant.lawful c.args.slot a.entry a.there c.args.now (omega (arith, last, later)) _ _ a.keeps _ c.self.invariant.cells_are c.self.invariant.indices _ _ _ _ c.self.invariant)
