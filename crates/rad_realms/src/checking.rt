@@ -1,9 +1,10 @@
 //! What is checked of a datagram that comes from a client, and what it is then known to be.
 
-ghost use Rattle.std.specs.Prelude.{◌≡◌, ◌≢◌, [], Some, option_copied, MatchBool, MatchResult};
+ghost use Rattle.std.specs.Prelude.{◌≡◌, ◌≢◌, [], Some, option_copied, option_and_then, MatchResult};
 ghost use Rattle.rad_packet.specs.Attribute.{of_kind};
 ghost use Rattle.rad_packet.specs.Packet.{IsPacketText, code_of, packet_attributes};
-ghost use Rattle.rad_realms.specs.Realm.{client_of, user_name, realm_of_packet as the_realm};
+ghost use Rattle.rad_realms.specs.Realm.{client_of, realm_in, user_name, realm_of_packet as the_realm};
+ghost use Rattle.rad_realms.specs.declared.checking.Dropped.TheVariants.{MessageAuthenticatorHere};
 ghost use Rattle.rad_realms.specs.Checking.{DropsPacket, Drops};
 ghost use Rattle.rad_realms.specs.Incoming.{TakesPacket, Takes};
 
@@ -193,7 +194,9 @@ impl fmt::Display for Dropped {
 
 /// Checks a datagram from the side of the clients: from which IPv4 address and UDP port it came, and its
 /// octets. It takes no memory, and hashes the packet once at most. Beside that it takes time that is
-/// logarithmic in the numbers of clients and realms, and looks at each attribute three times at most.
+/// logarithmic in the numbers of clients and realms, and looks at each attribute of an Accounting-Request twice at
+/// most: as it reads the packet, and as it looks for a Message-Authenticator and the User-Name. Each attribute of a
+/// Status-Server is looked at three times at most.
 ///
 /// # Errors
 ///
@@ -233,7 +236,7 @@ fn check_packet<'a>(
 }
 
 /// Checks an Accounting-Request of a client.
-#[tactic(auto, unfolding(crate::specs::Realm::lane_of_packet))]
+#[tactic(auto, unfolding(crate::specs::Realm::lane_of_packet, crate::specs::Realm::realm_of_packet))]
 fn check_accounting<'a>(
     config: &'a Config,
     client: &'a Client,
@@ -247,10 +250,8 @@ fn check_accounting<'a>(
     if !check_request(&packet, client.secret()) {
         return Err(Dropped::BadAuthenticator);
     }
-    if has_message_authenticator(&packet) {
-        return Err(Dropped::MessageAuthenticatorHere);
-    }
-    let realm = realm_of_packet(&packet);
+    let name = unsigned_name_of(&packet)?;
+    let realm = realm_of_name(name);
     match config.lane_of_realm(realm) {
         Some(lane) => Ok(Incoming::Request(Checked {
             packet,
@@ -282,22 +283,42 @@ fn check_status_server<'a>(
     }
 }
 
-/// Whether a packet has a Message-Authenticator.
-#[tactic(auto, using(crate::proofs::UserNames::none_counted))]
-fn has_message_authenticator(packet: &PacketRef<'_>) -> bool
-    ensures { MatchBool result (of_kind 80 (packet_attributes packet.now) ≢ []) (of_kind 80 (packet_attributes packet.now) ≡ []) }
-{
-    packet.count_of(MESSAGE_AUTHENTICATOR) != 0
-}
-
 /// The realm of a packet's User-Name, where it has one. It looks at each attribute up to that once.
 #[tactic(auto, unfolding(crate::specs::Realm::realm_of_packet))]
 pub fn realm_of_packet<'a>(packet: &PacketRef<'a>) -> Option<&'a [u8]>
     ensures realm { option_copied result ≡ the_realm packet.now }
     ensures packet { IsPacketText packet.now }
 {
-    let name = user_name_of(packet)?;
-    realm_of(name)
+    realm_of_name(user_name_of(packet))
+}
+
+/// The realm of a User-Name, where there is a name and it has one. It looks at each octet once at most.
+fn realm_of_name<'a>(name: Option<&'a [u8]>) -> Option<&'a [u8]>
+    ensures { option_copied result ≡ option_and_then realm_in (option_copied name.entry) }
+{
+    realm_of(name?)
+}
+
+/// The User-Name of a packet that has no Message-Authenticator, where it has a name. It looks at each attribute
+/// once at most.
+///
+/// # Errors
+///
+/// Where the packet has a Message-Authenticator.
+fn unsigned_name_of<'a>(packet: &PacketRef<'a>) -> Result<Option<&'a [u8]>, Dropped>
+    ensures { MatchResult result
+        (λ name. (of_kind 80 (packet_attributes packet.now) ≡ []) × (option_copied name ≡ user_name packet.now))
+        (λ reason. (reason ≡ MessageAuthenticatorHere) × (of_kind 80 (packet_attributes packet.now) ≢ [])) }
+{
+    let mut name = None;
+    for attribute in packet.attributes() {
+        match attribute.kind {
+            MESSAGE_AUTHENTICATOR => return Err(Dropped::MessageAuthenticatorHere),
+            USER_NAME if name.is_none() => name = Some(attribute.value),
+            _ => {}
+        }
+    }
+    Ok(name)
 }
 
 /// The User-Name of a packet, where it has one. It looks at each attribute up to it once.
