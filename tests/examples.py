@@ -1,10 +1,13 @@
 #!/usr/bin/env python3
 """Has a program read each configuration of examples/, and compares what it counts with what Python's TOML reader finds.
 
+With a log it must know each key too: an example explains every key, so one that is read and not known as read shows here.
+
 usage: examples.py PROGRAM
 
 The last line is `N passed, M failed`.
 """
+import os
 import pathlib
 import subprocess
 import sys
@@ -30,9 +33,10 @@ def main():
         how = {"capture_output": True, "encoding": "utf-8", "timeout": SECONDS}
         ran = subprocess.run([sys.argv[1], "check", str(file)], **how)
         found = ran.returncode, ran.stdout, ran.stderr
-        if found != (0, expected(file), ""):
+        logged = subprocess.run([sys.argv[1], "check", str(file)], env={**os.environ, "RAD_PROXY_LOG": "info"}, **how)
+        if found != (0, expected(file), "") or "unread-key" in logged.stderr:
             failed += 1
-            print(f"{file.relative_to(TOP)}: {found}, and not {expected(file)!r}")
+            print(f"{file.relative_to(TOP)}: {found}, and not {expected(file)!r}; logged: {logged.stderr!r}")
     print(f"{len(files) - failed} passed, {failed} failed")
     sys.exit(1 if failed or not files else 0)
 
