@@ -156,7 +156,8 @@ uninstall:
 manual:
 	mandoc -T lint -W warning man/man8/rad_proxy.8 man/man8/rad_proxyctl.8 man/man5/rad_proxy.toml.5
 	shellcheck packaging/serve.in packaging/rad_proxyctl.in packaging/deb packaging/try-deb packaging/try-deb-inside \
-		packaging/try-package packaging/try-service packaging/debian/postinst packaging/debian/prerm packaging/debian/postrm
+		packaging/try-alerts packaging/try-alerts-inside packaging/try-package packaging/try-service \
+		packaging/debian/postinst packaging/debian/prerm packaging/debian/postrm
 
 # A Debian package of the program that `make build` left, in out/.
 deb:

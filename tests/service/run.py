@@ -311,8 +311,26 @@ def counters_elsewhere_are_told(service):
     done = service.ask("metrics")
     hope("status", done.returncode, 4)
     hope("what it says", done.stderr,
-         f"rad_proxyctl: no counters in {service.run}: RAD_PROXY_COUNTERS of the service names another file\n")
+         f"rad_proxyctl: no counters in {service.run}: RAD_PROXY_COUNTERS of the service names another file, or it cannot write them\n")
     hope("lanes", 'rad_proxy_home_up{lane="0",home="h1"} 1' in done.stdout, True)
+
+
+def counters_that_cannot_be_written_are_told(service):
+    """Where a folder stands in the place of the counters it is the same, and the log says why."""
+    service.start()
+    until("counters", (service.run / "counters").exists)
+
+    def replace():
+        with contextlib.suppress(OSError):
+            (service.run / "counters").unlink(missing_ok=True)
+            (service.run / "counters").mkdir()
+        return (service.run / "counters").is_dir()
+
+    until("a folder", replace)
+    until("it is told", lambda: "event=counters-fault" in service.log.read_text())
+    done = service.ask("metrics")
+    hope("status", done.returncode, 4)
+    hope("what it says", done.stderr.endswith("names another file, or it cannot write them\n"), True)
 
 
 def counters_that_are_not_written_are_told(service):
@@ -407,6 +425,29 @@ def top_draws_what_is_there(service):
         while drawn.count(b"\033[H\033[2J") < 3:
             drawn += os.read(ours, 4096)
         hope("tables", drawn.count(b"HOME") >= 2, True)
+    finally:
+        drawing.terminate()
+        drawing.wait(PATIENCE)
+        os.close(ours)
+
+
+def top_draws_a_table_as_soon_as_its_numbers_are_there(service):
+    """On a terminal each table comes with its own numbers, and not with the next ones: so within less than a second of them."""
+    service.start()
+    until("counters", (service.run / "counters").exists)
+    began = float(re.search(r"^rad_proxy_start_time_seconds (.*)", service.ask("metrics").stdout, re.M)[1])
+    ours, theirs = pty.openpty()
+    drawing = subprocess.Popen([service.ctl, "top"], stdin=theirs, stdout=theirs, stderr=theirs, env=service.environment)
+    os.close(theirs)
+    try:
+        ages, drawn = [], b""
+        while len(ages) < 4:
+            drawn += os.read(ours, 65536)
+            told = re.search(rb"running for ([0-9.]+)s.*FAULTS a second", drawn, re.S)
+            if told:
+                ages.append(time.time() - began - float(told[1]))
+                drawn = drawn[told.end():]
+        hope(f"the least of {ages} is below a second", min(ages) < 0.9, True)
     finally:
         drawing.terminate()
         drawing.wait(PATIENCE)
@@ -792,9 +833,9 @@ TESTS = [
     the_lock_outlives_a_serve_that_was_killed, refuses_a_folder_that_others_write_in, whatever_the_umask,
     a_stopped_asker_keeps_nobody_out, an_asker_without_an_answer_gives_up, many_ask_at_once,
     a_hand_over_that_dies_is_started_anew, nobody_reads_its_output, its_output_is_full, what_is_left_over_is_a_warning,
-    counters_elsewhere_are_told, counters_that_are_not_written_are_told,
+    counters_elsewhere_are_told, counters_that_cannot_be_written_are_told, counters_that_are_not_written_are_told,
     metrics_are_as_prometheus_reads_them, alerts_fire_where_they_should, metrics_go_to_a_file,
-    top_draws_what_is_there, top_of_no_proxy_ends, metrics_of_no_proxy_are_removed, metrics_go_to_no_other_file, metrics_are_had_by_http, http_waits_for_no_client, each_panel_of_the_dashboard_draws, sent_again_is_never_less_than_nothing, counters_that_are_written_late_are_waited_for,
+    top_draws_what_is_there, top_draws_a_table_as_soon_as_its_numbers_are_there, top_of_no_proxy_ends, metrics_of_no_proxy_are_removed, metrics_go_to_no_other_file, metrics_are_had_by_http, http_waits_for_no_client, each_panel_of_the_dashboard_draws, sent_again_is_never_less_than_nothing, counters_that_are_written_late_are_waited_for,
     memory_is_refused_and_nothing_ends, relative_paths_hold, an_answer_that_cannot_be_written_is_told,
     whoever_keeps_the_pipe_is_not_waited_for, the_unit_takes_no_core_dump, root_asks_as_the_owner,
     the_owner_gets_nothing_of_roots, root_serves_nobody_elses_folder,
