@@ -3,19 +3,13 @@
 use crate::numbers::Numbers;
 use crate::reading::Reading;
 use crate::socket_numbers::SocketReading;
+use crate::udp_sockets::UdpSockets;
 use crate::writing::write_numbers;
 use rad_realms::Config;
 use std::alloc::{AllocError, Global};
-use std::fs::{self, Files};
-use std::io::{self, Read};
+use std::io;
 use std::sync::Wait;
 use std::time::Clock;
-
-/// Where Linux tells of its UDP sockets, those of this program's network alone.
-const UDP_TABLE: &str = "/proc/self/net/udp";
-
-/// The most octets that are read there, which are those of some 30,000 sockets.
-const MOST_OCTETS: u64 = 1 << 22;
 
 /// A text, and what it is made of. The memory serves the next one too.
 #[derive(Drop)]
@@ -43,16 +37,14 @@ impl Draft {
     /// # Errors
     ///
     /// Where memory is refused.
-    pub fn read<S: Files + Wait, R>(
+    pub fn read<S: Wait, U: UdpSockets, R>(
         &mut self,
         rt: &S,
+        sockets: &U,
         numbers: &Numbers<'_, R>,
-    ) -> Result<(), AllocError>
-    where
-        S::File: Drop,
-    {
+    ) -> Result<(), AllocError> {
         numbers.read_each(rt, &mut self.readings)?;
-        read_table(rt, &mut self.table);
+        sockets.read(&mut self.table);
         let table = str::from_utf8(self.table.as_slice()).unwrap_or("");
         numbers.read_sockets(rt, table, &mut self.sockets)
     }
@@ -85,16 +77,5 @@ impl Draft {
     /// The text.
     pub fn text(&mut self) -> &mut Vec<u8> {
         &mut self.text
-    }
-}
-
-/// Reads what the system tells of its UDP sockets, in place of what was read before; nothing where it tells nothing.
-fn read_table<S: Files>(files: &S, table: &mut Vec<u8>)
-where
-    S::File: Drop,
-{
-    table.clear();
-    if let Ok(file) = fs::open(files, UDP_TABLE) {
-        let _ = file.take(MOST_OCTETS).read_to_end(table);
     }
 }

@@ -8,6 +8,7 @@ mod descriptors;
 mod faults;
 mod file_name;
 mod loading;
+mod machine;
 mod reasons;
 mod run_command;
 mod words;
@@ -15,9 +16,11 @@ mod words;
 use check_command::check_file;
 use descriptors::open_standard;
 use faults::Fault;
+use machine::Machine;
 use rad_console::EndLine;
+use rad_metrics::UdpSockets;
 use rad_replay::replay;
-use rad_server::{LocalAddresses, RuntimeAddresses};
+use rad_server::LocalAddresses;
 use rad_telemetry::{Log, ReplaceFile, RuntimeFiles, open_log_if_asked, tell_reason};
 use run_command::serve_file;
 use std::alloc::{AllocGlobal, Global};
@@ -37,8 +40,8 @@ const LEFT_OVER: u8 = 3;
 
 fn main(rt: HostRuntime) -> ExitCode {
     let files = RuntimeFiles::new(rt);
-    let addresses = RuntimeAddresses::new(rt);
-    let status = match obey_words(&rt, files, &addresses) {
+    let machine = Machine::new(rt);
+    let status = match obey_words(&rt, files, &machine) {
         Ok(status) => status,
         Err(fault) => {
             if !matches!(fault, Fault::Output) {
@@ -51,12 +54,12 @@ fn main(rt: HostRuntime) -> ExitCode {
 }
 
 /// Does what the words ask for, and gives the status.
-fn obey_words<R, F, A>(rt: &R, files: F, addresses: &A) -> Result<u8, Fault>
+fn obey_words<R, F, A>(rt: &R, files: F, machine: &A) -> Result<u8, Fault>
 where
     R: Runtime + AllocGlobal + Net + RandomSource + Threads + Wait + Sync + Copy + Send + 'static,
     R::File: Drop + IntoRawFd,
     F: ReplaceFile + Drop + Send + 'static,
-    A: LocalAddresses + Sync,
+    A: LocalAddresses + UdpSockets + Sync,
 {
     open_standard(rt)?;
     let alloc = rt.alloc();
@@ -69,7 +72,7 @@ where
             print_counts(rt, alloc, &log, file.as_str())
         }
         Task::Run(file) => {
-            let end = serve_file(rt, files, addresses, alloc, file.as_str())?;
+            let end = serve_file(rt, files, machine, alloc, file.as_str())?;
             Ok(status_at(&end))
         }
     }

@@ -6,6 +6,7 @@ use crate::faults::Fault;
 use crate::loading::load;
 use libc::{STDIN_FILENO, STDOUT_FILENO};
 use rad_console::EndLine;
+use rad_metrics::UdpSockets;
 use rad_realms::Config;
 use rad_server::{Descriptors, LocalAddresses, ServeFault, run};
 use rad_telemetry::{
@@ -16,7 +17,7 @@ use std::alloc::{AllocError, AllocGlobal, Global};
 use std::io::{self, Error, Read, Write};
 use std::net::Net;
 use std::random::RandomSource;
-use std::rt::{Files, Runtime};
+use std::rt::Runtime;
 use std::sync::{Arc, Wait};
 use std::thread::{self, Scope, Threads};
 use std::time::{Clock, Duration, Instant};
@@ -41,7 +42,7 @@ const NO_WAIT: &str = "the system can't wait for it";
 pub fn serve_file<R, F, A>(
     rt: &R,
     files: F,
-    addresses: &A,
+    machine: &A,
     alloc: Global,
     path: &str,
 ) -> Result<EndLine, Fault>
@@ -49,19 +50,19 @@ where
     R: Runtime + AllocGlobal + Net + RandomSource + Threads + Wait + Sync + Copy + Send + 'static,
     R::File: Drop,
     F: ReplaceFile + Drop + Send + 'static,
-    A: LocalAddresses + Sync,
+    A: LocalAddresses + UdpSockets + Sync,
 {
     let Ok(log) = open_log(rt, alloc) else {
         return Err(Fault::Memory);
     };
-    serve_logged(rt, files, addresses, alloc, path, &log)
+    serve_logged(rt, files, machine, alloc, path, &log)
 }
 
 /// The same, where this is the log.
 fn serve_logged<R, F, A>(
     rt: &R,
     files: F,
-    addresses: &A,
+    machine: &A,
     alloc: Global,
     path: &str,
     log: &Logged<(), ErrorLines>,
@@ -70,17 +71,17 @@ where
     R: Runtime + AllocGlobal + Net + RandomSource + Threads + Wait + Sync + Copy + Send + 'static,
     R::File: Drop,
     F: ReplaceFile + Drop + Send + 'static,
-    A: LocalAddresses + Sync,
+    A: LocalAddresses + UdpSockets + Sync,
 {
     let config = load(rt, alloc, log, path)?;
-    serve_config(rt, files, addresses, alloc, &config, log)
+    serve_config(rt, files, machine, alloc, &config, log)
 }
 
 /// Serves a configuration, while what is left of the counters is written.
 fn serve_config<R, F, A>(
     rt: &R,
     files: F,
-    addresses: &A,
+    machine: &A,
     alloc: Global,
     config: &Config,
     log: &Logged<(), ErrorLines>,
@@ -89,7 +90,7 @@ where
     R: Runtime + AllocGlobal + Net + RandomSource + Threads + Wait + Sync + Copy + Send + 'static,
     R::File: Drop,
     F: ReplaceFile + Drop + Send + 'static,
-    A: LocalAddresses + Sync,
+    A: LocalAddresses + UdpSockets + Sync,
 {
     let Ok(file) = find_counter_file(rt, log) else {
         return Err(Fault::Memory);
@@ -105,7 +106,7 @@ where
         return Err(fault_told(log, ServeFault::Threads));
     }
     let left = if is_reported { Some(&*texts) } else { None };
-    let outcome = serve_told(rt, addresses, alloc, config, &telemetry, left, log);
+    let outcome = serve_told(rt, machine, alloc, config, &telemetry, left, log);
     end_writers(rt, log, &texts);
     outcome
 }
@@ -113,7 +114,7 @@ where
 /// Serves a configuration over the standard streams. What ends it is told.
 fn serve_told<'a, R, L, A>(
     rt: &'a R,
-    addresses: &'a A,
+    machine: &'a A,
     alloc: Global,
     config: &'a Config,
     telemetry: &'a Telemetry<'a, L, R>,
@@ -122,14 +123,13 @@ fn serve_told<'a, R, L, A>(
 ) -> Result<EndLine, Fault>
 where
     R: Runtime + AllocGlobal + Net + RandomSource + Threads + Wait + Sync,
-    R::File: Drop,
     L: Log + Sync,
-    A: LocalAddresses + Sync,
+    A: LocalAddresses + UdpSockets + Sync,
 {
     let reporter = telemetry.reporter(texts);
     let service = Service {
         rt,
-        addresses,
+        machine,
         alloc,
         config,
         telemetry,
@@ -194,7 +194,7 @@ fn end_writers<R: Clock + Wait>(rt: &R, log: &Logged<(), ErrorLines>, texts: &Co
 /// A configuration that is served, and what tells how that goes.
 struct Service<'a, R, L, A> {
     rt: &'a R,
-    addresses: &'a A,
+    machine: &'a A,
     alloc: Global,
     config: &'a Config,
     telemetry: &'a Telemetry<'a, L, R>,
@@ -216,10 +216,9 @@ fn serve<R, L, A, I, O>(
     writer: O,
 ) -> Result<EndLine, ServeFault>
 where
-    R: Clock + Files + Net + RandomSource + Threads + Wait + Sync,
-    R::File: Drop,
+    R: Clock + Net + RandomSource + Threads + Wait + Sync,
     L: Log + Sync,
-    A: LocalAddresses + Sync,
+    A: LocalAddresses + UdpSockets + Sync,
     I: Read + Drop,
     O: Write + Drop,
 {
@@ -248,19 +247,19 @@ fn start_reporter<'s, E, R, L, A>(
     stop: &'s StopFlag,
 ) -> bool
 where
-    R: Clock + Files + Wait + Sync + 's,
-    R::File: Drop,
+    R: Clock + Wait + Sync + 's,
     L: Log + Sync + 's,
-    A: Sync + 's,
+    A: UdpSockets + Sync + 's,
 {
     let Service {
         rt,
+        machine,
         alloc,
         reporter,
         ..
     } = service;
     scope
-        .spawn(move || report(rt, alloc, reporter, stop))
+        .spawn(move || report(rt, machine, alloc, reporter, stop))
         .is_ok()
 }
 
@@ -279,7 +278,7 @@ where
 {
     let Service {
         rt,
-        addresses,
+        machine,
         alloc,
         config,
         telemetry,
@@ -291,7 +290,7 @@ where
     };
     let end = run(
         rt,
-        addresses,
+        machine,
         alloc,
         config,
         telemetry,

@@ -12,10 +12,9 @@ use crate::stop_flag::StopFlag;
 use crate::workers::{worker_name, worker_of_lane};
 use log::{Log, info, warn};
 use rad_desk::Worker;
-use rad_metrics::{Draft, Numbers};
+use rad_metrics::{Draft, Numbers, UdpSockets};
 use rad_realms::{Config, Dropped};
 use std::alloc::{AllocError, Global};
-use std::fs::Files;
 use std::io::{self, Write};
 use std::sync::{Wait, WaitMethods};
 use std::time::Clock;
@@ -47,10 +46,16 @@ impl<L, R> Copy for Reporter<'_, L, R> {}
 
 /// Reports once a second until the flag is set, and then once more. A text of all numbers is made anew each time, in the
 /// memory of an earlier one; the workers are asked right before how their lanes stand.
-pub fn report<R, L>(rt: &R, alloc: Global, reporter: Reporter<'_, L, R>, stop: &StopFlag)
+pub fn report<R, U, L>(
+    rt: &R,
+    sockets: &U,
+    alloc: Global,
+    reporter: Reporter<'_, L, R>,
+    stop: &StopFlag,
+)
 where
-    R: Clock + Files + Wait,
-    R::File: Drop,
+    R: Clock + Wait,
+    U: UdpSockets,
     L: Log,
 {
     let mut draft = Draft::new(alloc);
@@ -61,7 +66,7 @@ where
             stop.wait(rt, ASKED);
         }
         reporter.log_deltas();
-        reporter.leave_text(rt, &mut draft);
+        reporter.leave_text(rt, sockets, &mut draft);
         if is_last {
             return;
         }
@@ -228,15 +233,12 @@ impl<L: Log, R> Reporter<'_, L, R> {
 impl<L: Log, R: Clock> Reporter<'_, L, R> {
     /// Leaves a text of all numbers to whoever writes it to their file, where there is one; and logs what speaks against one
     /// that was left before, once.
-    pub fn leave_text<S: Files + Wait>(&self, rt: &S, draft: &mut Draft)
-    where
-        S::File: Drop,
-    {
+    pub fn leave_text<S: Wait, U: UdpSockets>(&self, rt: &S, sockets: &U, draft: &mut Draft) {
         let Some(texts) = self.texts else {
             return;
         };
         self.log_fault(rt, texts);
-        if draft.read(rt, self.numbers).is_ok() && self.write_all(draft).is_ok() {
+        if draft.read(rt, sockets, self.numbers).is_ok() && self.write_all(draft).is_ok() {
             texts.leave(rt, draft.text());
         }
     }

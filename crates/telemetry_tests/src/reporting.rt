@@ -4,14 +4,13 @@ use crate::comparing::holds;
 use crate::shared::{HOME, MemoryLog, NAS, Setup, Still, Story, TWO_HOMES, logs};
 use rad_desk::{Gate, Note, Worker};
 use rad_lane::Refusal;
-use rad_metrics::Draft;
+use rad_metrics::{Draft, UdpSockets};
 use rad_realms::{Dropped, Endpoint};
 use rad_telemetry::{
     CounterFile, CounterTexts, FileFault, LevelFilter, ReplaceFile, Reporter, Telemetry,
 };
 use std::alloc::Global;
 use std::result::Result;
-use std::rt::Files;
 use std::sync::{Mutex, Wait};
 use std::test::Fail;
 
@@ -182,23 +181,26 @@ struct Texts<'a, R> {
     untaken: u32,
 }
 
-impl<R: Files + Wait> Texts<'_, R>
-where
-    R::File: Drop,
-{
+/// A machine that tells of no UDP socket.
+struct NoSockets;
+
+impl UdpSockets for NoSockets {
+    fn read(&self, table: &mut Vec<u8>) {
+        table.clear();
+    }
+}
+
+impl<R: Wait> Texts<'_, R> {
     /// Leaves a text, and has it written as the last one.
     fn write_last(&self, reporter: Reporter<'_, MemoryLog, Still>) {
-        reporter.leave_text(self.rt, &mut Draft::new(self.alloc));
+        reporter.leave_text(self.rt, &NoSockets, &mut Draft::new(self.alloc));
         self.texts.end();
         self.texts
             .write_all(self.rt, self.alloc, &self.file, self.memory);
     }
 }
 
-impl<R: Files + Wait> Story for Texts<'_, R>
-where
-    R::File: Drop,
-{
+impl<R: Wait> Story for Texts<'_, R> {
     fn tell<'x>(&'x self, telemetry: &'x Telemetry<'_, MemoryLog, Still>) {
         for _ in 0..self.written {
             self.write_last(telemetry.reporter(Some(&self.texts)));
@@ -207,24 +209,21 @@ where
         for _ in 0..self.untaken {
             telemetry
                 .reporter(Some(&self.texts))
-                .leave_text(self.rt, &mut draft);
+                .leave_text(self.rt, &NoSockets, &mut draft);
         }
     }
 }
 
 /// Whether a file is given a text that begins like this, and these lines are logged, where so many texts are written and then so
 /// many left. The file may have a fault.
-fn gives<R: Files + Wait>(
+fn gives<R: Wait>(
     rt: &R,
     alloc: Global,
     fault: Option<FileFault>,
     (written, untaken): (u32, u32),
     given: &str,
     expected: &str,
-) -> Result<bool, Fail>
-where
-    R::File: Drop,
-{
+) -> Result<bool, Fail> {
     let memory = Memory::new(alloc, fault);
     let story = Texts {
         rt,
