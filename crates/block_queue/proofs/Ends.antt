@@ -31,11 +31,6 @@ module _ {T : Type 0} where
   room_popped b left [] e = e
   room_popped b left (c ∷ cs) e = refl
 
-  pub none_have : (bs : List (Queue T)) → bs ≡ [] → AllHaveItems bs
-  unfolding AllHaveItems
-  none_have [] e = tt
-  none_have (b ∷ bs) e = cc
-
   -- with no block to spare
   pub held_alone : (bs : List (Queue T)) → IsLine bs → HasAtMostOneEmpty bs false
   held_alone bs h = record { lined = h; alone = λ some. absurd (cc) }
@@ -125,10 +120,6 @@ module _ {T : Type 0} where
   pub at_first : (bs rest : List (Queue T)) (first : Queue T) → bs ≡ first ∷ rest → first.items ≡ first_items bs
   unfolding first_items
   at_first bs rest first e = ap first_items (sym e)
-
-  pub no_first_items : (bs : List (Queue T)) → bs ≡ [] → [] ≡ first_items bs
-  unfolding first_items
-  no_first_items bs e = ap first_items (sym e)
 
   -- the first block has an item
   pub some_first : (bs : List (Queue T)) → IsChain bs → 0 < length (items_of bs) → 0 < first_count bs
@@ -253,10 +244,6 @@ module _ {T : Type 0} where
 
   pub ends_none : (bs : List (Queue T)) (last : Queue T) → EndsWith bs last → has_none last.items ≡ ends_empty bs
   ends_none bs last (front, e) = sym (ends_at front last) ∙ ap ends_empty e
-
-  pub no_end : (bs : List (Queue T)) → bs ≡ [] → false ≡ ends_empty bs
-  unfolding ends_empty
-  no_end bs e = ap ends_empty (sym e)
 
   pub after_taken : (bs new : List (Queue T)) (r : Option (Bor (Queue T))) → TakesFirst deref bs r new → new ≡ drop 1 bs
   after_taken bs new None e = e.1 ∙ ap (drop 1) (sym e.0)

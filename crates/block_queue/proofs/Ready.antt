@@ -112,21 +112,6 @@ module _ {T : Type 0} where
   pub ready_same : (bs : List (Queue T)) → IsChain bs → (2 ≤ first_count bs) ⊎ AllHaveItems bs → IsReady bs bs
   ready_same bs h more = record { chained = h; items = refl; more = more; room = inl refl }
 
-  pub ready_settled : (old bs : List (Queue T)) → IsSettled old bs → (2 ≤ first_count bs) ⊎ AllHaveItems bs → IsReady old bs
-  ready_settled old bs s more = record { chained = s.chained; items = s.items; more = more; room = inl s.room }
-
-  pub ready_behind : (old bs new : List (Queue T)) → IsSettled old bs → IsReady bs new → IsReady old new
-  ready_behind old bs new s r =
-      record {
-        chained = r.chained;
-        items = r.items ∙ s.items;
-        more = r.more;
-        room = elim r.room [
-          | inl same ↦ inl (same ∙ s.room)
-          | inr lone ↦ inr lone
-        ];
-      }
-
   lone_left : (bs new : List (Queue T)) (item : T) → IsFirstPopped bs item new → length bs ≡ 1 → first_count bs ≡ 1 → (items_of new ≡ []) × (room_of new ≡ 32)
   unfolding items_of room_of
   lone_left bs new item (first, left, [], e, f, popped) one few =
