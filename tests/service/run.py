@@ -100,6 +100,16 @@ class Service:
             with contextlib.suppress(ProcessLookupError):
                 os.killpg(process.pid, signal.SIGKILL)
             process.wait()
+            self.wait_for_group(process.pid)
+
+    def wait_for_group(self, group):
+        """Waits until a group that was killed has no process left, which could still write into the folder."""
+        for _ in range(100):
+            try:
+                os.killpg(group, 0)
+            except ProcessLookupError:
+                return
+            time.sleep(0.05)
 
 
 def drains_where_its_group_gets_the_signal(service):
