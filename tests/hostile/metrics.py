@@ -9,15 +9,13 @@ import contextlib
 import pathlib
 import re
 import signal
-import subprocess
 import sys
-import tempfile
 import time
 
 sys.dont_write_bytecode = True
 
 from moments import Failed, Stage, hope
-from trying import try_each
+from trying import try_in_folders
 from vectors import TOP
 from waiting import HERE, bound, is_so
 
@@ -169,23 +167,5 @@ TESTS = [numbers_of_a_home_fit_together, ages_grow_until_an_answer, what_became_
          what_the_system_drops_is_told, latencies_are_counted]
 
 
-def fault_of(test, program):
-    """What is wrong, where something is."""
-    with tempfile.TemporaryDirectory() as folder:
-        try:
-            test(program, folder)
-        except (Failed, OSError, KeyError, subprocess.SubprocessError) as fault:
-            return f"{type(fault).__name__}: {fault}"
-    return None
-
-
-def main():
-    if len(sys.argv) < 2:
-        sys.exit(__doc__)
-    program, names = str(pathlib.Path(sys.argv[1]).resolve()), sys.argv[2:]
-    tests = [test for test in TESTS if not names or test.__name__ in names]
-    try_each(tests, lambda test: fault_of(test, program))
-
-
 if __name__ == "__main__":
-    main()
+    try_in_folders(TESTS, [Failed], __doc__)

@@ -14,9 +14,7 @@ import random
 import re
 import resource
 import select
-import subprocess
 import sys
-import tempfile
 import time
 
 sys.dont_write_bytecode = True
@@ -24,7 +22,7 @@ sys.dont_write_bytecode = True
 from model import read
 from starting import built
 from telling import SECRET, Home, Proxy
-from trying import try_each
+from trying import try_in_folders
 from vectors import STATUS_SERVER, TOP, answer, request, user_name
 from waiting import bound, is_so
 
@@ -589,23 +587,5 @@ TESTS = [
 ]
 
 
-def fault_of(test, program):
-    """What is wrong, where something is."""
-    with tempfile.TemporaryDirectory() as folder:
-        try:
-            test(program, folder)
-        except (Failed, OSError, KeyError, subprocess.SubprocessError) as fault:
-            return f"{type(fault).__name__}: {fault}"
-    return None
-
-
-def main():
-    if len(sys.argv) < 2:
-        sys.exit(__doc__)
-    program, names = str(pathlib.Path(sys.argv[1]).resolve()), sys.argv[2:]
-    tests = [test for test in TESTS if not names or test.__name__ in names]
-    try_each(tests, lambda test: fault_of(test, program))
-
-
 if __name__ == "__main__":
-    main()
+    try_in_folders(TESTS, [Failed], __doc__)

@@ -63,6 +63,25 @@ def try_named(tests, stage_of, usage):
     try_each(chosen, lambda test: fault_on(stage_of, program, test))
 
 
+def in_folder(test, program, faults):
+    """What is wrong with a test of a program, where something is: exceptions of these kinds. It has a folder of its own."""
+    with tempfile.TemporaryDirectory() as folder:
+        try:
+            test(program, folder)
+        except (OSError, KeyError, subprocess.SubprocessError, *faults) as fault:
+            return f"{type(fault).__name__}: {fault}"
+    return None
+
+
+def try_in_folders(tests, faults, usage):
+    """Tries all tests, or those that the script is given the names of behind its program, and ends the script."""
+    if len(sys.argv) < 2:
+        sys.exit(usage)
+    program, names = str(pathlib.Path(sys.argv[1]).resolve()), sys.argv[2:]
+    chosen = [test for test in tests if not names or test.__name__ in names]
+    try_each(chosen, lambda test: in_folder(test, program, faults))
+
+
 class Trial:
     """What is looked at of a program, in a folder: what is so is counted, and what is not is counted and told."""
 
