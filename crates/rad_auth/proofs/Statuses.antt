@@ -7,7 +7,8 @@ use Rattle.rad_packet.specs.Place.{IsLastAt}
 use Rattle.rad_packet.proofs.Joined.{attributes_of-joined}
 use Rattle.rad_packet.proofs.Walk.{joined-append, of_kind-append}
 use Rattle.rad_auth.specs.Hmac.{hmac_md5}
-use Rattle.rad_auth.specs.Status.{IsRightStatus, message_authenticator, no_value, with_header_of, status_server, zeroed_at}
+use Rattle.rad_auth.specs.Status.{IsRightStatus, message_authenticator, no_value, with_header_of, status_server}
+use Rattle.rad_auth.specs.internal.Zeroed.{zeroed_at}
 use Rattle.rad_auth.proofs.Cuts.{attributes_parted, cut_here, cut_after, cut_front}
 use Rattle.rad_auth.proofs.OneKind.{of_kind_first, same_last, SameParts}
 use Rattle.rad_auth.proofs.Digests.{length-md5}

@@ -6,7 +6,8 @@ ghost use Rattle.rad_packet.specs.Packet.{authenticator_of, code_of, identifier_
 ghost use Rattle.rad_packet.specs.Place.{IsLastAt};
 ghost use Rattle.rad_auth.specs.Authenticator.{IsRightResponse, accounting_response};
 ghost use Rattle.rad_auth.specs.Hmac.{hmac_md5};
-ghost use Rattle.rad_auth.specs.Status.{IsRightStatus, status_server, zeroed_at};
+ghost use Rattle.rad_auth.specs.Status.{IsRightStatus, status_server};
+ghost use Rattle.rad_auth.specs.internal.Zeroed.{zeroed_at};
 
 use crate::authenticators::sign_datagram;
 use crate::hmac::{hmac_md5, hmac_md5_of_parts};
