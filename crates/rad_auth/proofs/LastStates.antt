@@ -4,7 +4,7 @@ use Rattle.rad_packet.specs.Attribute.{Attribute, attributes_of, of_kind}
 use Rattle.rad_packet.specs.Packet.{IsPacketText, attribute_octets, packet_attributes}
 use Rattle.rad_packet.specs.declared.packet_ref.AttributePlace.{AttributePlace}
 use Rattle.rad_packet.proofs.Walk.{Seen, walked_none, seen_within, seen_this, seen_other, seen_all}
-use Rattle.rad_auth.specs.Returning.{IsLastOrNone}
+use Rattle.rad_auth.specs.internal.Returning.{IsLastOrNone}
 
 -- none of the attributes that were seen is a Message-Authenticator, and this is the last Proxy-State of them
 pub record StateSeen (text rest : List ℕ) (place : ℕ) (last : Option AttributePlace) : Type 0 where

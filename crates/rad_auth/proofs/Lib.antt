@@ -5,6 +5,7 @@ pub mod Forwards
 pub mod LastStates
 pub mod Marks
 pub mod OneKind
+pub mod OnlySigns
 pub mod Packets
 pub mod Parted
 pub mod Returns

@@ -1,8 +1,9 @@
--- Attributes of one Type among others: the first of them, the last of them, and none.
+-- Attributes of one Type among others: one that stands first, the last of them, and none.
 use Rattle.std.proofs.Common.{◌≡◌, ℕ, Bool, true, false, cond, eqb, eq-eqb, List, [], ◌∷◌, ◌++◌, refl, sym, ap, ◌∙◌}
 use Rattle.rad_packet.specs.Attribute.{Attribute, of_kind}
 
-of_kind_first : (kind : ℕ) (x : Attribute) (xs : List Attribute) → x.kind ≡ kind → of_kind kind (x ∷ xs) ≡ x ∷ of_kind kind xs
+-- one of a Type is the first of them all, where it stands first
+pub of_kind_first : (kind : ℕ) (x : Attribute) (xs : List Attribute) → x.kind ≡ kind → of_kind kind (x ∷ xs) ≡ x ∷ of_kind kind xs
 of_kind_first kind x xs e = let t : eqb x.kind kind ≡ true = eq-eqb x.kind kind e in ap (λ b. cond b (x ∷ of_kind kind xs) (of_kind kind xs)) t
 
 none_here : (kind : ℕ) (x : Attribute) (xs : List Attribute) → of_kind kind (x ∷ xs) ≡ [] → x.kind ≡ kind → ⊥
@@ -20,35 +21,12 @@ pub none_among : (kind : ℕ) (xs : List Attribute) (a : Attribute) (ys : List A
 none_among kind [] a ys none e = none_here kind a ys none e
 none_among kind (x ∷ xs) a ys none e = none_among kind xs a ys (none_later kind x (xs ++ a ∷ ys) none) e
 
--- the first of a Type is the first of them all
-pub of_kind-first : (kind : ℕ) (xs : List Attribute) (a : Attribute) (ys : List Attribute) → of_kind kind xs ≡ [] → a.kind ≡ kind → of_kind kind (xs ++ a ∷ ys) ≡ a ∷ of_kind kind ys
-of_kind-first kind [] a ys none e = of_kind_first kind a ys e
-of_kind-first kind (x ∷ xs) a ys none e =
-    skipped (eqb x.kind kind) x (of_kind kind xs) (of_kind kind (xs ++ a ∷ ys)) none
-    ∙ of_kind-first kind xs a ys (none_later kind x xs none) e
-  where
-    skipped : (b : Bool) (x : Attribute) (xs ys : List Attribute) → cond b (x ∷ xs) xs ≡ [] → cond b (x ∷ ys) ys ≡ ys
-    skipped true x xs ys h = cc
-    skipped false x xs ys h = refl
-
--- the attributes are parted at the first of a Type in one way
+-- the attributes are parted at the last of a Type in one way
 pub record SameParts (xs : List Attribute) (a : Attribute) (ys xs' : List Attribute) (a' : Attribute) (ys' : List Attribute) : Type 0 where
   pub before : xs ≡ xs'
   pub here : a ≡ a'
   pub after : ys ≡ ys'
 
-pub same_first : (kind : ℕ) (xs : List Attribute) (a : Attribute) (ys xs' : List Attribute) (a' : Attribute) (ys' : List Attribute)
-    → of_kind kind xs ≡ [] → of_kind kind xs' ≡ [] → a.kind ≡ kind → a'.kind ≡ kind → xs ++ a ∷ ys ≡ xs' ++ a' ∷ ys' → SameParts xs a ys xs' a' ys'
-same_first kind [] a ys [] a' ys' n n' k k' e = record { before = refl; here = cc; after = cc }
-same_first kind [] a ys (x' ∷ xs') a' ys' n n' k k' e = let h : a ≡ x' = cc in absurd (none_here kind x' xs' n' (ap (λ x. x.kind) (sym h) ∙ k))
-same_first kind (x ∷ xs) a ys [] a' ys' n n' k k' e = let h : x ≡ a' = cc in absurd (none_here kind x xs n (ap (λ x. x.kind) h ∙ k'))
-same_first kind (x ∷ xs) a ys (x' ∷ xs') a' ys' n n' k k' e =
-    let h : x ≡ x' = cc in
-    let rest : xs ++ a ∷ ys ≡ xs' ++ a' ∷ ys' = cc in
-    let s : SameParts xs a ys xs' a' ys' = same_first kind xs a ys xs' a' ys' (none_later kind x xs n) (none_later kind x' xs' n') k k' rest in
-    record { before = ap (λ y. y ∷ xs) h ∙ ap (λ ys. x' ∷ ys) s.before; here = s.here; after = s.after }
-
--- and at the last of a Type
 pub same_last : (kind : ℕ) (xs : List Attribute) (a : Attribute) (ys xs' : List Attribute) (a' : Attribute) (ys' : List Attribute)
     → of_kind kind ys ≡ [] → of_kind kind ys' ≡ [] → a.kind ≡ kind → a'.kind ≡ kind → xs ++ a ∷ ys ≡ xs' ++ a' ∷ ys' → SameParts xs a ys xs' a' ys'
 same_last kind [] a ys [] a' ys' n n' k k' e = record { before = refl; here = cc; after = cc }

@@ -2,7 +2,7 @@
 use Rattle.std.proofs.Common.{◌≡◌, ℕ, ◌+◌, ◌-◌, List, ◌++◌, length, take, drop, slice_range, sym, ap, ◌∙◌, subst, arith, length-append, append_assoc}
 use Rattle.std.proofs.lemmas.List.{take_at, drop_at}
 use Rattle.rad_auth.specs.Answers.{Answers}
-use Rattle.rad_auth.specs.Parted.{parted, IsParted}
+use Rattle.rad_auth.specs.internal.Parted.{parted, IsParted}
 use Rattle.rad_auth.specs.Replied.{Replied, IsAnswer}
 use Rattle.rad_auth.specs.declared.reply.RequestHead.{RequestHead}
 

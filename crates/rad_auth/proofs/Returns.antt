@@ -18,7 +18,7 @@ use Rattle.rad_auth.specs.Answers.{Answers}
 use Rattle.rad_auth.specs.Authenticator.{IsRightResponse, accounting_response}
 use Rattle.rad_auth.specs.Mark.{EndsWithMark, mark_attribute}
 use Rattle.rad_auth.specs.Refusing.{ReturnsItsMark}
-use Rattle.rad_auth.specs.Returning.{HasAttributeAt, IsReturnedAt, octets_without}
+use Rattle.rad_auth.specs.internal.Returning.{HasAttributeAt, IsReturnedAt, octets_without}
 use Rattle.rad_auth.specs.declared.mark.Mark.{Mark}
 use Rattle.rad_auth.specs.declared.reply.RequestHead.{RequestHead}
 use Rattle.rad_auth.proofs.Cuts.{attributes_parted, from_here, cut_here, cut_after, cut_before, cut_fits}

@@ -1,15 +1,16 @@
--- What makes a Status-Server right, seen at its first Message-Authenticator.
+-- What makes a Status-Server right, seen at its last Message-Authenticator.
 use Rattle.std.proofs.Common.{◌≡◌, ℕ, ◌+◌, ◌-◌, ◌/◌, ◌%◌, List, [], ◌∷◌, ◌++◌, length, take, drop, replicate, slice_range, refl, sym, ap, ◌∙◌, ◌↔◌, Bool, IsTrue, subst, arith, length-append, append_assoc}
 use Rattle.std.proofs.lemmas.List.{append-nil, nil_from_length, take_at, drop_at, take-append-drop}
 use Rattle.rad_packet.specs.Attribute.{Attribute, attribute_text, joined, of_kind, attributes_of}
 use Rattle.rad_packet.specs.Packet.{IsPacketText, packet_attributes, packet_text}
-use Rattle.rad_packet.specs.Place.{IsFirstAt}
+use Rattle.rad_packet.specs.Place.{IsLastAt}
 use Rattle.rad_packet.proofs.Joined.{attributes_of-joined}
-use Rattle.rad_packet.proofs.Walk.{joined-append}
+use Rattle.rad_packet.proofs.Walk.{joined-append, of_kind-append}
 use Rattle.rad_auth.specs.Hmac.{hmac_md5}
-use Rattle.rad_auth.specs.Status.{IsRightStatus, message_authenticator, no_value, with_header_of, status_server, zeroed_at}
+use Rattle.rad_auth.specs.Status.{IsRightStatus, message_authenticator, no_value, with_header_of, status_server}
+use Rattle.rad_auth.specs.internal.Zeroed.{zeroed_at}
 use Rattle.rad_auth.proofs.Cuts.{attributes_parted, cut_here, cut_after, cut_front}
-use Rattle.rad_auth.proofs.OneKind.{of_kind-first, same_first, SameParts}
+use Rattle.rad_auth.proofs.OneKind.{of_kind_first, same_last, SameParts}
 use Rattle.rad_auth.proofs.Digests.{length-md5}
 
 length-hmac_md5 : (key text : List ℕ) → length (hmac_md5 key text) ≡ 16
@@ -31,18 +32,19 @@ with_zeros text before after place n front back =
     ∙ ap (λ xs. take 20 text ++ xs) (sym (joined-append before (message_authenticator (replicate 16 0) ∷ after)))
 
 -- Where the packet has one, of Length 18, its Value decides.
-module _ (secret text : List ℕ) (place : ℕ) (p : IsPacketText text) (one : length (of_kind 80 (packet_attributes text)) ≡ 1) (f : IsFirstAt text 80 place 18) where
+module _ (secret text : List ℕ) (place : ℕ) (p : IsPacketText text) (one : length (of_kind 80 (packet_attributes text)) ≡ 1) (f : IsLastAt text 80 place 18) where
   here : f.attribute ≡ message_authenticator f.attribute.value
   here = ap (λ kind. let a : Attribute = record { kind = kind; value = f.attribute.value } in a) f.has_kind
 
   sixteen : length f.attribute.value ≡ 16
   sixteen = omega (arith, f.stands.counted)
 
-  none_after : of_kind 80 f.after ≡ []
-  none_after =
-      let all : of_kind 80 (packet_attributes text) ≡ f.attribute ∷ of_kind 80 f.after =
-      ap (of_kind 80) f.stands.split ∙ of_kind-first 80 f.before f.attribute f.after f.first f.has_kind in
-      nil_from_length (of_kind 80 f.after) (omega (arith, ap length all, one))
+  none_before : of_kind 80 f.before ≡ []
+  none_before =
+      let all : of_kind 80 (packet_attributes text) ≡ of_kind 80 f.before ++ of_kind 80 (f.attribute ∷ f.after) =
+      ap (of_kind 80) f.stands.split ∙ of_kind-append 80 f.before (f.attribute ∷ f.after) in
+      let this : of_kind 80 (f.attribute ∷ f.after) ≡ f.attribute ∷ of_kind 80 f.after = of_kind_first 80 f.attribute f.after f.has_kind in
+      nil_from_length (of_kind 80 f.before) (omega (arith, ap length all, ap length this, one, length-append (of_kind 80 f.before) (of_kind 80 (f.attribute ∷ f.after))))
 
   whole : drop 20 text ≡ (joined f.before ++ (80 ∷ 18 ∷ [])) ++ (f.attribute.value ++ joined f.after)
   whole =
@@ -73,8 +75,8 @@ module _ (secret text : List ℕ) (place : ℕ) (p : IsPacketText text) (one : l
     value = f.attribute.value;
     after = f.after;
     split = f.stands.split ∙ ap (λ a. f.before ++ a ∷ f.after) here;
-    none_before = f.first;
-    none_after = none_after;
+    none_before = none_before;
+    none_after = f.last;
     counted = sixteen;
     right = sym read_value ∙ h ∙ ap (hmac_md5 secret) zeroed;
   }
@@ -82,7 +84,7 @@ module _ (secret text : List ℕ) (place : ℕ) (p : IsPacketText text) (one : l
   pub right-status : IsRightStatus secret text → slice_range text (place + 2) (place + 2 + 16) ≡ hmac_md5 secret (zeroed_at (place + 2) text)
   right-status s =
       let same : SameParts f.before f.attribute f.after s.before (message_authenticator s.value) s.after =
-      same_first 80 f.before f.attribute f.after s.before (message_authenticator s.value) s.after f.first s.none_before f.has_kind refl (sym f.stands.split ∙ s.split) in
+      same_last 80 f.before f.attribute f.after s.before (message_authenticator s.value) s.after f.last s.none_after f.has_kind refl (sym f.stands.split ∙ s.split) in
       read_value
       ∙ ap (λ a. a.value) same.here
       ∙ s.right
@@ -91,14 +93,14 @@ module _ (secret text : List ℕ) (place : ℕ) (p : IsPacketText text) (one : l
       ∙ ap (hmac_md5 secret) (sym zeroed)
 
 -- what is found at the place decides
-pub status-decided : (secret text octets : List ℕ) (place len : ℕ) (r : Bool) → octets ≡ text → IsPacketText text → length (of_kind 80 (packet_attributes text)) ≡ 1 → IsFirstAt text 80 place len → len ≡ 18
+pub status-decided : (secret text octets : List ℕ) (place len : ℕ) (r : Bool) → octets ≡ text → IsPacketText text → length (of_kind 80 (packet_attributes text)) ≡ 1 → IsLastAt text 80 place len → len ≡ 18
     → (IsTrue r ↔ (slice_range octets (place + 2) (place + 2 + 16) ≡ hmac_md5 secret (zeroed_at (place + 2) octets)))
     → (IsTrue r ↔ IsRightStatus secret text)
 status-decided secret text octets place len r same p one f n decides =
-    let first : IsFirstAt text 80 place 18 = let P : ℕ → Type 0 = λ m. IsFirstAt text 80 place m in subst P n f in
+    let last : IsLastAt text 80 place 18 = let P : ℕ → Type 0 = λ m. IsLastAt text 80 place m in subst P n f in
     let value : slice_range octets (place + 2) (place + 2 + 16) ≡ slice_range text (place + 2) (place + 2 + 16) = ap (λ t. slice_range t (place + 2) (place + 2 + 16)) same in
     let digest : hmac_md5 secret (zeroed_at (place + 2) octets) ≡ hmac_md5 secret (zeroed_at (place + 2) text) = ap (λ t. hmac_md5 secret (zeroed_at (place + 2) t)) same in
-    (λ t. status-right secret text place p one first (sym value ∙ decides.0 t ∙ digest), λ s. decides.1 (value ∙ right-status secret text place p one first s ∙ sym digest))
+    (λ t. status-right secret text place p one last (sym value ∙ decides.0 t ∙ digest), λ s. decides.1 (value ∙ right-status secret text place p one last s ∙ sym digest))
 
 -- The Status-Server that is made: it is right, and has 38 octets.
 module _ (identifier : ℕ) (authenticator secret : List ℕ) (sixteen : length authenticator ≡ 16) where

@@ -5,9 +5,8 @@ pub mod Faults
 pub mod Forwarding
 pub mod Hmac
 pub mod Mark
-pub mod Parted
 pub mod Refusing
 pub mod Replied
-pub mod Returning
 pub mod Secret
 pub mod Status
+pub mod internal

@@ -1,5 +1,5 @@
 -- Secrets (RFC 2865 section 3): a secret has at least one octet; that it has at most 128 is our own limit.
-use Rattle.std.specs.Prelude.{◌≡◌, ℕ, ◌-◌, ◌<◌, ◌≤◌, List, [], ◌++◌, length, take, replicate}
+use Rattle.std.specs.Prelude.{◌≡◌, ℕ, ◌<◌, List, [], length}
 use Rattle.rad_auth.specs.declared.secret.SecretFault.{SecretFault}
 use Rattle.rad_auth.specs.declared.secret.SecretFault.TheVariants.{Empty, TooLong}
 
@@ -7,10 +7,3 @@ use Rattle.rad_auth.specs.declared.secret.SecretFault.TheVariants.{Empty, TooLon
 abbrev pub RefusesSecret : List ℕ → SecretFault → Type 0
 RefusesSecret octets Empty = octets ≡ []
 RefusesSecret octets TooLong = 128 < length octets
-
--- A secret as it is kept: n octets of it, and zeros up to 128.
-pub record IsFilled (octets : List ℕ) (n : ℕ) : Type 0 where
-  pub least : 0 < n
-  pub most : n ≤ 128
-  pub room : length octets ≡ 128
-  pub zeros : octets ≡ take n octets ++ replicate (128 - n) 0

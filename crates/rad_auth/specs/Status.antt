@@ -1,5 +1,5 @@
 -- Status-Server (RFC 5997 section 3) and its Message-Authenticator (RFC 3579 section 3.2).
-use Rattle.std.specs.Prelude.{◌≡◌, ℕ, ◌+◌, List, [], ◌∷◌, ◌++◌, length, take, drop, replicate}
+use Rattle.std.specs.Prelude.{◌≡◌, ℕ, List, [], ◌∷◌, ◌++◌, length, take, replicate}
 use Rattle.rad_packet.specs.Attribute.{Attribute, attribute_text, joined, of_kind}
 use Rattle.rad_packet.specs.Packet.{packet_attributes, packet_text}
 use Rattle.rad_auth.specs.Hmac.{hmac_md5}
@@ -15,10 +15,6 @@ with_header_of text attributes = take 20 text ++ joined attributes
 -- Sixteen zero octets, which stand in place of the Value while it is computed.
 unfoldable pub no_value : List ℕ
 no_value = replicate 16 0
-
--- The text with zeros in place of the sixteen octets from this place on.
-unfoldable pub zeroed_at : ℕ → List ℕ → List ℕ
-zeroed_at place text = take place text ++ no_value ++ drop (place + 16) text
 
 -- The packet has one Message-Authenticator, of Length 18, and its Value is the HMAC under the secret of the
 -- packet with zeros in that place.

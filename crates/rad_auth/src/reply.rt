@@ -42,7 +42,7 @@ impl Model for Reply {
 
     ghost Value = { Replied };
 
-    ghost use Rattle.rad_auth.specs.Parted.{parted, IsParted};
+    ghost use Rattle.rad_auth.specs.internal.Parted.{parted, IsParted};
 
     ghost view = { λ r. parted r.head r.octets r.response_end r.sending_end r.reply_end r.client_count };
 

@@ -8,7 +8,7 @@ ghost use Rattle.rad_packet.specs.Place.{IsLastAt};
 ghost use Rattle.rad_auth.specs.Mark.{EndsWithMark};
 ghost use Rattle.rad_auth.specs.Authenticator.{accounting_response};
 ghost use Rattle.rad_auth.specs.Replied.{IsAnswer};
-ghost use Rattle.rad_auth.specs.Returning.{HasAttributeAt, IsLastOrNone, IsReturnedAt, octets_without};
+ghost use Rattle.rad_auth.specs.internal.Returning.{HasAttributeAt, IsLastOrNone, IsReturnedAt, octets_without};
 ghost use Rattle.rad_auth.specs.Refusing.{RefusesReply, ReturnsItsMark};
 ghost use Rattle.rad_auth.specs.declared.mark.Mark.{Mark};
 ghost use Rattle.rad_auth.specs.declared.responding.ReplyFault.TheVariants.{MessageAuthenticatorHere};

@@ -29,7 +29,7 @@ pub enum SecretFault {
 impl Model for Secret {
     ghost use Rattle.std.specs.Prelude.{List, ℕ, ◌++◌, ◌-◌, ◌≤◌, length, take, replicate};
     ghost use Rattle.std.proofs.Common.{ap, subst, sym, ◌∙◌, length-take-le};
-    ghost use Rattle.rad_auth.specs.Secret.{IsFilled};
+    ghost use Rattle.rad_auth.specs.internal.KeptSecret.{IsFilled};
 
     ghost Value = { List ℕ };
 

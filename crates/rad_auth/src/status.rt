@@ -1,17 +1,19 @@
 //! Status-Server: made, checked and answered.
 
-ghost use Rattle.std.specs.Prelude.{◌≡◌, ◌+◌, ◌≤◌, ◌↔◌, [], length, slice_range, IsTrue};
-ghost use Rattle.rad_packet.specs.Attribute.{attribute_text};
-ghost use Rattle.rad_packet.specs.Packet.{authenticator_of, code_of, identifier_of, packet_text};
+ghost use Rattle.std.specs.Prelude.{◌≡◌, ◌≢◌, ◌+◌, ◌≤◌, ◌↔◌, [], length, slice_range, IsTrue, MatchOption};
+ghost use Rattle.rad_packet.specs.Attribute.{attribute_text, of_kind};
+ghost use Rattle.rad_packet.specs.Packet.{authenticator_of, code_of, identifier_of, packet_attributes, packet_text};
+ghost use Rattle.rad_packet.specs.Place.{IsLastAt};
 ghost use Rattle.rad_auth.specs.Authenticator.{IsRightResponse, accounting_response};
 ghost use Rattle.rad_auth.specs.Hmac.{hmac_md5};
-ghost use Rattle.rad_auth.specs.Status.{IsRightStatus, status_server, zeroed_at};
+ghost use Rattle.rad_auth.specs.Status.{IsRightStatus, status_server};
+ghost use Rattle.rad_auth.specs.internal.Zeroed.{zeroed_at};
 
 use crate::authenticators::sign_datagram;
 use crate::hmac::{hmac_md5, hmac_md5_of_parts};
 use crate::secret::Secret;
 use crate::{ACCOUNTING_RESPONSE, MESSAGE_AUTHENTICATOR, STATUS_SERVER};
-use rad_packet::{Datagram, PacketRef};
+use rad_packet::{AttributePlace, Datagram, HEADER_LENGTH, PacketRef};
 
 /// The Length of a Message-Authenticator (RFC 3579 section 3.2).
 const MESSAGE_AUTHENTICATOR_LENGTH: usize = 18;
@@ -20,20 +22,37 @@ const MESSAGE_AUTHENTICATOR_LENGTH: usize = 18;
 const NO_VALUE: [u8; 16] = [0; 16];
 
 /// Whether a packet is right as a Status-Server (RFC 5997 section 3): it has one Message-Authenticator, and
-/// that is right. Hashes the packet once at most.
+/// that is right. Hashes the packet once at most, and looks at each attribute once at most.
 pub fn check_status(packet: &PacketRef<'_>, secret: &Secret) -> bool
     ensures { IsTrue result ↔ IsRightStatus secret.now packet.now }
 {
-    if packet.count_of(MESSAGE_AUTHENTICATOR) != 1 {
-        return false;
-    }
-    match packet.first_of(MESSAGE_AUTHENTICATOR) {
+    match only_message_authenticator(packet) {
         Some(at) if at.length == MESSAGE_AUTHENTICATOR_LENGTH => {
             // The Value follows Type and Length.
             is_right_value(packet.octets(), at.place + 2, secret)
         }
         _ => false,
     }
+}
+
+/// Where the Message-Authenticator of a packet stands that has one alone. It looks at each attribute once at most.
+fn only_message_authenticator(packet: &PacketRef<'_>) -> Option<AttributePlace>
+    ensures { MatchOption result
+        (length (of_kind 80 (packet_attributes packet.now)) ≢ 1)
+        (λ at. (length (of_kind 80 (packet_attributes packet.now)) ≡ 1) × IsLastAt packet.now 80 at.place at.length × (at.place + at.length ≤ length packet.now)) }
+{
+    let mut place = HEADER_LENGTH;
+    let mut only = None;
+    for attribute in packet.attributes() {
+        let length = 2 + attribute.value.len();
+        match attribute.kind {
+            MESSAGE_AUTHENTICATOR if only.is_some() => return None,
+            MESSAGE_AUTHENTICATOR => only = Some(AttributePlace { place, length }),
+            _ => {}
+        }
+        place += length;
+    }
+    only
 }
 
 /// Whether the sixteen octets at this place are the HMAC of the packet with zeros in their place.

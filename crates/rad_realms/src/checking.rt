@@ -196,7 +196,7 @@ impl fmt::Display for Dropped {
 /// octets. It takes no memory, and hashes the packet once at most. Beside that it takes time that is
 /// logarithmic in the numbers of clients and realms, and looks at each attribute of an Accounting-Request twice at
 /// most: as it reads the packet, and as it looks for a Message-Authenticator and the User-Name. Each attribute of a
-/// Status-Server is looked at three times at most.
+/// Status-Server is looked at twice at most: as it reads the packet, and as it looks for the Message-Authenticator.
 ///
 /// # Errors
 ///

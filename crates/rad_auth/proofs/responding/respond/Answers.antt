@@ -3,7 +3,7 @@ use Rattle.rad_packet.specs.Attribute.{of_kind}
 use Rattle.rad_packet.specs.Packet.{packet_attributes, authenticator_of}
 use Rattle.std.specs.Bool.{OnTrue}
 use Rattle.rad_auth.specs.Authenticator.{IsRightResponse}
-use Rattle.rad_auth.specs.Returning.{IsReturnedAt}
+use Rattle.rad_auth.specs.internal.Returning.{IsReturnedAt}
 use Rattle.rad_auth.proofs.Returns.{Answers-made}
 use Rattle.rad_auth.proofs.responding.respond.Goals as goal
 

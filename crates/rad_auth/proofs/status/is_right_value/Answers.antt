@@ -3,7 +3,8 @@ use Rattle.std.proofs.lemmas.Bool.Decides.{Decides-eqb}
 use Rattle.std.proofs.lemmas.List.{take_rest}
 use Rattle.std.proofs.lemmas.Slice.Eq.{slice_eq-Decides}
 use Rattle.rad_auth.specs.Hmac.{hmac_md5}
-use Rattle.rad_auth.specs.Status.{no_value, zeroed_at}
+use Rattle.rad_auth.specs.Status.{no_value}
+use Rattle.rad_auth.specs.internal.Zeroed.{zeroed_at}
 use Rattle.rad_auth.proofs.status.is_right_value.Goals as goal
 
 pub returns : goal.returns

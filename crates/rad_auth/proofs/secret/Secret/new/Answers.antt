@@ -1,6 +1,6 @@
 use Rattle.std.proofs.Common.{◌≡◌, ℕ, ◌-◌, ◌<◌, ◌≤◌, List, ◌++◌, length, take, drop, replicate, refl, ◌∙◌, arith, length-append}
 use Rattle.std.proofs.lemmas.List.{drop-replicate, length-replicate, take_at}
-use Rattle.rad_auth.specs.Secret.{IsFilled}
+use Rattle.rad_auth.specs.internal.KeptSecret.{IsFilled}
 use Rattle.rad_auth.proofs.secret.Secret.new.Goals as goal
 
 -- a buffer of zeros with octets at its front

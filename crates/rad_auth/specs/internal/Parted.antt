@@ -1,4 +1,5 @@
--- A reply as it is kept (own): its packets and secrets one behind the other, in one list of octets.
+-- A reply as it is kept (own): its packets and secrets one behind the other, in one list of octets. No public
+-- clause cites this module, but the model of a reply does.
 use Rattle.std.specs.Prelude.{ℕ, ◌+◌, ◌≤◌, List, length, take, drop, slice_range}
 use Rattle.rad_auth.specs.Replied.{Replied, IsAnswer}
 use Rattle.rad_auth.specs.declared.reply.RequestHead.{RequestHead}

@@ -1,4 +1,4 @@
--- Where an attribute stands in a reply, and the reply without it (own).
+-- Where an attribute stands in a reply, and the reply without it (own). No public clause cites this module.
 use Rattle.std.specs.Prelude.{◌≡◌, ℕ, ◌+◌, List, [], ◌++◌, drop, slice_range, Option, MatchOption}
 use Rattle.rad_packet.specs.Attribute.{Attribute, of_kind}
 use Rattle.rad_packet.specs.Packet.{packet_attributes}

@@ -1,0 +1,4 @@
+pub mod KeptSecret
+pub mod Parted
+pub mod Returning
+pub mod Zeroed
