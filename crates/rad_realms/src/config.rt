@@ -81,7 +81,7 @@ impl Config {
         self.realms.find(name)
     }
 
-    /// Where a realm leads, or none.
+    /// Where a request of this realm leads, or one of none.
     pub(crate) fn destination_of(&self, realm: Option<&[u8]>) -> Option<Destination>
         ensures lane { option_map (λ d. d.lane) result ≡ lane_by self.now.realms self.now.default_lane (option_copied realm.entry) }
         ensures rank { IfSome result (λ d. IsRank self.now.realms d.lane (option_copied realm.entry) d.rank) }
