@@ -1,9 +1,9 @@
 -- What a lane is set up with (own), and which requests are its own.
-use Rattle.std.specs.Prelude.{◌≡◌, ℕ, ◌<◌, List, length, map as each, filter, slice_get, Option, Some, None, Bool, false, ◌==◌, IsTrue}
+use Rattle.std.specs.Prelude.{◌≡◌, ℕ, ◌<◌, List, length, slice_get, Option, Some, None, Bool, false, ◌==◌, IsTrue}
 use Rattle.std.specs.List.{list_any}
 use Rattle.rad_realms.specs.declared.limits.LimitNumbers.{LimitNumbers}
-use Rattle.rad_realms.specs.Configuration.{HomeEntry, RealmEntry, Configuration}
-use Rattle.rad_realms.specs.Realm.{realm_of_packet, same_name}
+use Rattle.rad_realms.specs.Configuration.{HomeEntry, Configuration}
+use Rattle.rad_realms.specs.Realm.{realm_of_packet, realms_of, same_name}
 
 -- The lane's number and how many source ports it has, its home server's secret and limits, the realms that lead to
 -- it, and whether requests without a realm lead to it.
@@ -14,10 +14,6 @@ pub record LaneSetup : Type 0 where
   pub limits : LimitNumbers
   pub realms : List (List ℕ)
   pub is_default : Bool
-
--- The names of the realms that lead to a lane, in the order of the table.
-abbrev pub realms_of : List RealmEntry → ℕ → List (List ℕ)
-realms_of table lane = each (λ r. r.name) (filter (λ r. r.lane == lane) table)
 
 -- Whether this is the lane, where there is one.
 abbrev pub is_lane : ℕ → Option ℕ → Bool

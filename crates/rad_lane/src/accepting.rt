@@ -68,11 +68,13 @@ impl fmt::Display for Refusal {
 const NUMBER_LIMIT: u64 = 1 << 62;
 
 impl<Q: Fifo<Record>> Lane<Q> {
-    /// Whether a request leads to this lane, by the lane's own realms. It looks at each of these.
+    /// Whether a request leads to this lane, by the lane's own realms. Its realm is compared with one of them, or with
+    /// each if the request was checked against another configuration than the one that set up the lane.
     pub fn takes(&self, request: &Checked<'_>) -> bool
         ensures { IsTrue result ↔ IsTaken self.now request.now }
     {
-        request.lane() == self.setup.lane() && self.setup.leads_here(request.realm())
+        request.lane() == self.setup.lane()
+            && self.setup.leads_here(request.realm(), request.rank())
     }
 
     /// Takes a request that is this lane's: a new one is accepted and waits to be sent; a repeat of one that

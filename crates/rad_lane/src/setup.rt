@@ -1,7 +1,7 @@
 ghost use Rattle.std.specs.Prelude.{◌≡◌, IfOk};
 ghost use Rattle.std.specs.List.{list_any};
-ghost use Rattle.rad_realms.specs.Realm.{same_name};
-ghost use Rattle.rad_lane.specs.Setup.{realms_of as the_realms, is_lane};
+ghost use Rattle.rad_realms.specs.Realm.{same_name, is_at, realms_of as the_realms};
+ghost use Rattle.rad_lane.specs.Setup.{is_lane};
 
 use crate::Series;
 use rad_auth::{Octets, Secret};
@@ -57,13 +57,15 @@ impl Setup {
         })
     }
 
-    /// Whether requests of this realm, or of none, are the lane's. It looks at each of the lane's realms.
-    pub(crate) fn leads_here(&self, realm: Option<&[u8]>) -> bool
+    /// Whether requests of this realm, or of none, are the lane's. The realm is compared with the one of this rank among
+    /// the lane's realms. Only if that is another one, as it may be for a request that was checked against another
+    /// configuration, is it compared with each.
+    pub(crate) fn leads_here(&self, realm: Option<&[u8]>, rank: Option<usize>) -> bool
         ensures { IsTrue result ↔ LeadsHere self.now (option_copied realm.entry) }
     {
         match realm {
             None => self.is_default,
-            Some(name) => !name.is_empty() && has_name(self.realms.as_slice(), name),
+            Some(name) => !name.is_empty() && has_name(self.realms.as_slice(), rank, name),
         }
     }
 
@@ -121,13 +123,29 @@ fn is_same_lane(lane: u16, other: Option<u16>) -> bool
     }
 }
 
-/// Whether a name is among these, but for the case of ASCII letters.
-fn has_name(names: &[Octets], name: &[u8]) -> bool
+/// Whether a name is among these, but for the case of ASCII letters. The one of this rank is compared first.
+fn has_name(names: &[Octets], rank: Option<usize>, name: &[u8]) -> bool
     ensures { result ≡ list_any (λ other. same_name other name.now) names.now }
 {
+    if has_name_at(names, rank, name) {
+        return true;
+    }
     names
         .iter()
         .any(|other| is_same_name(other.as_slice(), name))
+}
+
+/// Whether the one of this rank is this name, but for the case of ASCII letters.
+fn has_name_at(names: &[Octets], rank: Option<usize>, name: &[u8]) -> bool
+    ensures { result ≡ is_at (λ other. same_name other name.now) names.now rank }
+{
+    let Some(place) = rank else {
+        return false;
+    };
+    match names.get(place) {
+        Some(other) => is_same_name(other.as_slice(), name),
+        None => false,
+    }
 }
 
 fn is_same_name(one: &[u8], other: &[u8]) -> bool

@@ -8,7 +8,7 @@ use Rattle.toml.specs.Data.{Data, string, integer, float, boolean, datetime, arr
 use Rattle.toml.specs.View.{view, items_view}
 use Rattle.toml.specs.declared.value.Value.{Value}
 use Rattle.rad_realms.specs.Walk.{tables_in, is_empty_array}
-use Rattle.rad_realms.specs.Values.{IsTable, tables_of_values}
+use Rattle.rad_realms.specs.internal.Values.{IsTable, tables_of_values}
 
 -- one item, and those behind it
 tables_in-item : (d : Data) (rest : Items) → tables_in (item d rest) ≡ cond (is_some (as_table d)) (option_map (λ ts. unwrap_or (as_table d) no_members ∷ ts) (tables_in rest)) None

@@ -1,10 +1,11 @@
 -- The lanes that realms and the default lead to.
-use Rattle.std.proofs.Common.{ℕ, ◌<◌, ◌==◌, Bool, List, [], ◌∷◌, length, option_map, inl, inr, All}
+use Rattle.std.proofs.Common.{◌≡◌, ℕ, ◌<◌, ◌==◌, Bool, List, [], ◌∷◌, length, Option, Some, None, option_map, inl, inr, sym, subst, All}
 use Rattle.std.specs.Prelude.{find, IfSome}
 use Rattle.std.specs.List.{AllByRecursion}
 use Rattle.std.proofs.lemmas.Bool.{cases_Bool}
 use Rattle.std.proofs.lemmas.List.Elements.{recursion_from_All}
 use Rattle.rad_realms.specs.Configuration.{RealmEntry}
+use Rattle.rad_realms.specs.declared.realms.Destination.{Destination}
 use Rattle.rad_realms.specs.Realm.{same_name, lane_in}
 
 -- what is found is one of those that are looked at
@@ -23,3 +24,8 @@ lane_within most table realm h =
       | inl empty ↦ rw empty tt
       | inr some ↦ rw some (mapped_within most (λ r. same_name r.name realm) table (recursion_from_All (λ r. r.lane < most) table h))
     ]
+
+-- a destination is a lane that its realm leads to
+pub destination_within : (most : ℕ) (found : Option Destination) (lane : Option ℕ) → option_map (λ d. d.lane) found ≡ lane → IfSome lane (λ lane. lane < most) → IfSome found (λ d. d.lane < most)
+destination_within most None lane is within = tt
+destination_within most (Some d) lane is within = subst (λ (o : Option ℕ). IfSome o (λ lane. lane < most)) (sym is) within

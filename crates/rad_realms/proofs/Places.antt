@@ -10,7 +10,7 @@ use Rattle.std.proofs.lemmas.Slice.Eq.{bytes_eq-Decides}
 use Rattle.std.proofs.lemmas.Map.Text.{is_eq-slice_cmp}
 use Rattle.rad_realms.specs.Configuration.{ClientEntry}
 use Rattle.rad_realms.specs.Realm.{or_else}
-use Rattle.rad_realms.specs.Index.{place_of, IndexesClients}
+use Rattle.rad_realms.specs.internal.Index.{place_of, IndexesClients}
 
 -- ---- places
 
@@ -93,8 +93,7 @@ pub client_pushed_as : (m n : BTreeMap (List ℕ) ℕ) (clients items : List Cli
 client_pushed_as m n clients items c key place indexes same_key same_place grown updates new =
     rw grown (client_pushed m n clients c indexes (λ q. rw (← same_key, ← same_place) (updates q)) new)
 
--- what is found passes
-same_some : {X : Type 0} (x y : X) → Some x ≡ Some y → x ≡ y
+pub same_some : {X : Type 0} (x y : X) → Some x ≡ Some y → x ≡ y
 same_some x y e = cc
 
 find-passes : {X : Type 0} (p : X → Bool) (xs : List X) (y : X) → find p xs ≡ Some y → p y ≡ true

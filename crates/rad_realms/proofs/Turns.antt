@@ -7,7 +7,7 @@ use Rattle.toml.specs.declared.value.Value.{Value}
 use Rattle.rad_realms.specs.declared.reading.faults.ConfigFault.{ConfigFault}
 use Rattle.rad_realms.specs.declared.reading.faults.ConfigFault.TheVariants.{Toml, OutOfMemory, Missing, WrongType, OutOfRange, DoubleName, UnknownHome, BadAddress, TooMany}
 use Rattle.rad_realms.specs.Gives.{Fails}
-use Rattle.rad_realms.specs.Values.{table_of, tables_of_values}
+use Rattle.rad_realms.specs.internal.Values.{table_of, tables_of_values}
 use Rattle.rad_realms.specs.Walk.{each}
 
 -- a fault of one reading is one of another that fails where it does

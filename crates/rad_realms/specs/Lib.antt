@@ -6,8 +6,7 @@ pub mod Realm
 pub mod WellFormed
 pub mod Walk
 pub mod Gives
-pub mod Values
-pub mod Index
 pub mod Checking
 pub mod Incoming
 pub mod Printed
+pub mod internal

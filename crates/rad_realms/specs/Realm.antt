@@ -1,7 +1,8 @@
 -- Realms, and the lanes that they lead to. The realm of a User-Name is what follows its last `@`
 -- (RFC 7542 section 2.2 has one `@` in a name; that the last one counts is own). ASCII letters are
 -- compared without case (own).
-use Rattle.std.specs.Prelude.{ℕ, List, [], ◌∷◌, length, map, Option, Some, None, option_map, option_and_then, Bool, ◌==◌, find, if◌then◌else◌}
+use Rattle.std.specs.Prelude.{◌≡◌, ℕ, List, [], ◌∷◌, length, map, filter, Option, Some, None, option_map, option_and_then, unwrap_or, Bool, true, false, ◌==◌, find, if◌then◌else◌}
+use Rattle.std.specs.List.{slice_get}
 use Rattle.std.specs.Char.{to_ascii_lowercase}
 use Rattle.std.specs.Str.{bytes_eq}
 use Rattle.rad_packet.specs.Packet.{packet_attributes}
@@ -33,6 +34,20 @@ lane_by table default (Some realm) = lane_in table realm
 -- The lane of a User-Name, or of a packet with none.
 abbrev pub lane_of : Configuration → Option (List ℕ) → Option ℕ
 lane_of c name = lane_by c.realms c.default_lane (option_and_then realm_in name)
+
+-- The names of the realms that lead to a lane, in the order of the table.
+abbrev pub realms_of : List RealmEntry → ℕ → List (List ℕ)
+realms_of table lane = map (λ r. r.name) (filter (λ r. r.lane == lane) table)
+
+-- Whether something stands at a place of a list, where there is a place, and passes.
+abbrev pub is_at : {A : Type 0} → (A → Bool) → List A → Option ℕ → Bool
+is_at passes items place = unwrap_or (option_map passes (option_and_then (slice_get items) place)) false
+
+-- The rank of a realm among those that lead to its lane: the name at this place of their names is the realm's. Without a realm there
+-- is none.
+abbrev pub IsRank : List RealmEntry → ℕ → Option (List ℕ) → Option ℕ → Type 0
+IsRank table lane None rank = rank ≡ None
+IsRank table lane (Some realm) rank = is_at (λ name. same_name name realm) (realms_of table lane) rank ≡ true
 
 -- The client of an address.
 abbrev pub client_of : Configuration → List ℕ → Option ClientEntry

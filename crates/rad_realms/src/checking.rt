@@ -10,7 +10,7 @@ ghost use Rattle.rad_realms.specs.Incoming.{TakesPacket, Takes};
 
 use crate::clients::Client;
 use crate::config::Config;
-use crate::realms::realm_of;
+use crate::realms::{Destination, realm_of};
 use rad_auth::{
     ACCOUNTING_REQUEST, MESSAGE_AUTHENTICATOR, STATUS_SERVER, Secret, check_request, check_status,
 };
@@ -47,23 +47,25 @@ pub struct Checked<'a> {
     realm: Option<&'a [u8]>,
     /// The lane that it leads to.
     lane: u16,
+    /// The place of its realm among the realms of that lane, where it has a realm.
+    rank: Option<usize>,
 }
 
 impl<'a> Model for Checked<'a> {
     ghost use Rattle.std.specs.Prelude.{◌≡◌, option_copied};
-    ghost use Rattle.rad_realms.specs.Realm.{realm_of_packet};
+    ghost use Rattle.rad_realms.specs.Realm.{realm_of_packet, IsRank};
     ghost use Rattle.rad_realms.specs.Checking.{Request, IsChecked};
 
     ghost Value = { Request };
 
     ghost view = { λ c. record { config = c.config.now; text = c.packet; client = c.client.now.address; port = c.port; secret = c.client.now.secret; lane = c.lane } };
 
-    ghost invariant = { λ c. IsChecked (record { config = c.config.now; text = c.packet; client = c.client.now.address; port = c.port; secret = c.client.now.secret; lane = c.lane }) × (option_copied c.realm ≡ realm_of_packet c.packet) };
+    ghost invariant = { λ c. IsChecked (record { config = c.config.now; text = c.packet; client = c.client.now.address; port = c.port; secret = c.client.now.secret; lane = c.lane }) × (option_copied c.realm ≡ realm_of_packet c.packet) × IsRank c.config.now.realms c.lane (option_copied c.realm) c.rank };
 }
 
 impl<'a> Checked<'a> {
     ghost use Rattle.std.specs.Prelude.{◌≡◌, ◌<◌, length, option_copied};
-    ghost use Rattle.rad_realms.specs.Realm.{realm_of_packet};
+    ghost use Rattle.rad_realms.specs.Realm.{realm_of_packet, IsRank};
     ghost use Rattle.rad_realms.specs.Checking.{IsChecked};
 
     /// The packet, without padding.
@@ -108,6 +110,14 @@ impl<'a> Checked<'a> {
         ensures within { result < length self.now.config.homes }
     {
         self.lane
+    }
+
+    /// The place of its realm among the realms that lead to its lane, in the order of the configuration, counted
+    /// from 0; none where it has no realm.
+    pub fn rank(&self) -> Option<usize>
+        ensures { IsRank self.now.config.realms self.now.lane (realm_of_packet self.now.text) result }
+    {
+        self.rank
     }
 }
 
@@ -252,14 +262,15 @@ fn check_accounting<'a>(
     }
     let name = unsigned_name_of(&packet)?;
     let realm = realm_of_name(name);
-    match config.lane_of_realm(realm) {
-        Some(lane) => Ok(Incoming::Request(Checked {
+    match config.destination_of(realm) {
+        Some(Destination { lane, rank }) => Ok(Incoming::Request(Checked {
             packet,
             config,
             client,
             port,
             realm,
             lane,
+            rank,
         })),
         None => Err(Dropped::NoRealm),
     }

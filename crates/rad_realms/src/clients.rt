@@ -63,7 +63,7 @@ pub(crate) struct Clients {
 impl Model for Clients {
     ghost use Rattle.std.specs.Prelude.{List};
     ghost use Rattle.rad_realms.specs.Configuration.{ClientEntry};
-    ghost use Rattle.rad_realms.specs.Index.{IndexesClients};
+    ghost use Rattle.rad_realms.specs.internal.Index.{IndexesClients};
 
     ghost Value = { List ClientEntry };
 

@@ -3,7 +3,7 @@
 use crate::clients::{Client, Clients};
 use crate::homes::{Home, Homes};
 use crate::reading::Endpoint;
-use crate::realms::{Realm, Realms, realm_of};
+use crate::realms::{Destination, Realm, Realms, realm_of};
 use std::marker::Model;
 
 /// A configuration: where to listen, the clients, the home servers, one lane each, and the realms that lead
@@ -36,8 +36,8 @@ impl Model for Config {
 }
 
 impl Config {
-    ghost use Rattle.std.specs.Prelude.{◌≡◌, ◌<◌, ◌≤◌, All, length, IfSome, option_copied};
-    ghost use Rattle.rad_realms.specs.Realm.{client_of, lane_in, lane_by, lane_of};
+    ghost use Rattle.std.specs.Prelude.{◌≡◌, ◌<◌, ◌≤◌, Some, All, length, IfSome, option_copied, option_map};
+    ghost use Rattle.rad_realms.specs.Realm.{client_of, lane_in, lane_by, lane_of, IsRank};
     ghost use Rattle.rad_realms.specs.WellFormed.{IsWellFormed};
 
     pub(crate) fn new(
@@ -69,10 +69,11 @@ impl Config {
         self.clients.find(address)
     }
 
-    /// The lane of a realm of this name.
+    /// Where a realm of this name leads.
     #[tactic(auto, unfolding(crate::specs::Realm::lane_in))]
-    fn lane_of_name(&self, name: &[u8]) -> Option<u16>
-        ensures { result ≡ lane_in self.now.realms name.now }
+    fn destination_of_name(&self, name: &[u8]) -> Option<Destination>
+        ensures lane { option_map (λ d. d.lane) result ≡ lane_in self.now.realms name.now }
+        ensures rank { IfSome result (λ d. IsRank self.now.realms d.lane (Some name.now) d.rank) }
     {
         if name.is_empty() {
             return None;
@@ -80,14 +81,18 @@ impl Config {
         self.realms.find(name)
     }
 
-    /// The lane of a realm, or of none.
-    pub(crate) fn lane_of_realm(&self, realm: Option<&[u8]>) -> Option<u16>
-        ensures lane { result ≡ lane_by self.now.realms self.now.default_lane (option_copied realm.entry) }
-        ensures within { IfSome result (λ lane. lane < length self.now.homes) }
+    /// Where a request of this realm leads, or one of none.
+    pub(crate) fn destination_of(&self, realm: Option<&[u8]>) -> Option<Destination>
+        ensures lane { option_map (λ d. d.lane) result ≡ lane_by self.now.realms self.now.default_lane (option_copied realm.entry) }
+        ensures rank { IfSome result (λ d. IsRank self.now.realms d.lane (option_copied realm.entry) d.rank) }
+        ensures within { IfSome result (λ d. d.lane < length self.now.homes) }
     {
         match realm {
-            None => self.default_lane,
-            Some(name) => self.lane_of_name(name),
+            None => {
+                let lane = self.default_lane?;
+                Some(Destination { lane, rank: None })
+            }
+            Some(name) => self.destination_of_name(name),
         }
     }
 
@@ -101,7 +106,8 @@ impl Config {
             Some(name) => realm_of(name),
             None => None,
         };
-        self.lane_of_realm(realm)
+        let destination = self.destination_of(realm)?;
+        Some(destination.lane)
     }
 
     /// The clients, in the order of the text.

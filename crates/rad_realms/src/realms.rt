@@ -1,6 +1,6 @@
 //! Realms, the lanes that they lead to, and the realm of a User-Name.
 
-ghost use Rattle.std.specs.Prelude.{◌≡◌, ◌≤◌, ◌++◌, length, take, drop, map, IfOk, option_copied};
+ghost use Rattle.std.specs.Prelude.{◌≡◌, ◌≤◌, ◌++◌, ◌==◌, length, take, drop, map, filter, IfOk, option_copied};
 ghost use Rattle.std.specs.Char.{to_ascii_lowercase};
 ghost use Rattle.std.specs.Ordering.{nat_cmp};
 ghost use Rattle.std.specs.Cmp.Lexicographic.{slice_cmp};
@@ -56,19 +56,29 @@ impl Realm {
     }
 }
 
+/// Where a request leads.
+#[derive(Clone, Copy)]
+pub(crate) struct Destination {
+    /// The lane.
+    pub(crate) lane: u16,
+    /// The place of the request's realm among the realms that lead to this lane, in their order, counted from 0.
+    /// A request without a realm has none.
+    pub(crate) rank: Option<usize>,
+}
+
 /// Realms in the order of the configuration, found by their names.
 #[derive(Drop)]
 pub(crate) struct Realms {
     /// The realms in their order.
     items: Vec<Realm>,
-    /// The lane of each name, which stands there in lower case.
-    by_name: BTreeMap<Vec<u8>, u16>,
+    /// Where each name leads, which stands there in lower case.
+    by_name: BTreeMap<Vec<u8>, Destination>,
 }
 
 impl Model for Realms {
     ghost use Rattle.std.specs.Prelude.{List};
     ghost use Rattle.rad_realms.specs.Configuration.{RealmEntry};
-    ghost use Rattle.rad_realms.specs.Index.{IndexesRealms};
+    ghost use Rattle.rad_realms.specs.internal.Index.{IndexesRealms};
 
     ghost Value = { List RealmEntry };
 
@@ -78,8 +88,8 @@ impl Model for Realms {
 }
 
 impl Realms {
-    ghost use Rattle.std.specs.Prelude.{◌≡◌, ◌≤◌, [], ◌∷◌, ◌++◌, None, OnOk, length, find, is_some, option_map};
-    ghost use Rattle.rad_realms.specs.Realm.{same_name};
+    ghost use Rattle.std.specs.Prelude.{◌≡◌, ◌≤◌, [], ◌∷◌, ◌++◌, Some, None, OnOk, IfSome, length, find, is_some, option_map};
+    ghost use Rattle.rad_realms.specs.Realm.{same_name, IsRank};
 
     pub(crate) fn new(alloc: Global) -> Realms
         ensures { result ≡ [] }
@@ -96,17 +106,18 @@ impl Realms {
         self.items.as_slice()
     }
 
-    /// The lane of the realm of a name. Takes logarithmic time.
-    pub(crate) fn find(&self, name: &[u8]) -> Option<u16>
-        ensures { result ≡ option_map (λ r. r.lane) (find (λ r. same_name r.name name.now) self.now) }
+    /// Where the realm of a name leads. Takes logarithmic time.
+    pub(crate) fn find(&self, name: &[u8]) -> Option<Destination>
+        ensures lane { option_map (λ d. d.lane) result ≡ option_map (λ r. r.lane) (find (λ r. same_name r.name name.now) self.now) }
+        ensures rank { IfSome result (λ d. IsRank self.now d.lane (Some name.now) d.rank) }
     {
-        let lanes = &self.by_name;
+        let places = &self.by_name;
         if name.len() > LONGEST_REALM {
             return None;
         }
         let mut buffer = [0; LONGEST_REALM];
         put_lower_case(&mut buffer, name);
-        lane_kept(lanes, front(&buffer, name.len()))
+        destination_kept(places, front(&buffer, name.len()))
     }
 
     /// Whether there is a realm of a name. Takes logarithmic time.
@@ -117,7 +128,7 @@ impl Realms {
         self.find(name.as_bytes()).is_some()
     }
 
-    /// Adds a realm whose name is new.
+    /// Adds a realm whose name is new. It looks at each earlier realm once.
     pub(crate) fn push(&mut self, alloc: Global, realm: Realm) -> Result<(), AllocError>
         requires short { length realm.name ≤ 252 }
         requires new { find (λ r. same_name r.name realm.name) self.old ≡ None }
@@ -125,7 +136,9 @@ impl Realms {
     {
         let key = lower_case(alloc, realm.name().as_bytes())?;
         self.items.reserve(1)?;
-        self.by_name.insert(key, realm.lane())?;
+        let lane = realm.lane();
+        let rank = Some(count_of(self.items.as_slice(), lane));
+        self.by_name.insert(key, Destination { lane, rank })?;
         self.items.push(realm).unwrap();
         Ok(())
     }
@@ -147,11 +160,18 @@ pub(crate) fn realm_of(name: &[u8]) -> Option<&[u8]>
     None
 }
 
-/// The lane that is kept for a name in lower case.
-fn lane_kept(lanes: &BTreeMap<Vec<u8>, u16>, name: &[u8]) -> Option<u16>
-    ensures { result ≡ tree.get_by (λ k. slice_cmp nat_cmp name.now k.items) lanes.now }
+/// How many realms lead to a lane.
+fn count_of(realms: &[Realm], lane: u16) -> usize
+    ensures { result ≡ length (filter (λ r. r.lane == lane) realms.now) }
 {
-    lanes.get(name).copied()
+    realms.iter().filter(|realm| realm.lane() == lane).count()
+}
+
+/// The destination that is kept for a name in lower case.
+fn destination_kept(places: &BTreeMap<Vec<u8>, Destination>, name: &[u8]) -> Option<Destination>
+    ensures { result ≡ tree.get_by (λ k. slice_cmp nat_cmp name.now k.items) places.now }
+{
+    places.get(name).copied()
 }
 
 /// The first octets.

@@ -6,10 +6,11 @@ use super::requests::request_of_length;
 use super::script::Call::{Accept, Counts as Count, Drain, IsDone, IsDraining};
 use super::script::Gives::{self, Drain as Drained, Is};
 use super::script::{NOTHING, Row, TAKEN_0, TAKEN_1, play, stamp};
-use super::test_lane::TestLane;
+use super::test_lane::{CLIENT, CLIENT_PORT, TestLane};
 use rad_lane::{Counts, Refusal, Taken};
+use rad_realms::{Config, Incoming, check_in, read_config};
 use std::test::Fail;
-use test_octets::nas::{EIGHTH, SEVENTH};
+use test_octets::nas::{EIGHTH, OTHER_REQUEST, SEVENTH};
 
 /// Two requests wait.
 const TWO_QUEUED: Gives = Gives::Counts(Counts {
@@ -117,6 +118,69 @@ fn takes_requests_of_its_own_realms(rt: HostRuntime) -> Result<(), Fail> {
     for (number, gives) in LANES {
         let mut lane = TestLane::of_home(rt.alloc(), OTHER_HOME, number)?;
         holds(&rt, lane.call(100, Accept(&SEVENTH)) == gives);
+        lane.end();
+    }
+    Ok(())
+}
+
+/// A second realm of the home server.
+const SECOND_REALM: &str = r#"
+[[realm]]
+name = "other.org"
+home = "h1"
+"#;
+
+/// A configuration whose home server has both realms in the other order.
+const TURNED: &str = r#"
+listen = "127.0.0.1:1813"
+[[client]]
+address = "10.0.0.1"
+secret = "nas-secret"
+[[home]]
+name = "h1"
+address = "127.0.0.1:2813"
+secret = "home-secret"
+[[realm]]
+name = "other.org"
+home = "h1"
+[[realm]]
+name = "example.org"
+home = "h1"
+"#;
+
+/// The realm that a lane has beside its first one, a request that is checked by the configuration above, and whether the
+/// lane takes it.
+const CHECKED_ELSEWHERE: [(&str, &str, &[u8], bool); 4] = [
+    (
+        "the second there, the first here",
+        SECOND_REALM,
+        &SEVENTH,
+        true,
+    ),
+    (
+        "the first there, the second here",
+        SECOND_REALM,
+        &OTHER_REQUEST,
+        true,
+    ),
+    ("the second there, the only one here", "", &SEVENTH, true),
+    ("the first there, none here", "", &OTHER_REQUEST, false),
+];
+
+/// Whether a lane takes a request that is checked by a configuration.
+fn takes_checked(lane: &TestLane, config: &Config, request: &[u8]) -> bool {
+    match check_in(config, CLIENT, CLIENT_PORT, request) {
+        Ok(Incoming::Request(request)) => lane.lane.takes(&request),
+        _ => false,
+    }
+}
+
+#[test]
+fn takes_requests_that_were_checked_elsewhere(rt: HostRuntime) -> Result<(), Fail> {
+    let turned = read_config(rt.alloc(), TURNED)?;
+    for (what, more, request, wanted) in CHECKED_ELSEWHERE {
+        let lane = TestLane::new(rt.alloc(), more)?;
+        assert!(rt; takes_checked(&lane, &turned, request) == wanted, "{what}");
         lane.end();
     }
     Ok(())

@@ -2,7 +2,7 @@
 
 ghost use Rattle.std.specs.Prelude.{◌≡◌, ◌≤◌, length, All, IfOk, Some, None, IsTrue, MatchBool, ◌↔◌};
 ghost use Rattle.toml.specs.View.{view, items_view, table_view};
-ghost use Rattle.rad_realms.specs.Values.{IsTable, table_of, tables_of_values, ReadsTables};
+ghost use Rattle.rad_realms.specs.internal.Values.{IsTable, table_of, tables_of_values, ReadsTables};
 ghost use Rattle.rad_realms.specs.Walk.{is_empty_array, tables_in, tables_of, some_tables_at, any_tables_at};
 
 use super::document::{member, needed_value};

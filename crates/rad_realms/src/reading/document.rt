@@ -5,7 +5,7 @@ ghost use Rattle.std.specs.List.{list_all};
 ghost use Rattle.toml.specs.Data.{get_member};
 ghost use Rattle.toml.specs.View.{view, table_view};
 ghost use Rattle.rad_realms.specs.Spot.{key_name};
-ghost use Rattle.rad_realms.specs.Values.{Reads};
+ghost use Rattle.rad_realms.specs.internal.Values.{Reads};
 ghost use Rattle.rad_realms.specs.declared.reading.faults.ConfigFault.TheVariants.{OutOfRange};
 ghost use Rattle.rad_realms.specs.Walk.{needed, text_in, text_at, address_at, endpoint_at, has_length, secret_at, is_name_octet as is_octet_of_a_name, is_home_name as names_a_home, home_name_at, is_realm_name as names_a_realm, realm_name_at, number_in_value, number_at, optional_text_at};
 

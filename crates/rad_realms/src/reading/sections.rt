@@ -3,7 +3,7 @@
 ghost use Rattle.std.specs.Prelude.{◌≡◌, ◌<◌, ◌≤◌, [], All, length};
 ghost use Rattle.toml.specs.View.{table_view};
 ghost use Rattle.rad_realms.specs.Gives.{Gives, Adds};
-ghost use Rattle.rad_realms.specs.Values.{IsTable, table_of, tables_of_values};
+ghost use Rattle.rad_realms.specs.internal.Values.{IsTable, table_of, tables_of_values};
 ghost use Rattle.rad_realms.specs.Walk.{spot, client_in, lane_number_at, numbers_at, limit_key, limits_at, home_in, lane_named, realm_in_table, each};
 
 use super::arrays::table;

@@ -10,7 +10,7 @@ use std::test::Fail;
 use test_octets::faulty::{
     BARE, EMPTY_REALM, LOUD, NAMELESS, SIGNED, SPOILED_REQUEST, TWICE, UNASKED, UNLISTED,
 };
-use test_octets::nas::{SEVENTH, STATUS};
+use test_octets::nas::{NAME_ONLY_REQUEST, OTHER_REQUEST, SEVENTH, STATUS};
 
 /// A client, two home servers, three realms and no default.
 const TEXT: &str = r#"
@@ -221,6 +221,38 @@ fn checked_requests_tell_their_parts(rt: HostRuntime) -> Result<(), Fail> {
         return Err(Fail::from("a request"));
     };
     request_tells(&rt, &request, &SEVENTH, b"nas-secret", b"example.org");
+    Ok(())
+}
+
+/// A second realm of the second home server.
+const FOURTH: &str = r#"
+[[realm]]
+name = "Example.net"
+home = "h2"
+"#;
+
+/// The place of each request's realm among the realms of its lane. Between the two of the second lane stands one of the
+/// first lane, and before them another one.
+const RANKS: [(&str, &[u8], Option<usize>); 4] = [
+    ("the first realm of the first lane", &OTHER_REQUEST, Some(0)),
+    ("the first one of the second lane", &SEVENTH, Some(0)),
+    ("the second one", &NAME_ONLY_REQUEST, Some(1)),
+    ("no realm", &BARE, None),
+];
+
+/// The rank that a request tells.
+fn rank_of(config: &Config, datagram: &[u8]) -> Option<Option<usize>> {
+    let request = request_of(config, datagram)?;
+    Some(request.rank())
+}
+
+#[test]
+fn checked_requests_tell_their_ranks(rt: HostRuntime) -> Result<(), Fail> {
+    let text = format!(in rt.alloc(); "default_home = \"h2\"\n{TEXT}{FOURTH}")?;
+    let config = configuration(rt.alloc(), text.as_str())?;
+    for (what, datagram, rank) in RANKS {
+        assert!(rt; rank_of(&config, datagram) == Some(rank), "{what}");
+    }
     Ok(())
 }
 

@@ -1,5 +1,5 @@
 use Rattle.std.proofs.Common.{◌≡◌, [], drop, length}
-use Rattle.rad_realms.specs.Values.{tables_of_values}
+use Rattle.rad_realms.specs.internal.Values.{tables_of_values}
 use Rattle.rad_realms.specs.Walk.{home_in, each}
 use Rattle.rad_realms.proofs.reading.sections.homes_of.Given as goal
 

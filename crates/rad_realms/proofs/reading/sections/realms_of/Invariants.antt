@@ -1,5 +1,5 @@
 use Rattle.std.proofs.Common.{◌≡◌, [], drop}
-use Rattle.rad_realms.specs.Values.{tables_of_values}
+use Rattle.rad_realms.specs.internal.Values.{tables_of_values}
 use Rattle.rad_realms.specs.Walk.{realm_in_table, each}
 use Rattle.rad_realms.proofs.reading.sections.realms_of.Given as goal
 

@@ -1,4 +1,4 @@
--- The document's values as the readers hand them on.
+-- The document's values as the readers hand them on (own). No public clause cites this module.
 use Rattle.std.specs.Prelude.{◌≡◌, List, All, map, unwrap_or, Result, Ok, Err, IsSome}
 use Rattle.std.specs.Borrow.{Bor}
 use Rattle.toml.specs.Data.{Members, no_members, as_table}
