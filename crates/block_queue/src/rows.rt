@@ -114,7 +114,7 @@ fn pop_each<T: Drop>(row: &mut Row<T>, count: usize)
     }
 }
 
-/// Copies at most `most` more of the items, in order, into a row that holds the first ones of them.
+/// Copies at most `most` more items, in order, into a row that holds a prefix of them.
 pub(crate) fn copy_to<T: Share>(items: &[T], row: &mut Option<Row<T>>, most: usize)
     requires { IsFront (items_in row.old) items.now }
     ensures { IsFront (items_in row.new) items.now }
@@ -148,8 +148,8 @@ fn item_at<T>(items: &[T], place: usize) -> Option<&T>
     items.get(place)
 }
 
-/// Repeats in a row that holds the first ones of some items that the item at an index is replaced. If the copy fails,
-/// the row is dropped.
+/// Updates a row that holds a prefix of some items when the item at an index is replaced. If the new item cannot be
+/// shared, the row is dropped.
 pub(crate) fn follow_set<T: Share + Drop>(row: &mut Option<Row<T>>, place: usize, item: &T)
     ensures { (items : List T) → IsFront (items_in row.old) items → IsFront (items_in row.new) (slice_set items place item.now) }
 {
@@ -162,7 +162,7 @@ pub(crate) fn follow_set<T: Share + Drop>(row: &mut Option<Row<T>>, place: usize
     }
 }
 
-/// Repeats in such a row that two items are exchanged.
+/// Updates a row that holds a prefix of some items when two of the items are exchanged.
 pub(crate) fn follow_swap<T: Share + Drop>(
     items: &[T],
     row: &mut Option<Row<T>>,

@@ -8,7 +8,7 @@ pub trait Share {
     ///
     /// # Errors
     ///
-    /// If the item has as many equals as it can have.
+    /// If there are already as many of it as there can be.
     fn share(&self) -> Result<Self, AllocError>
         ensures { IfOk result (λ other. other ≡ self.now) };
 }

@@ -23,7 +23,7 @@ const STEP: usize = 16;
 pub struct SlidingList<T> {
     /// The row with the items. It is absent until room is first made.
     row: Option<Row<T>>,
-    /// The row that will replace it. It holds the first ones of the items.
+    /// The row that will replace it. It holds a prefix of the items.
     next: Option<Row<T>>,
     /// The row that was replaced, until its items are dropped.
     spent: Option<Row<T>>,

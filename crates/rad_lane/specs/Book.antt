@@ -1,4 +1,4 @@
--- The book of a lane (own): all that operators need to bill by.
+-- The book of a lane (own): the state of the lane as a contract sees it, by which operators bill.
 use Rattle.std.specs.Prelude.{◌≡◌, ℕ, ◌+◌, max, List, length, Option, Some}
 use Rattle.std.specs.FinMap as map
 use Rattle.rad_tables.specs.declared.slots.Slot.{Slot}

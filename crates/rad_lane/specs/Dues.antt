@@ -5,7 +5,7 @@ use Rattle.rad_tables.specs.Dues.{NotAfter}
 use Rattle.rad_lane.specs.Outstanding.{Outstanding, is_spent, due_and_number}
 use Rattle.rad_lane.specs.Book.{Book, outstanding_at}
 
--- No outstanding sending that is spent is due; or none that is not spent, by the third argument.
+-- If `spent`, no outstanding sending that is spent is due; if not, none that is not spent is due.
 abbrev pub NoneDue : Book → ℕ → Bool → Type 0
 NoneDue book now spent = (slot : Slot) (entry : Outstanding) → outstanding_at book slot entry → is_spent entry ≡ spent → now < entry.due
 

@@ -1,4 +1,4 @@
--- The lawful book (own): what is true of every book, whatever arrived and in whatever order. Operators bill by it.
+-- The lawful book (own): what operators who bill by a book can rely on, whatever arrived and in whatever order.
 use Rattle.std.specs.Prelude.{◌≡◌, ℕ, ◌+◌, ◌<◌, ◌≤◌, List, ◌++◌, length, map as each, All, AllPairs, Some, None, IfSome}
 use Rattle.std.specs.List.{range_with_len}
 use Rattle.std.specs.List.Sorted.{IsPermutation, IsStrictlyIncreasing}
@@ -24,7 +24,8 @@ NoRepeatWithinSpan book earlier later =
     key_of earlier ≡ key_of later
     → (answer : AnswerKept) × (answer_to earlier.number book.answered ≡ Some answer) × (answer.moment + book.setup.limits.span ≤ later.moment)
 
--- What is sent under a pair is a record, and the octets are its forwarded packet under the pair's Identifier.
+-- The request of the sending under a pair is a record, and the octets are its forwarded packet with the pair's
+-- Identifier.
 pub record ForwardsItsRecord (setup : LaneSetup) (slot : Slot) (entry : Outstanding) : Type 0 where
   pub is_record : IsRecord entry.request
   pub octets : entry.octets ≡ octets_of setup entry.request slot.identifier

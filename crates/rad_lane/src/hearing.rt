@@ -90,9 +90,9 @@ impl From<ReplyFault> for HearFault {
 }
 
 impl<Q: Fifo<Record>> Lane<Q> {
-    /// Hears a datagram that arrived at source port `port` from the home server. A verified reply to a sending is
-    /// kept as the answer to its request, and the response is returned. A valid answer to the probe is reported.
-    /// Either marks the home server up if it is marked down.
+    /// Hears a datagram that arrived from the home server at source port `port` of the lane, counted from 0. A
+    /// verified reply to a sending is kept as the answer to its request, and the response is returned. A valid answer
+    /// to the probe is reported. Either marks the home server up if it is marked down.
     ///
     /// It looks up once what was sent under the pair, and hashes the reply once and the response once. Marking the
     /// home server up changes each outstanding sending. If the list of answers grows, at most a few of them are

@@ -1,4 +1,4 @@
-//! Laws of the definitions, as functions without a body.
+//! Laws of the definitions.
 
 ghost use Rattle.std.specs.Prelude.{◌≡◌, ◌≤◌, List, ℕ, Some, Result, Err, IsPermutation, map as each};
 ghost use Rattle.rad_packet.specs.Packet.{code_of};

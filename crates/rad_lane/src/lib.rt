@@ -3,8 +3,8 @@
 //!
 //! A lane is a value without a socket, a clock or a thread. [`Lane::accept`] takes requests, [`Lane::step`] returns
 //! what is to be sent, and [`Lane::hear`] takes replies and returns the responses. The contract of each call is a
-//! relation between the book before it and the book after it. Whatever the calls were, the book is lawful: it holds
-//! each accepted request once, in order, and each is answered only after a verified reply.
+//! relation between the book before it and the book after it. Whatever the calls were, the book is lawful: its
+//! requests are in it once each, in order, and each is answered only after a verified reply.
 //!
 //! The definitions that the contracts cite are in `specs`. `Book` is the state of a lane as contracts see it, and
 //! `Lawful` is true of it at any time. `Accepts`, `Steps`, `Hears`, `Drains` and `Volumes` describe the calls, with

@@ -6,7 +6,7 @@ use std::marker::Model;
 
 /// A request that a lane accepted: its stamp, its packet, and the secret of the client that sent it.
 ///
-/// Operators bill by it, so its type keeps that the packet is the request of that stamp, valid under that secret.
+/// Operators bill by it, so its type keeps that the packet is a request of that stamp, valid under that secret.
 #[derive(Drop)]
 pub struct Record {
     /// The origin and time of the request.

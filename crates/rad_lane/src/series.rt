@@ -1,6 +1,6 @@
 use std::marker::Model;
 
-/// Items in order, as a volume or the report at the end holds them.
+/// Items in order, as a setup, a volume and the report at the end hold them.
 #[derive(Drop)]
 pub struct Series<T> {
     items: Vec<T>,

@@ -46,7 +46,7 @@ impl<Q: Fifo<Record>> Lane<Q> {
     /// spent. If none is due, it marks the home server down if a spent sending is due, and otherwise sends the first
     /// request of the queue, if the window has room. While the home server is marked down, the step marks it up if
     /// `down_wait` is over, and otherwise probes it if the next probe is due, with `random` as the Authenticator. If
-    /// nothing of this applies, it is idle.
+    /// none of this applies, the step is idle.
     ///
     /// It takes no memory. It looks at each outstanding sending at most twice. Marking the home server up changes
     /// each of them.
@@ -133,7 +133,7 @@ impl<Q: Fifo<Record>> Lane<Q> {
         }
     }
 
-    /// Retransmits the sending under the pair of the next due one.
+    /// Retransmits the next due sending, which is under the pair `slot`.
     fn resend(&mut self, slot: Slot, now: Moment, datagram: &mut Datagram) -> Action
         requires is_up { self.old.watch ≡ up }
         requires later { self.old.last ≤ now }

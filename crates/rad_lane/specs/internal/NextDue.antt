@@ -8,7 +8,7 @@ use Rattle.rad_lane.specs.declared.stepping.NextDue.TheVariants.{Now, Later}
 use Rattle.rad_lane.specs.Book.{Book, outstanding_at, outstanding_count}
 use Rattle.rad_lane.specs.Dues.{IsNextDue}
 
--- No outstanding sending is spent; or none is not spent, by the second argument.
+-- If `spent`, no outstanding sending is spent; if not, each is spent.
 abbrev pub NoneIsSo : Book → Bool → Type 0
 NoneIsSo book spent = (slot : Slot) (entry : Outstanding) → outstanding_at book slot entry → is_spent entry ≡ spent → ⊥
 
