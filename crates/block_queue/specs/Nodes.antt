@@ -12,30 +12,30 @@ module _ {T : Type 0} where
   abbrev pub IsHeld : List (Option T) → Type 0
   IsHeld places = (value : T) × (places ≡ Some value ∷ [])
 
-  -- the node that lies at p, whose place is the first of these
+  -- the node at p, whose place is the first of these
   abbrev pub cell_at : Ptr → List (Option T) → List (Ptr × T)
   cell_at p [] = []
   cell_at p (None ∷ places) = []
   cell_at p (Some value ∷ places) = (p, value) ∷ []
 
-  -- the first node lies at p
+  -- the first node is at p
   abbrev pub BeginsAt : List (Ptr × T) → Ptr → Type 0
   BeginsAt cells p = (value : T) × (rest : List (Ptr × T)) × (cells ≡ (p, value) ∷ rest)
 
-  -- the last node lies at p
+  -- the last node is at p
   abbrev pub EndsAt : List (Ptr × T) → Ptr → Type 0
   EndsAt cells p = (value : T) × (front : List (Ptr × T)) × (cells ≡ front ++ (p, value) ∷ [])
 
-  -- the node at an index has the value, and lies at p
+  -- the node at an index has the value, and is at p
   abbrev pub IsShownAt : List (Ptr × T) → ℕ → Ptr → T → Type 0
   IsShownAt cells index p value = slice_get cells index ≡ Some (p, value)
 
-  -- the node at an index lies at p
+  -- the node at an index is at p
   abbrev pub LiesAt : List (Ptr × T) → ℕ → Ptr → Type 0
   LiesAt cells index p = (value : T) × IsShownAt cells index p value
 
 module _ (R : RattleType) where
-  -- the nodes, and the right, the token's, to give their memory back
+  -- the nodes, and with each the token, which is the right to release its memory
   abbrev pub nodes_own : (Ty → Ptr → Fml) → List (Ptr × R.Denot) → Fml
   nodes_own token [] = ftrue
   nodes_own token (cell ∷ cells) = fsep (region_owns R token cell.0 (Some cell.1 ∷ [])) (nodes_own token cells)

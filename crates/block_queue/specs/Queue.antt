@@ -1,7 +1,7 @@
--- Queues: the first item in is the first out. Own.
+-- Queues: first in, first out. Own.
 use Rattle.std.specs.Prelude.{◌≡◌, ℕ, List, [], ◌∷◌, Option, Some, None}
 
--- what a queue is to its callers: its items, the oldest first, and how many more it has room for
+-- a queue as its callers see it: its items, the oldest first, and the number of items that it has room for
 pub record Queue (T : Type 0) : Type 0 where
   pub items : List T
   pub room : ℕ
@@ -11,7 +11,7 @@ abbrev pub oldest : {T : Type 0} → List T → Option T
 oldest [] = None
 oldest (item ∷ later) = Some item
 
--- taking the oldest item from old leaves new; from no items nothing is taken
+-- removing the oldest item from old leaves new; if old has no items, none is removed
 abbrev pub TakesOldest : {T : Type 0} → List T → Option T → List T → Type 0
 TakesOldest old None new = (old ≡ []) × (new ≡ [])
 TakesOldest old (Some item) new = old ≡ item ∷ new

@@ -10,22 +10,22 @@ use denote.Memory.{lone, part_at, shared_of}
 use denote.Sharing.{nothing, said, beside}
 use denote.RawPtr.{Ptr, block_ptr, null_ptr}
 
--- so many values take fewer than 2 ^ 63 octets
+-- `count` values take fewer than 2 ^ 63 octets
 abbrev pub Fits : RattleType → ℕ → Type 0
 Fits R count = count * type_size R < 2 ^ 63
 
 module _ (R : RattleType) where
-  -- a place that begins o octets into the block b: its value, or room for one
+  -- a place that begins o octets into the block b: its value, or the room for one
   abbrev pub place_owns : ℕ → ℕ → Option R.Denot → Fml
   place_owns b o (Some x) = part_at R full_share x b o
   place_owns b o None = froom (raw (lone R.mir)) b o
 
-  -- places one after another
+  -- consecutive places
   abbrev pub places_own : ℕ → ℕ → List (Option R.Denot) → Fml
   places_own b o [] = ftrue
   places_own b o (place ∷ places) = fsep (place_owns b o place) (places_own b (o + type_size R) places)
 
-  -- the places, and the right, the token's, to give their memory back
+  -- the places, and the token, which is the right to release their memory
   abbrev pub region_owns : (Ty → Ptr → Fml) → Ptr → List (Option R.Denot) → Fml
   region_owns token (block_ptr b o) places =
       fsep (flt (length places * type_size R) (2 ^ 63))

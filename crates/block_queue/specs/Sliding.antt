@@ -1,9 +1,9 @@
--- A list that slides from one row into another. Own.
+-- A list that moves from one row into another, a few items at a time. Own.
 use Rattle.std.specs.Prelude.{◌≡◌, ℕ, List, [], Option, Some, None, length, take}
 use Rattle.block_queue.specs.Queue.{Queue}
 
 module _ {T : Type 0} where
-  -- the items of a row, and the places behind them, where there is a row
+  -- the items of a row, and the number of places after them, if there is a row
   abbrev pub items_in : Option (Queue T) → List T
   items_in None = []
   items_in (Some row) = row.items

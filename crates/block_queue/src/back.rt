@@ -4,7 +4,7 @@ use crate::chain::Chain;
 use crate::detached_block::DetachedBlock;
 use std::marker::Model;
 
-/// The blocks behind the first one.
+/// The blocks after the first one.
 #[derive(Drop)]
 pub(crate) struct Back<T> {
     pub(crate) middle: Option<Chain<Block<T>>>,

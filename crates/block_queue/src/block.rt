@@ -1,4 +1,4 @@
-//! A block: a short queue in a region of its own.
+//! A block: a short queue in a region of 32 places.
 ghost use Rattle.std.specs.Prelude.{◌≡◌, ◌+◌, ◌-◌, ◌<◌, ◌≤◌, ◌⊎◌, [], ◌∷◌, ◌++◌, Some, IfOk, IsSome, length, option_copied, slice_get};
 ghost use Rattle.block_queue.specs.Queue.{oldest};
 ghost use Rattle.block_queue.specs.Blocks.{has_none, IsPopped};
@@ -7,7 +7,7 @@ use crate::region::{PLACES, Region};
 use std::alloc::{AllocError, Global};
 use std::marker::Model;
 
-/// The items lie in the places from `start` on, one after another.
+/// A short queue. Its items are in consecutive places from `start` on.
 pub struct Block<T> {
     start: usize,
     count: usize,
@@ -31,8 +31,7 @@ impl<T> Model for Block<T> {
 }
 
 impl<T> Block<T> {
-    /// A block without items. An error means that memory was refused, or that 32 values have no
-    /// layout.
+    /// Makes a block without items. An error means that memory was refused, or that 32 values have no layout.
     pub(crate) fn new(alloc: Global) -> Result<Block<T>, AllocError>
         ensures { IfOk result (λ block. block ≡ record { items = []; room = 32 }) }
     {
@@ -44,7 +43,7 @@ impl<T> Block<T> {
         })
     }
 
-    /// Gives the memory of a block without items back.
+    /// Releases the memory of a block without items.
     pub(crate) fn free(self)
         requires { self.items ≡ [] }
     {
@@ -57,7 +56,7 @@ impl<T> Block<T> {
         region.free(&alloc);
     }
 
-    /// Begins again at the first place, where no item is left.
+    /// Makes a block without items begin at the first place again.
     #[inline]
     pub(crate) fn clear(&mut self)
         requires { self.old.items ≡ [] }
@@ -66,7 +65,7 @@ impl<T> Block<T> {
         self.start = 0;
     }
 
-    /// How many places there are behind the last item.
+    /// Returns the number of places after the last item.
     #[inline]
     pub(crate) fn room(&self) -> usize
         ensures room { result ≡ self.now.room }
@@ -82,7 +81,7 @@ impl<T> Block<T> {
         self.count
     }
 
-    /// Puts an item behind the others.
+    /// Adds an item at the end.
     #[inline]
     pub(crate) fn push(&mut self, item: T)
         requires { 1 ≤ self.old.room }
@@ -95,7 +94,7 @@ impl<T> Block<T> {
         self.count += 1;
     }
 
-    /// Takes the first item out. The next item behind the last one lies at the first place again.
+    /// Removes and returns the first item. If no item is left, the next one is pushed to the first place again.
     #[inline]
     pub(crate) fn pop(&mut self) -> T
         requires { 0 < length self.old.items }
@@ -108,7 +107,7 @@ impl<T> Block<T> {
         self.region.read(first)
     }
 
-    /// The first item.
+    /// Returns the first item, if there is one.
     #[inline]
     pub(crate) fn first(&self) -> Option<&T>
         ensures { option_copied result ≡ oldest self.now.items }
@@ -129,7 +128,7 @@ impl<T> Block<T> {
         }
     }
 
-    /// The item at an index, if there is one.
+    /// Returns the item at an index, if there is one.
     #[inline]
     pub(crate) fn at(&self, index: usize) -> Option<&T>
         ensures item { option_copied result ≡ slice_get self.now.items index }
@@ -141,7 +140,7 @@ impl<T> Block<T> {
         None
     }
 
-    /// The item at an index.
+    /// Returns the item at an index.
     #[inline]
     fn get(&self, index: usize) -> &T
         requires { index < length self.now.items }
@@ -151,7 +150,7 @@ impl<T> Block<T> {
     }
 }
 
-/// Where the items begin after the first one was taken out, and so many are left.
+/// Returns the place of the first item after a pop from place `first`, if `left` items are left.
 #[inline]
 fn start_after(first: usize, left: usize) -> usize
     requires { first < 32 }

@@ -1,4 +1,4 @@
-//! Going over blocks.
+//! Iterating over blocks.
 ghost use Rattle.std.specs.Prelude.{◌≡◌, [], drop as without};
 ghost use Rattle.std.specs.Map.Iter.{TakesFirst, deref};
 
@@ -6,7 +6,7 @@ use crate::block::Block;
 use crate::chain::Steps;
 use std::marker::Model;
 
-/// The blocks of a queue from one on.
+/// The blocks of a queue from some block on.
 #[derive(Drop)]
 pub(crate) struct BlockIter<'a, T> {
     pub(crate) first: Option<&'a Block<T>>,
@@ -25,7 +25,7 @@ impl<'a, T> Model for BlockIter<'a, T> {
 }
 
 impl<'a, T> BlockIter<'a, T> {
-    /// No blocks.
+    /// Makes an iterator over no blocks.
     pub(crate) fn none() -> BlockIter<'a, T>
         ensures { result ≡ [] }
     {
@@ -36,7 +36,7 @@ impl<'a, T> BlockIter<'a, T> {
         }
     }
 
-    /// The next block, if there is one more.
+    /// Returns the next block, if there is one.
     pub(crate) fn next(&mut self) -> Option<&'a Block<T>>
         ensures { TakesFirst deref self.old result self.new }
     {
@@ -54,7 +54,7 @@ impl<'a, T> BlockIter<'a, T> {
         block
     }
 
-    /// These blocks without the first one.
+    /// Returns these blocks without the first one.
     pub(crate) fn after_first(mut self) -> BlockIter<'a, T>
         ensures { result ≡ without 1 self.entry }
     {

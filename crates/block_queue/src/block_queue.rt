@@ -10,12 +10,12 @@ use core::mem::replace_with;
 use std::alloc::{AllocError, Global};
 use std::marker::Model;
 
-/// A queue that holds so many items is given no more room.
+/// The most items that a queue may hold and still be given room.
 const MOST: usize = 0x8000_0000_0000_0000;
 
-/// A queue in a chain of blocks, whose items stay where they are while it grows.
+/// A queue in a chain of blocks. Its items are not moved when it grows.
 ///
-/// At most one block is empty: the last one, or the first one, which the last pop emptied, or a spare one that is
+/// At most one block is empty: the last one; or the first one, if the last pop emptied it; or a spare one that is
 /// kept for later.
 #[derive(Drop)]
 pub struct BlockQueue<T> {
@@ -108,7 +108,7 @@ impl<T> Fifo<T> for BlockQueue<T> {
 }
 
 impl<T> BlockQueue<T> {
-    /// The items, the oldest first.
+    /// Iterates over the items, the oldest first.
     pub fn iter(&self) -> Iter<'_, T>
         ensures rest { result ≡ self.now.items }
         ensures runs { ShowsInOrder (deref {X = T}) }
@@ -119,7 +119,7 @@ impl<T> BlockQueue<T> {
         }
     }
 
-    /// Makes room by an empty block. An error means that memory was refused.
+    /// Adds an empty block to make room. An error means that memory was refused, or that a block has no layout.
     #[inline(never)]
     fn add_block(&mut self) -> Result<(), AllocError>
         requires full { self.old.room ≡ 0 }
@@ -139,8 +139,7 @@ impl<T> BlockQueue<T> {
         }
     }
 
-    /// Puts the items of another queue behind these. It takes no memory, and may give one block
-    /// back.
+    /// Moves the items of another queue to the end of this one. It takes no memory, and may release one block.
     pub fn append(&mut self, other: BlockQueue<T>)
         requires { length self.old.items + length other.items < 2 ^ 63 }
         ensures { self.new.items ≡ self.old.items ++ other.items }
@@ -159,7 +158,7 @@ impl<T> BlockQueue<T> {
     }
 }
 
-/// The blocks of two queues, one's behind the other's.
+/// Joins the blocks of two queues, the others last.
 fn appended<T>(
     blocks: Option<HeldBlocks<T>>,
     others: Option<HeldBlocks<T>>,
@@ -174,7 +173,7 @@ fn appended<T>(
     }
 }
 
-/// [`appended`], the others first.
+/// Joins the blocks of two queues, the others first.
 fn prepended<T>(
     blocks: Option<HeldBlocks<T>>,
     others: Option<HeldBlocks<T>>,

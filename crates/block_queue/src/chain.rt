@@ -1,4 +1,4 @@
-//! Elements in nodes that lead to one another: a chain, whose two ends are known.
+//! A chain: elements in nodes, each with a link to the next node. The places of both ends are known.
 ghost use Rattle.std.specs.Prelude.{◌≡◌, ◌^◌, ◌<◌, [], ◌∷◌, ◌++◌, None, Some, length};
 ghost use Rattle.std.specs.Map.Iter.{TakesFirst, deref};
 ghost use Rattle.block_queue.specs.Chain.{joined};
@@ -8,13 +8,13 @@ use crate::region::Region;
 use std::alloc::{AllocError, Global};
 use std::marker::Model;
 
-/// An element, and where the node after it lies.
+/// An element, and the place of the next node.
 pub(crate) struct Node<E> {
     next: Option<Place>,
     elem: E,
 }
 
-/// Memory for a node, before it is linked and after it was taken out.
+/// The memory of a node that is not linked: not yet, or not any more.
 pub(crate) struct Allocation<E> {
     node: Region<Node<E>, Global>,
     alloc: Global,
@@ -22,7 +22,7 @@ pub(crate) struct Allocation<E> {
 }
 
 impl<E> Allocation<E> {
-    /// An error means that memory was refused, or that a node has no layout.
+    /// Allocates the memory of a node. An error means that memory was refused, or that a node has no layout.
     pub(crate) fn new(alloc: Global) -> Result<Allocation<E>, AllocError> {
         Ok(Allocation {
             node: Region::single(&alloc)?,
@@ -30,7 +30,7 @@ impl<E> Allocation<E> {
         })
     }
 
-    /// Moves an element into the memory, in a node that leads to no other yet.
+    /// Moves an element into the memory, as a node without a link.
     fn fill(self, elem: E) -> (Region<Node<E>, Global>, Global)
         ensures { result.0.places ≡ Some (record { next = None; elem = elem }) ∷ [] }
     {
@@ -39,7 +39,7 @@ impl<E> Allocation<E> {
         (node, alloc)
     }
 
-    /// Gives the memory back.
+    /// Releases the memory.
     pub(crate) fn free(self) {
         let Allocation { node, alloc } = self;
         node.free_single(&alloc);
@@ -52,7 +52,7 @@ impl<E> Drop for Allocation<E> {
     }
 }
 
-/// One element or more.
+/// A chain of one or more elements.
 pub(crate) struct Chain<E> {
     head: Place,
     tail: Place,
@@ -71,7 +71,7 @@ impl<E> Model for Chain<E> {
     ghost invariant = { λ c. IsLinked c.head c.tail c.nodes.cells };
 }
 
-/// The first element of a chain, the memory of its node, and the chain of the others.
+/// The first element of a chain, the memory of its node, and the chain of the other elements.
 pub(crate) struct Parted<E> {
     pub(crate) elem: E,
     pub(crate) allocation: Allocation<E>,
@@ -79,7 +79,7 @@ pub(crate) struct Parted<E> {
 }
 
 impl<E> Chain<E> {
-    /// A chain of one element.
+    /// Makes a chain of one element.
     pub(crate) fn one(allocation: Allocation<E>, elem: E) -> Chain<E>
         ensures { result ≡ elem ∷ [] }
     {
@@ -93,7 +93,7 @@ impl<E> Chain<E> {
         }
     }
 
-    /// These elements and then the others.
+    /// Joins two chains, these elements first.
     pub(crate) fn join(self, others: Chain<E>) -> Chain<E>
         ensures { result ≡ self ++ others }
     {
@@ -127,7 +127,7 @@ impl<E> Chain<E> {
         }
     }
 
-    /// Takes the first element out.
+    /// Removes the first element.
     pub(crate) fn split(self) -> Parted<E>
         ensures { self ≡ result.elem ∷ joined result.rest }
     {
@@ -162,7 +162,7 @@ impl<E> Chain<E> {
         }
     }
 
-    /// The elements, the first one first.
+    /// Iterates over the elements, the first one first.
     pub(crate) fn steps(&self) -> Steps<'_, E>
         requires { length self.now < 2 ^ 64 }
         ensures { result ≡ self.now }
@@ -189,7 +189,7 @@ impl<E: Drop> Drop for Chain<E> {
     }
 }
 
-/// The elements of a chain from one on.
+/// The elements of a chain from some element on.
 #[derive(Drop)]
 pub(crate) struct Steps<'a, E> {
     nodes: &'a Nodes<Node<E>, Global>,
@@ -209,7 +209,7 @@ impl<'a, E> Model for Steps<'a, E> {
 }
 
 impl<'a, E> Steps<'a, E> {
-    /// The next element, if there is one more.
+    /// Returns the next element, if there is one.
     #[inline]
     pub(crate) fn next(&mut self) -> Option<&'a E>
         ensures { TakesFirst deref self.old result self.new }

@@ -1,11 +1,11 @@
-//! Blocks that are linked to no other.
+//! Blocks that are linked to no other block.
 ghost use Rattle.std.specs.Prelude.{◌≡◌, [], IfOk};
 
 use crate::block::Block;
 use crate::chain::Allocation;
 use std::alloc::{AllocError, Global};
 
-/// A block, with the memory that links it once others follow.
+/// A block, with the memory for its node once it is linked.
 #[derive(Drop)]
 pub(crate) struct DetachedBlock<T> {
     pub(crate) block: Block<T>,
@@ -13,7 +13,7 @@ pub(crate) struct DetachedBlock<T> {
 }
 
 impl<T> DetachedBlock<T> {
-    /// This block as one without items.
+    /// Makes this block, which has no items, an empty one.
     pub(crate) fn into_empty(self) -> EmptyBlock<T>
         requires { self.block.items ≡ [] }
         ensures { result.detached ≡ self }
@@ -30,7 +30,7 @@ pub(crate) struct EmptyBlock<T> {
 }
 
 impl<T> EmptyBlock<T> {
-    /// An error means that memory was refused, or that it has no layout.
+    /// Allocates an empty block. An error means that memory was refused, or that a block has no layout.
     pub(crate) fn new(alloc: Global) -> Result<EmptyBlock<T>, AllocError>
         ensures { IfOk result (λ empty. empty.detached.block ≡ record { items = []; room = 32 }) }
     {
@@ -44,7 +44,7 @@ impl<T> EmptyBlock<T> {
         }
     }
 
-    /// Gives the memory back.
+    /// Releases the memory.
     pub(crate) fn free(self) {
         let EmptyBlock { detached } = self;
         let DetachedBlock { block, link } = detached;
@@ -52,7 +52,7 @@ impl<T> EmptyBlock<T> {
         link.free();
     }
 
-    /// The block, with room for the next item at its first place.
+    /// Returns the block, which begins at its first place again.
     pub(crate) fn cleared(self) -> DetachedBlock<T>
         ensures { result.block ≡ record { items = []; room = 32 } }
     {
@@ -62,7 +62,7 @@ impl<T> EmptyBlock<T> {
     }
 }
 
-/// One of two blocks, where there are two, and the one where there is one. The other is freed.
+/// Returns one of the two blocks, if there is any. If there are two, the other one is freed.
 pub(crate) fn free_surplus<T>(
     block: Option<EmptyBlock<T>>,
     other: Option<EmptyBlock<T>>,

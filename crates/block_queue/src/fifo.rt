@@ -4,10 +4,10 @@ ghost use Rattle.block_queue.specs.Queue.{oldest, TakesOldest};
 
 use std::alloc::{AllocError, Global};
 
-/// A queue that is asked for room before an item is pushed into it.
+/// A queue whose room is made before an item is pushed.
 ///
-/// Every call costs the same however long the queue is, but for a [`Fifo::reserve_one`] that has
-/// to make room, which may move the items once.
+/// The cost of each call is independent of the length of the queue, except for a [`Fifo::reserve_one`] that has to
+/// make room: it may move the items once.
 pub trait Fifo<T> {
     /// The items, the oldest first.
     ghost items: { Self → List T };
@@ -15,39 +15,40 @@ pub trait Fifo<T> {
     /// How many items can be pushed before room has to be made.
     ghost room: { Self → ℕ };
 
-    /// An empty queue. It takes no memory: what it needs later is made with `alloc`.
+    /// Makes an empty queue. It takes no memory; what the queue needs later is allocated with `alloc`.
     fn new(alloc: Global) -> Self
         ensures { items result ≡ [] };
 
-    /// Makes room for one item more, where there is none.
+    /// Makes room for one more item, if there is none.
     ///
-    /// Memory is asked for only where [`Fifo::spare`] is 0, and an error means that it was refused.
+    /// Memory is allocated only if [`Fifo::spare`] is 0. An error means that memory was refused, or that the queue
+    /// cannot be given more room.
     fn reserve_one(&mut self) -> Result<(), AllocError>
         ensures items { items self.new ≡ items self.old }
         ensures room { room self.old ≤ room self.new }
         ensures ok { OnOk result (1 ≤ room self.new) }
         ensures had_room { 1 ≤ room self.old → IsOk result };
 
-    /// How many items can be pushed before room has to be made.
+    /// Returns how many items can be pushed before room has to be made.
     fn spare(&self) -> usize
         ensures { result ≡ room self.now };
 
-    /// Puts an item at the end. It takes no memory.
+    /// Adds an item at the end. It takes no memory.
     fn push_back(&mut self, item: T)
         requires { 1 ≤ room self.old }
         ensures items { items self.new ≡ items self.old ++ item ∷ [] }
         ensures room { room self.old ≤ room self.new + 1 };
 
-    /// Takes the oldest item out. The room never falls by it.
+    /// Removes and returns the oldest item, if there is one. The room does not shrink.
     fn pop_front(&mut self) -> Option<T>
         ensures items { TakesOldest (items self.old) result (items self.new) }
         ensures room { room self.old ≤ room self.new };
 
-    /// The oldest item.
+    /// Returns the oldest item, if there is one.
     fn front(&self) -> Option<&T>
         ensures { option_copied result ≡ oldest (items self.now) };
 
-    /// How many items there are.
+    /// Returns the number of items.
     fn len(&self) -> usize
         ensures { result ≡ length (items self.now) };
 

@@ -33,7 +33,7 @@ impl<T> Front<T> {
         }
     }
 
-    /// Links a block behind these.
+    /// Adds a block at the end.
     pub(crate) fn add(self, added: DetachedBlock<T>) -> Front<T>
         ensures { result ≡ self ++ added.block ∷ [] }
     {
@@ -52,7 +52,7 @@ impl<T> Front<T> {
         }
     }
 
-    /// These blocks and then the others.
+    /// Joins these blocks and the others, these first.
     pub(crate) fn join(self, others: Front<T>) -> Front<T>
         ensures { result ≡ self ++ others }
     {

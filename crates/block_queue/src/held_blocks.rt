@@ -13,10 +13,10 @@ use crate::linked_blocks::LinkedBlocks;
 use std::alloc::{AllocError, Global};
 use std::marker::Model;
 
-/// The blocks that a queue holds once room was made: those that are linked, and a spare one, if there is one.
+/// The blocks of a queue for which room was made: the linked ones, and a spare one, if there is one.
 ///
-/// At most one of them is empty: the last one, or the first one, which the last pop emptied, or the spare one. The next pop,
-/// append or new block takes an emptied first one away from the others, and it is the spare one then.
+/// At most one of them is empty: the last one; or the first one, if the last pop emptied it; or the spare one. The
+/// next pop, append or new block unlinks an emptied first block, which then becomes the spare one.
 #[derive(Drop)]
 pub(crate) struct HeldBlocks<T> {
     linked: LinkedBlocks<T>,
@@ -35,7 +35,7 @@ impl<T> Model for HeldBlocks<T> {
 }
 
 impl<T> HeldBlocks<T> {
-    /// One block without items. An error means that memory was refused, or that it has no layout.
+    /// Makes one block without items. An error means that memory was refused, or that a block has no layout.
     pub(crate) fn new(alloc: Global) -> Result<HeldBlocks<T>, AllocError>
         ensures { IfOk result (λ held. held.linked ≡ record { items = []; room = 32 } ∷ []) }
     {
@@ -46,7 +46,7 @@ impl<T> HeldBlocks<T> {
         })
     }
 
-    /// How many places the last block has behind its items.
+    /// Returns the number of places after the items of the last block.
     #[inline]
     pub(crate) fn room(&self) -> usize
         ensures { result ≡ room_of self.now.linked }
@@ -54,7 +54,7 @@ impl<T> HeldBlocks<T> {
         self.linked.room()
     }
 
-    /// Puts an item into the last block.
+    /// Adds an item to the last block.
     #[inline]
     pub(crate) fn push(&mut self, item: T)
         requires { 1 ≤ room_of self.old.linked }
@@ -63,7 +63,7 @@ impl<T> HeldBlocks<T> {
         self.linked.push(item);
     }
 
-    /// The oldest item.
+    /// Returns the oldest item, if there is one.
     #[inline]
     pub(crate) fn first_item(&self) -> Option<&T>
         requires { length (items_of self.now.linked) + room_of self.now.linked + 1 < 2 ^ 64 }
@@ -76,7 +76,7 @@ impl<T> HeldBlocks<T> {
         }
     }
 
-    /// The blocks, the first one first. One in front that was emptied is passed over.
+    /// Iterates over the blocks, the first one first. A first block that was emptied is skipped.
     pub(crate) fn walk(&self) -> BlockIter<'_, T>
         requires { length (items_of self.now.linked) + room_of self.now.linked + 1 < 2 ^ 64 }
         ensures shape { IsChain result }

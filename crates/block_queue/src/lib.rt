@@ -1,11 +1,12 @@
 //! Queues whose room is made before it is needed.
 //!
-//! A caller first asks for room, which may be refused, and then pushes, which may not.
-//! [`Fifo`] is the contract: a queue is the list of its items, with a number of places to spare.
-//! [`PlainQueue`] meets it over one of std's collections, and [`BlockQueue`] in a chain of blocks over
-//! raw memory, whose items stay where they are while the queue grows.
+//! A caller first asks for room, which may be refused, and then pushes an item, which cannot fail. [`Fifo`] is the
+//! contract: a queue is the list of its items, with the number of items that it has room for. [`PlainQueue`]
+//! implements it over a collection of std. [`BlockQueue`] implements it with a chain of blocks in raw memory, whose
+//! items are not moved when the queue grows. [`SlidingList`] is a list in one slice, with room that is made in the
+//! same way.
 //!
-//! The words that the contracts cite stand in `specs/Queue.antt`.
+//! The definitions that the contracts cite are in `specs/Queue.antt`.
 #![tactic(auto)]
 
 mod back;

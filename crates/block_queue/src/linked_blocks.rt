@@ -1,4 +1,4 @@
-//! Blocks that are linked to one another: the first and the last at hand, and those between them in a chain.
+//! Linked blocks: the first and the last one as fields, and those between them in a chain.
 ghost use Rattle.std.specs.Prelude.{◌≡◌, ◌^◌, ◌<◌, ◌≤◌, true, false, length};
 ghost use Rattle.block_queue.specs.Blocks.{room_of, first_count, pushed, ends_empty as has_empty_end, AllHaveItems, IsChain, BeginsEmptied, IsLine, EndsWith, IsFirstPopped};
 
@@ -11,7 +11,7 @@ use crate::block_iter::BlockIter;
 use crate::detached_block::DetachedBlock;
 use std::marker::Model;
 
-/// One block or more.
+/// One or more linked blocks.
 #[derive(Drop)]
 pub(crate) struct LinkedBlocks<T> {
     first: DetachedBlock<T>,
@@ -29,7 +29,7 @@ impl<T> Model for LinkedBlocks<T> {
 }
 
 impl<T> LinkedBlocks<T> {
-    /// The last block.
+    /// Returns the last block.
     #[inline]
     fn last(&self) -> &Block<T>
         ensures { EndsWith self.now result.now }
@@ -40,7 +40,7 @@ impl<T> LinkedBlocks<T> {
         }
     }
 
-    /// How many items the first block has.
+    /// Returns the number of items of the first block.
     #[inline]
     pub(crate) fn first_len(&self) -> usize
         ensures { result ≡ first_count self.now }
@@ -48,7 +48,7 @@ impl<T> LinkedBlocks<T> {
         self.first.block.len()
     }
 
-    /// How many places the last block has behind its items.
+    /// Returns the number of places after the items of the last block.
     #[inline]
     pub(crate) fn room(&self) -> usize
         ensures { result ≡ room_of self.now }
@@ -56,7 +56,7 @@ impl<T> LinkedBlocks<T> {
         self.last().room()
     }
 
-    /// Whether the last block has no item.
+    /// Returns whether the last block has no item.
     pub(crate) fn ends_empty(&self) -> bool
         requires { IsChain self.now }
         ensures is { result ≡ has_empty_end self.now }
@@ -65,7 +65,7 @@ impl<T> LinkedBlocks<T> {
         self.last().is_empty()
     }
 
-    /// Whether the first block has no item and others follow.
+    /// Returns whether the first block has no item and other blocks follow it.
     pub(crate) fn begins_emptied(&self) -> bool
         requires { IsLine self.now }
         ensures yes { result ≡ true → BeginsEmptied self.now }
@@ -80,7 +80,7 @@ impl<T> LinkedBlocks<T> {
         }
     }
 
-    /// Puts an item into the last block.
+    /// Adds an item to the last block.
     #[inline]
     pub(crate) fn push(&mut self, item: T)
         requires { 1 ≤ room_of self.old }
@@ -92,7 +92,7 @@ impl<T> LinkedBlocks<T> {
         }
     }
 
-    /// Takes the first item out of the first block.
+    /// Removes and returns the first item of the first block.
     #[inline]
     pub(crate) fn pop(&mut self) -> T
         requires { 0 < first_count self.old }
@@ -101,7 +101,7 @@ impl<T> LinkedBlocks<T> {
         self.first.block.pop()
     }
 
-    /// The blocks, the first one first.
+    /// Iterates over the blocks, the first one first.
     pub(crate) fn walk(&self) -> BlockIter<'_, T>
         requires { length self.now < 2 ^ 64 }
         ensures { result ≡ self.now }

@@ -1,4 +1,4 @@
-//! Blocks of memory that are linked to one another: what they own, apart from where they lie.
+//! Linked nodes in memory: their ownership, apart from their places.
 ghost use Rattle.std.specs.Prelude.{◌≡◌, [], ◌++◌, List};
 ghost use denote.RawPtr.{Ptr};
 ghost use Rattle.block_queue.specs.Nodes.{nodes_own, nodes_lent, cell_at, IsHeld, BeginsAt, EndsAt, IsShownAt, LiesAt};
@@ -7,7 +7,7 @@ use crate::region::Region;
 use std::alloc::Allocator;
 use std::marker::{Model, PhantomData, Send};
 
-/// Where a node lies. It owns nothing.
+/// The place of a node. It owns nothing.
 #[derive(Clone, Copy)]
 pub(crate) struct Place {
     at: *mut u8,
@@ -15,7 +15,7 @@ pub(crate) struct Place {
 
 unsafe impl Send for Place {}
 
-/// Nodes, each in a region of one place. Whoever follows them keeps where they lie.
+/// The owner of nodes, each in a region of one place. Whoever follows the nodes has their places.
 pub(crate) struct Nodes<T, A: Allocator> {
     of: PhantomData<T>,
     by: PhantomData<A>,
@@ -32,7 +32,7 @@ impl<T, A: Allocator> Model for Nodes<T, A> {
 unsafe impl<T: Send, A: Allocator + Send> Send for Nodes<T, A> {}
 
 impl<T, A: Allocator> Nodes<T, A> {
-    /// The node of a region, and where it lies.
+    /// Makes a node of a region. Returns the node and its place.
     pub(crate) fn one(node: Region<T, A>) -> (Nodes<T, A>, Place)
         requires { IsHeld node.places }
         ensures cells { result.0.cells ≡ cell_at result.1.at node.places }
@@ -51,7 +51,7 @@ impl<T, A: Allocator> Nodes<T, A> {
         )
     }
 
-    /// These nodes and then the others.
+    /// Joins these nodes and the others, these first.
     pub(crate) fn join(self, others: Nodes<T, A>) -> Nodes<T, A>
         requires { self.heap ≡ others.heap }
         ensures { (result.cells ≡ self.cells ++ others.cells) × (result.heap ≡ self.heap) }
@@ -60,7 +60,7 @@ impl<T, A: Allocator> Nodes<T, A> {
         self
     }
 
-    /// Parts the first node, which lies there, from the others.
+    /// Detaches the first node, which is at `place`, from the others.
     pub(crate) fn take_first(self, place: Place) -> (Region<T, A>, Nodes<T, A>)
         requires { BeginsAt self.cells place.at }
         ensures cells { self.cells ≡ cell_at place.at result.0.places ++ result.1.cells }
@@ -74,7 +74,7 @@ impl<T, A: Allocator> Nodes<T, A> {
         (node, self)
     }
 
-    /// Parts the last node, which lies there, from the others.
+    /// Detaches the last node, which is at `place`, from the others.
     pub(crate) fn take_last(self, place: Place) -> (Region<T, A>, Nodes<T, A>)
         requires { EndsAt self.cells place.at }
         ensures cells { self.cells ≡ result.1.cells ++ cell_at place.at result.0.places }
@@ -88,7 +88,7 @@ impl<T, A: Allocator> Nodes<T, A> {
         (node, self)
     }
 
-    /// The node at an index, which lies there.
+    /// Returns the node at an index, which is at `place`.
     #[inline]
     pub(crate) fn get(&self, _index: usize, place: Place) -> &T
         requires { LiesAt self.now.cells _index place.at }
@@ -97,7 +97,7 @@ impl<T, A: Allocator> Nodes<T, A> {
         unsafe { &*(place.at as *mut T) }
     }
 
-    /// Ends a list of nodes that has none.
+    /// Ends an empty list of nodes.
     pub(crate) fn end(self)
         requires { self.cells ≡ [] }
     {

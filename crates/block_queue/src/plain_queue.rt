@@ -3,7 +3,7 @@ use std::alloc::{AllocError, Global};
 use std::collections::VecDeque;
 use std::marker::Model;
 
-/// A queue in one stretch of memory, which is moved when room is made.
+/// A queue in one piece of memory, which is moved when it grows.
 #[derive(Drop)]
 pub struct PlainQueue<T> {
     waiting: VecDeque<T>,

@@ -1,4 +1,4 @@
-//! Raw memory for the values of one block, or of a row.
+//! Raw memory for the values of a block, of a row or of a node.
 ghost use Rattle.std.specs.Prelude.{◌≡◌, ℕ, ◌<◌, ◌≤◌, [], ◌∷◌, true, List, Option, Some, None, IfOk, get_or, length, slice_set};
 ghost use Rattle.block_queue.specs.Places.{laid, values, IsFilled, IsRun};
 ghost use Rattle.block_queue.specs.Region.{Fits, region_owns, region_lent};
@@ -8,15 +8,15 @@ use std::marker::{Model, PhantomData, Send};
 use std::mem::{align_of, size_of};
 use std::slice::from_raw_parts;
 
-/// How many values a region has places for.
+/// The number of places of a block's region.
 pub(crate) const PLACES: usize = 32;
 
-/// The most places that a region is made with.
+/// The most places that a region may be made with.
 const MOST_PLACES: usize = 0x1_0000_0000;
 
-/// Memory of its own for 32 values, or for as many as it is made for. Each place is empty or holds a value.
+/// Memory for 32 values, or for another number that it is made for. Each place is empty or holds a value.
 ///
-/// It is given back to the allocator by [`Region::free`] alone, once no place holds a value.
+/// Its memory is released by [`Region::release`] alone, once no place holds a value.
 pub(crate) struct Region<T, A: Allocator> {
     pub(crate) first: *mut T,
     pub(crate) by: PhantomData<A>,
@@ -32,14 +32,14 @@ impl<T, A: Allocator> Model for Region<T, A> {
 
 unsafe impl<T: Send, A: Allocator + Send> Send for Region<T, A> {}
 
-/// Whether 32 values have a layout.
+/// Returns whether 32 values have a layout.
 fn has_layout<T>() -> bool
     ensures { result ≡ true → Fits T.row 32 }
 {
     size_of::<T>() < 0x0400_0000_0000_0000
 }
 
-/// Whether as many values as a region can have places for have a layout.
+/// Returns whether the most values that a region may have places for have a layout.
 fn is_small<T>() -> bool
     ensures { result ≡ true → Fits T.row 0x1_0000_0000 }
 {
@@ -47,8 +47,7 @@ fn is_small<T>() -> bool
 }
 
 impl<T, A: Allocator> Region<T, A> {
-    /// A region with every place empty. An error means that memory was refused, or that 32 values
-    /// have no layout.
+    /// Makes a region of 32 empty places. An error means that memory was refused, or that 32 values have no layout.
     pub(crate) fn new(alloc: &A) -> Result<Region<T, A>, AllocError>
         ensures { IfOk result (λ r. (r.places ≡ laid 0 [] 32) × (r.heap ≡ alloc.now)) }
     {
@@ -58,7 +57,7 @@ impl<T, A: Allocator> Region<T, A> {
         Region::allocate(alloc, PLACES)
     }
 
-    /// A region of one place, which is empty. An error means what it means of [`Region::new`].
+    /// Makes a region of one empty place. An error means that memory was refused, or that 32 values have no layout.
     pub(crate) fn single(alloc: &A) -> Result<Region<T, A>, AllocError>
         ensures { IfOk result (λ r. (r.places ≡ None ∷ []) × (r.heap ≡ alloc.now)) }
     {
@@ -68,7 +67,8 @@ impl<T, A: Allocator> Region<T, A> {
         Region::allocate(alloc, 1)
     }
 
-    /// A region of so many places, which are empty. An error means that memory was refused, or that so many values have no layout.
+    /// Makes a region of `count` empty places. An error means that memory was refused, or that there are too many
+    /// places or too large values for a layout.
     pub(crate) fn with_places(alloc: &A, count: usize) -> Result<Region<T, A>, AllocError>
         ensures { IfOk result (λ r. (r.places ≡ laid 0 [] count) × (r.heap ≡ alloc.now)) }
     {
@@ -91,7 +91,7 @@ impl<T, A: Allocator> Region<T, A> {
         }
     }
 
-    /// Gives the memory back.
+    /// Releases the memory of a region of 32 places.
     pub(crate) fn free(self, alloc: &A)
         requires empty { self.places ≡ laid 0 [] 32 }
         requires heap { self.heap ≡ alloc.now }
@@ -99,7 +99,7 @@ impl<T, A: Allocator> Region<T, A> {
         self.release(alloc, PLACES);
     }
 
-    /// Gives the memory of a region of one place back.
+    /// Releases the memory of a region of one place.
     pub(crate) fn free_single(self, alloc: &A)
         requires empty { self.places ≡ None ∷ [] }
         requires heap { self.heap ≡ alloc.now }
@@ -107,7 +107,7 @@ impl<T, A: Allocator> Region<T, A> {
         self.release(alloc, 1);
     }
 
-    /// Gives the memory of a region of so many places back.
+    /// Releases the memory of a region of `count` places.
     pub(crate) fn release(self, alloc: &A, count: usize)
         requires { (self.places ≡ laid 0 [] count) × (self.heap ≡ alloc.now) }
     {
@@ -126,7 +126,7 @@ impl<T, A: Allocator> Region<T, A> {
         unsafe { self.first.add(index).write(item) }
     }
 
-    /// Moves the value of a place out, which leaves the place empty.
+    /// Moves the value out of a place, which is empty then.
     #[inline]
     pub(crate) fn read(&mut self, index: usize) -> T
         requires { IsFilled self.old.places index }
@@ -136,7 +136,7 @@ impl<T, A: Allocator> Region<T, A> {
         unsafe { self.first.add(index).read() }
     }
 
-    /// The value of a place.
+    /// Returns the value of a place.
     #[inline]
     pub(crate) fn get(&self, index: usize) -> &T
         requires { IsFilled self.now.places index }
@@ -145,7 +145,7 @@ impl<T, A: Allocator> Region<T, A> {
         unsafe { &*self.first.add(index) }
     }
 
-    /// The values of all places, which lie one after another from one place on.
+    /// Returns all values of the region, which are in `count` consecutive places from place `start` on.
     #[inline]
     pub(crate) fn values(&self, start: usize, count: usize) -> &[T]
         requires { IsRun start count self.now.places }

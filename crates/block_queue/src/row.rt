@@ -1,11 +1,11 @@
-//! A row: items one after another in memory of its own, which gives its front back, item by item.
+//! A row: consecutive items in a region of their own, whose first items can be moved out one by one.
 ghost use Rattle.std.specs.Prelude.{◌≡◌, ◌≢◌, ◌+◌, ◌-◌, ◌<◌, ◌≤◌, [], ◌∷◌, ◌++◌, IfOk, length, slice_set, slice_index_or};
 
 use crate::region::Region;
 use std::alloc::{AllocError, Global};
 use std::marker::Model;
 
-/// The items lie in the places from `start` on. No item moves but by a swap.
+/// Consecutive items, in the places from `start` on. Only a swap moves an item to another place.
 pub(crate) struct Row<T> {
     start: usize,
     count: usize,
@@ -30,7 +30,8 @@ impl<T> Model for Row<T> {
 }
 
 impl<T> Row<T> {
-    /// A row of so many places without items. An error means that memory was refused, or that so many values have no layout.
+    /// Makes a row of `places` places without items. An error means that memory was refused, or that there are too
+    /// many places or too large values for a layout.
     pub(crate) fn with_places(alloc: Global, places: usize) -> Result<Row<T>, AllocError>
         requires { 1 ≤ places }
         ensures { IfOk result (λ row. row ≡ record { items = []; room = places }) }
@@ -44,7 +45,7 @@ impl<T> Row<T> {
         })
     }
 
-    /// Gives the memory of a row without items back.
+    /// Releases the memory of a row without items.
     fn free(self)
         requires { self.items ≡ [] }
     {
@@ -58,7 +59,7 @@ impl<T> Row<T> {
         region.release(&alloc, places);
     }
 
-    /// How many places there are behind the last item.
+    /// Returns the number of places after the last item.
     #[inline]
     pub(crate) fn room(&self) -> usize
         ensures { result ≡ self.now.room }
@@ -73,7 +74,7 @@ impl<T> Row<T> {
         self.count
     }
 
-    /// The items.
+    /// Returns the items.
     #[inline]
     pub(crate) fn as_slice(&self) -> &[T]
         ensures { result.now ≡ self.now.items }
@@ -81,7 +82,7 @@ impl<T> Row<T> {
         self.region.values(self.start, self.count)
     }
 
-    /// Puts an item behind the others.
+    /// Adds an item at the end.
     #[inline]
     pub(crate) fn push(&mut self, item: T)
         requires { 1 ≤ self.old.room }
@@ -94,7 +95,7 @@ impl<T> Row<T> {
         self.count += 1;
     }
 
-    /// Takes the first item out.
+    /// Removes and returns the first item.
     #[inline]
     pub(crate) fn pop(&mut self) -> T
         requires { 0 < length self.old.items }
@@ -107,7 +108,7 @@ impl<T> Row<T> {
         self.region.read(first)
     }
 
-    /// Puts an item in the place of another, which it gives.
+    /// Replaces the item at an index, and returns the old one.
     #[inline]
     pub(crate) fn replace(&mut self, place: usize, item: T) -> T
         requires { place < length self.old.items }

@@ -1,4 +1,4 @@
-//! What a list does with its rows, each of which may not be there.
+//! The operations of a list on its rows, each of which may be absent.
 ghost use Rattle.std.specs.Prelude.{◌≡◌, ◌≢◌, ◌<◌, ◌≤◌, ◌↔◌, [], ◌∷◌, ◌++◌, true, List, None, length, drop as drop_list, option_copied, slice_get, slice_set, slice_index_or};
 ghost use Rattle.block_queue.specs.Sliding.{items_in, room_in, IsFront};
 
@@ -7,10 +7,10 @@ use crate::sharing::Share;
 use std::alloc::AllocError;
 use std::mem;
 
-/// How many places a row has beside half as many again as there are items.
+/// The places of a row beyond one and a half times the number of items.
 const LEAST_PLACES: usize = 32;
 
-/// How many places a row is made with for so many items: half as many again, and some more.
+/// Returns how many places a row for `count` items is made with: one and a half times as many, and some more.
 pub(crate) fn places_for(count: usize) -> usize
     ensures { 1 ≤ result }
 {
@@ -19,7 +19,7 @@ pub(crate) fn places_for(count: usize) -> usize
         .saturating_add(LEAST_PLACES)
 }
 
-/// The items of a row.
+/// Returns the items of a row.
 pub(crate) fn slice_of<T>(row: &Option<Row<T>>) -> &[T]
     ensures { result.now ≡ items_in row.now }
 {
@@ -29,7 +29,7 @@ pub(crate) fn slice_of<T>(row: &Option<Row<T>>) -> &[T]
     }
 }
 
-/// How many places there are behind the items.
+/// Returns the number of places after the items.
 pub(crate) fn room_of<T>(row: &Option<Row<T>>) -> usize
     ensures { result ≡ room_in row.now }
 {
@@ -39,7 +39,7 @@ pub(crate) fn room_of<T>(row: &Option<Row<T>>) -> usize
     }
 }
 
-/// Whether there is a row that has so many items.
+/// Returns whether there is a row with `count` items.
 pub(crate) fn has_all<T>(row: &Option<Row<T>>, count: usize) -> bool
     ensures { result ≡ true → length (items_in row.now) ≡ count }
 {
@@ -49,7 +49,7 @@ pub(crate) fn has_all<T>(row: &Option<Row<T>>, count: usize) -> bool
     }
 }
 
-/// Has the next row take the place of a row, which is spent then.
+/// Replaces the row by the next row. The old row becomes the spent one.
 pub(crate) fn take_next<T: Drop>(
     row: &mut Option<Row<T>>,
     next: &mut Option<Row<T>>,
@@ -62,7 +62,7 @@ pub(crate) fn take_next<T: Drop>(
     *spent = mem::replace(row, taken);
 }
 
-/// Puts an item behind the others.
+/// Adds an item at the end.
 pub(crate) fn push_to<T>(row: &mut Option<Row<T>>, item: T)
     requires { 1 ≤ room_in row.old }
     ensures { items_in row.new ≡ items_in row.old ++ item ∷ [] }
@@ -73,7 +73,7 @@ pub(crate) fn push_to<T>(row: &mut Option<Row<T>>, item: T)
     }
 }
 
-/// Puts an item in the place of another.
+/// Replaces the item at an index.
 pub(crate) fn set_in<T: Drop>(row: &mut Option<Row<T>>, place: usize, item: T)
     requires { place < length (items_in row.old) }
     ensures { items_in row.new ≡ slice_set (items_in row.old) place item }
@@ -97,7 +97,7 @@ pub(crate) fn swap_in<T>(row: &mut Option<Row<T>>, i: usize, j: usize)
     }
 }
 
-/// Drops so many of the first items, or all of them.
+/// Drops the first `count` items, or all if there are fewer.
 pub(crate) fn drop_first<T: Drop>(row: &mut Option<Row<T>>, count: usize)
     ensures { items_in row.new ≡ drop_list count (items_in row.old) }
 {
@@ -114,7 +114,7 @@ fn pop_each<T: Drop>(row: &mut Row<T>, count: usize)
     }
 }
 
-/// Copies some of the items into a row that holds a front of them, in order.
+/// Copies at most `most` more items, in order, into a row that holds a prefix of them.
 pub(crate) fn copy_to<T: Share>(items: &[T], row: &mut Option<Row<T>>, most: usize)
     requires { IsFront (items_in row.old) items.now }
     ensures { IsFront (items_in row.new) items.now }
@@ -148,7 +148,8 @@ fn item_at<T>(items: &[T], place: usize) -> Option<&T>
     items.get(place)
 }
 
-/// Has a row with a front of some items keep that, where an item is put in the place of another.
+/// Updates a row that holds a prefix of some items when the item at an index is replaced. If the new item cannot be
+/// shared, the row is dropped.
 pub(crate) fn follow_set<T: Share + Drop>(row: &mut Option<Row<T>>, place: usize, item: &T)
     ensures { (items : List T) → IsFront (items_in row.old) items → IsFront (items_in row.new) (slice_set items place item.now) }
 {
@@ -161,7 +162,7 @@ pub(crate) fn follow_set<T: Share + Drop>(row: &mut Option<Row<T>>, place: usize
     }
 }
 
-/// The same where two of the items are exchanged.
+/// Updates a row that holds a prefix of some items when two of the items are exchanged.
 pub(crate) fn follow_swap<T: Share + Drop>(
     items: &[T],
     row: &mut Option<Row<T>>,

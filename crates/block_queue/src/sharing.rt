@@ -2,13 +2,13 @@ ghost use Rattle.std.specs.Prelude.{◌≡◌, IfOk};
 
 use std::alloc::AllocError;
 
-/// An item of which there can be a second one that is equal.
+/// An item of which a second, equal one can be made cheaply.
 pub trait Share {
-    /// An equal one. It takes no memory that grows with the item.
+    /// Returns an equal item. It takes no memory that grows with the item.
     ///
     /// # Errors
     ///
-    /// Where there are as many of it as there can be.
+    /// If there are already as many of it as there can be.
     fn share(&self) -> Result<Self, AllocError>
         ensures { IfOk result (λ other. other ≡ self.now) };
 }

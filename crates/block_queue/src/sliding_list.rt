@@ -1,4 +1,4 @@
-//! A list in one run of memory, that no call moves as a whole.
+//! A list in one slice that grows a few items at a time.
 ghost use Rattle.std.specs.Prelude.{◌≡◌, ◌<◌, ◌≤◌, [], ◌∷◌, ◌++◌, OnOk, length, drop as drop_list, slice_get, slice_set, slice_index_or, option_copied};
 
 use crate::row::Row;
@@ -10,21 +10,22 @@ use crate::sharing::Share;
 use std::alloc::{AllocError, Global};
 use std::marker::Model;
 
-/// How many items a call copies into the next row at most, and how many of the row before it drops.
+/// The most items that a call that makes room copies into the next row, and the most that it drops of the spent row.
 const STEP: usize = 16;
 
-/// A list of items whose room is made before it is needed. They stand in one row, whose front is given back item by item.
+/// A list of items whose room is made before it is needed. The items are in one row, whose first items can be moved
+/// out one by one.
 ///
-/// Before the row is full a larger one is made, and each call that makes room copies a few items into it. Once it has all, it
-/// takes the place of the first one, whose items are dropped in the same manner. So no call moves more than a few items,
-/// unless memory was refused again and again until the row was full.
+/// Before the row is full, a larger one is made, and each call that makes room copies a few items into it. Once the
+/// larger row has all items, it replaces the first one, whose items are dropped a few at a time. So no call moves
+/// more than a few items, unless memory was refused again and again until the row was full.
 #[derive(Drop)]
 pub struct SlidingList<T> {
-    /// The items. There is none until room is made first.
+    /// The row with the items. It is absent until room is first made.
     row: Option<Row<T>>,
-    /// The row that takes its place, with a front of the items.
+    /// The row that will replace it. It holds a prefix of the items.
     next: Option<Row<T>>,
-    /// The row whose place was taken, until its items are dropped.
+    /// The row that was replaced, until its items are dropped.
     spent: Option<Row<T>>,
     alloc: Global,
 }
@@ -41,7 +42,7 @@ impl<T> Model for SlidingList<T> {
 }
 
 impl<T> SlidingList<T> {
-    /// No items. It takes no memory: what it needs later is made with `alloc`.
+    /// Makes an empty list. It takes no memory; what the list needs later is allocated with `alloc`.
     pub fn new(alloc: Global) -> SlidingList<T>
         ensures { result.items ≡ [] }
     {
@@ -53,21 +54,21 @@ impl<T> SlidingList<T> {
         }
     }
 
-    /// The items.
+    /// Returns the items.
     pub fn as_slice(&self) -> &[T]
         ensures { result.now ≡ self.now.items }
     {
         slice_of(&self.row)
     }
 
-    /// The item at a place.
+    /// Returns the item at an index, if there is one.
     pub fn get(&self, place: usize) -> Option<&T>
         ensures { option_copied result ≡ slice_get self.now.items place }
     {
         self.as_slice().get(place)
     }
 
-    /// Puts an item at the end. It takes no memory.
+    /// Adds an item at the end. It takes no memory.
     pub fn push(&mut self, item: T)
         requires { 1 ≤ self.old.room }
         ensures { self.new.items ≡ self.old.items ++ item ∷ [] }
@@ -77,11 +78,11 @@ impl<T> SlidingList<T> {
 }
 
 impl<T: Share + Drop> SlidingList<T> {
-    /// Makes room for one item more, where there is none, and goes on with the copying into the next row.
+    /// Makes room for one more item, if there is none, and continues the copying into the next row.
     ///
     /// # Errors
     ///
-    /// Where memory is refused. The items stay.
+    /// If memory is refused. The items are unchanged.
     pub fn reserve_one(&mut self) -> Result<(), AllocError>
         ensures items { self.new.items ≡ self.old.items }
         ensures ok { OnOk result (1 ≤ self.new.room) }
@@ -96,7 +97,7 @@ impl<T: Share + Drop> SlidingList<T> {
         self.move_all()
     }
 
-    /// Drops some items of the row before, and releases its memory once it has none.
+    /// Drops at most `count` items of the spent row, and releases its memory once it has none.
     fn spend(&mut self, count: usize)
         ensures { self.new ≡ self.old }
     {
@@ -106,7 +107,7 @@ impl<T: Share + Drop> SlidingList<T> {
         }
     }
 
-    /// Makes the next row where the row has little room left. One that is refused is made in a later call.
+    /// Makes the next row if the row has little room left. If memory for it is refused, a later call makes it.
     fn begin(&mut self)
         ensures { self.new ≡ self.old }
     {
@@ -128,14 +129,14 @@ impl<T: Share + Drop> SlidingList<T> {
         Ok(())
     }
 
-    /// Copies some items into the next row.
+    /// Copies at most `most` more items into the next row.
     fn copy(&mut self, most: usize)
         ensures { self.new ≡ self.old }
     {
         copy_to(slice_of(&self.row), &mut self.next, most);
     }
 
-    /// Has the next row take the place of the row, once it has all items.
+    /// Replaces the row by the next row, if that has all items.
     fn exchange(&mut self)
         ensures { self.new.items ≡ self.old.items }
     {
@@ -145,7 +146,7 @@ impl<T: Share + Drop> SlidingList<T> {
         }
     }
 
-    /// Moves all items into a larger row at once, where memory was refused until the row was full.
+    /// Moves all items into a larger row at once, after memory was refused until the row was full.
     fn move_all(&mut self) -> Result<(), AllocError>
         ensures items { self.new.items ≡ self.old.items }
         ensures ok { OnOk result (1 ≤ self.new.room) }
@@ -160,7 +161,7 @@ impl<T: Share + Drop> SlidingList<T> {
         Ok(())
     }
 
-    /// Puts an item in the place of another.
+    /// Replaces the item at an index.
     pub fn set(&mut self, place: usize, item: T)
         requires { place < length self.old.items }
         ensures { self.new.items ≡ slice_set self.old.items place item }
@@ -182,7 +183,7 @@ impl<T: Share + Drop> SlidingList<T> {
         swap_in(&mut self.row, i, j);
     }
 
-    /// Drops so many of the first items.
+    /// Drops the first `count` items.
     pub fn drop_front(&mut self, count: usize)
         requires { count ≤ length self.old.items }
         ensures { self.new.items ≡ drop_list count self.old.items }

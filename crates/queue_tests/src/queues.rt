@@ -1,4 +1,5 @@
-//! What no contract says of queues: that calls succeed, that items are dropped once, and that both queues answer alike.
+//! Tests of what no contract says of queues: that calls succeed, that each item is dropped once, and that both queues
+//! return the same.
 
 use block_queue::{BlockQueue, Fifo, PlainQueue};
 use std::alloc::{AllocError, Global};
@@ -6,7 +7,7 @@ use std::process::Abort;
 use std::sync::atomic::{AtomicU64, Ordering};
 use std::test::Fail;
 
-/// That something is as it should be.
+/// Checks a condition.
 fn holds(rt: &impl Abort, is_right: bool) {
     assert!(rt; is_right);
 }
@@ -24,7 +25,7 @@ fn push_each<Q: Fifo<u64>>(
     Ok(())
 }
 
-/// Pushes a number, for which there is room then.
+/// Makes room for a number and pushes it.
 fn push<Q: Fifo<u64>>(rt: &impl Abort, queue: &mut Q, number: u64) -> Result<(), AllocError> {
     queue.reserve_one()?;
     assert!(rt; queue.spare() > 0);
@@ -68,7 +69,7 @@ fn first_in_is_first_out_of_blocks(rt: HostRuntime) -> Result<(), Fail> {
     Ok(is_in_order(&rt, &mut queue, 70)?)
 }
 
-/// A queue of the numbers from `first` up to `end`, before which so many others were popped.
+/// Makes a queue of the numbers from `first` up to `end`, from which the numbers up to `popped` were popped before.
 fn numbered(
     rt: &impl Abort,
     alloc: Global,
@@ -83,7 +84,7 @@ fn numbered(
     Ok(queue)
 }
 
-/// Appends a queue, where both are short.
+/// Appends a queue to another one. Both must be short.
 fn append(rt: &impl Abort, queue: &mut BlockQueue<u64>, other: BlockQueue<u64>) {
     assert!(rt; queue.len() < 100);
     assert!(rt; other.len() < 100);
@@ -103,14 +104,14 @@ fn has_each(rt: &impl Abort, queue: &mut BlockQueue<u64>, end: u64) {
     has_none(rt, queue);
 }
 
-/// How many items were popped from a queue, and how many are left in it.
+/// The number of items that were popped from a queue, and the number that are left in it.
 #[derive(Clone, Copy)]
 struct Shortened {
     popped: u64,
     left: u64,
 }
 
-/// A queue behind which another one is appended; together they have the numbers from 0.
+/// Makes a queue and appends another one. Together they have the numbers from 0 on.
 fn joined(
     rt: &impl Abort,
     alloc: Global,
@@ -127,7 +128,7 @@ fn joined(
     Ok(queue)
 }
 
-/// Joins two queues of these lengths.
+/// Joins two queues of these lengths, and checks the result.
 fn whole_are_right(
     rt: &impl Abort,
     alloc: Global,
@@ -158,7 +159,7 @@ fn joined_queues_follow_one_another(rt: HostRuntime) -> Result<(), Fail> {
     Ok(())
 }
 
-/// Joins two queues of which some items were popped, and fills up.
+/// Joins two queues from which some items were popped, pushes up to 100 items, and checks the result.
 fn shortened_is_right(
     rt: &impl Abort,
     alloc: Global,
@@ -171,7 +172,7 @@ fn shortened_is_right(
     Ok(())
 }
 
-/// Blocks that were emptied, and are kept, do not come between the items.
+/// Emptied blocks that are kept do not break the order of the items.
 #[test]
 fn shortened_queues_follow_one_another(rt: HostRuntime) -> Result<(), Fail> {
     let counts = [(0u64, 0u64), (1, 0), (40, 0), (40, 1), (70, 30), (64, 33)];
@@ -184,7 +185,7 @@ fn shortened_queues_follow_one_another(rt: HostRuntime) -> Result<(), Fail> {
     Ok(())
 }
 
-/// Pops the numbers up to `end`, while the room that was asked for stays.
+/// Pops the numbers up to `end`, and checks that no pop reduces the room.
 fn pop_with_room(rt: &impl Abort, queue: &mut BlockQueue<u64>, end: u64) {
     for number in 0..end {
         let room = queue.spare();
@@ -193,7 +194,7 @@ fn pop_with_room(rt: &impl Abort, queue: &mut BlockQueue<u64>, end: u64) {
     }
 }
 
-/// Room that was asked for stays while items are popped, `popped` of them, and the items stay in order.
+/// Makes room and pops `popped` items. The room stays, and the items stay in order.
 fn keeps_its_room(
     rt: &impl Abort,
     queue: &mut BlockQueue<u64>,
@@ -208,7 +209,7 @@ fn keeps_its_room(
     Ok(())
 }
 
-/// How many items there are, and how many of them are popped.
+/// The number of items, and how many of them are popped.
 const ROOMS: [(u64, u64); 9] = [
     (1, 1),
     (32, 31),
@@ -230,7 +231,7 @@ fn unused_room_stays(rt: HostRuntime) -> Result<(), Fail> {
     Ok(())
 }
 
-/// Joins a queue of one full block and another, and pops so many.
+/// Joins a queue of one full block and another queue, and pops `popped` items.
 fn room_stays(
     rt: &impl Abort,
     alloc: Global,
@@ -245,7 +246,7 @@ fn room_stays(
     keeps_its_room(rt, &mut queue, popped)
 }
 
-/// A block between the first one and the last one may hold one item.
+/// A block between the first one and the last one may have one item only.
 #[test]
 fn unused_room_stays_behind_one_item(rt: HostRuntime) -> Result<(), Fail> {
     for (popped, left) in [(31u64, 1u64), (30, 2), (0, 32)] {
@@ -257,7 +258,7 @@ fn unused_room_stays_behind_one_item(rt: HostRuntime) -> Result<(), Fail> {
     Ok(())
 }
 
-/// What may move to another thread.
+/// Requires of a value that it may be moved to another thread.
 fn moved<S: Send>(value: S) -> S {
     value
 }
@@ -280,7 +281,7 @@ impl Drop for Counted<'_> {
     }
 }
 
-/// A queue of 65 items that count their drops.
+/// Makes a queue of 65 items that count their drops.
 fn counted_items<'a>(
     alloc: Global,
     drops: &'a AtomicU64,
@@ -302,7 +303,7 @@ fn push_counted<'a>(
     Ok(())
 }
 
-/// Moves 40 items on into another queue.
+/// Moves 40 items into another queue.
 fn take<'a>(
     alloc: Global,
     queue: &mut BlockQueue<Counted<'a>>,
@@ -314,7 +315,7 @@ fn take<'a>(
     Ok(kept)
 }
 
-/// Moves the first item, if there is one, on into another queue.
+/// Moves the first item, if there is one, into another queue.
 fn move_one<'a>(
     queue: &mut BlockQueue<Counted<'a>>,
     kept: &mut BlockQueue<Counted<'a>>,
@@ -340,7 +341,7 @@ fn each_item_is_dropped_once(rt: HostRuntime) -> Result<(), Fail> {
     Ok(())
 }
 
-/// A queue of each kind, which are asked the same.
+/// A queue of each kind. The same calls are made of both.
 #[derive(Drop)]
 struct Both {
     blocks: BlockQueue<u64>,
@@ -373,12 +374,12 @@ impl Both {
         holds(rt, self.blocks.is_empty() == self.plain.is_empty());
     }
 
-    /// Pushes or pops 20,000 times, as the bits of a generator say.
+    /// Pushes or pops 20,000 times, as the bits of a generator determine.
     fn play(&mut self, rt: &impl Abort) -> Result<(), AllocError> {
         let mut state = 0x2545_f491_4f6c_dd1du64;
         for step in 0..20_000u64 {
             state = next(state);
-            // Long stretches in which pushes win, and as long ones in which pops do.
+            // In turn, a long stretch with more pushes and one with more pops.
             if state % 8 < if step % 2_000 < 1_000 { 6 } else { 2 } {
                 self.push(step)?;
             } else {
@@ -390,7 +391,7 @@ impl Both {
     }
 }
 
-/// What a generator has next (Marsaglia's xorshift).
+/// Returns the next state of a generator (Marsaglia's xorshift).
 fn next(state: u64) -> u64 {
     let state = state ^ state << 13;
     let state = state ^ state >> 7;
@@ -403,7 +404,7 @@ fn both_queues_answer_alike(rt: HostRuntime) -> Result<(), Fail> {
     Ok(both.play(&rt)?)
 }
 
-/// Pushes a number where room is granted, and compares where it is refused.
+/// Pushes a number if room is granted. If it is refused, checks that the queue is unchanged.
 fn push_where_granted(rt: &impl Abort, queue: &mut BlockQueue<u64>, number: u64) -> bool {
     let before = (queue.len(), queue.spare());
     match queue.reserve_one() {
@@ -418,7 +419,7 @@ fn push_where_granted(rt: &impl Abort, queue: &mut BlockQueue<u64>, number: u64)
     }
 }
 
-/// Where room is refused, the queue is as it was. Run with each allocation refused in turn.
+/// If room is refused, the queue is unchanged. This test is run with each allocation refused in turn.
 #[test]
 fn a_refused_block_leaves_the_queue(rt: HostRuntime) {
     let mut queue = BlockQueue::new(rt.alloc());
@@ -431,13 +432,14 @@ fn a_refused_block_leaves_the_queue(rt: HostRuntime) {
     holds(&rt, queue.len() as u64 == taken);
 }
 
-/// How many items pass a queue, or are appended to, in a test of what that takes.
+/// How many items pass through a queue, or how many appends there are, in a test of the memory that this takes.
 const MANY: u64 = 20_000;
 
-/// More items than a queue of those tests has.
+/// More items than the queues of these tests have.
 const LONGEST: usize = 1_000_000;
 
-/// What passes a queue that stays as long takes no block: the one that is emptied in front is used again behind.
+/// Items that pass through a queue of constant length take no new block: the first block, once emptied, becomes the
+/// last one.
 #[test]
 fn what_passes_takes_no_block(rt: HostRuntime) -> Result<(), Fail> {
     let mut queue = numbered(&rt, rt.alloc(), 0, 0, 40)?;
@@ -448,7 +450,7 @@ fn what_passes_takes_no_block(rt: HostRuntime) -> Result<(), Fail> {
     Ok(())
 }
 
-/// A block of no items that an appended queue brings along is used for the next items.
+/// The empty block of an appended queue is used for the next items.
 #[test]
 fn what_is_appended_empty_takes_no_room(rt: HostRuntime) -> Result<(), Fail> {
     let mut queue = BlockQueue::new(rt.alloc());
@@ -460,7 +462,7 @@ fn what_is_appended_empty_takes_no_room(rt: HostRuntime) -> Result<(), Fail> {
     Ok(())
 }
 
-/// Appends a queue of no items that has room for some.
+/// Appends an empty queue that has room.
 fn append_empty(alloc: Global, queue: &mut BlockQueue<[u64; 32]>) -> Result<(), AllocError> {
     let mut other = BlockQueue::new(alloc);
     other.reserve_one()?;

@@ -1,5 +1,5 @@
-//! What no contract says of lists that slide: that they hold what they should through every row, that an item is dropped as
-//! its turn comes, and that no call copies more than a few.
+//! Tests of what no contract says of sliding lists: that they have the right items in each row, that an item is
+//! dropped when its turn comes, and that no call copies more than a few.
 
 use block_queue::{Share, SlidingList};
 use std::alloc::{AllocError, Global};
@@ -10,14 +10,14 @@ use std::test::Fail;
 /// The most items that a call may copy.
 const FEW: u64 = 16;
 
-/// How many items of a list were made, and how many were dropped.
+/// The number of items of a list that were made, and the number that were dropped.
 #[derive(Clone, Copy)]
 struct Counts<'a> {
     made: &'a AtomicU64,
     dropped: &'a AtomicU64,
 }
 
-/// An item that counts itself.
+/// An item that counts how many of it are made and dropped.
 struct Counted<'a> {
     number: u64,
     counts: Counts<'a>,
@@ -51,7 +51,7 @@ fn holds(rt: &impl Abort, is_right: bool) {
     assert!(rt; is_right);
 }
 
-/// Whether a list has the numbers from `first` up to `end`, in order.
+/// Returns whether a list has the numbers from `first` up to `end`, in order.
 fn is_from_to(list: &SlidingList<Counted<'_>>, first: u64, end: u64) -> bool {
     let items = list.as_slice();
     let mut number = first;
@@ -83,7 +83,7 @@ impl<'a> Slid<'a> {
         }
     }
 
-    /// Pushes the next number, and copies few others.
+    /// Pushes the next number, and checks that few other items are copied.
     fn push(&mut self, rt: &impl Abort) -> Result<(), AllocError> {
         let before = self.counts.made.load(Ordering::SeqCst);
         self.list.reserve_one()?;
@@ -94,20 +94,20 @@ impl<'a> Slid<'a> {
         Ok(())
     }
 
-    /// Drops so many of the first ones, or all of them.
+    /// Drops the first `count` items, or all if there are fewer.
     fn cut(&mut self, count: usize) {
         let count = count.min(self.list.as_slice().len());
         self.list.drop_front(count);
         self.first = self.first.wrapping_add(count as u64);
     }
 
-    /// Exchanges two items and puts them back.
+    /// Exchanges two items twice, so that the list is unchanged.
     fn exchange(&mut self, i: usize, j: usize) {
         self.swap(i, j);
         self.swap(j, i);
     }
 
-    /// Exchanges two items, where the list has both.
+    /// Exchanges two items, if the list has both.
     fn swap(&mut self, i: usize, j: usize) {
         let count = self.list.as_slice().len();
         if i < count && j < count {
@@ -115,7 +115,7 @@ impl<'a> Slid<'a> {
         }
     }
 
-    /// Puts an item in the place of one that is equal.
+    /// Replaces an item by an equal one.
     fn renew(&mut self, place: usize) {
         if place < self.list.as_slice().len() {
             let item = Counted::new(self.first.wrapping_add(place as u64), self.counts);
@@ -127,7 +127,7 @@ impl<'a> Slid<'a> {
         is_from_to(&self.list, self.first, self.end)
     }
 
-    /// So many pushes, after each of which as many are cut.
+    /// Pushes `pushes` items, and after each drops the first `cut` items.
     fn play(&mut self, rt: &impl Abort, pushes: usize, cut: usize) -> Result<(), AllocError> {
         for turn in 0..pushes {
             self.push(rt)?;

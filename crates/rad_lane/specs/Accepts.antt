@@ -1,5 +1,6 @@
--- What accepting a request may answer, and the book after it (own). The first case that applies is answered;
--- lack of memory comes last and is the only free choice. A refusal leaves book and datagram.
+-- The results that accepting a request may have, and the book after it (own). Of the refusals, the first one that
+-- applies is returned. Lack of memory is the last, and the only free choice. A refusal leaves the book and the
+-- datagram unchanged.
 use Rattle.std.specs.Prelude.{◌≡◌, ℕ, ◌^◌, ◌<◌, ◌≤◌, ◌⊎◌, [], ◌∷◌, ◌++◌, length, IsSome, IsNone, Result, Ok, Err}
 use Rattle.rad_packet.specs.Packet.{identifier_of, authenticator_of}
 use Rattle.rad_realms.specs.Checking.{Request}
@@ -28,7 +29,7 @@ pub record IsTaken (book : Book) (request : Request) : Type 0 where
   pub lane : request.lane ≡ book.setup.lane
   pub realm : IsOfItsRealms book.setup request.text
 
--- The stamp that a request gets with this number at this moment, and its record.
+-- The stamp that a request gets, with this number and at this moment; and its record.
 abbrev pub stamp_of : ℕ → Request → ℕ → Stamp
 stamp_of number request now = record {
   number = number;
@@ -42,18 +43,18 @@ stamp_of number request now = record {
 abbrev pub record_of : ℕ → Request → ℕ → Recorded
 record_of number request now = record { stamp = stamp_of number request now; text = request.text; client_secret = request.secret }
 
--- The book holds as many requests as it may, or there is no number left.
+-- The book holds as many requests as it may, or no number below 2 ^ 62 is left.
 abbrev pub IsBookFull : Book → Type 0
 IsBookFull book = (book.setup.limits.book ≤ length book.accepted) ⊎ (2 ^ 62 ≤ next_number book)
 
 abbrev pub IsQueueFull : Book → Type 0
 IsQueueFull book = book.setup.limits.queue ≤ length book.queued
 
--- The mark would not fit.
+-- The mark does not fit.
 abbrev pub IsTooLong : Request → Type 0
 IsTooLong request = 4084 < length request.text
 
--- Why a request that repeats none is refused: the first reason that holds.
+-- Why a request that is not a repeat is refused: the first reason that applies.
 abbrev pub IsRefused : Book → Request → Refusal → Type 0
 IsRefused book request Draining = IsSome book.drain
 IsRefused book request BookFull = IsNone book.drain × IsBookFull book
@@ -62,7 +63,7 @@ IsRefused book request TooLong = IsNone book.drain × (¬ IsBookFull book) × (�
 IsRefused book request OutOfMemory = IsNone book.drain × (¬ IsBookFull book) × (¬ IsQueueFull book) × (¬ IsTooLong request)
 IsRefused book request WrongLane = ⊥
 
--- The book with one request more.
+-- The book with this request accepted and queued.
 abbrev pub with_request : Book → Request → ℕ → Book
 with_request book request now = record book {
   accepted = book.accepted ++ stamp_of (next_number book) request now ∷ [];

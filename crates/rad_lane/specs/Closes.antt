@@ -1,5 +1,5 @@
--- What is left of a lane when it is closed (own): the requests and answers that its book still holds, and what is
--- outstanding, but for a probe that is out. The watch, the drain and the last moment go with the lane.
+-- What is left of a closed lane (own): the requests and answers that its book still holds, and the outstanding
+-- sendings, without an outstanding probe. The watch, the drain and the last moment are dropped with the lane.
 use Rattle.std.specs.Prelude.{◌≡◌, ℕ, ◌-◌, List, length, take, map as each}
 use Rattle.std.specs.FinMap as map
 use Rattle.std.specs.List.Sorted.{IsPermutation}
@@ -21,7 +21,7 @@ pub record Left : Type 0 where
   pub answered : List AnswerKept
   pub outstanding : Table Entry
 
--- What is left of a lane: of those accepted, all but the queued ones were sent.
+-- What is left of a lane, by its parts: all of the accepted requests except the queued ones were sent.
 abbrev pub left_of : ℕ → ℕ → List Stamp → List Kept → List AnswerKept → Table Entry → Left
 left_of lane opening accepted kept answered outstanding = record {
   lane = lane;
@@ -40,7 +40,7 @@ pub record Leaves (book : Book) (left : Left) : Type 0 where
   pub sent : left.sent ≡ book.sent
   pub queued : left.queued ≡ book.queued
   pub answered : left.answered ≡ book.answered
-  -- under each pair, and then in all: so many sendings, of the same requests
+  -- under each pair, the outstanding sending of the book, if any; in all, as many sendings, of the same requests
   pub outstanding : (slot : Slot) → map.get left.outstanding.entries slot ≡ but_a_probe (map.get book.held slot)
   pub count : map.len left.outstanding.entries ≡ outstanding_count book
   pub stamps : IsPermutation (each (λ e. e.request.stamp) (outstanding_of book)) (each (λ e. e.request.stamp) (sendings_in left.outstanding.entries))

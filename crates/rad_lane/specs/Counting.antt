@@ -1,10 +1,10 @@
--- What a lane's counts are, and when it is done (own).
+-- The counts of a lane, and when a lane is done (own).
 use Rattle.std.specs.Prelude.{◌≡◌, [], length, IsSome, is_some}
 use Rattle.rad_lane.specs.declared.counts.Counts.{Counts}
 use Rattle.rad_lane.specs.Book.{Book, next_number, outstanding_count}
 use Rattle.rad_lane.specs.Watch.{is_up}
 
--- How much of each there is; those accepted and answered count from the first of all.
+-- The counts. Accepted and answered requests are counted from the first one of the lane on.
 abbrev pub counts_of : Book → Counts
 counts_of book = record {
   opening = book.opening;
@@ -16,7 +16,7 @@ counts_of book = record {
   draining = is_some book.drain;
 }
 
--- A lane is done when it is drained and nothing waits to be sent or for its answer.
+-- A lane is done if it is drained, with nothing queued and nothing outstanding.
 pub record IsDone (book : Book) : Type 0 where
   pub drained : IsSome book.drain
   pub sent : book.queued ≡ []

@@ -1,8 +1,8 @@
--- Draining (own): from then on no request is accepted. A second drain changes nothing.
+-- Draining (own): from then on no new request is accepted. A second drain changes nothing.
 use Rattle.std.specs.Prelude.{◌≡◌, ℕ, Option, Some, None}
 use Rattle.rad_lane.specs.Book.{Book, next_number}
 
--- how many requests had been accepted when the lane was drained
+-- how many requests had been accepted when the lane was drained, or so far if it is not drained
 abbrev pub drained_at : Book → Option ℕ → ℕ
 drained_at book None = next_number book
 drained_at book (Some count) = count

@@ -1,4 +1,4 @@
--- The book of a lane in which nothing happened yet (own).
+-- The book of a new lane (own).
 use Rattle.std.specs.Prelude.{[], None}
 use Rattle.std.specs.FinMap as map
 use Rattle.rad_lane.specs.declared.watch.Watch.TheVariants.{Up as up}

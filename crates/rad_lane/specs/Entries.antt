@@ -1,4 +1,4 @@
--- What stands under a pair of a source port and an identifier: a sending or the probe (own).
+-- What is outstanding under a pair of source port and Identifier: a sending or the probe (own).
 use Rattle.std.specs.Prelude.{ℕ, ◌-◌, ◌^◌, List, Bool, false, Option, Some, None}
 use Rattle.std.specs.FinMap as map
 use Rattle.std.specs.List.{filter_map}
@@ -7,8 +7,8 @@ use Rattle.rad_lane.specs.Outstanding.{Outstanding, is_spent, renewed}
 use Rattle.rad_lane.specs.declared.entry.Entry.{Entry}
 use Rattle.rad_lane.specs.declared.entry.Entry.TheVariants.{Sending as sending, Probe as probe}
 
--- When an entry is due, its number, and whether it is spent, by which the slots find the first to be due. A probe is
--- never due.
+-- When an entry is due, its number, and whether it is spent; by these the slots find the one that is due first. The
+-- due time of a probe is past every moment.
 abbrev pub due_in : Entry → ℕ
 due_in (sending entry) = entry.due
 due_in (probe octets) = 2 ^ 64 - 1
@@ -21,12 +21,12 @@ abbrev pub is_spent_in : Entry → Bool
 is_spent_in (sending entry) = is_spent entry
 is_spent_in (probe octets) = false
 
--- The entry is a sending of which this holds.
+-- The entry is a sending that satisfies this.
 abbrev pub IfSending : Entry → (Outstanding → Type 0) → Type 0
 IfSending (sending entry) P = P entry
 IfSending (probe octets) P = ⊥
 
--- The request that is outstanding, where the entry is a sending; and all of those under the pairs.
+-- The outstanding request, if the entry is a sending; and all outstanding requests.
 abbrev pub request_in : Entry → Option Outstanding
 request_in (sending entry) = Some entry
 request_in (probe octets) = None
@@ -34,13 +34,13 @@ request_in (probe octets) = None
 abbrev pub sendings_in : map.FinMap slot_cmp Entry → List Outstanding
 sendings_in held = filter_map request_in (map.values held)
 
--- What stands under a pair, where that is no probe.
+-- The entry under a pair, if it is not a probe.
 abbrev pub but_a_probe : Option Entry → Option Entry
 but_a_probe None = None
 but_a_probe (Some (sending entry)) = Some (sending entry)
 but_a_probe (Some (probe octets)) = None
 
--- The entry, once its round begins anew.
+-- The entry with a new round, due at once. A probe does not change.
 abbrev pub renewed_in : ℕ → Entry → Entry
 renewed_in now (sending entry) = sending (renewed now entry)
 renewed_in now (probe octets) = probe octets

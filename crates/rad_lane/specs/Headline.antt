@@ -1,5 +1,5 @@
--- The headline (own): what is proved of a lane, in one statement. Whatever calls are made of it, in whatever order, and whatever
--- they bring: this holds of the book that it had, of the calls with what each of them gave, and of the book that it has then.
+-- The headline (own): what is proved of a lane, in one statement. It is true of the book before any list of calls, of
+-- the calls with their results, and of the book after them, whatever the calls are and in whatever order.
 use Rattle.std.specs.Prelude.{ℕ, List, [], replicate}
 use Rattle.rad_packet.specs.Packet.{packet_text}
 use Rattle.rad_lane.specs.declared.running.Event.{Event}
@@ -9,18 +9,18 @@ use Rattle.rad_lane.specs.Lawful.{IsLawful}
 use Rattle.rad_lane.specs.Runs.{Runs}
 use Rattle.rad_lane.specs.LosesNone.{LosesNone}
 
--- The packet in a datagram that is new.
+-- The packet in a new datagram.
 abbrev pub new_datagram : List ℕ
 new_datagram = packet_text 0 0 (replicate 16 0) []
 
 pub record Headline (old : Book) (events : List Event) (gives : List Given) (new : Book) : Type 0 where
-  -- The book was lawful and is: the requests accepted are those sent, followed by those queued, in order, none again within its
-  -- span; later sendings repeat sent octets; each response answers its own request, after a verified reply of the home server;
-  -- and nothing is accepted after a drain.
+  -- The book was lawful and is lawful: the requests accepted are those sent, followed by those queued, in order, none
+  -- again within its span; later sendings repeat sent octets; each response answers its own request, after a verified
+  -- reply of the home server; and nothing is accepted after a drain.
   pub was_lawful : IsLawful old
   pub is_lawful : IsLawful new
   -- Each call did what its definition says, and nothing else.
   pub each_call : Runs old new_datagram events gives new
-  -- No request is lost: those that were cut off, followed by those that the book has, are those that it had, followed by those
-  -- that were new, in order.
+  -- No request is lost: the requests of the removed volumes, followed by those of the book after the calls, are those
+  -- of the book before them, followed by the new ones, in order.
   pub none_lost : LosesNone old events gives new

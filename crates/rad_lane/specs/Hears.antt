@@ -1,5 +1,5 @@
--- What hearing a datagram from the home server may answer, and the book after it (own). The first case that
--- applies is answered; lack of memory comes last. A refusal leaves the book.
+-- The results that hearing a datagram from the home server may have, and the book after it (own). Of the faults, the
+-- first one that applies is returned; lack of memory is the last. A fault leaves the book unchanged.
 use Rattle.std.specs.Prelude.{◌≡◌, ◌≢◌, ℕ, ◌+◌, List, [], ◌∷◌, ◌++◌, Some, None, Result, Ok, Err}
 use Rattle.std.specs.FinMap as map
 use Rattle.rad_packet.specs.Packet.{code_of, identifier_of, authenticator_of}
@@ -21,7 +21,7 @@ use Rattle.rad_lane.specs.declared.entry.Entry.TheVariants.{Sending as sending, 
 use Rattle.rad_lane.specs.Book.{Book, moment_in, outstanding_at}
 use Rattle.rad_lane.specs.Watch.{GoesUpIfDown}
 
--- The fault of a lane for a fault of the reply.
+-- The fault of a lane for each fault of a reply.
 abbrev pub fault_of : ReplyFault → HearFault
 fault_of reply.BadAuthenticator = BadAuthenticator
 fault_of reply.MessageAuthenticatorHere = MessageAuthenticatorHere
@@ -31,16 +31,17 @@ fault_of reply.OutOfMemory = OutOfMemory
 abbrev pub pair : ℕ → List ℕ → Slot
 pair port packet = record { port = port; identifier = identifier_of packet }
 
--- The octets that were sent and are kept under a pair.
+-- The octets that were sent under a pair.
 abbrev pub octets_in : Entry → List ℕ
 octets_in (sending entry) = entry.octets
 octets_in (probe octets) = octets
 
--- The packet is right as an answer to what is kept.
+-- The packet's Response Authenticator is valid for the packet that was sent under the pair, under the home server's
+-- secret.
 abbrev pub IsRightAnswer : Book → Entry → List ℕ → Type 0
 IsRightAnswer book kept packet = IsRightResponse book.setup.home_secret (authenticator_of (octets_in kept)) packet
 
--- Why a packet that was read is refused: the first reason that holds.
+-- Why a packet is not heard: the first reason that applies.
 abbrev pub IsUnheard : Book → ℕ → List ℕ → HearFault → Type 0
 IsUnheard book port packet (Unread fault) = ⊥
 IsUnheard book port packet WrongCode = code_of packet ≢ 5
@@ -61,8 +62,8 @@ abbrev pub RefusesToHear : Book → ℕ → List ℕ → HearFault → Type 0
 RefusesToHear book port datagram (Unread fault) = Refuses datagram fault
 RefusesToHear book port datagram fault = (packet : List ℕ) × ReadsAs datagram packet × IsUnheard book port packet fault
 
--- The answer that is kept: this reply to this sending, by this secret of the home server, and a response that
--- answers the request; so many were kept before.
+-- The answer that is kept: of this sending and this reply, verified under this secret of the home server, with a
+-- response that answers the request. `count` answers were given before it.
 pub record KeepsAnswer (secret : List ℕ) (now count : ℕ) (entry : Outstanding) (packet : List ℕ) (answer : AnswerKept) : Type 0 where
   pub stamp : answer.stamp ≡ entry.request.stamp
   pub moment : answer.moment ≡ now
@@ -75,7 +76,7 @@ pub record KeepsAnswer (secret : List ℕ) (now count : ℕ) (entry : Outstandin
   pub home : answer.reply.home ≡ secret
   pub answers : Answers answer.reply.head entry.octets packet entry.request.client_secret secret answer.reply.response
 
--- The book with an answer more, and its pair free.
+-- The book with one more answer, and with the pair free.
 abbrev pub with_answer : Book → ℕ → Slot → AnswerKept → Book
 with_answer book now slot answer = record book {
   held = map.remove book.held slot;
@@ -84,7 +85,7 @@ with_answer book now slot answer = record book {
   last = now;
 }
 
--- A verified reply to a sending is kept as its answer; a lane that was down goes up.
+-- A verified reply to a sending is kept as its answer. If the home server is marked down, it is marked up.
 pub record HearsReply (old : Book) (now port : ℕ) (datagram : List ℕ) (answer : AnswerKept) (new : Book) : Type 0 where
   pub packet : List ℕ
   pub read : ReadsAs datagram packet
@@ -94,7 +95,7 @@ pub record HearsReply (old : Book) (now port : ℕ) (datagram : List ℕ) (answe
   pub keeps : KeepsAnswer old.setup.home_secret now old.served entry packet answer
   pub book : GoesUpIfDown now (with_answer old now (pair port packet) answer) new old.watch
 
--- The right answer to a probe takes the lane up.
+-- A valid answer to the probe. If the home server is marked down, it is marked up.
 pub record HearsProbe (old : Book) (now port : ℕ) (datagram : List ℕ) (new : Book) : Type 0 where
   pub packet : List ℕ
   pub read : ReadsAs datagram packet
@@ -104,7 +105,7 @@ pub record HearsProbe (old : Book) (now port : ℕ) (datagram : List ℕ) (new :
   pub right : IsRightAnswer old (probe octets) packet
   pub book : GoesUpIfDown now (record old { last = now }) new old.watch
 
--- What goes out to the client is that answer: its serial, whom it goes to, and the reply.
+-- The outgoing response is that of the answer: its serial, the client and port to which it goes, and the reply.
 pub record GoesOut (answer : AnswerKept) (outgoing : Outgoing) : Type 0 where
   pub serial : outgoing.serial ≡ answer.serial
   pub client : outgoing.client ≡ answer.stamp.client

@@ -1,4 +1,4 @@
--- A run loses no request between its volumes and its book (own).
+-- In a run no request is lost between the volumes and the book (own).
 use Rattle.std.specs.Prelude.{◌≡◌, ℕ, max, List, [], ◌∷◌, ◌++◌, Ok}
 use Rattle.std.specs.List.{flat_map}
 use Rattle.rad_lane.specs.declared.stamp.Stamp.{Stamp}
@@ -11,7 +11,7 @@ use Rattle.rad_lane.specs.declared.running.Given.{Given}
 use Rattle.rad_lane.specs.Book.{Book}
 use Rattle.rad_lane.specs.Accepts.{stamp_of}
 
--- The last moment after an event. A call that is refused leaves it, and so does a drain.
+-- The last moment after an event. A refused call does not change it, nor does a drain.
 abbrev pub last_after : ℕ → Event → GivenAnswer → ℕ
 last_after last (accept request moment) (accepted (Ok taken)) = max last moment
 last_after last (step moment random) (stepped action) = max last moment
@@ -19,7 +19,7 @@ last_after last (hear moment port datagram) (heard (Ok what)) = max last moment
 last_after last (turn moment) (turned (Ok volume)) = max last moment
 last_after last event answer = last
 
--- The stamp of the request that an event brought, where the answer was that it is new.
+-- The stamp of the request of an event, if it was accepted as a new one.
 abbrev pub new_stamp : ℕ → Event → GivenAnswer → List Stamp
 new_stamp last (accept request moment) (accepted (Ok (New number))) = stamp_of number request.now (max last moment) ∷ []
 new_stamp last event answer = []
@@ -30,7 +30,7 @@ new_stamps last (event ∷ events) (given ∷ gives) =
     new_stamp last event given.answer ++ new_stamps (last_after last event given.answer) events gives
 new_stamps last events gives = []
 
--- The stamps of the volumes of a run, in order.
+-- The stamps of the volume that a call returned, if any; and those of all volumes of a run, in order.
 abbrev pub stamps_cut : GivenAnswer → List Stamp
 stamps_cut (turned (Ok volume)) = volume.stamps
 stamps_cut answer = []
@@ -38,7 +38,7 @@ stamps_cut answer = []
 abbrev pub volume_stamps : List Given → List Stamp
 volume_stamps gives = flat_map (λ given. stamps_cut given.answer) gives
 
--- The stamps of the volumes, followed by those accepted at the end, are those accepted at the start, followed by those
--- of the new requests.
+-- The stamps of the volumes, followed by those of the book at the end, are those of the book at the start, followed
+-- by those of the new requests.
 abbrev pub LosesNone : Book → List Event → List Given → Book → Type 0
 LosesNone old events gives new = volume_stamps gives ++ new.accepted ≡ old.accepted ++ new_stamps old.last events gives

@@ -1,4 +1,4 @@
--- The faults of a lane as they are printed: each by its name.
+-- The faults of a lane as they are printed: each as its name.
 use Rattle.std.specs.Prelude.{ℕ, List, ◌++◌, codes}
 use Rattle.rad_packet.specs.Faults.{read_fault_text}
 use Rattle.rad_lane.specs.declared.accepting.Refusal.{Refusal}
@@ -17,7 +17,7 @@ refusal_text TooLong = codes "TooLong"
 refusal_text OutOfMemory = codes "OutOfMemory"
 refusal_text WrongLane = codes "WrongLane"
 
--- Why a datagram from the home server is not heard, with the name of the read fault behind `Unread`.
+-- Why a datagram from the home server is not heard. After `Unread` follows the name of the read fault.
 abbrev pub hear_fault_text : HearFault → List ℕ
 hear_fault_text (hear.Unread fault) = codes "Unread " ++ read_fault_text fault
 hear_fault_text hear.WrongCode = codes "WrongCode"
@@ -27,7 +27,7 @@ hear_fault_text hear.MessageAuthenticatorHere = codes "MessageAuthenticatorHere"
 hear_fault_text hear.NoProxyState = codes "NoProxyState"
 hear_fault_text hear.OutOfMemory = codes "OutOfMemory"
 
--- Why there is no volume.
+-- Why no volume is returned.
 abbrev pub turn_fault_text : TurnFault → List ℕ
 turn_fault_text turn.NothingToTurn = codes "NothingToTurn"
 turn_fault_text turn.OutOfMemory = codes "OutOfMemory"

@@ -1,5 +1,5 @@
--- A run of events over a lane (own): each event in order, from the book and the datagram that the one before it
--- left.
+-- A run (own): the calls of a list of events, made in order. Each begins with the book and the datagram that the one
+-- before it left.
 use Rattle.std.specs.Prelude.{◌≡◌, ⊤, ℕ, List, [], ◌∷◌, All}
 use Rattle.rad_lane.specs.declared.running.Event.{Event}
 use Rattle.rad_lane.specs.declared.running.Event.TheVariants.{Accept as accept, Step as step, Hear as hear, Drain as drain, Turn as turn}
@@ -14,8 +14,8 @@ use Rattle.rad_lane.specs.Hears.{Hears}
 use Rattle.rad_lane.specs.Drains.{Drains}
 use Rattle.rad_lane.specs.Volumes.{Turns}
 
--- What one event may answer, and the datagram and the book after it. A pair that a step allots is another than the one
--- allotted before it.
+-- The results that the call of an event may have, and the datagram and the book after it. A pair that a step allots
+-- is not the one allotted before it.
 abbrev pub Gives : Book → Event → GivenAnswer → Datagrams → Book → Type 0
 Gives old (accept request moment) (accepted result) d new = Accepts old request.now moment result d new
 Gives old (step moment random) (stepped action) d new = Steps old moment random action d new × AllotsAnother old action
@@ -24,7 +24,7 @@ Gives old drain (drained count) d new = Drains old count new × (d.after ≡ d.b
 Gives old (turn moment) (turned result) d new = Turns old moment result new × (d.after ≡ d.before)
 Gives old event answer d new = ⊥
 
--- There is one answer for each event.
+-- Each event has one result.
 abbrev pub Runs : Book → List ℕ → List Event → List Given → Book → Type 0
 Runs old before [] [] new = new ≡ old
 Runs old before (event ∷ events) (given ∷ gives) new =
@@ -33,7 +33,7 @@ Runs old before (event ∷ events) (given ∷ gives) new =
 Runs old before [] (given ∷ gives) new = ⊥
 Runs old before (event ∷ events) [] new = ⊥
 
--- The lane takes the request of an event that has one.
+-- If the event is a request, the lane takes it.
 abbrev pub TakesEvent : Book → Event → Type 0
 TakesEvent book (accept request moment) = IsTaken book request.now
 TakesEvent book (step moment random) = ⊤

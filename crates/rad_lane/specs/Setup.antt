@@ -1,12 +1,12 @@
--- What a lane is set up with (own), and which requests are its own.
+-- What a lane is set up with (own), and which requests lead to it.
 use Rattle.std.specs.Prelude.{◌≡◌, ℕ, ◌<◌, List, length, slice_get, Option, Some, None, Bool, false, ◌==◌, IsTrue}
 use Rattle.std.specs.List.{list_any}
 use Rattle.rad_realms.specs.declared.limits.LimitNumbers.{LimitNumbers}
 use Rattle.rad_realms.specs.Configuration.{HomeEntry, Configuration}
 use Rattle.rad_realms.specs.Realm.{realm_of_packet, realms_of, same_name}
 
--- The lane's number and how many source ports it has, its home server's secret and limits, the realms that lead to
--- it, and whether requests without a realm lead to it.
+-- The lane's number and number of source ports, its home server's secret and limits, the realms that lead to it, and
+-- whether requests without a realm lead to it.
 pub record LaneSetup : Type 0 where
   pub lane : ℕ
   pub ports : ℕ
@@ -15,13 +15,13 @@ pub record LaneSetup : Type 0 where
   pub realms : List (List ℕ)
   pub is_default : Bool
 
--- Whether this is the lane, where there is one.
+-- Whether there is a lane, and it is this one.
 abbrev pub is_lane : ℕ → Option ℕ → Bool
 is_lane lane None = false
 is_lane lane (Some other) = other == lane
 
--- What a configuration sets a lane up with: its own home's secret and limits, the source ports among them, the realms
--- that lead to it, and whether it is the default.
+-- What a configuration sets a lane up with: its own home server's secret and limits, of which the number of source
+-- ports is one, the realms that lead to it, and whether it is the default.
 pub record IsSetUp (config : Configuration) (lane : ℕ) (setup : LaneSetup) : Type 0 where
   pub home : HomeEntry
   pub there : slice_get config.homes lane ≡ Some home
@@ -34,16 +34,16 @@ pub record IsSetUp (config : Configuration) (lane : ℕ) (setup : LaneSetup) : T
     is_default = is_lane lane config.default_lane;
   }
 
--- The lane has this number, and its home server this secret.
+-- The lane has this number, and its home server has this secret.
 pub record IsOf (setup : LaneSetup) (lane : ℕ) (secret : List ℕ) : Type 0 where
   pub number : setup.lane ≡ lane
   pub home : setup.home_secret ≡ secret
 
--- Requests of this realm, or of none, are the lane's. An empty realm leads nowhere.
+-- Requests of this realm, or of none, lead to the lane. An empty realm leads to no lane.
 abbrev pub LeadsHere : LaneSetup → Option (List ℕ) → Type 0
 LeadsHere setup None = IsTrue setup.is_default
 LeadsHere setup (Some realm) = (0 < length realm) × IsTrue (list_any (λ name. same_name name realm) setup.realms)
 
--- The packet is of the lane's realms.
+-- The packet's realm leads to the lane.
 abbrev pub IsOfItsRealms : LaneSetup → List ℕ → Type 0
 IsOfItsRealms setup text = LeadsHere setup (realm_of_packet text)

@@ -1,4 +1,5 @@
--- What a step may do, and the book after it (own): the first case that applies. A step never refuses.
+-- The results that a step may have, and the book after it (own): the first case that applies. A step is never
+-- refused.
 use Rattle.std.specs.Prelude.{◌≡◌, ◌≢◌, ⊤, ℕ, ◌+◌, ◌<◌, ◌≤◌, ◌⊎◌, min, List, [], ◌∷◌, ◌++◌, Option, Some, None, true, false}
 use Rattle.std.specs.FinMap as map
 use Rattle.rad_auth.specs.Status.{status_server}
@@ -17,7 +18,7 @@ use Rattle.rad_lane.specs.Datagrams.{Datagrams}
 use Rattle.rad_lane.specs.Dues.{NoneDue, IsNextDue, IsSpentDue, IsLeastOfAll, NoneOutstanding, as_moment}
 use Rattle.rad_lane.specs.Watch.{GoesUp}
 
--- The book after the first sending of the queue's first record, under this pair.
+-- The book after the first sending of the first request of the queue, under this pair.
 abbrev pub with_sending : Book → ℕ → Recorded → List Recorded → Slot → Book
 with_sending book now r rest slot = record book {
   queued = rest;
@@ -27,11 +28,11 @@ with_sending book now r rest slot = record book {
   last = now;
 }
 
--- There is nothing to send for the first time: the queue is empty or the window is full.
+-- There is no request to send for the first time: the queue is empty or the window is full.
 abbrev pub NothingToSend : Book → Type 0
 NothingToSend book = (book.queued ≡ []) ⊎ (book.setup.limits.window ≤ outstanding_count book)
 
--- What is held with the old probe's pair freed, and the book with that.
+-- What is outstanding once the old probe's pair is freed; and the book with that.
 abbrev pub freed : map.FinMap slot_cmp Entry → Option Slot → map.FinMap slot_cmp Entry
 freed held None = held
 freed held (Some slot) = map.remove held slot
@@ -39,7 +40,7 @@ freed held (Some slot) = map.remove held slot
 abbrev pub without_probe : Book → Option Slot → Book
 without_probe book out = record book { held = freed book.held out }
 
--- A probe goes out under the first free pair, and the next is due a while later.
+-- A probe is sent under the first free pair, in place of the old one, and the next one is due `probe_every` later.
 abbrev pub Probes : Book → ℕ → List ℕ → ℕ → Option Slot → Slot → Datagrams → Book → Type 0
 Probes old now random until out slot d new =
     IsFirstFree (table_of (without_probe old out)) slot
@@ -51,7 +52,7 @@ Probes old now random until out slot d new =
       last = now;
     })
 
--- What a lane that is up does.
+-- What a step does while the home server is marked up.
 abbrev pub StepsWhileUp : Book → ℕ → Action → Datagrams → Book → Type 0
 StepsWhileUp old now (Resent number slot) d new =
     (entry : Outstanding) × IsNextDue old now false slot entry × (number ≡ entry.request.stamp.number)
@@ -74,7 +75,8 @@ StepsWhileUp old now (Idle (Some moment)) d new =
 StepsWhileUp old now (Probed slot) d new = ⊥
 StepsWhileUp old now WentUp d new = ⊥
 
--- What a lane does that is down until a moment, with the next probe at another and perhaps one out.
+-- What a step does while the home server is marked down until a moment, with the moment of the next probe and the
+-- pair of an outstanding probe, if any.
 abbrev pub StepsWhileDown : Book → ℕ → List ℕ → ℕ → ℕ → Option Slot → Action → Datagrams → Book → Type 0
 StepsWhileDown old now random until next out WentUp d new =
     (until ≤ now) × (d.after ≡ d.before) × GoesUp now (record old { last = now }) new
@@ -95,7 +97,7 @@ StepsBy (down until next out) old now random action d new = StepsWhileDown old n
 abbrev pub Steps : Book → ℕ → List ℕ → Action → Datagrams → Book → Type 0
 Steps old moment random action d new = StepsBy old.watch old (moment_in old moment) random action d new
 
--- A pair that is allotted is another than the one allotted before it.
+-- A pair that is allotted is not the one allotted before it.
 abbrev pub AllotsAnother : Book → Action → Type 0
 AllotsAnother old (Sent number slot) = old.allotted ≢ Some slot
 AllotsAnother old (Probed slot) = old.allotted ≢ Some slot

@@ -1,4 +1,5 @@
--- Volumes (own): the front of a book that is over is cut off and kept elsewhere, so that the book does not grow without end.
+-- Volumes (own): the requests at the start of a book that are over are removed from it and kept elsewhere, so that
+-- the book does not grow without end.
 use Rattle.std.specs.Prelude.{◌≡◌, ⊤, ℕ, ◌+◌, ◌≤◌, List, [], ◌∷◌, ◌++◌, length, drop, filter, All, Bool, not, nat_lt, Some, Result, Ok, Err}
 use Rattle.rad_lane.specs.declared.stamp.Stamp.{Stamp}
 use Rattle.rad_lane.specs.declared.turning.Volume.{Volume}
@@ -8,7 +9,7 @@ use Rattle.rad_lane.specs.Outstanding.{AnswerKept}
 use Rattle.rad_lane.specs.Book.{Book, moment_in}
 use Rattle.rad_lane.specs.Repeat.{answer_to}
 
--- A request is over once it was answered and a span went by since: from then on nothing repeats it.
+-- A request is over if it was answered at least a span ago: from then on nothing repeats it.
 abbrev pub IsOver : Book → ℕ → Stamp → Type 0
 IsOver book now stamp =
     (answer : AnswerKept) × (answer_to stamp.number book.answered ≡ Some answer) × (answer.moment + book.setup.limits.span ≤ now)
@@ -18,17 +19,17 @@ abbrev pub BeginsUnended : Book → ℕ → List Stamp → Type 0
 BeginsUnended book now [] = ⊤
 BeginsUnended book now (next ∷ later) = ¬ IsOver book now next
 
--- The cut is the longest front of the requests accepted that are all over; what is kept comes behind it.
+-- The cut is the longest prefix of the book's requests that are all over. The kept requests follow it.
 pub record IsCut (book : Book) (now : ℕ) (cut kept : List Stamp) : Type 0 where
   pub parts : book.accepted ≡ cut ++ kept
   pub over : All (IsOver book now) cut
   pub longest : BeginsUnended book now kept
 
--- The number of the first request behind the cut.
+-- The number of the first request after the cut.
 abbrev pub opening_after : Book → List Stamp → ℕ
 opening_after book cut = book.opening + length cut
 
--- The answers to requests below a number, and the others, each in order.
+-- Whether an answer is to a request below a number; the answers that are, and those that are not, each in order.
 abbrev pub is_below : ℕ → AnswerKept → Bool
 is_below number answer = nat_lt answer.stamp.number number
 
@@ -38,7 +39,7 @@ answers_below number answered = filter (is_below number) answered
 abbrev pub answers_since : ℕ → List AnswerKept → List AnswerKept
 answers_since number answered = filter (λ answer. not (is_below number answer)) answered
 
--- A volume has the requests of the cut with their answers, and the number of the first.
+-- A volume has the requests of the cut with their answers, and the number of the first request.
 abbrev pub volume_of : Book → List Stamp → Volume
 volume_of book cut = record {
   opening = book.opening;
@@ -56,7 +57,8 @@ without_cut book now cut kept = record book {
   last = now;
 }
 
--- What a turn may answer, and the book after it. Lack of memory is the only free choice, and a refusal leaves the book.
+-- The results that a turn may have, and the book after it. Lack of memory is the only free choice. A refusal leaves
+-- the book unchanged.
 abbrev pub Turns : Book → ℕ → Result Volume TurnFault → Book → Type 0
 Turns old moment (Ok volume) new =
     let now = moment_in old moment in

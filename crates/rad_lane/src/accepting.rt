@@ -1,4 +1,4 @@
-//! Taking a request in.
+//! Accepting a request.
 
 ghost use Rattle.std.specs.Prelude.{◌≡◌, ◌+◌, ◌≤◌, length, IfOk, MatchResult, IsTrue, ◌↔◌};
 ghost use Rattle.rad_lane.specs.Repeat.{repeats, fresh};
@@ -17,32 +17,33 @@ use rad_tables::{Key, Moment};
 use std::alloc::{AllocError, Global};
 use std::fmt;
 
-/// How a request was taken.
+/// How a request was taken: as a new one or as a repeat.
 #[derive(Clone, Copy, Debug, PartialEq, Eq)]
 pub enum Taken {
-    /// It is new and has this number.
+    /// The request is new and has this number.
     New(u64),
-    /// It repeats the request of this number, which waits for its answer.
+    /// The request repeats the unanswered request of this number.
     Waiting(u64),
-    /// It repeats the request of this number, which was answered less than a span ago; the response is in the
-    /// datagram.
+    /// The request repeats the request of this number, which was answered less than a span ago. The response is in
+    /// the datagram.
     Again(u64),
 }
 
-/// Why a new request is not taken. The first reason in this order is told. It is printed as its name.
+/// Why a new request is refused. If several reasons apply, the first in this order is returned. A refusal is printed
+/// as its name.
 #[derive(Clone, Copy, Debug, PartialEq, Eq)]
 pub enum Refusal {
     /// The lane is drained.
     Draining,
-    /// The book holds as many requests as it may.
+    /// The book holds as many requests as it may, or no number below 2^62 is left.
     BookFull,
     /// The queue holds as many requests as it may.
     QueueFull,
-    /// The request is longer than 4084 octets, so that the mark does not fit behind it.
+    /// The request is longer than 4084 octets, so the mark does not fit.
     TooLong,
     /// Memory was refused.
     OutOfMemory,
-    /// The request is of another lane. A lane itself never answers it.
+    /// The request belongs to another lane. A lane itself never returns this.
     WrongLane,
 }
 
@@ -64,12 +65,13 @@ impl fmt::Display for Refusal {
     }
 }
 
-/// One more than the greatest number that a request can have.
+/// The first number that no request can have.
 const NUMBER_LIMIT: u64 = 1 << 62;
 
 impl<Q: Fifo<Record>> Lane<Q> {
-    /// Whether a request leads to this lane, by the lane's own realms. Its realm is compared with one of them, or with
-    /// each if the request was checked against another configuration than the one that set up the lane.
+    /// Returns whether a request leads to this lane, by the lane's own realms. The request's realm is compared with
+    /// one of them. If the request was checked against another configuration than the one that set up the lane, it is
+    /// compared with each.
     pub fn takes(&self, request: &Checked<'_>) -> bool
         ensures { IsTrue result ↔ IsTaken self.now request.now }
     {
@@ -77,16 +79,16 @@ impl<Q: Fifo<Record>> Lane<Q> {
             && self.setup.leads_here(request.realm(), request.rank())
     }
 
-    /// Takes a request that is this lane's: a new one is accepted and waits to be sent; a repeat of one that
-    /// waits for its answer is only told; and for a repeat of one that was answered less than a span ago the
-    /// response is put into the datagram.
+    /// Takes a request of this lane. A new request is accepted and queued. For a repeat of an unanswered request,
+    /// only that request's number is returned. For a repeat of a request that was answered less than a span ago, the
+    /// response is also written into the datagram.
     ///
-    /// It takes time logarithmic in the size of the book. Where a list of the book grows for a new request, no
-    /// more than a few of its items are moved.
+    /// It takes time logarithmic in the size of the book. If a list of the book grows for a new request, at most a
+    /// few of its items are moved, unless memory was refused again and again until that list was full.
     ///
     /// # Errors
     ///
-    /// Why a new request is not taken. The lane and the datagram stay.
+    /// The first [`Refusal`] that applies, if the request is new. The lane and the datagram are unchanged.
     pub fn accept(
         &mut self,
         alloc: Global,
@@ -103,7 +105,7 @@ impl<Q: Fifo<Record>> Lane<Q> {
         }
     }
 
-    /// Why a new request is not taken, unless memory is refused.
+    /// Returns the first reason for which a new request is refused, except for a refused allocation.
     fn check_new(&self, request: &Checked<'_>) -> Result<(), Refusal>
         ensures { MatchResult result (λ _. IsRefused self.now request.now Refusal.OutOfMemory) (λ refusal. IsRefused self.now request.now refusal) }
     {
@@ -125,7 +127,7 @@ impl<Q: Fifo<Record>> Lane<Q> {
         Ok(())
     }
 
-    /// Takes a request where a new one is refused: a repeat alone.
+    /// Takes a request while new ones are refused for this reason: only a repeat is taken.
     fn accept_repeat(
         &mut self,
         refusal: Refusal,
@@ -151,8 +153,8 @@ impl<Q: Fifo<Record>> Lane<Q> {
         }
     }
 
-    /// Takes a request where a new one is taken. One search finds the last number of its key and puts the new one in
-    /// its place; that is undone for a repeat, and where memory is refused.
+    /// Takes a request while new ones are not refused. One search finds the last number of the request's key and
+    /// replaces it by the new one. This is undone for a repeat, and if memory is refused.
     fn accept_free(
         &mut self,
         alloc: Global,
@@ -229,7 +231,7 @@ fn stamp_of(request: &Checked<'_>, number: u64, moment: Moment) -> Stamp
     }
 }
 
-/// Copies the packet, and makes the buffer for the octets that go out.
+/// Makes the record of a request: copies the packet and allocates the buffer for the octets to be sent.
 fn record_of(
     alloc: Global,
     request: &Checked<'_>,
@@ -247,7 +249,7 @@ fn record_of(
     Ok(Record::new(stamp, text, *request.secret(), spare))
 }
 
-/// Makes room for one more in each.
+/// Makes room for one more item in each list and in the queue.
 fn make_room<Q: Fifo<Record>>(
     accepted: &mut SlidingList<Stamp>,
     indices: &mut SlidingList<Option<AnswerIndex>>,
@@ -265,7 +267,7 @@ fn make_room<Q: Fifo<Record>>(
     queued.reserve_one()
 }
 
-/// The response to a request that was answered.
+/// Returns the response of an answer.
 fn response_of(answer: &Answered) -> PacketRef<'_>
     ensures { result ≡ answer.now.reply.response }
 {

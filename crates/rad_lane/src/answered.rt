@@ -6,37 +6,37 @@ use std::alloc::{AllocError, Global};
 use std::marker::Model;
 use std::sync::Arc;
 
-/// An answer to a request: the request's stamp, when it was answered, its serial number, and the reply with the
+/// An answer to a request: the request's stamp, the moment of the answer, its serial, and the reply with the
 /// response.
 ///
-/// Its type keeps that the response answers that request, after a verified reply to its forwarded packet.
+/// Its type keeps that the response answers that request, after a verified reply to the request's forwarded packet.
 #[derive(Drop)]
 pub struct Answered {
-    /// How many answers of the lane there were before it.
+    /// The number of answers that the lane gave before it.
     serial: u64,
-    /// What else is known of it. It stands apart, so that a list of answers is small, and that a volume shares it with the
-    /// list that it was cut from, until that list drops it.
+    /// The rest of the answer. It is apart from the serial, so that a list of answers is small, and so that a volume
+    /// shares it with the list that it was removed from, until that list drops it.
     kept: Arc<Kept, Global>,
 }
 
-/// An answer but for its serial number.
+/// An answer without its serial.
 #[derive(Drop)]
 struct Kept {
     /// The stamp of the request.
     stamp: Stamp,
-    /// When it was answered.
+    /// The moment of the answer.
     moment: Moment,
     /// The home server's reply and the response, with the sending and the secrets that they rest on.
     reply: Reply,
 }
 
-/// What a lane notes of an answer beside its request: the answer's serial number, by which it is found, and when it
-/// was given.
+/// What a lane keeps for each answered request: the answer's serial, by which the answer is found, and the moment of
+/// the answer.
 #[derive(Clone, Copy)]
 pub(crate) struct AnswerIndex {
-    /// How many answers of the lane there were before it.
+    /// The number of answers that the lane gave before it.
     pub(crate) serial: u64,
-    /// When it was given.
+    /// The moment of the answer.
     pub(crate) moment: Moment,
 }
 
@@ -66,7 +66,7 @@ impl Answered {
     ghost use Rattle.rad_lane.specs.Hears.{GoesOut};
     ghost use Rattle.rad_lane.specs.Outstanding.{IsAnswered};
 
-    /// The stamp of the request.
+    /// Returns the stamp of the request.
     pub fn stamp(&self) -> Stamp
         ensures value { result ≡ self.now.stamp }
         ensures answered { IsAnswered self.now }
@@ -74,21 +74,21 @@ impl Answered {
         self.kept.stamp
     }
 
-    /// When it was answered.
+    /// Returns the moment of the answer.
     pub fn moment(&self) -> Moment
         ensures { result ≡ self.now.moment }
     {
         self.kept.moment
     }
 
-    /// How many answers there were before it.
+    /// Returns its serial: the number of answers that the lane gave before it.
     pub fn serial(&self) -> u64
         ensures { result ≡ self.now.serial }
     {
         self.serial
     }
 
-    /// The home server's reply and the response to the client.
+    /// Returns the home server's reply and the response to the client.
     pub fn reply(&self) -> &Reply
         ensures value { result.now ≡ self.now.reply }
         ensures answered { IsAnswered self.now }
@@ -96,7 +96,7 @@ impl Answered {
         &self.kept.reply
     }
 
-    /// An answer that was just made. An error means that memory was refused.
+    /// Makes an answer. An error means that memory was refused.
     pub(crate) fn new(
         alloc: Global,
         stamp: Stamp,
@@ -118,7 +118,8 @@ impl Answered {
         })
     }
 
-    /// The response on its way to the client, with a copy of what it rests on.
+    /// Returns the response on its way to the client, with a copy of what it rests on. An error means that memory was
+    /// refused.
     pub(crate) fn outgoing(&self, alloc: Global) -> Result<Outgoing, AllocError>
         ensures { IfOk result (GoesOut self.now) }
     {
@@ -132,7 +133,7 @@ impl Answered {
     }
 }
 
-/// An error means that too many share what is kept of it.
+/// Sharing fails if the shared part has too many owners.
 impl Share for Answered {
     fn share(&self) -> Result<Answered, AllocError> {
         Ok(Answered {

@@ -1,4 +1,4 @@
-//! The end of a lane.
+//! Closing a lane.
 
 ghost use Rattle.rad_lane.specs.Lawful.{IsLawful};
 ghost use Rattle.rad_lane.specs.Closes.{Leaves};
@@ -8,8 +8,8 @@ use crate::{Lane, Leftover, Record};
 use block_queue::Fifo;
 
 impl<Q: Fifo<Record>> Lane<Q> {
-    /// Ends the lane, and gives the requests and answers that its book holds, and what is outstanding. A probe
-    /// that is out goes. It takes no memory and moves no item.
+    /// Closes the lane and returns the requests and answers that its book holds, and the outstanding sendings. An
+    /// outstanding probe is dropped. It takes no memory and moves no item.
     pub fn close(self) -> Leftover<Q>
         ensures leaves { Leaves self result }
         ensures lawful { IsLawful self }

@@ -1,4 +1,4 @@
-//! The end of a lane's work: no request is taken any more.
+//! Draining a lane.
 
 ghost use Rattle.rad_lane.specs.Drains.{Drains};
 
@@ -6,8 +6,8 @@ use crate::{Lane, Record};
 use block_queue::Fifo;
 
 impl<Q: Fifo<Record>> Lane<Q> {
-    /// Takes no request from now on. It answers how many had been accepted since the first when it was
-    /// drained; a second call changes nothing.
+    /// Drains the lane: from now on it accepts no new request. Returns how many requests had been accepted in all
+    /// when it was drained. A second call changes nothing.
     pub fn drain(&mut self) -> u64
         ensures { Drains self.old result self.new }
     {

@@ -3,10 +3,10 @@ use rad_packet::{Datagram, authenticator_of};
 use rad_tables::{Moment, Timed};
 use std::marker::Model;
 
-/// The octets of a Status-Server with its Message-Authenticator alone (RFC 5997 section 3).
+/// The length of a Status-Server whose only attribute is a Message-Authenticator (RFC 5997 section 3), in octets.
 pub(crate) const PROBE_LENGTH: usize = 38;
 
-/// The Status-Server that is out to a home server which is taken to be down.
+/// A Status-Server that was sent to a home server that is marked down, and is unanswered.
 #[derive(Drop)]
 pub struct Probe {
     octets: [u8; PROBE_LENGTH],
@@ -24,7 +24,7 @@ impl Probe {
     ghost use Rattle.std.specs.Prelude.{◌≡◌, length};
     ghost use Rattle.rad_packet.specs.Packet.{authenticator_of as the_authenticator};
 
-    /// Keeps the Status-Server that the datagram has.
+    /// Makes a probe of the Status-Server in the datagram.
     pub(crate) fn of(datagram: &Datagram) -> Probe
         requires { length datagram.now ≡ 38 }
         ensures { result ≡ datagram.now }
@@ -34,14 +34,14 @@ impl Probe {
         Probe { octets }
     }
 
-    /// The octets that were sent.
+    /// Returns the octets that were sent.
     pub fn octets(&self) -> &[u8]
         ensures { result.now ≡ self.now }
     {
         &self.octets
     }
 
-    /// The Authenticator that was sent.
+    /// Returns the Authenticator that was sent.
     pub(crate) fn authenticator(&self) -> [u8; 16]
         ensures { result ≡ the_authenticator self.now }
     {
@@ -49,12 +49,12 @@ impl Probe {
     }
 }
 
-/// What stands under a pair of a source port and an identifier.
+/// What is outstanding under a pair of source port and Identifier.
 #[derive(Drop)]
 pub enum Entry {
-    /// A request that was sent and is not answered.
+    /// A request that was sent and is unanswered.
     Sending(Sending),
-    /// The probe that is out.
+    /// The outstanding probe.
     Probe(Probe),
 }
 
@@ -64,8 +64,7 @@ impl Entry {
     ghost use Rattle.rad_lane.specs.Entries.{IfSending};
     ghost use Rattle.rad_lane.specs.Outstanding.{sent_again};
 
-    /// Sends again what was sent, which is not spent: its octets are put into the datagram. It tells the
-    /// request's number.
+    /// Retransmits a sending that is not spent: writes its octets into the datagram and returns the request's number.
     pub(crate) fn send_again(
         &mut self,
         now: Moment,
@@ -90,7 +89,8 @@ impl Entry {
     }
 }
 
-/// A probe is never due: a lane that is up has none, and one that is down sends nothing again.
+/// The due time, number and spent state by which the slots choose the next entry. A probe is never due: a lane has
+/// none while its home server is marked up, and retransmits nothing while it is marked down.
 impl Timed for Entry {
     ghost use Rattle.rad_lane.specs.Entries.{due_in, number_in, is_spent_in};
 

@@ -1,4 +1,4 @@
-//! Hearing the home server.
+//! Hearing a datagram from the home server.
 
 ghost use Rattle.std.specs.Prelude.{◌≡◌, ◌≤◌, IfOk, IfErr};
 ghost use Rattle.rad_lane.specs.declared.hearing.HearFault.TheVariants.{OutOfMemory};
@@ -14,30 +14,30 @@ use rad_tables::{Moment, Slot};
 use std::alloc::Global;
 use std::fmt;
 
-/// What a datagram from the home server was.
+/// How a datagram from the home server was heard.
 #[derive(Drop)]
 pub enum Heard {
-    /// The verified reply to a request, whose response goes to the client.
+    /// It is the verified reply to a request. The response goes to the client.
     Answer(Outgoing),
-    /// The right answer to the probe.
+    /// It is the valid answer to the probe.
     ProbeAnswered,
 }
 
-/// Why a datagram from the home server is not heard. The first reason in this order is told. It is printed as its
-/// name, with the name of the read fault behind `Unread`.
+/// Why a datagram from the home server is not heard. If several reasons apply, the first in this order is returned. A
+/// fault is printed as its name; after `Unread` follows the name of the read fault.
 #[derive(Clone, Copy, Debug, PartialEq, Eq)]
 pub enum HearFault {
-    /// It is no packet.
+    /// It is not a packet.
     Unread(ReadFault),
-    /// It is no Accounting-Response.
+    /// It is not an Accounting-Response.
     WrongCode,
     /// Nothing is outstanding under its pair of source port and Identifier.
     Unknown,
-    /// Its Response Authenticator is not right.
+    /// Its Response Authenticator is not valid.
     BadAuthenticator,
-    /// It has a Message-Authenticator.
+    /// It is a reply to a request and has a Message-Authenticator.
     MessageAuthenticatorHere,
-    /// Its last Proxy-State is not the mark of the sending, or it has none.
+    /// It is a reply to a request, and its last Proxy-State is not the mark of the sending, or it has no Proxy-State.
     NoProxyState,
     /// Memory was refused.
     OutOfMemory,
@@ -90,16 +90,17 @@ impl From<ReplyFault> for HearFault {
 }
 
 impl<Q: Fifo<Record>> Lane<Q> {
-    /// Hears a datagram that came to a source port from the home server: the verified reply to a sending is
-    /// kept as the answer of its request, and the response goes out; the right answer to the probe is told.
-    /// Either takes a lane up that is down.
+    /// Hears a datagram that arrived from the home server at source port `port` of the lane, counted from 0. A
+    /// verified reply to a sending is kept as the answer to its request, and the response is returned. A valid answer
+    /// to the probe is reported. Either marks the home server up if it is marked down.
     ///
-    /// It looks up once what was sent under the pair, and hashes the reply once and the response once. Going up changes
-    /// each outstanding sending. Where the list of answers grows, no more than a few of them are moved.
+    /// It looks up once what was sent under the pair, and hashes the reply once and the response once. Marking the
+    /// home server up changes each outstanding sending. If the list of answers grows, at most a few of them are
+    /// moved, unless memory was refused again and again until the list was full.
     ///
     /// # Errors
     ///
-    /// Why it is not heard. The lane stays.
+    /// The first [`HearFault`] that applies. The lane is unchanged.
     pub fn hear(
         &mut self,
         alloc: Global,
@@ -136,12 +137,13 @@ impl<Q: Fifo<Record>> Lane<Q> {
         }
     }
 
-    /// Keeps the answer to the request whose sending is outstanding under a pair. What needs memory is made before
-    /// anything changes: where the list of answers grows, no more than a few of them are moved.
+    /// Keeps the answer to the request that is outstanding under a pair. It allocates before it changes anything. If
+    /// the list of answers grows, at most a few of them are moved, unless memory was refused again and again until
+    /// the list was full.
     ///
     /// # Errors
     ///
-    /// Where memory is refused. The lane stays, and the answer is dropped.
+    /// `OutOfMemory` if memory is refused. The lane is unchanged, and the answer is dropped.
     fn keep_answer(&mut self, slot: Slot, answer: Answered, now: Moment) -> Result<(), HearFault>
         requires later { self.old.last ≤ now }
         requires answers { AnswersSending self.old now slot answer }

@@ -1,7 +1,7 @@
 use block_queue::SlidingList;
 use std::marker::Model;
 
-/// Items in order, as a lane held them.
+/// Items in order, in the list in which a lane held them.
 #[derive(Drop)]
 pub struct Held<T> {
     items: SlidingList<T>,
@@ -18,14 +18,14 @@ impl<T> Model for Held<T> {
 impl<T> Held<T> {
     ghost use Rattle.std.specs.Prelude.{◌≡◌};
 
-    /// The items of a list, without memory.
+    /// Wraps a list. It takes no memory.
     pub(crate) fn over(items: SlidingList<T>) -> Held<T>
         ensures { result ≡ items.items }
     {
         Held { items }
     }
 
-    /// The items.
+    /// Returns the items.
     pub fn as_slice(&self) -> &[T]
         ensures { result.now ≡ self.now }
     {

@@ -10,49 +10,49 @@ use rad_tables::{Duplicates, Moment, Slots};
 use std::alloc::{AllocError, Global};
 use std::marker::Model;
 
-/// The lane of one home server: the requests that it took, in order, until each is answered.
+/// The lane of one home server: the requests that it accepted, in order, and their answers.
 ///
-/// It has no socket and no clock: its calls are handed the moment, and answer what is to be done. A moment
-/// earlier than the last one counts as the last one.
+/// It has no socket and no clock: a moment is passed to each call that needs one, and the call returns what is to be
+/// done. A moment before the last one counts as the last one.
 ///
 /// Its calls are of five kinds:
 ///
-/// - What comes in: [`Lane::accept`] takes a request, where the lane [`Lane::takes`] it, and [`Lane::hear`] a
-///   datagram from the home server.
-/// - What goes out: [`Lane::step`] does the next thing, and puts what is to be sent into the datagram. Call it
-///   after each request and each reply, and at the moment that it tells, again and again until it is idle.
-/// - What it sheds: [`Lane::turn`] cuts off the first requests, once they are answered and too old to be repeated.
-/// - What ends it: [`Lane::drain`] is the end of taking requests. Go on with the other calls until
-///   [`Lane::is_done`]; then [`Lane::close`] gives what the book holds.
-/// - What it has, at any time: [`Lane::counts`], [`Lane::is_draining`], and the parts of the book,
-///   [`Lane::accepted`], [`Lane::sent`] and [`Lane::answered`].
+/// - Input: [`Lane::accept`] takes a request that the lane [`Lane::takes`], and [`Lane::hear`] takes a datagram from
+///   the home server.
+/// - Output: [`Lane::step`] takes the next step and writes what is to be sent into the datagram. Call it after each
+///   request and each reply, and at the moment that it returned, repeatedly until it is idle.
+/// - Removal: [`Lane::turn`] removes the first requests, once they are answered and too old to be repeated.
+/// - The end: after [`Lane::drain`] no new request is accepted. Go on with the other calls until [`Lane::is_done`].
+///   Then [`Lane::close`] returns what the book holds.
+/// - Views, at any time: [`Lane::counts`], [`Lane::is_draining`], and the parts of the book: [`Lane::accepted`],
+///   [`Lane::sent`] and [`Lane::answered`].
 #[derive(Drop)]
 pub struct Lane<Q: Fifo<Record>> {
-    /// Whose lane it is, with its home server's secret and limits.
+    /// The lane's number and realms, with its home server's secret and limits.
     pub(crate) setup: Setup,
-    /// The number of the first request that is kept.
+    /// The number of the first request that the book still holds.
     pub(crate) opening: u64,
     /// The stamps of the requests, in order: first those that were sent, then those that are queued.
     pub(crate) accepted: SlidingList<Stamp>,
-    /// The records of the requests that wait to be sent, in order.
+    /// The records of the queued requests, in order.
     pub(crate) queued: Q,
-    /// The answers, in the order in which they came.
+    /// The answers, in the order in which they were given.
     pub(crate) answered: SlidingList<Answered>,
-    /// For each of the requests accepted the index of its answer, if it is answered.
+    /// For each accepted request that the book holds, the index of its answer, if it is answered.
     pub(crate) indices: SlidingList<Option<AnswerIndex>>,
-    /// How many answers there were.
+    /// How many answers the lane has given.
     pub(crate) served: u64,
-    /// What was sent and not answered, each under its pair of source port and identifier, and the probe.
+    /// The outstanding sendings and probe, each under its pair of source port and Identifier.
     pub(crate) slots: Slots<Entry>,
     /// How many of the entries are sendings.
     pub(crate) outstanding: usize,
     /// The number of the last request of each key.
     pub(crate) duplicates: Duplicates,
-    /// How many requests had been accepted when it was drained.
+    /// How many requests had been accepted when the lane was drained.
     pub(crate) drain: Option<u64>,
-    /// Whether the home server is taken to be up.
+    /// Whether the home server is marked up.
     pub(crate) watch: Watch,
-    /// The last moment.
+    /// The last moment of a call.
     pub(crate) last: Moment,
 }
 
@@ -74,7 +74,7 @@ impl<Q: Fifo<Record>> Model for Lane<Q> {
     ghost invariant = { λ l. IsConsistent (book_of l.setup l.opening l.accepted.items (Q.items l.queued) l.answered.items l.served l.slots l.drain l.watch l.last) (Q.items l.queued) l.slots.ports l.duplicates l.indices.items l.outstanding };
 }
 
-/// Why there is no lane.
+/// Why no lane is made.
 #[derive(Clone, Copy, Debug, PartialEq, Eq)]
 pub enum SetupFault {
     /// Memory was refused.
@@ -82,11 +82,11 @@ pub enum SetupFault {
 }
 
 impl<Q: Fifo<Record>> Lane<Q> {
-    /// An empty book over this setup. A refusal drops the setup.
+    /// Makes a lane with an empty book. A refusal drops the setup.
     ///
     /// # Errors
     ///
-    /// Where memory is refused.
+    /// `OutOfMemory` if memory is refused.
     pub fn new(alloc: Global, setup: Setup) -> Result<Lane<Q>, SetupFault>
         ensures { IfOk result (λ lane. lane ≡ empty_book setup) }
     {
@@ -110,7 +110,7 @@ impl<Q: Fifo<Record>> Lane<Q> {
         }
     }
 
-    /// The number of the next request.
+    /// Returns the number of the next request.
     pub(crate) fn next_number(&self) -> u64
         ensures value { result ≡ next_number self.now }
         ensures fits { next_number self.now ≤ 2 ^ 62 }
@@ -118,7 +118,7 @@ impl<Q: Fifo<Record>> Lane<Q> {
         self.opening + self.accepted.as_slice().len() as u64
     }
 
-    /// How many requests had been accepted when it was drained, or have been where it is not.
+    /// Returns how many requests had been accepted when the lane was drained, or so far if it is not drained.
     pub(crate) fn drained_at(&self) -> u64
         ensures { result ≡ drained_at self.now self.now.drain }
     {
@@ -128,7 +128,7 @@ impl<Q: Fifo<Record>> Lane<Q> {
         }
     }
 
-    /// The moment of a call: moments never go back.
+    /// Returns the moment that counts in a call: the last one if the given one is before it.
     pub(crate) fn moment_of(&self, moment: Moment) -> Moment
         ensures value { result ≡ moment_in self.now moment }
         ensures later { self.now.last ≤ result }
@@ -136,8 +136,8 @@ impl<Q: Fifo<Record>> Lane<Q> {
         later_of(self.last, moment)
     }
 
-    /// Makes this the last moment, where a call changes nothing else. A call that does writes the field itself,
-    /// together with the others, since they agree only once all are written.
+    /// Sets the last moment, for calls that change nothing else. A call that changes more writes the field itself,
+    /// together with the others, since the fields agree only once all are written.
     pub(crate) fn set_last(&mut self, now: Moment)
         requires { self.old.last ≤ now }
         ensures { self.new ≡ record self.old { last = now } }
@@ -146,7 +146,7 @@ impl<Q: Fifo<Record>> Lane<Q> {
     }
 }
 
-/// The later of two moments.
+/// Returns the later of two moments.
 fn later_of(last: Moment, moment: Moment) -> Moment
     ensures { result ≡ max last moment }
 {

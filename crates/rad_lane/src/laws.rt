@@ -19,9 +19,9 @@ ghost use Rattle.rad_lane.specs.Setup.{IsOfItsRealms, IsSetUp, LaneSetup};
 ghost use Rattle.rad_lane.specs.Volumes.{IsCut, volume_of, without_cut};
 ghost use Rattle.rad_lane.specs.declared.stamp.Stamp.{Stamp};
 
-/// A packet that a configuration leads to a lane is of the realms of that lane, as the configuration sets it
-/// up. So a request that was checked by a configuration is taken by its lane, where that was set up by the
-/// same one.
+/// If a configuration leads a packet to a lane, then the packet is of the realms of that lane as the configuration
+/// sets it up. So a lane takes each request that leads to it, if the request was checked against the configuration
+/// that set up the lane.
 pub fn a_lane_takes_what_leads_to_it()
     ensures realm { (config : Configuration) (lane : ℕ) (setup : LaneSetup) (text : List ℕ)
         → IsSetUp config lane setup
@@ -33,8 +33,8 @@ pub fn a_lane_takes_what_leads_to_it()
         → IsTaken book request }
 {}
 
-/// A lane has nothing outstanding on a source port that it lacks: what comes there from the home server and
-/// reads as an Accounting-Response is unknown.
+/// A lane has nothing outstanding on a source port that it does not have. A datagram from the home server that
+/// arrives at such a port and reads as an Accounting-Response is `Unknown`.
 pub fn a_port_that_a_lane_lacks_is_unknown()
     ensures { (old : Book) (moment port : ℕ) (datagram packet : List ℕ) (answer : Result Heard HearFault) (new : Book)
         → IsLawful old
@@ -45,8 +45,8 @@ pub fn a_port_that_a_lane_lacks_is_unknown()
         → answer ≡ Err Unknown }
 {}
 
-/// A lawful book is lawful without a cut too. Each request of the cut is answered once in its volume, and nothing else
-/// is. And each key repeats from then on what it would repeat if nothing were cut.
+/// A lawful book without a cut is lawful too. The volume has one answer for each request of the cut, and no other
+/// answer. From then on each key repeats what it would repeat without the cut.
 pub fn a_cut_loses_nothing()
     ensures lawful { (book : Book) (now : ℕ) (cut kept : List Stamp)
         → IsLawful book → book.last ≤ now → IsCut book now cut kept

@@ -3,21 +3,20 @@ use block_queue::{Fifo, SlidingList};
 use rad_tables::Slots;
 use std::marker::Model;
 
-/// What is left of a lane: the requests and answers that its book held when it was closed, and what was
-/// outstanding.
+/// What is left of a closed lane: the requests and answers that its book held, and the outstanding sendings.
 #[derive(Drop)]
 pub struct Leftover<Q: Fifo<Record>> {
     /// The lane's number.
     lane: u16,
-    /// The number of the first request that is still held.
+    /// The number of the first request that the book still held.
     opening: u64,
     /// The stamps of the requests, in order: first those that were sent, then those that are queued.
     accepted: SlidingList<Stamp>,
     /// The answers, in order.
     answered: SlidingList<Answered>,
-    /// What was sent and not answered, under its pairs. There is no probe among them.
+    /// The sendings that are unanswered, each under its pair. There is no probe among them.
     outstanding: Slots<Entry>,
-    /// The records that were never sent, in order.
+    /// The records of the requests that were never sent, in order.
     queued: Q,
 }
 
@@ -26,15 +25,15 @@ pub struct Leftover<Q: Fifo<Record>> {
 pub struct LeftoverParts<Q: Fifo<Record>> {
     /// The lane's number.
     pub lane: u16,
-    /// The number of the first request that is still held.
+    /// The number of the first request that the book still held.
     pub opening: u64,
-    /// The stamps of the requests accepted, in order.
+    /// The stamps of the requests that the book held, in order.
     pub accepted: Held<Stamp>,
     /// The answers, in order.
     pub answered: Held<Answered>,
-    /// What was sent and not answered, under its pairs. There is no probe among them.
+    /// The sendings that are unanswered, each under its pair. There is no probe among them.
     pub outstanding: Slots<Entry>,
-    /// The records that were never sent, in order.
+    /// The records of the requests that were never sent, in order.
     pub queued: Q,
 }
 
@@ -59,7 +58,7 @@ impl<Q: Fifo<Record>> Leftover<Q> {
     ghost use Rattle.std.specs.Prelude.{◌≡◌, ◌≤◌, length, map as each};
     ghost use Rattle.rad_lane.specs.Closes.{left_of};
 
-    /// What a lane leaves.
+    /// Makes the leftover of a lane of its parts.
     pub(crate) fn new(
         lane: u16,
         opening: u64,
@@ -81,28 +80,28 @@ impl<Q: Fifo<Record>> Leftover<Q> {
         }
     }
 
-    /// The lane's number.
+    /// Returns the lane's number.
     pub fn lane(&self) -> u16
         ensures { result ≡ self.now.lane }
     {
         self.lane
     }
 
-    /// The number of the first request that is still held.
+    /// Returns the number of the first request that the book still held.
     pub fn opening(&self) -> u64
         ensures { result ≡ self.now.opening }
     {
         self.opening
     }
 
-    /// The stamps of the requests accepted, in order.
+    /// Returns the stamps of the requests that the book held, in order.
     pub fn accepted(&self) -> &[Stamp]
         ensures { result.now ≡ self.now.accepted }
     {
         self.accepted.as_slice()
     }
 
-    /// The stamps of those that were sent, in order.
+    /// Returns the stamps of those requests that were sent, in order.
     pub fn sent(&self) -> &[Stamp]
         ensures { result.now ≡ self.now.sent }
     {
@@ -110,28 +109,28 @@ impl<Q: Fifo<Record>> Leftover<Q> {
         &accepted[..accepted.len() - self.queued.len()]
     }
 
-    /// The answers, in order.
+    /// Returns the answers, in order.
     pub fn answered(&self) -> &[Answered]
         ensures { result.now ≡ self.now.answered }
     {
         self.answered.as_slice()
     }
 
-    /// What was sent and not answered, under its pairs. There is no probe among them.
+    /// Returns the sendings that are unanswered, each under its pair. There is no probe among them.
     pub fn outstanding(&self) -> &Slots<Entry>
         ensures { result.now ≡ self.now.outstanding }
     {
         &self.outstanding
     }
 
-    /// The records that were never sent, in order.
+    /// Returns the records of the requests that were never sent, in order.
     pub fn queued(&self) -> &Q
         ensures { each (λ k. k.recorded) (Q.items result.now) ≡ self.now.queued }
     {
         &self.queued
     }
 
-    /// Takes it apart, without memory.
+    /// Returns the parts. It takes no memory.
     pub fn into_parts(self) -> LeftoverParts<Q>
         ensures { self ≡ left_of result.lane result.opening result.accepted (Q.items result.queued) result.answered result.outstanding }
     {

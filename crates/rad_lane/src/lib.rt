@@ -1,17 +1,16 @@
-//! The lane of one home server (own): what it accepted, sent and was answered, as a book that a biller can
-//! rely on.
+//! The lane of one home server (own): the requests that it accepted and sent, and their answers, as a book that
+//! operators can bill by.
 //!
-//! A lane is a value without a socket, a clock or a thread. [`Lane::accept`] takes requests, [`Lane::step`]
-//! says what is to be sent, and [`Lane::hear`] takes replies and answers with the responses. Each call's
-//! contract is a relation between the book before it and the book after it, and whatever the calls were, the
-//! book is lawful: each request accepted stands in it once, in order, and is answered by a verified reply
-//! alone.
+//! A lane is a value without a socket, a clock or a thread. [`Lane::accept`] takes requests, [`Lane::step`] returns
+//! what is to be sent, and [`Lane::hear`] takes replies and returns the responses. The contract of each call is a
+//! relation between the book before it and the book after it. Whatever the calls were, the book is lawful: its
+//! requests are in it once each, in order, and each is answered only after a verified reply.
 //!
-//! The definitions that the contracts cite stand in specs: `Book` is what a lane is seen as and `Lawful` what
-//! holds of it at any time; `Accepts`, `Steps`, `Hears`, `Drains` and `Volumes` are the calls, over `Repeat`,
-//! `Dues` and `Watch`; `Runs` is a sequence of calls, and `LosesNone` what it keeps; `Setup` is what a lane
-//! is set up with, `Counting` what it tells, and `Closes` what is left of it. `Stamp`, `Outstanding` and `Entries`
-//! are what the book holds, and `Session` is what a request says of its session.
+//! The definitions that the contracts cite are in `specs`. `Book` is the state of a lane as contracts see it, and
+//! `Lawful` is true of it at any time. `Accepts`, `Steps`, `Hears`, `Drains` and `Volumes` describe the calls, with
+//! the help of `Repeat`, `Dues` and `Watch`. `Runs` describes a sequence of calls, and `LosesNone` says that no
+//! request is lost in one. `Setup` has what a lane is set up with, `Counting` its counts, and `Closes` what is left
+//! of it. `Stamp`, `Outstanding` and `Entries` have the parts of the book, and `Session` the session of a request.
 #![tactic(auto)]
 
 mod accepting;

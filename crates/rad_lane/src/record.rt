@@ -6,17 +6,16 @@ use std::marker::Model;
 
 /// A request that a lane accepted: its stamp, its packet, and the secret of the client that sent it.
 ///
-/// A biller charges by it, so its type keeps that the packet is a request of that stamp, right under that
-/// secret.
+/// Operators bill by it, so its type keeps that the packet is a request of that stamp, valid under that secret.
 #[derive(Drop)]
 pub struct Record {
-    /// Who sent it, and when it was accepted.
+    /// The origin and time of the request.
     stamp: Stamp,
     /// The packet's octets, without padding.
     text: Octets,
-    /// The secret under which they are right.
+    /// The client's secret, under which the packet is valid.
     client_secret: Secret,
-    /// Where the octets that go out will stand, until they are sent.
+    /// The buffer for the octets to be sent, until the first sending fills it.
     spare: Option<Buffer>,
 }
 
@@ -35,7 +34,7 @@ impl Record {
     ghost use Rattle.rad_lane.specs.Stamp.{IsRecord};
     ghost use Rattle.rad_lane.specs.Session.{session_id};
 
-    /// Keeps a request, with a buffer for the octets that go out.
+    /// Makes a record, with a buffer for the octets to be sent.
     pub(crate) fn new(stamp: Stamp, text: Octets, client_secret: Secret, spare: Buffer) -> Record
         requires { IsRecord (record { stamp = stamp; text = text; client_secret = client_secret }) }
         ensures { result ≡ record { recorded = record { stamp = stamp; text = text; client_secret = client_secret }; room = spare.room } }
@@ -48,7 +47,7 @@ impl Record {
         }
     }
 
-    /// Its stamp.
+    /// Returns the stamp of the request.
     pub fn stamp(&self) -> Stamp
         ensures value { result ≡ self.now.recorded.stamp }
         ensures is_record { IsRecord self.now.recorded }
@@ -56,28 +55,28 @@ impl Record {
         self.stamp
     }
 
-    /// The request's octets, without padding.
+    /// Returns the request's octets, without padding.
     pub fn text(&self) -> &[u8]
         ensures { result.now ≡ self.now.recorded.text }
     {
         self.text.as_slice()
     }
 
-    /// The secret of the client that sent it.
+    /// Returns the secret of the client that sent the request.
     pub fn client_secret(&self) -> &Secret
         ensures { result.now ≡ self.now.recorded.client_secret }
     {
         &self.client_secret
     }
 
-    /// Its Acct-Session-Id (RFC 2866 section 5.5), where it has one.
+    /// Returns the Value of the request's first Acct-Session-Id (RFC 2866 section 5.5), if it has one.
     pub fn session(&self) -> Option<&[u8]>
         ensures { option_copied result ≡ session_id self.now.recorded.text }
     {
         session_of(&self.packet())
     }
 
-    /// The request as a packet.
+    /// Returns the request as a packet.
     pub(crate) fn packet(&self) -> PacketRef<'_>
         ensures value { result ≡ self.now.recorded.text }
         ensures is_record { IsRecord self.now.recorded }
@@ -85,7 +84,7 @@ impl Record {
         PacketRef::over(self.text.as_slice())
     }
 
-    /// Fills the buffer that it has for the octets that go out, and gives it away.
+    /// Fills the buffer for the octets to be sent, and returns it.
     pub(crate) fn fill_spare(&mut self, octets: &[u8]) -> Octets
         requires some { 1 ≤ length octets.now }
         requires room { length octets.now ≤ self.old.room }

@@ -1,4 +1,4 @@
-//! Whether a request was seen before (RFC 2866 section 3, Identifier).
+//! Whether a request is a repeat (RFC 2866 section 3, Identifier).
 
 ghost use Rattle.std.specs.Prelude.{◌≡◌, ◌≤◌, ℕ, IfSome, map as each};
 ghost use Rattle.std.specs.List.Sorted.{IsStrictlyIncreasing};
@@ -12,33 +12,33 @@ use crate::{Answered, Lane, Record, Setup};
 use block_queue::{Fifo, SlidingList};
 use rad_tables::{Key, Moment};
 
-/// What a request repeats.
+/// Which request a request repeats.
 pub(crate) enum Repeat<'a> {
-    /// It is new.
+    /// None: it is new.
     Fresh,
-    /// The request of this number, which waits for its answer.
+    /// The unanswered request of this number.
     Waits(u64),
     /// The request of this number, which was answered less than a span ago.
     Answered(u64, &'a Answered),
 }
 
-/// What a lane answered, by which it knows what repeats. It is seen apart from the numbers of the keys.
+/// The answers that a lane keeps, by which it recognises repeats. The last numbers of the keys are apart from it.
 #[derive(Drop)]
 pub(crate) struct Seen<'a> {
-    /// The number of the first request that is kept.
+    /// The number of the first request that the book still holds.
     opening: u64,
-    /// For each request from that number on the index of its answer, if it is answered.
+    /// For each request from that number on, the index of its answer, if it is answered.
     indices: &'a [Option<AnswerIndex>],
-    /// The answers, in the order in which they came.
+    /// The answers, in the order in which they were given.
     answered: &'a [Answered],
-    /// For so many milliseconds after its answer a request may be repeated.
+    /// The span: how long after its answer a request may be repeated, in milliseconds.
     span: u32,
     ghost told: { (number : ℕ) → opening ≤ number → answer_index_in indices.now opening number ≡ answer_index_to number answered.now },
     ghost rising: { IsStrictlyIncreasing (each (λ a. a.serial) answered.now) },
 }
 
 impl<'a> Seen<'a> {
-    /// What was answered since the opening.
+    /// Makes the view of the answers since the opening.
     pub(crate) fn since(
         opening: u64,
         indices: &'a SlidingList<Option<AnswerIndex>>,
@@ -59,7 +59,7 @@ impl<'a> Seen<'a> {
         }
     }
 
-    /// What a request repeats whose key had this number last, if it had one.
+    /// Returns what a request repeats whose key had this last number, if it had one.
     pub(crate) fn repeat_of(&self, last: Option<u64>, now: Moment) -> Repeat<'a>
         requires { IfSome last (λ number. self.now.opening ≤ number) }
         ensures { (book : Book) → book.setup.limits.span ≡ self.now.span → book.answered ≡ self.now.answered.now → found result ≡ repeats_number book now last }
@@ -77,7 +77,7 @@ impl<'a> Seen<'a> {
         }
     }
 
-    /// The answer to the request of a number, which is none of those that are gone.
+    /// Returns the answer to the request of a number, which the book still holds.
     fn answer_of(&self, number: u64) -> Option<&'a Answered>
         requires { self.now.opening ≤ number }
         ensures { option_copied result ≡ answer_to number self.now.answered.now }
@@ -85,7 +85,7 @@ impl<'a> Seen<'a> {
         self.answered.get(self.place_of(number)?)
     }
 
-    /// Where the answer to the request of a number stands, if it is answered.
+    /// Returns the place of the answer to the request of a number, if it is answered.
     fn place_of(&self, number: u64) -> Option<usize>
         requires { self.now.opening ≤ number }
         ensures { at_place self.now.answered.now result ≡ answer_to number self.now.answered.now }
@@ -96,7 +96,7 @@ impl<'a> Seen<'a> {
         }
     }
 
-    /// The index of the answer to the request of a number, if it is answered.
+    /// Returns the index of the answer to the request of a number, if it is answered.
     fn answer_index_of(&self, number: u64) -> Option<AnswerIndex>
         requires { self.now.opening ≤ number }
         ensures { result ≡ answer_index_to number self.now.answered.now }
@@ -107,7 +107,7 @@ impl<'a> Seen<'a> {
 }
 
 impl<Q: Fifo<Record>> Lane<Q> {
-    /// What a request of this key repeats at this moment. It looks at the last one of that key alone.
+    /// Returns what a request of this key repeats at this moment. It looks only at the last request of that key.
     pub(crate) fn find_repeat(&self, key: &Key, now: Moment) -> Repeat<'_>
         ensures { found result ≡ repeats self.now key.now now }
     {
@@ -116,7 +116,7 @@ impl<Q: Fifo<Record>> Lane<Q> {
     }
 }
 
-/// Where the answer of a serial stands. It looks at a number of answers that grows with the logarithm of how many
+/// Returns the place of the answer with a serial. The number of answers that it looks at is logarithmic in how many
 /// there are.
 fn place_of_serial(answers: &[Answered], serial: u64) -> Option<usize>
     requires { IsStrictlyIncreasing (each (λ a. a.serial) answers.now) }

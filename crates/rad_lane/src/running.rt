@@ -1,4 +1,4 @@
-//! A run of events over a lane.
+//! A run: a list of calls of one lane.
 
 ghost use Rattle.std.specs.Prelude.{◌≡◌, IfOk, OnErr};
 ghost use Rattle.rad_lane.specs.Datagrams.{Datagrams};
@@ -16,55 +16,55 @@ use std::alloc::Global;
 /// A call of a lane.
 #[derive(Drop)]
 pub enum Event<'a, 'c> {
-    /// To accept a request at a moment.
+    /// Accept a request at a moment.
     Accept(&'a Checked<'c>, Moment),
-    /// To step at a moment, with octets for a probe's Authenticator.
+    /// Step at a moment, with octets for a probe's Authenticator.
     Step(Moment, [u8; 16]),
-    /// To hear at a moment what came to a source port from the home server.
+    /// Hear at a moment a datagram that arrived at a source port from the home server.
     Hear(Moment, u16, &'a [u8]),
-    /// To drain.
+    /// Drain the lane.
     Drain,
-    /// To turn at a moment.
+    /// Turn at a moment.
     Turn(Moment),
 }
 
-/// What a call of a lane answered.
+/// The result of a call of a lane.
 #[derive(Drop)]
 pub enum GivenAnswer {
-    /// To [`Event::Accept`].
+    /// Of [`Event::Accept`].
     Accept(Result<Taken, Refusal>),
-    /// To [`Event::Step`].
+    /// Of [`Event::Step`].
     Step(Action),
-    /// To [`Event::Hear`].
+    /// Of [`Event::Hear`].
     Hear(Result<Heard, HearFault>),
-    /// To [`Event::Drain`].
+    /// Of [`Event::Drain`].
     Drain(u64),
-    /// To [`Event::Turn`].
+    /// Of [`Event::Turn`].
     Turn(Result<Volume, TurnFault>),
 }
 
-/// What came of an event: the answer of the call, and the datagram after it.
+/// The outcome of an event: the result of the call, and the datagram after it.
 #[derive(Drop)]
 pub struct Given {
-    /// The answer.
+    /// The result of the call.
     pub answer: GivenAnswer,
-    /// The datagram, which passes from event to event.
+    /// A copy of the datagram, which passes from event to event.
     pub datagram: Datagram,
 }
 
-/// Why there was no run.
+/// Why no run was made.
 #[derive(Clone, Copy, Debug, PartialEq, Eq)]
 pub enum RunFault {
-    /// Memory was refused, before the first event.
+    /// Memory was refused before the first event.
     OutOfMemory,
 }
 
-/// Makes the calls of these events in order, over a datagram that begins as [`Datagram::new`]. The lane takes
-/// the request of each [`Event::Accept`]. Each answer is kept with a copy of the datagram after it.
+/// Makes the calls of these events in order, with one datagram that begins as [`Datagram::new`]. The request of each
+/// [`Event::Accept`] must be one that the lane takes. Each result is kept with a copy of the datagram after it.
 ///
 /// # Errors
 ///
-/// Where there is no memory for the answers. The lane stays.
+/// `OutOfMemory` if memory for the results is refused. The lane is unchanged.
 pub fn run<Q: Fifo<Record>>(
     alloc: Global,
     lane: &mut Lane<Q>,
@@ -90,7 +90,7 @@ pub fn run<Q: Fifo<Record>>(
     Ok(gives)
 }
 
-/// Looks at a lane. Its type keeps the book lawful, which is known of it once it is looked at.
+/// Calls a view of the lane, after which the prover knows that the book is lawful, as its type keeps it.
 fn look_at<Q: Fifo<Record>>(lane: &Lane<Q>)
     ensures { IsLawful lane.now }
 {

@@ -8,24 +8,24 @@ use rad_tables::{Moment, wait_after};
 use std::alloc::Global;
 use std::marker::Model;
 
-/// A request that was sent to the home server and is not answered.
+/// A request that was sent to the home server and is unanswered.
 ///
-/// Its type keeps that what was sent is the forwarded packet of its record.
+/// Its type keeps that the octets sent are the forwarded packet of its record.
 #[derive(Drop)]
 pub struct Sending {
     /// The record of the request.
     request: Record,
-    /// The packet that was sent, and will be again.
+    /// The packet that was sent. Each retransmission has the same octets.
     octets: Octets,
-    /// How many sendings of this round there were.
+    /// The number of sendings in this round.
     sendings: u32,
-    /// When it is to be sent again, in milliseconds.
+    /// When it is due to be retransmitted, in milliseconds.
     due: u64,
-    /// The home server's secret. Each sending keeps its own, so that its type can promise that its octets are
-    /// signed with it, and so that it can be told by itself once the lane is closed.
+    /// The home server's secret. Each sending has a copy, so that its type can keep that its octets are signed with
+    /// it, and so that the secret is known once the lane is closed.
     home: Secret,
-    /// How many sendings a round has. Each sending keeps its own, since the slots look for what is spent and
-    /// know the entries alone.
+    /// The number of sendings in a round. Each sending has a copy, since the slots look for spent entries and see
+    /// nothing but the entries.
     tries: u32,
 }
 
@@ -47,7 +47,7 @@ impl Sending {
     ghost use Rattle.rad_lane.specs.internal.Invariant.{HasRoom};
     ghost use Rattle.rad_lane.specs.Outstanding.{IsForwarded, is_spent, octets_of, first_sending, renewed, sent_again};
 
-    /// The record whose forwarded packet was sent.
+    /// Returns the record whose forwarded packet was sent.
     pub fn request(&self) -> &Record
         ensures value { result.now.recorded ≡ self.now.request }
         ensures forwarded { IsForwarded self.now }
@@ -55,43 +55,43 @@ impl Sending {
         &self.request
     }
 
-    /// The octets that were sent, and will be again.
+    /// Returns the octets that were sent. Each retransmission has the same octets.
     pub fn octets(&self) -> &[u8]
         ensures { result.now ≡ self.now.octets }
     {
         self.octets.as_slice()
     }
 
-    /// How many sendings of this round there were.
+    /// Returns the number of sendings in this round.
     pub fn sendings(&self) -> u32
         ensures { result ≡ self.now.sendings }
     {
         self.sendings
     }
 
-    /// When it is to be sent again, in milliseconds.
+    /// Returns when it is due to be retransmitted, in milliseconds.
     pub fn due(&self) -> u64
         ensures { result ≡ self.now.due }
     {
         self.due
     }
 
-    /// The secret of the home server that it was sent to.
+    /// Returns the secret of the home server that it was sent to.
     pub fn home(&self) -> &Secret
         ensures { result.now ≡ self.now.home }
     {
         &self.home
     }
 
-    /// How many sendings a round has.
+    /// Returns the number of sendings in a round.
     pub fn tries(&self) -> u32
         ensures { result ≡ self.now.tries }
     {
         self.tries
     }
 
-    /// Sends a record for the first time: its forwarded packet is written into the datagram, and kept in the
-    /// buffer that the record has for it. It signs once, and copies the packet twice.
+    /// Sends a record for the first time: writes its forwarded packet into the datagram and keeps a copy in the
+    /// record's spare buffer. It signs once and copies the packet twice.
     pub(crate) fn first(
         request: Record,
         setup: &Setup,
@@ -121,15 +121,15 @@ impl Sending {
         }
     }
 
-    /// The packet that was sent, and will be again.
+    /// Returns the packet that was sent and that each retransmission repeats.
     pub(crate) fn packet(&self) -> PacketRef<'_>
         ensures { result ≡ self.now.octets }
     {
         PacketRef::over(self.octets.as_slice())
     }
 
-    /// The answer to its request, where the packet is a right reply to it, and the response on its way to the
-    /// client. It hashes the reply once and the response once.
+    /// Returns the answer to its request and the outgoing response to the client, if the packet is a valid reply to
+    /// this sending. It hashes the reply once and the response once.
     pub(crate) fn answer(
         &self,
         alloc: Global,
@@ -157,21 +157,22 @@ impl Sending {
         Ok((answer, outgoing))
     }
 
-    /// The number of the request.
+    /// Returns the number of the request.
     pub(crate) fn number(&self) -> u64
         ensures { result ≡ self.now.request.stamp.number }
     {
         self.request.stamp().number
     }
 
-    /// Whether its round has used all its sendings.
+    /// Returns whether it is spent: its round has used its `tries`.
     pub(crate) fn is_spent(&self) -> bool
         ensures { result ≡ is_spent self.now }
     {
         self.tries <= self.sendings
     }
 
-    /// Counts one sending more at this moment. It is due twice as late as after the one before.
+    /// Counts one more sending, at this moment. The wait until it is due again doubles with each sending of a round,
+    /// up to 120,000 milliseconds.
     pub(crate) fn send_again(&mut self, now: Moment, first_wait: u32)
         requires first_least { 100 ≤ first_wait }
         requires first_most { first_wait ≤ 60000 }
@@ -182,7 +183,7 @@ impl Sending {
         self.due = due_after(now, first_wait, self.sendings);
     }
 
-    /// Begins its round anew at this moment.
+    /// Begins a new round, due at this moment.
     pub(crate) fn renew(&mut self, now: Moment)
         ensures { self.new ≡ renewed now self.old }
     {
@@ -191,7 +192,7 @@ impl Sending {
     }
 }
 
-/// When a sending is due again, after the `k`th of its round at this moment.
+/// Returns when a sending is due again after sending number `k` of its round at this moment, in milliseconds.
 fn due_after(now: Moment, first_wait: u32, k: u32) -> u64
     requires first_least { 100 ≤ first_wait }
     requires first_most { first_wait ≤ 60000 }

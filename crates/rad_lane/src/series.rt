@@ -1,6 +1,6 @@
 use std::marker::Model;
 
-/// Items in order, as they are handed on when a lane ends.
+/// Items in order, as a setup, a volume and the report at the end hold them.
 #[derive(Drop)]
 pub struct Series<T> {
     items: Vec<T>,
@@ -17,21 +17,21 @@ impl<T> Model for Series<T> {
 impl<T> Series<T> {
     ghost use Rattle.std.specs.Prelude.{◌≡◌};
 
-    /// The items of a vector, without memory.
+    /// Makes a series of the items of a vector. It takes no memory.
     pub fn from_vec(items: Vec<T>) -> Series<T>
         ensures { result ≡ items.items }
     {
         Series { items }
     }
 
-    /// The items.
+    /// Returns the items.
     pub fn as_slice(&self) -> &[T]
         ensures { result.now ≡ self.now }
     {
         self.items.as_slice()
     }
 
-    /// The vector with these items, without memory.
+    /// Returns the vector with these items. It takes no memory.
     pub fn into_vec(self) -> Vec<T>
         ensures { result.items ≡ self }
     {

@@ -9,19 +9,19 @@ use rad_realms::{Config, Limits, Realm};
 use std::alloc::{AllocError, Global};
 use std::marker::Model;
 
-/// What a lane is set up with: the number of its home server, that server's secret and limits, the realms
-/// that lead to it, and whether requests without a realm lead to it.
+/// What a lane is set up with: the number of its home server, that server's secret and limits, the realms that lead
+/// to it, and whether requests without a realm lead to it.
 #[derive(Drop)]
 pub struct Setup {
     /// The number of its home server, counted from 0 in the order of the configuration.
     lane: u16,
     /// The home server's secret.
     home: Secret,
-    /// What the home server's section of the configuration limits, its source ports among it.
+    /// The limits in the home server's section of the configuration. The number of source ports is one of them.
     limits: Limits,
-    /// The names of the realms that lead to it.
+    /// The names of the realms that lead to the lane.
     realms: Series<Octets>,
-    /// Whether requests without a realm lead to it.
+    /// Whether requests without a realm lead to the lane.
     is_default: bool,
 }
 
@@ -38,11 +38,11 @@ impl Setup {
     ghost use Rattle.std.specs.Option.{option_copied};
     ghost use Rattle.rad_lane.specs.Setup.{IsSetUp, LeadsHere};
 
-    /// What a configuration says of the lane of one of its home servers. It looks at each realm once.
+    /// Returns the setup of the lane of home server `lane` by the configuration. It looks at each realm once.
     ///
     /// # Errors
     ///
-    /// Where memory is refused.
+    /// `AllocError` if memory is refused.
     pub fn of(alloc: Global, config: &Config, lane: u16) -> Result<Setup, AllocError>
         requires { lane < length config.now.homes }
         ensures { IfOk result (λ setup. IsSetUp config.now lane setup) }
@@ -57,9 +57,9 @@ impl Setup {
         })
     }
 
-    /// Whether requests of this realm, or of none, are the lane's. The realm is compared with the one of this rank among
-    /// the lane's realms. Only if that is another one, as it may be for a request that was checked against another
-    /// configuration, is it compared with each.
+    /// Returns whether requests of this realm, or of none, lead to this lane. The realm is compared with the one of
+    /// this rank among the lane's realms. Only if that is another one, as is possible for a request that was checked
+    /// against another configuration, is it compared with each.
     pub(crate) fn leads_here(&self, realm: Option<&[u8]>, rank: Option<usize>) -> bool
         ensures { IsTrue result ↔ LeadsHere self.now (option_copied realm.entry) }
     {
@@ -69,14 +69,14 @@ impl Setup {
         }
     }
 
-    /// The lane's number: the place of its home server in the configuration, counted from 0.
+    /// Returns the lane's number: the place of its home server in the configuration, counted from 0.
     pub fn lane(&self) -> u16
         ensures { result ≡ self.now.lane }
     {
         self.lane
     }
 
-    /// How many source ports there are.
+    /// Returns the number of source ports.
     pub(crate) fn ports(&self) -> u16
         ensures value { result ≡ self.now.ports }
         ensures least { 1 ≤ self.now.ports }
@@ -91,7 +91,8 @@ impl Setup {
         &self.home
     }
 
-    /// What its home server's section limits, which is where its source ports stand.
+    /// Returns the limits in the home server's section of the configuration. The number of source ports is one of
+    /// them.
     pub fn limits(&self) -> &Limits
         ensures value { result.now ≡ self.now.limits }
         ensures ports { self.now.ports ≡ self.now.limits.ports }
@@ -100,7 +101,7 @@ impl Setup {
     }
 }
 
-/// The names of the realms that lead to a lane.
+/// Returns the names of the realms that lead to a lane.
 fn realms_of(alloc: Global, realms: &[Realm], lane: u16) -> Result<Series<Octets>, AllocError>
     ensures { IfOk result (λ names. names ≡ the_realms realms.now lane) }
 {
@@ -123,7 +124,7 @@ fn is_same_lane(lane: u16, other: Option<u16>) -> bool
     }
 }
 
-/// Whether a name is among these, but for the case of ASCII letters. The one of this rank is compared first.
+/// Returns whether a name is among these, ignoring the case of ASCII letters. The one of this rank is compared first.
 fn has_name(names: &[Octets], rank: Option<usize>, name: &[u8]) -> bool
     ensures { result ≡ list_any (λ other. same_name other name.now) names.now }
 {
@@ -135,7 +136,7 @@ fn has_name(names: &[Octets], rank: Option<usize>, name: &[u8]) -> bool
         .any(|other| is_same_name(other.as_slice(), name))
 }
 
-/// Whether the one of this rank is this name, but for the case of ASCII letters.
+/// Returns whether the name of this rank is this name, ignoring the case of ASCII letters.
 fn has_name_at(names: &[Octets], rank: Option<usize>, name: &[u8]) -> bool
     ensures { result ≡ is_at (λ other. same_name other name.now) names.now rank }
 {

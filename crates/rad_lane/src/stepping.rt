@@ -1,4 +1,4 @@
-//! What a lane does by itself, one thing at a time.
+//! The steps of a lane, one at a time.
 
 ghost use Rattle.std.specs.Prelude.{◌≡◌, ◌≢◌, ◌≤◌, Some, None, option_map, false, true};
 ghost use Rattle.std.specs.Bool.{OnTrue, OnFalse};
@@ -16,37 +16,40 @@ use block_queue::Fifo;
 use rad_packet::Datagram;
 use rad_tables::{Moment, Slot, Slots};
 
-/// What a step did. Of what was sent, the octets are in the datagram.
+/// What a step did. If it sent something, the octets are in the datagram.
 #[derive(Clone, Copy, Debug, PartialEq, Eq)]
 pub enum Action {
-    /// The first sending of the request of this number.
+    /// The request of this number was sent for the first time, under this pair.
     Sent(u64, Slot),
-    /// One sending more of the request of this number.
+    /// The request of this number was retransmitted, under this pair.
     Resent(u64, Slot),
-    /// A Status-Server to the home server.
+    /// A Status-Server was sent to the home server, under this pair.
     Probed(Slot),
-    /// The home server is taken to be down from now on.
+    /// The home server was marked down.
     WentDown,
-    /// The home server is taken to be up from now on.
+    /// The home server was marked up.
     WentUp,
-    /// Nothing is to be done until this moment, or until something comes.
+    /// There is nothing to do before this moment, or until a request or a datagram arrives.
     Idle(Option<Moment>),
 }
 
-/// What is due next of the sendings of a kind.
+/// The next due sending among those that are spent, or among those that are not.
 pub(crate) enum NextDue {
-    /// This one is due now, and comes first.
+    /// The sending under this pair is due now, and comes first.
     Now(Slot),
     /// None is due before this moment in milliseconds, or there is none.
     Later(Option<u64>),
 }
 
 impl<Q: Fifo<Record>> Lane<Q> {
-    /// Does what is next. A lane that is up sends again what is due, or goes down where that was sent often
-    /// enough, or sends the next request for the first time; one that is down goes up when its time is over,
-    /// or probes the home server with these random octets as Authenticator. Otherwise it is idle.
+    /// Takes the next step. While the home server is marked up, the step retransmits the next due sending that is not
+    /// spent. If none is due, it marks the home server down if a spent sending is due, and otherwise sends the first
+    /// request of the queue, if the window has room. While the home server is marked down, the step marks it up if
+    /// `down_wait` is over, and otherwise probes it if the next probe is due, with `random` as the Authenticator. If
+    /// none of this applies, the step is idle.
     ///
-    /// It takes no memory. It looks at each outstanding sending twice at most; going up changes each of them.
+    /// It takes no memory. It looks at each outstanding sending at most twice. Marking the home server up changes
+    /// each of them.
     pub fn step(&mut self, moment: Moment, random: [u8; 16], datagram: &mut Datagram) -> Action
         ensures steps { Steps self.old moment random result (record { before = datagram.old; after = datagram.new }) self.new }
         ensures another { AllotsAnother self.old result }
@@ -72,7 +75,7 @@ impl<Q: Fifo<Record>> Lane<Q> {
         }
     }
 
-    /// What a lane does that is up.
+    /// Takes the next step of a lane whose home server is marked up.
     fn step_while_up(&mut self, now: Moment, datagram: &mut Datagram) -> Action
         requires is_up { self.old.watch ≡ up }
         requires later { self.old.last ≤ now }
@@ -97,7 +100,7 @@ impl<Q: Fifo<Record>> Lane<Q> {
         Action::Idle(earlier(unspent, spent))
     }
 
-    /// What is due next of the sendings whose rounds go on. It looks at each outstanding sending once.
+    /// Returns the next due sending of those that are not spent. It looks at each outstanding sending once.
     fn next_unspent(&self, now: Moment) -> NextDue
         requires { self.now.watch ≡ up }
         ensures { FindsNextDue self.now now false result }
@@ -105,8 +108,7 @@ impl<Q: Fifo<Record>> Lane<Q> {
         self.next_due(false, now)
     }
 
-    /// What is due next of the sendings whose rounds have used all their sendings. It looks at each
-    /// outstanding sending once.
+    /// Returns the next due sending of those that are spent. It looks at each outstanding sending once.
     fn next_spent(&self, now: Moment) -> NextDue
         requires { self.now.watch ≡ up }
         ensures { FindsNextDue self.now now true result }
@@ -114,7 +116,7 @@ impl<Q: Fifo<Record>> Lane<Q> {
         self.next_due(true, now)
     }
 
-    /// What is due next of the sendings that are spent, or of those that are not.
+    /// Returns the next due sending of those that are spent, or of those that are not.
     fn next_due(&self, spent: bool, now: Moment) -> NextDue
         requires { self.now.watch ≡ up }
         ensures { FindsNextDue self.now now spent result }
@@ -131,7 +133,7 @@ impl<Q: Fifo<Record>> Lane<Q> {
         }
     }
 
-    /// Sends again what is next.
+    /// Retransmits the next due sending, which is under the pair `slot`.
     fn resend(&mut self, slot: Slot, now: Moment, datagram: &mut Datagram) -> Action
         requires is_up { self.old.watch ≡ up }
         requires later { self.old.last ≤ now }
@@ -148,7 +150,7 @@ impl<Q: Fifo<Record>> Lane<Q> {
         Action::Resent(number, slot)
     }
 
-    /// Sends the queue's first for the first time.
+    /// Sends the first request of the queue.
     fn send_first(&mut self, now: Moment, datagram: &mut Datagram) -> Action
         requires is_up { self.old.watch ≡ up }
         requires later { self.old.last ≤ now }
@@ -168,7 +170,7 @@ impl<Q: Fifo<Record>> Lane<Q> {
         Action::Sent(number, slot)
     }
 
-    /// Whether a request waits to be sent for the first time, and the window has room for it.
+    /// Returns whether a request is queued and the window has room for it.
     fn may_send(&self) -> bool
         ensures may { OnTrue result (MaySend self.now) }
         ensures not { OnFalse result (NothingToSend self.now) }
@@ -177,8 +179,8 @@ impl<Q: Fifo<Record>> Lane<Q> {
     }
 }
 
-/// The pair for what goes out next: the first free one. There always is one beside the pair last allotted, as the
-/// window is two pairs below all of them.
+/// Returns the pair for the next first sending or probe: the first free one. There always is one other than the pair
+/// last allotted, since the window is at least two below the number of pairs.
 pub(crate) fn free_slot(slots: &Slots<Entry>, setup: &Setup) -> Slot
     requires fits { map.len slots.now.entries ≤ setup.now.limits.window }
     requires pairs { slots.now.ports ≡ setup.now.ports }
@@ -192,14 +194,14 @@ pub(crate) fn free_slot(slots: &Slots<Entry>, setup: &Setup) -> Slot
     slots.allot().unwrap()
 }
 
-/// A moment as it is told: the last there is, where there is no such moment.
+/// Returns a number of milliseconds as a moment; the last moment if it is beyond that.
 fn moment_at(milliseconds: u64) -> Moment
     ensures { result ≡ as_moment milliseconds }
 {
     Moment::new(milliseconds.min((1 << 62) - 1)).unwrap()
 }
 
-/// The earlier of two dues as a moment, where there is one.
+/// Returns the earlier of two due times as a moment, if there is any.
 fn earlier(one: Option<u64>, other: Option<u64>) -> Option<Moment>
     ensures { result ≡ option_map as_moment (the_earlier one other) }
 {

@@ -1,4 +1,4 @@
-//! Volumes: the front of the book that is over is cut off.
+//! Turning: the requests at the start of the book that are over are removed as a volume.
 
 ghost use Rattle.std.specs.Prelude.{◌≡◌, ◌≢◌, ◌<◌, ◌≤◌, [], ℕ, ◌++◌, All, map as each, Option, Some, length, take, drop, slice_index_or, IfOk, OnErr};
 ghost use Rattle.std.specs.Bool.{OnTrue, OnFalse};
@@ -19,23 +19,24 @@ use rad_tables::{Duplicates, Key, Moment};
 use std::alloc::{AllocError, Global};
 use std::fmt;
 
-/// The front of a book that was cut off: requests that were all answered, and so long ago that none is repeated
-/// any more, with their answers.
+/// The requests removed from the start of a book, which were all answered so long ago that none can be repeated any
+/// more, with their answers.
 #[derive(Drop)]
 pub struct Volume {
-    /// The number of the first of the requests.
+    /// The number of the first request of the volume.
     pub opening: u64,
     /// The stamps of the requests, in order.
     pub stamps: Series<Stamp>,
-    /// The answers to them, in the order in which they came.
+    /// The answers to them, in the order in which they were given.
     pub answered: Series<Answered>,
 }
 
-/// Why there is no volume. The first reason in this order is told. It is printed as its name.
+/// Why no volume is returned. If several reasons apply, the first in this order is returned. A fault is printed as
+/// its name.
 #[derive(Clone, Copy, Debug, PartialEq, Eq)]
 pub enum TurnFault {
-    /// The first request that the book holds is not over: it is unanswered, or was answered less than a span ago. Or
-    /// the book holds none.
+    /// The first request of the book is not over: it is unanswered, or was answered less than a span ago. Or the book
+    /// holds no request.
     NothingToTurn,
     /// Memory was refused.
     OutOfMemory,
@@ -56,16 +57,17 @@ impl fmt::Display for TurnFault {
 }
 
 impl<Q: Fifo<Record>> Lane<Q> {
-    /// Cuts off the front of the book: as many of the first requests as were all answered a span ago or longer, with
-    /// their answers. A repeat of one of them would be taken as a new request before the cut too.
+    /// Removes a volume: the longest prefix of the book's requests that were all answered at least a span ago, with
+    /// their answers. Without the removal, too, a later copy of one of them would count as a new request.
     ///
-    /// It takes time linear in what it cuts and in the answers that came before the last one that it cuts, and for each
-    /// request of the cut the logarithm of how many keys there are. Nothing else of the book moves. Room is made first, and
-    /// for the volume alone. Where there is nothing to cut it looks at one request alone and makes no room.
+    /// It takes time linear in the size of the volume and in the number of answers before the last one removed, and
+    /// for each removed request time logarithmic in the number of keys. Nothing else of the book is moved. It
+    /// allocates before it changes anything, and only for the volume. If there is nothing to remove, it looks at one
+    /// request and allocates nothing.
     ///
     /// # Errors
     ///
-    /// Why nothing is cut. The lane stays.
+    /// The first [`TurnFault`] that applies. The lane is unchanged.
     pub fn turn(&mut self, alloc: Global, moment: Moment) -> Result<Volume, TurnFault>
         ensures turns { Turns self.old moment result self.new }
         ensures joined { IfOk result (λ volume. volume.stamps ++ self.new.accepted ≡ self.old.accepted) }
@@ -84,7 +86,8 @@ impl<Q: Fifo<Record>> Lane<Q> {
         }
     }
 
-    /// Cuts off so many of the first requests, with their answers. All that needs memory is made before anything changes.
+    /// Removes the first `count` requests with their answers. It allocates all that it needs before it changes
+    /// anything.
     fn cut(&mut self, alloc: Global, count: usize, now: Moment) -> Result<Volume, AllocError>
         requires later { self.old.last ≤ now }
         requires is_cut { IsCut self.old now (take count self.old.accepted) (drop count self.old.accepted) }
@@ -111,7 +114,8 @@ impl<Q: Fifo<Record>> Lane<Q> {
     }
 }
 
-/// How many of the first requests were answered a span ago or longer. It looks at their answer indices, and at the next one.
+/// Returns how many of the first requests were answered at least a span ago. It looks at their answer indices and at
+/// the next one.
 fn count_over(indices: &[Option<AnswerIndex>], span: u32, now: Moment) -> usize
     ensures within { result ≤ length indices.now }
     ensures over { All (IsOverBy span now) (take result indices.now) }
@@ -127,7 +131,7 @@ fn count_over(indices: &[Option<AnswerIndex>], span: u32, now: Moment) -> usize
     count
 }
 
-/// Whether there is an answer index and a span went by since the answer.
+/// Returns whether there is an answer index, of an answer given at least a span ago.
 fn is_over(answer_index: &Option<AnswerIndex>, span: u32, now: Moment) -> bool
     ensures over { OnTrue result (IsOverBy span now answer_index.now) }
     ensures not { OnFalse result (¬ IsOverBy span now answer_index.now) }
@@ -138,7 +142,7 @@ fn is_over(answer_index: &Option<AnswerIndex>, span: u32, now: Moment) -> bool
     }
 }
 
-/// Forgets the keys whose last request is one of these.
+/// Removes the keys whose last request has one of these stamps.
 fn forget(duplicates: &mut Duplicates, stamps: &[Stamp])
     requires { All (HasUnderItsKey duplicates.old) stamps.now }
     ensures { (key : the_key) → map.get duplicates.new key ≡ unless_of stamps.now (map.get duplicates.old key) }
@@ -148,7 +152,7 @@ fn forget(duplicates: &mut Duplicates, stamps: &[Stamp])
     }
 }
 
-/// Forgets a key, where this is its last number.
+/// Removes a key if its last request has this number.
 fn forget_one(duplicates: &mut Duplicates, key: &Key, number: u64)
     ensures this { map.get duplicates.old key.now ≡ Some number → duplicates.new ≡ map.remove duplicates.old key.now }
     ensures other { map.get duplicates.old key.now ≢ Some number → duplicates.new ≡ duplicates.old }
@@ -169,7 +173,7 @@ fn key_of(stamp: &Stamp) -> Key
     }
 }
 
-/// Where the front of the answers ends that has all those to requests below a number, which are so many.
+/// Returns the end of a prefix of the answers that has all `count` answers to requests below a number.
 fn end_of(answers: &[Answered], number: u64, count: usize) -> usize
     requires { length (the_answers_below number answers.now) ≡ count }
     ensures within { result ≤ length answers.now }
@@ -189,7 +193,8 @@ fn end_of(answers: &[Answered], number: u64, count: usize) -> usize
     end
 }
 
-/// The answers to requests below a number, which are so many at most. They share their packets with these.
+/// Returns the answers to requests below a number, of which there are at most `count`. Their packets are shared with
+/// the given answers.
 fn answers_below(
     alloc: Global,
     answers: &[Answered],
@@ -207,8 +212,8 @@ fn answers_below(
     Ok(below)
 }
 
-/// Drops the answers to requests below a number, none of which stand behind this end. The others that stand before
-/// it move up to it, and then the list begins with them.
+/// Drops the answers to requests below a number, all of which are before `end`. The other answers before `end` are
+/// moved up to it, and the list then begins with them.
 fn drop_below(answers: &mut SlidingList<Answered>, end: usize, number: u64)
     requires within { end ≤ length answers.old.items }
     requires none_behind { the_answers_below number (drop end answers.old.items) ≡ [] }

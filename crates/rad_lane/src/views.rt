@@ -1,4 +1,4 @@
-//! What a lane tells of its book.
+//! The calls that show the book of a lane.
 
 ghost use Rattle.std.specs.Prelude.{◌≡◌, ◌↔◌, IsTrue, IsSome, MatchOption};
 ghost use Rattle.std.specs.Option.{option_copied};
@@ -12,28 +12,28 @@ use block_queue::Fifo;
 use rad_auth::Secret;
 
 impl<Q: Fifo<Record>> Lane<Q> {
-    /// Whether it is the lane of this number, and its home server has this secret. It compares the secrets' octets.
+    /// Returns whether the lane has this number and its home server has this secret. It compares the secrets' octets.
     pub fn is_of(&self, number: u16, secret: &Secret) -> bool
         ensures { IsTrue result ↔ IsOf self.now.setup number secret.now }
     {
         self.setup.lane() == number && self.setup.home().octets() == secret.octets()
     }
 
-    /// Whether it is drained.
+    /// Returns whether the lane is drained.
     pub fn is_draining(&self) -> bool
         ensures { IsTrue result ↔ IsSome self.now.drain }
     {
         self.drain.is_some()
     }
 
-    /// Whether it is drained, and nothing waits to be sent or for its answer.
+    /// Returns whether the lane is drained, with nothing queued and nothing outstanding.
     pub fn is_done(&self) -> bool
         ensures { IsTrue result ↔ IsDone self.now }
     {
         self.is_draining() && self.queued.is_empty() && self.outstanding == 0
     }
 
-    /// How much it has.
+    /// Returns the counts of the lane.
     pub fn counts(&self) -> Counts
         ensures counts { result ≡ counts_of self.now }
         ensures lawful { IsLawful self.now }
@@ -49,7 +49,7 @@ impl<Q: Fifo<Record>> Lane<Q> {
         }
     }
 
-    /// The stamps of the requests accepted, in order.
+    /// Returns the stamps of the requests that the book holds, in order of acceptance.
     pub fn accepted(&self) -> &[Stamp]
         ensures value { result.now ≡ self.now.accepted }
         ensures lawful { IsLawful self.now }
@@ -57,7 +57,7 @@ impl<Q: Fifo<Record>> Lane<Q> {
         self.accepted.as_slice()
     }
 
-    /// The stamps of those that were sent, in order.
+    /// Returns the stamps of those requests of the book that were sent, in order.
     pub fn sent(&self) -> &[Stamp]
         ensures { result.now ≡ self.now.sent }
     {
@@ -65,15 +65,16 @@ impl<Q: Fifo<Record>> Lane<Q> {
         &accepted[..accepted.len() - self.queued.len()]
     }
 
-    /// The answers, in order.
+    /// Returns the answers that the book holds, in order.
     pub fn answered(&self) -> &[Answered]
         ensures { result.now ≡ self.now.answered }
     {
         self.answered.as_slice()
     }
 
-    /// Of the requests that were sent and whose rounds have used all their sendings, the one that is due first, and at one due
-    /// that of the least number: the one by which a lane goes down. It looks at each outstanding sending once.
+    /// Returns the spent sending that is due first; of those with the same due time, the one of the lowest request
+    /// number. It is the one for which the home server is marked down. The call looks at each outstanding sending
+    /// once.
     pub fn spent(&self) -> Option<&Sending>
         ensures { MatchOption (option_copied result) (NoneSpent self.now) (IsFirstSpent self.now) }
     {

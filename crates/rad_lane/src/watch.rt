@@ -1,4 +1,4 @@
-//! Whether the home server answers, and the probes that find it out (RFC 5997).
+//! Whether the home server is marked up or down, and the probes that find out whether it answers (RFC 5997).
 
 ghost use Rattle.std.specs.Prelude.{◌≡◌, ◌≢◌, ◌+◌, ◌≤◌, ℕ, None, Some};
 ghost use Rattle.rad_lane.specs.declared.watch.Watch.TheVariants.{Up as up, Down as down};
@@ -12,18 +12,18 @@ use rad_auth::make_status;
 use rad_packet::Datagram;
 use rad_tables::{Change, Moment, Slot, Slots};
 
-/// Whether the home server is taken to be up.
+/// Whether the home server is marked up or down.
 #[derive(Clone, Copy, Debug, PartialEq, Eq)]
 pub enum Watch {
-    /// It is taken to be up.
+    /// It is marked up.
     Up,
-    /// It is taken to be down, with moments in milliseconds.
+    /// It is marked down. Moments are in milliseconds.
     Down {
-        /// Until this moment, unless it answers before.
+        /// It is marked down until this moment, or until it answers.
         until: u64,
-        /// When the next probe is sent.
+        /// The moment when the next probe is due.
         next_probe: u64,
-        /// The pair of the probe that is out.
+        /// The pair of the outstanding probe, if there is one.
         probe: Option<Slot>,
     },
 }
@@ -32,7 +32,7 @@ impl Watch {
     ghost use Rattle.std.specs.Prelude.{◌≡◌};
     ghost use Rattle.rad_lane.specs.Watch.{probe_of};
 
-    /// The pair of the probe that is out.
+    /// Returns the pair of the outstanding probe, if there is one.
     pub(crate) fn probe(&self) -> Option<Slot>
         ensures { result ≡ probe_of self.now }
     {
@@ -43,7 +43,7 @@ impl Watch {
     }
 }
 
-/// The change that each sending gets when a lane goes up.
+/// The change of each sending when the home server is marked up.
 #[derive(Drop)]
 struct Renewal {
     now: Moment,
@@ -62,7 +62,7 @@ impl Change<Entry> for Renewal {
 }
 
 impl<Q: Fifo<Record>> Lane<Q> {
-    /// Takes the home server to be down from now on.
+    /// Marks the home server down; the first probe is due at once.
     pub(crate) fn go_down(&mut self, now: Moment)
         requires later { self.old.last ≤ now }
         requires is_up { self.old.watch ≡ up }
@@ -77,8 +77,7 @@ impl<Q: Fifo<Record>> Lane<Q> {
         self.last = now;
     }
 
-    /// Takes the home server to be up from now on: the probe's pair is free, and each sending is due at once
-    /// and begins its round anew.
+    /// Marks the home server up: frees the probe's pair, and makes each sending due at once, with a new round.
     pub(crate) fn go_up(&mut self, now: Moment)
         requires later { self.old.last ≤ now }
         ensures { GoesUp now (record self.old { last = now }) self.new }
@@ -89,7 +88,7 @@ impl<Q: Fifo<Record>> Lane<Q> {
         self.last = now;
     }
 
-    /// What comes of a right answer from the home server: a lane that is down goes up.
+    /// Marks the home server up if it is marked down, after a valid answer from it.
     pub(crate) fn go_up_if_down(&mut self, now: Moment)
         requires later { self.old.last ≤ now }
         ensures { GoesUpIfDown now (record self.old { last = now }) self.new self.old.watch }
@@ -100,8 +99,8 @@ impl<Q: Fifo<Record>> Lane<Q> {
         }
     }
 
-    /// Probes the home server, with these random octets as Authenticator, in the place of the probe that is
-    /// out. It hashes the probe once.
+    /// Probes the home server with `random` as the Authenticator, in place of the outstanding probe. It hashes the
+    /// probe once.
     pub(crate) fn probe(
         &mut self,
         now: Moment,
@@ -130,7 +129,7 @@ impl<Q: Fifo<Record>> Lane<Q> {
     }
 }
 
-/// Takes a probe out.
+/// Frees the pair of a probe.
 pub(crate) fn free(slots: &mut Slots<Entry>, probe: Option<Slot>)
     ensures { slots.new ≡ record slots.old { entries = freed slots.old.entries probe } }
 {

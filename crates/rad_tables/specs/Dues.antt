@@ -1,24 +1,25 @@
--- What is due first. Own.
+-- The entry that is due first. Own.
 use Rattle.std.specs.Prelude.{◌≡◌, ℕ, ◌<◌, ◌≤◌, ◌⊎◌, Bool, Some}
 use Rattle.std.specs.FinMap as map
 use Rattle.rad_tables.specs.declared.slots.Slot.{Slot}
 use Rattle.rad_tables.specs.declared.slots.Due.{Due}
 use Rattle.rad_tables.specs.Pairs.{slot_cmp}
 
--- one due and number stands before another, or they are the same: by due, and at one due by number
+-- one due time and number is before another, or the two are the same. The order is by due time and, at the same due
+-- time, by number
 abbrev pub NotAfter : ℕ × ℕ → ℕ × ℕ → Type 0
 NotAfter a b = (a.0 < b.0) ⊎ ((a.0 ≡ b.0) × (a.1 ≤ b.1))
 
 module _ {T : Type 0} (due number : T → ℕ) (spent : T → Bool) where
-  -- of the entries that are spent, or of those that are not, the one at this slot has the least due
-  -- and number
+  -- of the entries that are spent, or of those that are not, the one under this pair is due first; at the same due
+  -- time it has the lowest number
   pub record IsLeastDue (entries : map.FinMap slot_cmp T) (which : Bool) (slot : Slot) : Type 0 where
     pub least : T
     pub there : map.get entries slot ≡ Some least
     pub kind : spent least ≡ which
     pub first : (other : Slot) (entry : T) → map.get entries other ≡ Some entry → spent entry ≡ which → NotAfter (due least, number least) (due entry, number entry)
 
-  -- the same, and this is when that entry is due
+  -- the same, with the due time of that entry
   pub record IsFirstDue (entries : map.FinMap slot_cmp T) (which : Bool) (found : Due) : Type 0 where
     pub at : IsLeastDue entries which found.slot
     pub due_is : found.due ≡ due at.least

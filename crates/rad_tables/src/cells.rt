@@ -1,4 +1,4 @@
-//! The cells in which the slots keep their entries, one for each pair, and the walks over them.
+//! The cells that hold the entries of the slots, one cell for each pair, and the loops over them.
 
 ghost use Rattle.std.specs.Prelude.{◌≡◌, ◌≤◌, length, None, Some, is_none, IsSome, IfOk, MatchOption, replicate};
 ghost use Rattle.std.specs.Option.{option_copied, option_map};
@@ -11,19 +11,19 @@ ghost use Rattle.rad_tables.specs.internal.Least.{AreInUse, NoneAmong, IsLeastAm
 use crate::{Change, Timed};
 use std::alloc::{AllocError, Global};
 
-/// What stands at a pair.
+/// The content of the cell of a pair.
 #[derive(Drop)]
 pub(crate) enum Cell<T> {
-    /// Nothing: the pair is not in use.
+    /// There is no entry: the pair is free.
     Free,
-    /// The entry at the pair.
+    /// The entry under the pair, which is in use.
     Used(T),
 }
 
 impl<T> Cell<T> {
     ghost use Rattle.rad_tables.specs.contracts.cells.Cell.{the_row};
 
-    /// The entry, if there is one.
+    /// Returns the entry, if there is one.
     pub(crate) fn get(&self) -> Option<&T>
         ensures { option_copied result ≡ entry_of self.now }
     {
@@ -48,7 +48,7 @@ impl<T> Cell<T> {
         matches!(self, Cell::Free)
     }
 
-    /// The entry of a cell that is in use.
+    /// Returns the entry of a cell that is in use.
     pub(crate) fn entry(&self) -> &T
         requires { IsSome (entry_of self.now) }
         ensures { entry_of self.now ≡ Some result.now }
@@ -59,7 +59,7 @@ impl<T> Cell<T> {
         }
     }
 
-    /// The entry of a cell that is in use, for writing.
+    /// Returns the entry of a cell that is in use, for writing.
     pub(crate) fn entry_mut(&mut self) -> &mut T
         requires { IsSome (entry_of self.old) }
         ensures* lends { sem 𝓛 (Lends (the_row T.row) T.row self.entry result Cell.Used) }
@@ -72,11 +72,11 @@ impl<T> Cell<T> {
     }
 }
 
-/// So many free cells.
+/// Makes `count` free cells.
 ///
 /// # Errors
 ///
-/// Where memory is refused.
+/// If memory is refused.
 pub(crate) fn free_cells<T: Drop>(alloc: Global, count: usize) -> Result<Vec<Cell<T>>, AllocError>
     ensures { IfOk result (λ cells. contents_of cells.items ≡ replicate count None) }
 {
@@ -87,7 +87,7 @@ pub(crate) fn free_cells<T: Drop>(alloc: Global, count: usize) -> Result<Vec<Cel
     Ok(cells)
 }
 
-/// Changes what stands in each cell.
+/// Changes the entry of each cell that is in use.
 pub(crate) fn change_each<T, C: Change<T>>(cells: &mut [Cell<T>], change: &C)
     ensures { AreChanged (C.changed change.now) (contents_of cells.old) (contents_of cells.new) }
 {
@@ -96,7 +96,7 @@ pub(crate) fn change_each<T, C: Change<T>>(cells: &mut [Cell<T>], change: &C)
     }
 }
 
-/// The first free place from the start on, or else from the first cell on.
+/// Returns the first free place from `start` on or, if there is none, the first one from the first cell on.
 pub(crate) fn first_free_behind<T>(cells: &[Cell<T>], start: usize) -> Option<usize>
     requires { start ≤ length cells.now }
     ensures { MatchOption result
@@ -109,7 +109,7 @@ pub(crate) fn first_free_behind<T>(cells: &[Cell<T>], start: usize) -> Option<us
     }
 }
 
-/// The first free place of a part of the cells.
+/// Returns the first free place from `from` up to, but not including, `to`.
 fn first_free<T>(cells: &[Cell<T>], from: usize, to: usize) -> Option<usize>
     requires { to ≤ length cells.now }
     ensures { MatchOption result
@@ -124,7 +124,7 @@ fn first_free<T>(cells: &[Cell<T>], from: usize, to: usize) -> Option<usize>
     None
 }
 
-/// When an entry is due, and where it stands.
+/// When an entry is due, its number, and its place.
 #[derive(Clone, Copy)]
 pub(crate) struct Waiting {
     /// When the entry is due, in milliseconds.
@@ -136,7 +136,8 @@ pub(crate) struct Waiting {
 }
 
 impl Waiting {
-    /// Whether this one is due first, or at one due has the lesser number.
+    /// Returns whether this entry is due before the other one or, if they are due at the same time, has the lower
+    /// number.
     fn is_before(&self, other: &Waiting) -> bool
         ensures before { OnTrue result
             (NotAfter (self.now.due, self.now.number) (other.now.due, other.now.number)) }
@@ -147,7 +148,7 @@ impl Waiting {
     }
 }
 
-/// Of the entries at these places that are spent, or of those that are not, the first to be due.
+/// Returns the entry at these places that is due first, of those that are spent or of those that are not.
 pub(crate) fn least_of<T: Timed>(cells: &[Cell<T>], places: &[u16], spent: bool) -> Option<Waiting>
     requires { AreInUse (contents_of cells.now) places.now }
     ensures { let contents = contents_of cells.now in
@@ -172,7 +173,7 @@ pub(crate) fn least_of<T: Timed>(cells: &[Cell<T>], places: &[u16], spent: bool)
     least
 }
 
-/// The first to be due of one entry and of the first before it.
+/// Returns the entry that is due first, of one entry and the first one so far.
 fn earlier(waiting: Waiting, least: Option<Waiting>) -> Waiting
     ensures { IsEarlier waiting least result }
 {

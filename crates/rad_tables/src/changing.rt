@@ -1,13 +1,13 @@
-//! What changes every entry of the slots at once.
+//! Changing all entries of the slots at once.
 
 ghost use Rattle.std.specs.Prelude.{◌≡◌};
 
-/// A change that each entry of the slots gets, as when a lane goes up.
+/// A change of each entry of the slots, as when a home server is marked up.
 pub trait Change<T> {
-    /// What an entry becomes.
+    /// An entry after the change.
     ghost changed: { Self → T → T };
 
-    /// Makes of an entry what it becomes.
+    /// Changes an entry.
     fn change(&self, entry: &mut T)
         ensures { entry.new ≡ changed self.now entry.old };
 }

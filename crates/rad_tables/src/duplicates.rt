@@ -1,4 +1,4 @@
-//! What was seen before: the last number of each request's key.
+//! The last number of each request's key, by which repeats are recognised.
 
 ghost use Rattle.std.specs.Prelude.{◌≡◌, IfOk, IsSome, None, OnOk, OnErr};
 ghost use Rattle.std.specs.FinMap as map;
@@ -8,26 +8,26 @@ use std::alloc::{AllocError, Global};
 use std::collections::BTreeMap;
 use std::marker::Model;
 
-/// What makes two requests the same one (RFC 2866 section 3, Identifier, for the last three; the
-/// authenticator is own).
+/// The key of a request. Requests with the same key are copies of one request (RFC 2866 section 3, Identifier, for
+/// the last three fields; the Authenticator is own).
 ///
-/// Keys are ordered by their authenticators first: two of them mostly differ in their first octet.
+/// Keys are ordered by their Authenticators first, since two of these mostly differ in their first octet.
 #[derive(Clone, Copy, Debug, PartialEq, Eq, PartialOrd, Ord)]
 pub struct Key {
     /// The packet's Request Authenticator.
     pub authenticator: [u8; 16],
     /// The client's IPv4 address.
     pub client: [u8; 4],
-    /// The UDP port that it sent from.
+    /// The UDP port that the client sent the request from.
     pub port: u16,
     /// The packet's Identifier.
     pub identifier: u8,
 }
 
-/// The last number of each key.
+/// A table of the last number of each key.
 ///
-/// It is a search tree, so that no choice of keys makes it slow: each call compares a number of
-/// keys that grows with the logarithm of how many there are.
+/// It is a search tree, so no choice of keys makes it slow: the number of keys that a call compares is logarithmic in
+/// the number of keys in the table.
 #[derive(Drop)]
 pub struct Duplicates {
     /// The number that was inserted last for each key.
@@ -48,7 +48,7 @@ impl Model for Duplicates {
 }
 
 impl Duplicates {
-    /// An empty table. It takes no memory: what it needs later is made with `alloc`.
+    /// Makes an empty table. It takes no memory; what the table needs later is allocated with `alloc`.
     pub fn new(alloc: Global) -> Duplicates
         ensures { result ≡ map.empty }
     {
@@ -57,18 +57,18 @@ impl Duplicates {
         }
     }
 
-    /// The last number of a key.
+    /// Returns the last number of a key, if the table has the key.
     pub fn find(&self, key: &Key) -> Option<u64>
         ensures { result ≡ map.get self.now key.now }
     {
         self.numbers.get(key).copied()
     }
 
-    /// Makes this the last number of the key.
+    /// Sets the last number of a key.
     ///
     /// # Errors
     ///
-    /// Where memory is refused, which only a key that isn't there needs: the table stays.
+    /// If memory is refused. Only a key that is not in the table needs memory. The table is unchanged.
     pub fn insert(&mut self, key: Key, number: u64) -> Result<(), AllocError>
         ensures ok { OnOk result (self.new ≡ map.insert self.old key number) }
         ensures err { OnErr result (self.new ≡ self.old) }
@@ -78,12 +78,12 @@ impl Duplicates {
         Ok(())
     }
 
-    /// Makes this the last number of the key, and tells which one was until now. One search does both;
+    /// Sets the last number of a key, and returns the number that it replaces, if there is one. One search does both.
     /// [`Duplicates::restore`] undoes it.
     ///
     /// # Errors
     ///
-    /// Where memory is refused, which only a key that isn't there needs: the table stays.
+    /// If memory is refused. Only a key that is not in the table needs memory. The table is unchanged.
     pub fn replace(&mut self, key: Key, number: u64) -> Result<Option<u64>, AllocError>
         ensures last { IfOk result (λ last. last ≡ map.get self.old key) }
         ensures ok { OnOk result (self.new ≡ map.insert self.old key number) }
@@ -93,7 +93,7 @@ impl Duplicates {
         Ok(self.numbers.insert(key, number)?)
     }
 
-    /// Gives a key that is there the last number that it had, or forgets it if it had none.
+    /// Sets a key of the table back to its earlier last number, or removes it if it had none.
     pub fn restore(&mut self, key: &Key, last: Option<u64>)
         requires { IsSome (map.get self.old key.now) }
         ensures { self.new ≡ with_last self.old key.now last }
@@ -108,7 +108,7 @@ impl Duplicates {
         }
     }
 
-    /// Forgets the key, if it is there.
+    /// Removes a key, if the table has it.
     pub fn remove(&mut self, key: &Key)
         ensures { self.new ≡ map.remove self.old key.now }
     {

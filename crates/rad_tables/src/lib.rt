@@ -1,16 +1,14 @@
-//! The tables under a lane: what is outstanding, what was seen before, and when something is due.
+//! The tables of a lane: outstanding entries, the last number of each key, and moments.
 //!
-//! [`Slots`] keeps an entry at each pair of a source port and an identifier that is in use, and
-//! allots the pairs in cyclic order. [`Timed`] is what it asks of an entry to find the least due,
-//! and [`Change`] is a change of every entry at once. [`Duplicates`] keeps the last number of each
-//! request's key. [`Moment`] is a time that the caller hands in, and [`wait_after`] says how long a
-//! sending waits for its answer.
+//! [`Slots`] holds an entry for each pair of source port and Identifier that is in use, and allots the pairs in
+//! cyclic order. [`Timed`] is the trait of entries by which it finds the one that is due first, and [`Change`] a
+//! change of all entries at once. [`Duplicates`] holds the last number of each request's key. [`Moment`] is a time
+//! that the caller passes in, and [`wait_after`] returns how long a sending waits for its answer.
 //!
-//! Callers see the tables as finite maps. The definitions that the contracts cite stand in `specs/`:
-//! `Pairs.antt` has the cyclic order and the allotment, `Lends.antt` what becomes of the slots when an
-//! entry is lent for writing, `Dues.antt` the least due, `Keys.antt` the order of the keys and
-//! `Waiting.antt` the wait. `Kept.antt` and `Least.antt` are about how the slots are kept, and no caller
-//! needs them.
+//! Callers see the tables as finite maps. The definitions that the contracts cite are in `specs/`. `Pairs.antt` has
+//! the cyclic order and the allotment, `Lends.antt` the slots after a write through a borrowed entry, `Dues.antt` the
+//! entry that is due first, `Keys.antt` the order of the keys, and `Waiting.antt` the wait. `Kept.antt` and
+//! `Least.antt` describe how the slots are stored, and no caller needs them.
 #![tactic(auto)]
 
 mod cells;

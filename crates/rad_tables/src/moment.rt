@@ -1,4 +1,4 @@
-//! Moments, and how long a sending waits.
+//! Moments, and the wait after a sending.
 
 ghost use Rattle.std.specs.Prelude.{◌≡◌, ◌<◌, ◌≤◌, ◌^◌, SomeIff};
 ghost use Rattle.rad_tables.specs.Waiting.{wait_of};
@@ -8,12 +8,12 @@ use std::marker::Model;
 /// The longest wait, in milliseconds: two minutes.
 const LONGEST_WAIT: u32 = 120_000;
 
-/// A moment in milliseconds, counted from one that the caller chose.
+/// A moment, in milliseconds since a moment that the caller chose.
 ///
 /// It is below 2^62, so that a wait can be added to it.
 #[derive(Clone, Copy, Debug, PartialEq, Eq, PartialOrd, Ord)]
 pub struct Moment {
-    /// How many milliseconds have passed since the moment that the caller chose.
+    /// The milliseconds since the moment that the caller chose.
     milliseconds: u64,
 }
 
@@ -30,7 +30,7 @@ impl Model for Moment {
 }
 
 impl Moment {
-    /// The moment of so many milliseconds, which are below 2^62.
+    /// Returns the moment of a number of milliseconds, if that is below 2^62.
     pub fn new(milliseconds: u64) -> Option<Moment>
         ensures { SomeIff result (milliseconds < 2 ^ 62) milliseconds }
     {
@@ -41,7 +41,7 @@ impl Moment {
         }
     }
 
-    /// The moment in milliseconds.
+    /// Returns the moment in milliseconds.
     pub fn get(self) -> u64
         ensures value { result ≡ self }
         ensures small { result < 2 ^ 62 }
@@ -50,8 +50,8 @@ impl Moment {
     }
 }
 
-/// How many milliseconds to wait for an answer after the `k`th sending of a round, where `first` is
-/// the wait after the first one: twice as long each time, up to two minutes.
+/// Returns how many milliseconds to wait for an answer after sending number `k` of a round, counted from 1. `first`
+/// is the wait after the first sending. The wait doubles with each sending, up to two minutes.
 pub fn wait_after(first: u32, k: u32) -> u32
     requires first_least { 100 ≤ first }
     requires first_most { first ≤ 60000 }

@@ -1,4 +1,4 @@
-//! What is outstanding: an entry at each pair of a source port and an identifier that is in use.
+//! The slots: an entry for each pair of source port and Identifier that is in use.
 
 ghost use Rattle.std.specs.Prelude.{◌≡◌, ◌+◌, ◌*◌, ◌<◌, ◌≤◌, ◌↔◌, Some, None, IsNone, IsSome, IfSome, IfOk, MatchOption};
 ghost use Rattle.std.specs.Option.{option_copied, option_copied_mut, option_map};
@@ -14,38 +14,38 @@ use std::alloc::{AllocError, Global};
 use std::marker::Model;
 use std::mem;
 
-/// A pair of a source port and an identifier, under which something may be outstanding.
+/// A pair of source port and Identifier, under which something may be outstanding.
 #[derive(Clone, Copy, Debug, PartialEq, Eq, PartialOrd, Ord)]
 pub struct Slot {
-    /// Which of a lane's source ports, counted from 0.
+    /// The number of the source port among those of the lane, counted from 0.
     pub port: u16,
     /// The packet's Identifier.
     pub identifier: u8,
 }
 
-/// What is due, and when.
+/// The pair of an entry, and when the entry is due.
 #[derive(Clone, Copy, Debug, PartialEq, Eq)]
 pub struct Due {
-    /// The pair at which the entry stands.
+    /// The pair of the entry.
     pub slot: Slot,
     /// When the entry is due, in milliseconds.
     pub due: u64,
 }
 
-/// The entries outstanding, each at a pair of its own.
+/// Entries that are outstanding, each under a pair of its own.
 ///
-/// The pairs are taken in cyclic order: port 0's identifiers 0 to 255, then port 1's, and so on.
+/// The pairs are allotted in cyclic order: Identifiers 0 to 255 of port 0, then those of port 1, and so on.
 #[derive(Drop)]
 pub struct Slots<T> {
-    /// What stands at each pair, in the order of the pairs.
+    /// The cell of each pair, in the order of the pairs.
     cells: Vec<Cell<T>>,
-    /// The places in use among the cells, in no order.
+    /// The places of the cells in use, in no order.
     places: Vec<u16>,
-    /// Where each place in use stands among `places`.
+    /// For each place in use, its index in `places`.
     positions: Vec<u16>,
-    /// The pair last allotted, behind which the next is looked for.
+    /// The pair last allotted. The search for the next one starts after it.
     allotted: Option<Slot>,
-    /// How many source ports there are, 1 to 4.
+    /// The number of source ports, 1 to 4.
     ports: u16,
 }
 
@@ -74,11 +74,11 @@ impl<T: Drop> Slots<T> {
     ghost use Rattle.rad_tables.specs.Lends.{LendsEntry, LendsEntryIf};
     ghost use Rattle.rad_tables.specs.declared.slots.Slot.{Slot};
 
-    /// Room for an entry at each pair of 1 to 4 source ports. No other call takes memory.
+    /// Makes empty slots, with room for an entry under each pair of 1 to 4 source ports. No other call takes memory.
     ///
     /// # Errors
     ///
-    /// Where memory is refused.
+    /// If memory is refused.
     pub fn new(alloc: Global, ports: u16) -> Result<Slots<T>, AllocError>
         requires least { 1 ≤ ports }
         requires most { ports ≤ 4 }
@@ -95,16 +95,16 @@ impl<T: Drop> Slots<T> {
         })
     }
 
-    /// The first free pair behind the one last allotted, in cyclic order.
+    /// Returns the first free pair after the one last allotted, in cyclic order, if there is any.
     ///
-    /// It walks over the pairs in use on the way.
+    /// It looks at each pair in use on the way.
     pub fn allot(&self) -> Option<Slot>
         ensures none { IsNone result ↔ AllInUse self.now }
         ensures first { IfSome result (IsFirstFree self.now) }
         ensures in_range { IfSome result (IsInRange self.now.ports) }
 
-        // The same by numbers, for callers that count: where fewer than all are in use there is one, and
-        // the one last allotted comes again only where no other is free.
+        // The same in numbers, for callers that count: if not all pairs are in use, there is a free one, and the one
+        // last allotted is returned again only if no other is free.
         ensures room { map.len self.now.entries < 256 * self.now.ports → IsSome result }
         ensures again { IfSome result (λ slot.
             self.now.allotted ≡ Some slot → map.len self.now.entries + 1 ≡ 256 * self.now.ports) }
@@ -113,7 +113,7 @@ impl<T: Drop> Slots<T> {
         Some(slot_at(place))
     }
 
-    /// Puts an entry at a free pair, which is then the one last allotted.
+    /// Puts an entry under a free pair, which then is the one last allotted.
     pub fn put(&mut self, slot: Slot, entry: T)
         requires in_range { IsInRange self.old.ports slot }
         requires free { map.get self.old.entries slot ≡ None }
@@ -129,7 +129,7 @@ impl<T: Drop> Slots<T> {
         self.allotted = Some(slot);
     }
 
-    /// The entry at a pair.
+    /// Returns the entry under a pair, if the pair is in use.
     pub fn get(&self, slot: Slot) -> Option<&T>
         ensures value { option_copied result ≡ map.get self.now.entries slot }
         ensures in_range { IsSome result → IsInRange self.now.ports slot }
@@ -141,7 +141,7 @@ impl<T: Drop> Slots<T> {
         self.cells[place].get()
     }
 
-    /// The entry at a pair, for writing.
+    /// Returns the entry under a pair for writing, if the pair is in use.
     pub fn get_mut(&mut self, slot: Slot) -> Option<&mut T>
         ensures* writes_back { sem 𝓛 (LendsEntryIf T.row self.entry slot result) }
         ensures value { option_copied_mut result ≡ map.get self.old.entries slot }
@@ -154,7 +154,7 @@ impl<T: Drop> Slots<T> {
         }
     }
 
-    /// The entry at a pair that is in use, for writing.
+    /// Returns the entry under a pair that is in use, for writing.
     fn entry_mut(&mut self, slot: Slot) -> &mut T
         requires { IsSome (map.get self.old.entries slot) }
         ensures* writes_back { sem 𝓛 (LendsEntry T.row self.entry slot result) }
@@ -163,7 +163,7 @@ impl<T: Drop> Slots<T> {
         self.cells[place_of(slot)].entry_mut()
     }
 
-    /// Changes each entry. It looks at each pair, also at those that are free.
+    /// Changes each entry. It looks at each pair, free ones included.
     pub fn change_each<C: Change<T>>(&mut self, change: &C)
         ensures changed { (slot : Slot) → map.get self.new.entries slot
             ≡ option_map (C.changed change.now) (map.get self.old.entries slot) }
@@ -172,7 +172,7 @@ impl<T: Drop> Slots<T> {
         change_each(&mut self.cells, change);
     }
 
-    /// Takes the entry at a pair out, and with it the pair out of use.
+    /// Removes and returns the entry under a pair, if the pair is in use. The pair is free then.
     pub fn take(&mut self, slot: Slot) -> Option<T>
         ensures value { result ≡ map.get self.old.entries slot }
         ensures in_range { IsSome result → IsInRange self.old.ports slot }
@@ -194,7 +194,7 @@ impl<T: Drop> Slots<T> {
         }
     }
 
-    /// How many pairs are in use.
+    /// Returns how many pairs are in use.
     pub fn used(&self) -> usize
         ensures count { result ≡ map.len self.now.entries }
         ensures most { result ≤ 256 * self.now.ports }
@@ -202,10 +202,10 @@ impl<T: Drop> Slots<T> {
         self.places.as_slice().len()
     }
 
-    /// Of the entries that are spent, or of those that are not, the slot of the one with the least due
-    /// and, at one due, the least number.
+    /// Returns the pair of the entry that is due first, of those that are spent or of those that are not. Of entries
+    /// due at the same time, it is the one with the lowest number.
     ///
-    /// It looks at each entry in use once, and reads no more of it than these three.
+    /// It looks at each entry once, and reads only its due time, its number and whether it is spent.
     pub fn least_due(&self, spent: bool) -> Option<Slot>
     where
         T: Timed,
@@ -217,9 +217,9 @@ impl<T: Drop> Slots<T> {
         Some(first.slot)
     }
 
-    /// The slot that [`Slots::least_due`] tells, and when its entry is due.
+    /// Returns the pair that [`Slots::least_due`] returns, and when its entry is due.
     ///
-    /// It looks at each entry in use once, and reads no more of it than that does.
+    /// It looks at each entry once, and reads no more of it than [`Slots::least_due`] does.
     pub fn first_due(&self, spent: bool) -> Option<Due>
     where
         T: Timed,
@@ -235,21 +235,21 @@ impl<T: Drop> Slots<T> {
     }
 }
 
-/// The place of a slot among the cells.
+/// Returns the place of a pair among the cells.
 fn place_of(slot: Slot) -> usize
     ensures { result ≡ the_place slot }
 {
     256 * usize::from(slot.port) + usize::from(slot.identifier)
 }
 
-/// The place behind the pair last allotted.
+/// Returns the place after that of the pair last allotted.
 fn start_of(allotted: Option<Slot>) -> usize
     ensures { result ≡ the_start allotted }
 {
     allotted.map_or(0, |slot| place_of(slot) + 1)
 }
 
-/// The pair of a place among the cells.
+/// Returns the pair of a place among the cells.
 fn slot_at(place: usize) -> Slot
     requires { place < 1024 }
     ensures { result ≡ the_slot place }

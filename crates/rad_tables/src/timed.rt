@@ -1,27 +1,27 @@
-//! What the slots ask of an entry, to find the least due.
+//! The properties of an entry by which the slots find the one that is due first.
 
 ghost use Rattle.std.specs.Prelude.{◌≡◌, ℕ, Bool};
 
-/// What is sent, and has to be sent again at a moment.
+/// An entry that was sent, and is due to be sent again at some moment.
 pub trait Timed {
-    /// When it is due.
+    /// When it is due, in milliseconds.
     ghost due_of: { Self → ℕ };
 
-    /// Its number, by which those that are due at once take turns.
+    /// Its number, which orders the entries that are due at the same time.
     ghost number_of: { Self → ℕ };
 
-    /// Whether its sendings are used up.
+    /// Whether it is spent: no sending of its round is left.
     ghost spent_of: { Self → Bool };
 
-    /// When it is due, in milliseconds.
+    /// Returns when it is due, in milliseconds.
     fn due(&self) -> u64
         ensures { result ≡ due_of self.now };
 
-    /// Its number, by which those that are due at once take turns.
+    /// Returns its number, which orders the entries that are due at the same time.
     fn number(&self) -> u64
         ensures { result ≡ number_of self.now };
 
-    /// Whether its sendings are used up.
+    /// Returns whether it is spent: no sending of its round is left.
     fn spent(&self) -> bool
         ensures { result ≡ spent_of self.now };
 }

@@ -1,5 +1,5 @@
-//! Tests over the public calls of `rad_tables`, apart from it so that no proof of its own is made again for a test. It has
-//! no other code.
+//! Tests of the public calls of `rad_tables`. They are in a crate of their own, so that a test does not make the
+//! proofs of `rad_tables` again. The crate has no other code.
 #![tactic(auto)]
 
 #[cfg(test)]

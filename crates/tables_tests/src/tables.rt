@@ -1,4 +1,5 @@
-//! What no contract says of the tables: that calls succeed where memory is there, and what they answer then.
+//! Tests of what no contract says of the tables: that calls succeed if memory is available, and what they return
+//! then.
 
 ghost use Rattle.std.specs.Prelude.{◌≡◌};
 ghost use Rattle.rad_tables.specs.Pairs.{IsInRange};
@@ -34,7 +35,7 @@ impl Timed for Note {
     }
 }
 
-/// Makes each entry due at a moment, and no longer spent.
+/// A change that makes each entry due at a moment and not spent.
 struct Renewal {
     now: u64,
 }
@@ -50,7 +51,7 @@ impl Change<Note> for Renewal {
     }
 }
 
-/// That something is as it should be.
+/// Checks a condition.
 fn holds(rt: &impl Abort, is_right: bool) {
     assert!(rt; is_right);
 }
@@ -69,7 +70,7 @@ fn pair(port: u16, identifier: u8) -> Slot
     Slot { port, identifier }
 }
 
-/// Puts an entry at a pair that is free.
+/// Puts an entry under a pair, if the pair is free.
 fn put_at(slots: &mut Slots<Note>, slot: Slot, entry: Note)
     requires { IsInRange slots.old.ports slot }
     ensures { slots.new.ports ≡ slots.old.ports }
@@ -79,7 +80,7 @@ fn put_at(slots: &mut Slots<Note>, slot: Slot, entry: Note)
     }
 }
 
-/// Puts an entry at the pair that is allotted, and says which.
+/// Puts an entry under the pair that is allotted, and returns the pair.
 fn put_next(slots: &mut Slots<Note>, entry: Note) -> Option<Slot> {
     let slot = slots.allot()?;
     slots.put(slot, entry);
@@ -115,7 +116,7 @@ fn allots(rt: &impl Abort, slots: &Slots<Note>, wanted: Option<Slot>) {
     holds(rt, slots.allot() == wanted);
 }
 
-/// Puts an entry at each pair of a port up to an identifier, as they are allotted.
+/// Puts an entry under each pair of a port up to an Identifier, in the order of their allotment.
 fn fill(rt: &impl Abort, slots: &mut Slots<Note>, port: u16, end: u16) {
     for identifier in 0..end {
         let wanted = pair(port, (identifier % 256) as u8);
@@ -123,7 +124,7 @@ fn fill(rt: &impl Abort, slots: &mut Slots<Note>, port: u16, end: u16) {
     }
 }
 
-/// Checks what is taken from a pair.
+/// Checks which entry is taken from a pair.
 fn takes(rt: &impl Abort, slots: &mut Slots<Note>, slot: Slot, wanted: Option<Note>) {
     holds(rt, slots.take(slot) == wanted);
 }
@@ -173,14 +174,14 @@ fn are_due(rt: &impl Abort, slots: &Slots<Note>, unspent: Option<Slot>, spent: O
     holds(rt, slots.least_due(true) == spent);
 }
 
-/// Checks when what is due next is due.
+/// Checks when the entry that is due first is due.
 fn is_due_at(rt: &impl Abort, slots: &Slots<Note>, spent: bool, due: u64) {
     let first = slots.first_due(spent);
     holds(rt, first.is_some_and(|first| first.due == due));
     holds(rt, first.map(|first| first.slot) == slots.least_due(spent));
 }
 
-/// Has the entry of a pair spent.
+/// Marks the entry under a pair as spent.
 fn spend(slots: &mut Slots<Note>, slot: Slot) {
     if let Some(entry) = slots.get_mut(slot) {
         entry.spent = true;
@@ -212,7 +213,7 @@ fn the_least_due_goes_by_number_at_one_due(rt: HostRuntime) -> Result<(), Fail> 
     Ok(())
 }
 
-/// Checks that nothing is found at a pair.
+/// Checks that there is no entry under a pair.
 fn has_nothing(rt: &impl Abort, slots: &mut Slots<Note>, slot: Slot) {
     holds(rt, slots.get(slot).is_none());
     holds(rt, slots.get_mut(slot).is_none());
@@ -243,7 +244,7 @@ fn a_slot_out_of_range_answers_none(rt: HostRuntime) -> Result<(), Fail> {
     Ok(())
 }
 
-/// The key of a request of this identifier.
+/// Returns the key of a request with this Identifier.
 fn key(identifier: u8) -> Key {
     Key {
         client: [10, 0, 0, 1],
@@ -273,7 +274,7 @@ fn duplicates_keep_the_last_number(rt: HostRuntime) -> Result<(), Fail> {
     Ok(())
 }
 
-/// Checks which number an insertion replaces, and that it can be taken back.
+/// Checks which number an insertion replaces, and that it can be undone.
 fn replaces(
     rt: &impl Abort,
     duplicates: &mut Duplicates,

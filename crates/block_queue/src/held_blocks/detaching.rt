@@ -1,4 +1,4 @@
-//! How a first block that was emptied becomes the spare one.
+//! Making an emptied first block the spare one.
 ghost use Rattle.block_queue.specs.Blocks.{BeginsEmptied, IsSettled};
 
 use crate::held_blocks::HeldBlocks;
@@ -6,7 +6,7 @@ use crate::linked_blocks::LinkedBlocks;
 use core::mem::replace_with;
 
 impl<T> HeldBlocks<T> {
-    /// Takes a first block that was emptied away from the others, to be the spare one.
+    /// Unlinks the first block if it was emptied, and keeps it as the spare one.
     pub(super) fn detach_emptied(&mut self)
         ensures { IsSettled self.old.linked self.new.linked }
     {
@@ -16,7 +16,7 @@ impl<T> HeldBlocks<T> {
         }
     }
 
-    /// These blocks, where a first one that was emptied is taken away from the others.
+    /// Returns these blocks, of which the first one is unlinked if it was emptied.
     pub(crate) fn with_emptied_detached(mut self) -> HeldBlocks<T>
         ensures { IsSettled self.linked result.linked }
     {
@@ -24,7 +24,7 @@ impl<T> HeldBlocks<T> {
         self
     }
 
-    /// [`HeldBlocks::detach_emptied`], where the first block was emptied.
+    /// Does what [`HeldBlocks::detach_emptied`] does if the first block was emptied.
     #[inline(never)]
     fn detach_first(&mut self)
         requires { BeginsEmptied self.old.linked }

@@ -1,4 +1,4 @@
-//! How blocks come in addition.
+//! Adding blocks.
 ghost use Rattle.std.specs.Prelude.{◌≡◌, OnOk, OnErr};
 ghost use Rattle.block_queue.specs.Blocks.{room_of, IsChain, IsSettled, IsJoined, IsGrown};
 
@@ -9,7 +9,8 @@ use core::mem::replace_with;
 use std::alloc::{AllocError, Global};
 
 impl<T> HeldBlocks<T> {
-    /// Links an empty block behind the others: the spare one, if there is one. An error means that memory was refused.
+    /// Links an empty block after the others: the spare one, if there is one. An error means that memory was refused,
+    /// or that a block has no layout.
     #[inline(never)]
     pub(crate) fn add_block(&mut self, alloc: Global) -> Result<(), AllocError>
         requires { room_of self.old.linked ≡ 0 }
@@ -25,8 +26,8 @@ impl<T> HeldBlocks<T> {
         Ok(())
     }
 
-    /// Links the blocks of another queue behind these. A block between them that has no item is taken out, and one of
-    /// those without items is kept. It takes no memory.
+    /// Links the blocks of another queue after these. If the last of these has no item, it is unlinked. Of the empty
+    /// blocks one is kept. It takes no memory.
     pub(crate) fn append(self, others: HeldBlocks<T>) -> HeldBlocks<T>
         ensures { IsJoined self.linked others.linked result.linked }
     {
@@ -42,7 +43,7 @@ impl<T> HeldBlocks<T> {
         )
     }
 
-    /// Blocks, and one to spare, if there is one, which is freed where the last of the others has no item either.
+    /// Returns linked blocks with a spare one. If the last linked block has no item, the spare one is freed instead.
     fn with_spare(linked: LinkedBlocks<T>, spare: Option<EmptyBlock<T>>) -> HeldBlocks<T>
         requires { IsChain linked }
         ensures { result.linked ≡ linked }

@@ -1,4 +1,4 @@
-//! How an item is taken out.
+//! Removing an item.
 ghost use Rattle.std.specs.Prelude.{◌≡◌, ◌<◌, ◌≤◌, ◌⊎◌, true, [], ◌∷◌, length};
 ghost use Rattle.block_queue.specs.Blocks.{items_of, room_of, first_count, IsReady};
 
@@ -7,8 +7,8 @@ use crate::linked_blocks::LinkedBlocks;
 use core::mem::replace_with;
 
 impl<T> HeldBlocks<T> {
-    /// Takes the oldest item out, as the last thing that it does: so the item is copied once. A block that
-    /// is emptied by it stays in front.
+    /// Removes and returns the oldest item. The pop is the last thing that it does, so the item is copied once. A
+    /// block that is emptied by it stays the first one.
     #[inline]
     pub(crate) fn pop(&mut self) -> T
         requires { 0 < length (items_of self.old.linked) }
@@ -19,7 +19,7 @@ impl<T> HeldBlocks<T> {
         self.linked.pop()
     }
 
-    /// Makes ready for a pop, which then leaves no two blocks without an item.
+    /// Prepares a pop, so that it does not leave two blocks without items.
     #[inline]
     fn prepare_pop(&mut self)
         requires { 0 < length (items_of self.old.linked) }
@@ -32,7 +32,7 @@ impl<T> HeldBlocks<T> {
         }
     }
 
-    /// [`HeldBlocks::prepare_pop`], where the first block has one item or none.
+    /// Does what [`HeldBlocks::prepare_pop`] does if the first block has one item or none.
     #[inline(never)]
     fn prepare_pop_at_border(&mut self)
         requires { 0 < length (items_of self.old.linked) }

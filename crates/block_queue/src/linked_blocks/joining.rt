@@ -1,4 +1,4 @@
-//! How blocks are put together and parted.
+//! Joining and splitting linked blocks.
 ghost use Rattle.std.specs.Prelude.{◌≡◌, ◌<◌, ◌≤◌, [], ◌∷◌, ◌++◌, length};
 ghost use Rattle.block_queue.specs.Blocks.{items_of, AllHaveItems, IsChain};
 ghost use Rattle.block_queue.specs.Chain.{joined};
@@ -16,7 +16,7 @@ impl<T> LinkedBlocks<T> {
         LinkedBlocks { first, back: None }
     }
 
-    /// Blocks, if there are any, and then one more.
+    /// Links a last block after other blocks, if there are any.
     fn from_front(front: Option<Front<T>>, last: DetachedBlock<T>) -> LinkedBlocks<T>
         ensures { result ≡ joined front ++ last.block ∷ [] }
     {
@@ -32,7 +32,7 @@ impl<T> LinkedBlocks<T> {
         }
     }
 
-    /// Blocks behind a first one that is taken away.
+    /// Makes linked blocks of those after a first one that was removed.
     fn from_back(back: Back<T>) -> LinkedBlocks<T>
         ensures { result ≡ back }
     {
@@ -53,7 +53,7 @@ impl<T> LinkedBlocks<T> {
         }
     }
 
-    /// Takes the last block out, and leaves those before it, if there are any.
+    /// Removes the last block, and returns the blocks before it, if there are any.
     fn split_last(self) -> (Option<Front<T>>, DetachedBlock<T>)
         ensures { self ≡ joined result.0 ++ result.1.block ∷ [] }
     {
@@ -67,7 +67,7 @@ impl<T> LinkedBlocks<T> {
         }
     }
 
-    /// Takes the first block out, where others follow. Its form is that which `replace_with` calls.
+    /// Removes the first block, after which there are others. The second parameter is what `replace_with` needs.
     pub(crate) fn split_first(self, _nothing: ()) -> (LinkedBlocks<T>, DetachedBlock<T>)
         requires { 2 ≤ length self }
         ensures { self ≡ result.1.block ∷ result.0 }
@@ -79,7 +79,7 @@ impl<T> LinkedBlocks<T> {
         }
     }
 
-    /// Takes the last block out where it has no item. The others have items.
+    /// Removes the last block if it has no item. The blocks that are left have items.
     pub(crate) fn without_empty_last(self) -> (Option<Front<T>>, Option<EmptyBlock<T>>)
         requires { IsChain self }
         ensures items { items_of (joined result.0) ≡ items_of self }
@@ -95,7 +95,7 @@ impl<T> LinkedBlocks<T> {
         }
     }
 
-    /// Links a block behind these. Its form is that which `replace_with` calls.
+    /// Links a block after these. The form of the result is what `replace_with` needs.
     pub(crate) fn add(self, block: DetachedBlock<T>) -> (LinkedBlocks<T>, ())
         ensures { result.0 ≡ self ++ block.block ∷ [] }
     {
@@ -107,7 +107,7 @@ impl<T> LinkedBlocks<T> {
         (LinkedBlocks::from_front(Some(front), block), ())
     }
 
-    /// Links other blocks, if there are any, in front of these.
+    /// Links other blocks, if there are any, before these.
     pub(crate) fn prepend(self, others: Option<Front<T>>) -> LinkedBlocks<T>
         ensures blocks { result ≡ joined others ++ self }
         ensures some { 0 < length self }

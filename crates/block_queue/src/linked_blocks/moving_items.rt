@@ -1,4 +1,4 @@
-//! How a pop of the only item of the first block leaves no two blocks without items.
+//! Merging the first block, so that the pop of its only item does not leave two blocks without items.
 ghost use Rattle.std.specs.Prelude.{◌≡◌, ◌<◌, ◌≤◌, true, drop as without, length};
 ghost use Rattle.block_queue.specs.Blocks.{first_count, ends_empty as has_empty_end, IsChain, IsSettled, IsReady};
 
@@ -6,8 +6,9 @@ use crate::front::Front;
 use crate::linked_blocks::LinkedBlocks;
 
 impl<T> LinkedBlocks<T> {
-    /// Puts the first block's only item and the next one into one block, where the last block has no item: so the pop
-    /// of it leaves no second block without an item. Its form is that which `replace_with` calls.
+    /// Moves the first block's only item and the next item, if there is one, into one block, if the last block has no
+    /// item. So the pop of the first item does not leave a second block without items. The second parameter and the
+    /// form of the result are what `replace_with` needs.
     pub(crate) fn merge_first_block(self, _nothing: ()) -> (LinkedBlocks<T>, ())
         requires chained { IsChain self }
         requires one { first_count self ≡ 1 }
@@ -29,7 +30,7 @@ impl<T> LinkedBlocks<T> {
         (others.prepend(Some(Front::one(first))), ())
     }
 
-    /// Frees the first block where it has no item.
+    /// Frees the first block if it has no item.
     fn free_emptied_first(self) -> LinkedBlocks<T>
         requires chained { IsChain (without 1 self) }
         requires followed { 2 ≤ length self }

@@ -1,4 +1,4 @@
--- The first to be due of the entries at some places. No public clause cites this module.
+-- The entry at some places that is due first. No public clause cites this module.
 use Rattle.std.specs.Prelude.{◌≡◌, ℕ, ◌<◌, List, length, slice_index, Bool, Option, Some, None, IsSome, ◌⊎◌}
 use Rattle.rad_tables.specs.Dues.{NotAfter}
 use Rattle.rad_tables.specs.internal.Kept.{at}
@@ -11,19 +11,19 @@ AreInUse contents places = (i : ℕ) → i < length places → IsSome (at conten
 abbrev pub due_and_number : Waiting → ℕ × ℕ
 due_and_number waiting = (waiting.due, waiting.number)
 
--- the result is one of the two, and neither stands before it
+-- the result is one of the two, and neither is before it
 abbrev pub IsEarlier : Waiting → Option Waiting → Waiting → Type 0
 IsEarlier waiting None result = result ≡ waiting
 IsEarlier waiting (Some least) result = ((result ≡ waiting) ⊎ (result ≡ least))
     × NotAfter (due_and_number result) (due_and_number waiting)
     × NotAfter (due_and_number result) (due_and_number least)
 
--- at none of the first places is an entry of this kind
+-- at none of the first `count` places is there an entry of this kind
 abbrev pub NoneAmong : {T : Type 0} → (T → Bool) → List (Option T) → List ℕ → Bool → ℕ → Type 0
 NoneAmong spent contents places which count = (i : ℕ) (entry : _) → i < count → at contents (slice_index places i) ≡ Some entry → spent entry ≡ which → ⊥
 
 module _ {T : Type 0} (due number : T → ℕ) (spent : T → Bool) (contents : List (Option T)) (places : List ℕ) (which : Bool) (count : ℕ) where
-  -- of the entries of this kind at the first places, this one is the first to be due
+  -- of the entries of this kind at the first `count` places, this one is due first
   pub record IsLeastAmong (waiting : Waiting) : Type 0 where
     pub position : ℕ
     pub within : position < count
