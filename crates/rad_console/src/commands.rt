@@ -17,7 +17,7 @@ const ROOM: usize = 512;
 /// The command of a line.
 #[derive(Clone, Copy, Debug, PartialEq, Eq)]
 pub enum Command {
-    /// Print the state of each lane.
+    /// Print the status of each lane.
     State,
     /// Drain each lane.
     Drain,

@@ -26,7 +26,7 @@ pub fn obey<R: Wait, W: Write>(
     }
 }
 
-/// Writes the state of each lane.
+/// Writes the status of each lane.
 fn write_states<R: Wait, W: Write>(
     rt: &R,
     config: &Config,

@@ -1,4 +1,4 @@
-//! The lines about each lane: its state, and that it was drained.
+//! The lines about each lane: its status, and that it was drained.
 
 ghost use Rattle.std.specs.Prelude.{◌≡◌};
 ghost use Rattle.rad_console.specs.Lanes.{watch_name as the_watch_name, mode_name as the_mode_name};
@@ -6,7 +6,7 @@ ghost use Rattle.rad_console.specs.Lanes.{watch_name as the_watch_name, mode_nam
 use rad_lane::Counts;
 use std::fmt;
 
-/// The line of a lane's state.
+/// The line of a lane's status.
 #[derive(Drop)]
 pub struct StateLine<'a> {
     pub lane: usize,
