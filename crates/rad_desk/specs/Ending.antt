@@ -93,8 +93,7 @@ pub record IsReport (desks : List Desk) (inlets : List Inlet) (report : Report) 
   pub ends : (lane : ℕ) → lane < length desks → EndsAt desks inlets report.ends lane
   pub queued : each (λ k. k.recorded) report.queued.items ≡ flat_map (λ d. (book d).queued) desks
 
--- The report of some desks, `lanes` of them. They are the desks that the call that closes the proxy finds behind its
--- locks.
+-- The report of `lanes` desks: those that closing the proxy finds behind its locks.
 pub record IsReportOf (lanes : ℕ) (inlets : List Inlet) (report : Report) : Type 0 where
   pub desks : List Desk
   pub counted : length desks ≡ lanes

@@ -16,6 +16,6 @@ spent_of entry moment = record {
   age = moment - entry.request.stamp.moment;
 }
 
--- This is reported of the spent sending with the earliest due time.
+-- This is reported of the spent sending with the earliest due time; ties go to the lowest number.
 abbrev pub TellsSpent : Book → ℕ → Spent → Type 0
 TellsSpent book moment spent = (entry : Outstanding) × IsFirstSpent book entry × (spent ≡ spent_of entry moment)

@@ -26,7 +26,7 @@ pub enum Call {
     Hear,
     /// Make a lane do its next step.
     Step,
-    /// Remove a volume from a lane's book.
+    /// Remove what is over from the front of a lane's book.
     Turn,
 }
 
@@ -71,7 +71,7 @@ pub enum UpReason {
     Answered,
     /// It answered the probe.
     ProbeAnswered,
-    /// The time for which it was marked down is over. There is no answer from it.
+    /// The time for which it is marked down is over, without an answer from it.
     DownWaitOver,
 }
 
@@ -134,11 +134,11 @@ pub trait Gate {
     /// The response of this serial was added to a lane's ring, so the front has something to take.
     fn answered(&self, _lane: u16, _serial: u64) {}
 
-    /// A lane's home server is marked down, since this request is unanswered. The worker's note right before said so.
-    /// If several requests are spent, it is the one with the earliest due time; ties go to the lowest number.
+    /// A lane's home server is marked down, since this request is unanswered. The worker noted that right before. If
+    /// several requests are spent, it is the one with the earliest due time; ties go to the lowest number.
     fn went_down(&self, _lane: u16, _spent: &Spent) {}
 
-    /// A lane's home server is marked up, for this reason. The worker's note right before said so. No worker can report
+    /// A lane's home server is marked up, for this reason. The worker noted that right before. No worker can report
     /// that an answer to a request marked it up: whoever saw that it was down learns that from [`Gate::answered`].
     fn went_up(&self, _lane: u16, _reason: UpReason) {}
 

@@ -19,7 +19,8 @@ use std::sync::Wait;
 /// Serves a lane and its home server for at most `turns` turns, or until the gate stops the worker. In each turn it
 /// receives once, and passes the datagram to the lane if it came from the home server's address and port. Then the lane
 /// does one step, and what that gives is sent to the home server, from the socket of its source port. If the lane is
-/// idle and holds at least half of the requests that its book may hold, a volume is removed from the book.
+/// idle and holds at least half of the requests that its book may hold, the longest prefix of its requests that are all
+/// over is removed from the book.
 ///
 /// If a send fails, that datagram is lost, and the sending remains outstanding. A failed receive does not end the
 /// worker.
@@ -197,7 +198,8 @@ fn port_of(action: &Action) -> Option<u16>
 }
 
 /// Follows up a step that sends nothing, and returns whether the worker goes on: it reports that the home server is
-/// marked down or up, or, if the lane is idle and its book is half full, removes a volume.
+/// marked down or up, or, if the lane is idle and its book is half full, removes what is over from the front of the
+/// book.
 fn follow<W: Wire, G: Gate>(
     rt: &impl Wait,
     alloc: Global,
@@ -265,7 +267,7 @@ fn is_half_full(held: u64, book: u32) -> bool
     held >= book || 2 * held >= book
 }
 
-/// Removes a volume from the lane's book, drops the volume, and returns whether the worker goes on.
+/// Removes what is over from the front of the lane's book, drops it, and returns whether the worker goes on.
 fn cut<W: Wire, G: Gate>(
     rt: &impl Wait,
     alloc: Global,

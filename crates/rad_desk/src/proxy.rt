@@ -133,8 +133,9 @@ impl Proxy {
         self.lock(rt, lane).step(moment, random, datagram)
     }
 
-    /// Does the same if the lane has this number and its home server this secret, and otherwise nothing. It returns the
-    /// action with the number of requests that the book then holds, both under one hold of the lock.
+    /// Does a lane's next step like [`Proxy::step`], if the lane has this number and its home server this secret, and
+    /// otherwise does nothing. It returns the action with the number of requests that the book then holds, both under
+    /// one hold of the lock.
     pub(crate) fn step_for(
         &self,
         rt: &impl Wait,
