@@ -41,7 +41,7 @@ where
     Ok(())
 }
 
-/// Opens the null device for this descriptor if it is closed, while those below it are open, since the system gives the
+/// Opens the null device for this descriptor if it is closed. Those below it must be open, since the system gives the
 /// lowest free number.
 fn open_if_closed<R: Files>(files: &R, descriptor: RawFd, access: Access) -> io::Result<()>
 where

@@ -41,8 +41,8 @@ where
     loaded
 }
 
-/// Logs what an operator should know of a configuration on this machine, of whose addresses, if they can't be read,
-/// only those that every machine has are known.
+/// Logs what an operator should know of a configuration on this machine. If the machine's addresses can't be read, only
+/// those that every machine has are known.
 fn advise<R: Files, L: Log>(rt: &R, alloc: Global, log: &L, config: &Config)
 where
     R::File: Drop,
