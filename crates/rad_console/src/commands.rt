@@ -100,7 +100,7 @@ struct Unread {
     room: [u8; ROOM],
     /// The index of the first of them.
     at: usize,
-    /// The index behind the last of them.
+    /// The index after the last of them.
     end: usize,
 }
 
