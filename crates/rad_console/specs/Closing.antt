@@ -1,4 +1,4 @@
--- What is left at the end, of all lanes (own).
+-- What is left of all lanes at the end (own).
 use Rattle.std.specs.Prelude.{◌≡◌, ℕ, List, length, All, Option, MatchOption, ⊤}
 use Rattle.rad_desk.specs.declared.inlet.Inlet.{Inlet}
 use Rattle.rad_desk.specs.declared.report.LaneEnd.{LaneEnd}
@@ -12,7 +12,7 @@ use Rattle.rad_console.specs.Totals.{count_in_all}
 abbrev pub outstanding_at : LaneEnd → ℕ
 outstanding_at end = end.counts.outstanding
 
--- Whether it is known which responses were not taken, and how many then.
+-- It is known which responses were not taken.
 abbrev pub IsKnown : Rest → Type 0
 IsKnown (Known rest) = ⊤
 IsKnown Unknown = ⊥
@@ -27,23 +27,23 @@ IsKnownAt end = IsKnown end.rest
 abbrev pub known_at : LaneEnd → ℕ
 known_at end = known_count end.rest
 
--- So many responses were not taken, where that is known of each lane.
+-- This number of responses was not taken, if that is known of each lane; otherwise there is no number.
 abbrev pub CountsUntaken : List LaneEnd → Option ℕ → Type 0
 CountsUntaken ends untaken =
     MatchOption untaken (¬ All IsKnownAt ends) (λ n. All IsKnownAt ends × (n ≡ count_in_all known_at ends))
 
--- What a report tells: the requests never sent, those sent and not answered, and the responses that nobody took.
+-- The totals of a report: the requests never sent, those outstanding, and the responses that nobody took.
 pub record Tells (report : Report) (end : EndLine) : Type 0 where
   pub queued : end.queued ≡ length report.queued.items
   pub outstanding : end.outstanding ≡ count_in_all outstanding_at report.ends
   pub untaken : CountsUntaken report.ends end.untaken
 
--- What the report of so many lanes tells, with these inlets.
+-- The totals of the report of `lanes` lanes, with these inlets.
 pub record Closes (lanes : ℕ) (inlets : List Inlet) (end : EndLine) : Type 0 where
   pub report : Report
   pub report_of : IsReportOf lanes inlets report
   pub told : Tells report end
 
--- What is left of so many lanes, with some inlets.
+-- What is left of `lanes` lanes, with some inlets.
 abbrev pub IsEndOf : ℕ → EndLine → Type 0
 IsEndOf lanes end = (inlets : List Inlet) × Closes lanes inlets end

@@ -1,4 +1,4 @@
--- Configurations that are read from octets, and what is counted of one (own).
+-- Configurations that are read from octets, and their counts (own).
 use Rattle.std.specs.Prelude.{◌≡◌, ℕ, List, length, Result, Err, ◌⊎◌}
 use Rattle.std.specs.Str.{IsUtf8}
 use Rattle.rad_realms.specs.Configuration.{Configuration}
@@ -8,7 +8,7 @@ use Rattle.rad_realms.specs.declared.reading.faults.ConfigFault.{ConfigFault}
 use Rattle.rad_realms.specs.declared.reading.faults.ConfigFault.TheVariants.{Toml}
 use Rattle.rad_console.specs.declared.lines.CountLine.{CountLine}
 
--- Octets are read as the text that they are; those that are no UTF-8 are no TOML either.
+-- The octets are read as UTF-8 text. Octets that are not UTF-8 are not TOML either.
 abbrev pub ReadsOctets : List ℕ → Result Configuration ConfigFault → Type 0
 ReadsOctets octets result =
     (IsUtf8 octets × Gives result (configuration_in octets)) ⊎ (¬ (IsUtf8 octets) × (result ≡ Err Toml))

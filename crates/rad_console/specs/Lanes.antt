@@ -1,16 +1,16 @@
--- The lines that tell of each lane, without their line feeds (own).
+-- The lines about each lane, without their line feeds (own).
 use Rattle.std.specs.Prelude.{ℕ, List, ◌++◌, codes, suc, zero, Bool, true, false}
 use Rattle.std.specs.Fmt.{decimal}
 use Rattle.rad_lane.specs.declared.counts.Counts.{Counts}
 use Rattle.rad_console.specs.declared.lanes.DrainLine.{DrainLine}
 use Rattle.rad_console.specs.declared.lanes.StateLine.{StateLine}
 
--- Whether a home server is up.
+-- Whether a home server is marked up or down.
 abbrev pub watch_name : Bool → List ℕ
 watch_name true = codes "up"
 watch_name false = codes "down"
 
--- Whether a lane is drained, with how many requests are queued and how many outstanding.
+-- Whether a lane is drained, and whether it is done, by the numbers of its queued and outstanding requests.
 abbrev pub mode_name : Bool → ℕ → ℕ → List ℕ
 mode_name false queued outstanding = codes "open"
 mode_name true zero zero = codes "done"

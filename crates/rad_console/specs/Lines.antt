@@ -1,4 +1,4 @@
--- The lines that tell of the whole proxy, without their line feeds (own).
+-- The lines about the whole proxy, without their line feeds (own).
 use Rattle.std.specs.Prelude.{ℕ, List, ◌++◌, codes, Option, Some, None}
 use Rattle.std.specs.Fmt.{decimal}
 use Rattle.rad_realms.specs.Printed.{endpoint_text}
@@ -6,7 +6,7 @@ use Rattle.rad_console.specs.declared.lines.CountLine.{CountLine}
 use Rattle.rad_console.specs.declared.lines.EndLine.{EndLine}
 use Rattle.rad_console.specs.declared.lines.ListeningLine.{ListeningLine}
 
--- How many responses were not taken, where that is known.
+-- How many responses were not taken, if that is known.
 abbrev pub untaken_text : Option ℕ → List ℕ
 untaken_text (Some count) = codes "untaken " ++ decimal count
 untaken_text None = codes "untaken unknown"

@@ -3,7 +3,7 @@ use Rattle.std.specs.Prelude.{◌≡◌, ◌≢◌, ℕ, suc, List, ◌∷◌, �
 use Rattle.std.specs.Borrow.{Bor}
 use Rattle.rad_console.specs.declared.pieces.Pieces.{Pieces}
 
--- The text that is left to be cut, where one is: the last piece leaves none.
+-- The text that remains to be cut, if any. After the last piece there is none.
 abbrev pub text_of : Option (Bor (List ℕ)) → Option (List ℕ)
 text_of None = None
 text_of (Some rest) = Some rest.now
@@ -11,30 +11,30 @@ text_of (Some rest) = Some rest.now
 abbrev pub text_left : Pieces → Option (List ℕ)
 text_left pieces = text_of pieces.rest
 
--- The piece stands before the text's first separator, and what follows that is left; a text without one is one
--- piece, and leaves none.
+-- The piece is the part of the text before the first separator, and what follows the separator remains. A text without
+-- a separator is one piece, and nothing remains.
 abbrev pub IsCut : ℕ → List ℕ → List ℕ → Option (List ℕ) → Type 0
 IsCut separator text piece None = (text ≡ piece) × All (λ octet. octet ≢ separator) piece
 IsCut separator text piece (Some left) = (text ≡ piece ++ separator ∷ left) × All (λ octet. octet ≢ separator) piece
 
--- The first piece of what is left, where a text is left.
+-- The first piece of the text that remains, if any.
 abbrev pub CutsText : ℕ → Option (List ℕ) → Option (Bor (List ℕ)) → Option (List ℕ) → Type 0
 CutsText separator None None left = left ≡ None
 CutsText separator None (Some piece) left = ⊥
 CutsText separator (Some text) None left = ⊥
 CutsText separator (Some text) (Some piece) left = IsCut separator text piece.now left
 
--- The next piece is cut off, and the separator stays.
+-- The next piece is cut off, and the separator is unchanged.
 abbrev pub CutsPiece : Pieces → Option (Bor (List ℕ)) → Pieces → Type 0
 CutsPiece pieces piece after =
     CutsText pieces.separator (text_left pieces) piece (text_left after) × (after.separator ≡ pieces.separator)
 
--- The octet stands at this place, and not before it.
+-- The octet is at this place, and at none before it.
 pub record IsFirstAt (text : List ℕ) (wanted place : ℕ) : Type 0 where
   pub there : slice_get text place ≡ Some wanted
   pub before : All (λ octet. octet ≢ wanted) (take place text)
 
--- At most how many pieces a text has.
+-- The most pieces that a text can have.
 abbrev pub piece_count : Option (List ℕ) → ℕ
 piece_count None = 0
 piece_count (Some text) = suc (length text)

@@ -1,15 +1,15 @@
-//! Readers that are read to their end, up to a bound.
+//! Reading a reader to its end, up to a bound.
 
 ghost use Rattle.std.specs.Prelude.{◌≡◌, ◌≤◌, ◌<◌, ◌^◌, ◌-◌, IfOk, IfSome, vec_len};
 
 use std::alloc::Global;
 use std::io::{self, ErrorKind, Read};
 
-/// All octets that a reader gives, where they are no more than `most`. Reads at most one octet more.
+/// Returns all octets of a reader, if there are at most `most`. It reads at most one octet more.
 ///
 /// # Errors
 ///
-/// `FileTooLarge` where there are more, else the reader's own; `OutOfMemory` where a growth was refused.
+/// `FileTooLarge` if there are more octets, `OutOfMemory` if a growth is refused, and otherwise the reader's own error.
 pub fn read_at_most<R: Read + Drop>(alloc: Global, reader: R, most: u64) -> io::Result<Vec<u8>>
     requires { most < 2 ^ 64 - 1 }
     ensures bounded { IfOk result (λ octets. vec_len octets ≤ most) }

@@ -9,11 +9,11 @@ use block_queue::Fifo;
 use rad_desk::{CloseFault, Inlet, LaneEnd, Proxy, Report, Rest};
 use std::alloc::{AllocError, Global};
 
-/// Closes a proxy, with its inlets, and tells what is left.
+/// Closes a proxy with its inlets, and returns what is left.
 ///
 /// # Errors
 ///
-/// Where a growth was refused.
+/// `AllocError` if a growth is refused.
 pub fn close(alloc: Global, proxy: Proxy, inlets: Vec<Inlet>) -> Result<EndLine, AllocError>
     ensures { IfOk result (λ end. Closes proxy inlets.items end) }
 {
@@ -23,7 +23,7 @@ pub fn close(alloc: Global, proxy: Proxy, inlets: Vec<Inlet>) -> Result<EndLine,
     }
 }
 
-/// What a report tells: the requests never sent, those sent and not answered, and the responses that nobody took.
+/// Returns the totals of a report: the requests never sent, those outstanding, and the responses that nobody took.
 fn end_of(report: &Report) -> EndLine
     ensures { Tells report.now result }
 {
@@ -35,7 +35,7 @@ fn end_of(report: &Report) -> EndLine
     }
 }
 
-/// How many requests were sent and not answered.
+/// Returns how many requests are outstanding.
 fn count_outstanding(ends: &[LaneEnd]) -> usize
     ensures { result ≡ count_in_all outstanding_at ends.now }
 {
@@ -46,7 +46,7 @@ fn count_outstanding(ends: &[LaneEnd]) -> usize
     count
 }
 
-/// How many responses were not taken, where that is known of each lane.
+/// Returns how many responses were not taken, if that is known of each lane.
 fn count_untaken(ends: &[LaneEnd]) -> Option<usize>
     ensures { CountsUntaken ends.now result }
 {
@@ -57,7 +57,7 @@ fn count_untaken(ends: &[LaneEnd]) -> Option<usize>
     Some(count)
 }
 
-/// How many responses of a lane were not taken, where that is known.
+/// Returns how many responses of a lane were not taken, if that is known.
 fn count_rest(rest: &Rest) -> Option<usize>
     ensures { MatchOption result (¬ IsKnown rest.now) (λ n. IsKnown rest.now × (n ≡ known_count rest.now)) }
 {

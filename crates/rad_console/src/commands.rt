@@ -1,4 +1,4 @@
-//! The commands that come in by standard input while the proxy serves, one a line.
+//! The commands on standard input while the proxy runs, one a line.
 
 ghost use Rattle.std.specs.Prelude.{◌≡◌, ◌≢◌, ◌≤◌, [], ◌++◌, ◌↔◌, length, take, drop, true, false, IfOk, OnErr, MatchOption, IsTrue};
 ghost use Rattle.std.specs.Io.KnownBytes.{Keeps, prepend_known};
@@ -11,22 +11,22 @@ use std::marker::Model;
 /// The most octets of a line that may be a command.
 const MOST: usize = 64;
 
-/// How many octets are read at once.
+/// The most octets that one read returns.
 const ROOM: usize = 512;
 
-/// What a line asks for.
+/// The command of a line.
 #[derive(Clone, Copy, Debug, PartialEq, Eq)]
 pub enum Command {
-    /// How each lane stands.
+    /// Print the status of each lane.
     State,
-    /// That each lane takes no more requests.
+    /// Drain each lane.
     Drain,
-    /// Nothing that there is.
+    /// No known command.
     Unknown,
 }
 
 impl Command {
-    /// What a line without its line feed asks for.
+    /// Returns the command of a line without its line feed.
     pub fn of(line: &[u8]) -> Command
         ensures { Asks line.now result }
     {
@@ -40,7 +40,7 @@ impl Command {
     }
 }
 
-/// The front of a line, as far as it was read: at most as many octets as a command may have.
+/// The octets of a line that were read so far, but no more than a command may have.
 #[derive(Drop)]
 struct Line {
     octets: [u8; MOST],
@@ -67,7 +67,7 @@ impl Line {
         }
     }
 
-    /// Adds octets, as far as there is room.
+    /// Adds octets, as many as there is room for.
     fn push(&mut self, octets: &[u8])
         ensures { self.new ≡ take 64 (self.old ++ octets.now) }
     {
@@ -83,7 +83,7 @@ impl Line {
         self.count == 0
     }
 
-    /// What the line asks for. An empty one begins.
+    /// Returns the command of the line, and begins an empty line.
     fn end(&mut self) -> Command
         ensures asked { Asks self.old result }
         ensures empty { self.new ≡ [] }
@@ -98,9 +98,9 @@ impl Line {
 #[derive(Drop)]
 struct Unread {
     room: [u8; ROOM],
-    /// They stand from here,
+    /// The index of the first of them.
     at: usize,
-    /// to here.
+    /// The index after the last of them.
     end: usize,
 }
 
@@ -131,7 +131,7 @@ impl Unread {
         &self.room[self.at..self.end]
     }
 
-    /// So many of the first ones were looked at.
+    /// Skips the first `count` octets, which were looked at.
     fn skip(&mut self, count: usize)
         requires { count ≤ length self.old }
         ensures { self.new ≡ drop count self.old }
@@ -139,7 +139,7 @@ impl Unread {
         self.at += count;
     }
 
-    /// Reads on, where all were looked at. It answers whether the end of input is not yet there.
+    /// Reads on after all octets were looked at, and returns whether the input has not ended yet.
     fn read<R: Read>(&mut self, reader: &mut R) -> Result<bool>
         requires { self.old ≡ [] }
         ensures more { IfOk result (ReadsMore (R.remaining reader.old) self.new (R.remaining reader.new)) }
@@ -153,7 +153,7 @@ impl Unread {
     }
 }
 
-/// The commands of a reader, to its end. The last line may lack its line feed.
+/// The commands of a reader, up to its end. The last line may have no line feed.
 #[derive(Drop)]
 pub struct Commands<R: Drop> {
     reader: R,
@@ -174,11 +174,11 @@ impl<R: Read + Drop> Commands<R> {
         }
     }
 
-    /// The next command, or none at the end of input. It waits for the reader.
+    /// Returns the next command, or none at the end of the input. It waits for the reader.
     ///
     /// # Errors
     ///
-    /// The reader's own. After `Interrupted` the next call goes on where this one ended.
+    /// The reader's own error. After `Interrupted` the next call continues where this one ended.
     pub fn next(&mut self) -> Result<Option<Command>>
         ensures { ReadsNext (prepend_known (self.old.line ++ self.old.unread) (R.remaining self.old.reader)) result
             (prepend_known (self.new.line ++ self.new.unread) (R.remaining self.new.reader)) }
@@ -196,7 +196,7 @@ impl<R: Read + Drop> Commands<R> {
         Err(Error::from(ErrorKind::Interrupted))
     }
 
-    /// The next command whose line ends among the octets that were read.
+    /// Returns the next command whose line ends among the octets that were read.
     fn next_read(&mut self) -> Option<Command>
         ensures reader { self.new.reader ≡ self.old.reader }
         ensures ends { MatchOption result
@@ -219,7 +219,7 @@ impl<R: Read + Drop> Commands<R> {
         }
     }
 
-    /// The command of a line that the end of input ends.
+    /// Returns the command of a last line without a line feed.
     fn last(&mut self) -> Option<Command>
         ensures rest { (self.new.reader ≡ self.old.reader) × (self.new.unread ≡ self.old.unread) × (self.new.line ≡ []) }
         ensures last { MatchOption result (self.old.line ≡ []) (λ command. (self.old.line ≢ []) × Asks self.old.line command) }

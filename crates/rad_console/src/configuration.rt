@@ -1,4 +1,4 @@
-//! Configurations, read from octets.
+//! Reading configurations from octets.
 
 ghost use Rattle.rad_console.specs.Configurations.{ReadsOctets};
 
@@ -9,7 +9,7 @@ use std::alloc::Global;
 ///
 /// # Errors
 ///
-/// `Toml` for octets that are no UTF-8, else the fault of their text.
+/// `Toml` if the octets are not UTF-8, and otherwise the fault of their text.
 pub fn read_configuration(alloc: Global, octets: &[u8]) -> Result<Config, ConfigFault>
     ensures { ReadsOctets octets.now result }
 {

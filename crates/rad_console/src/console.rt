@@ -1,4 +1,4 @@
-//! The console: commands are obeyed, and what they answer is written.
+//! The console, which executes commands and writes their results.
 
 use crate::commands::Command;
 use crate::lanes::{DrainLine, StateLine};
@@ -7,11 +7,11 @@ use rad_realms::Config;
 use std::io::{self, Write};
 use std::sync::Wait;
 
-/// Obeys a command, and writes what it answers: a line for each lane, or `unknown`. The output is not flushed.
+/// Executes a command, and writes its result: a line for each lane, or `unknown`. The output is not flushed.
 ///
 /// # Errors
 ///
-/// The output's own. Lanes that were drained by then stay so.
+/// The output's own error. Lanes that were drained before it stay drained.
 pub fn obey<R: Wait, W: Write>(
     rt: &R,
     config: &Config,
@@ -26,7 +26,7 @@ pub fn obey<R: Wait, W: Write>(
     }
 }
 
-/// Writes how each lane stands.
+/// Writes the status of each lane.
 fn write_states<R: Wait, W: Write>(
     rt: &R,
     config: &Config,

@@ -1,4 +1,4 @@
-//! The lines that tell of each lane: how it stands, and that it was drained.
+//! The lines about each lane: its status, and that it was drained.
 
 ghost use Rattle.std.specs.Prelude.{◌≡◌};
 ghost use Rattle.rad_console.specs.Lanes.{watch_name as the_watch_name, mode_name as the_mode_name};
@@ -6,7 +6,7 @@ ghost use Rattle.rad_console.specs.Lanes.{watch_name as the_watch_name, mode_nam
 use rad_lane::Counts;
 use std::fmt;
 
-/// How a lane stands.
+/// The line of a lane's status.
 #[derive(Drop)]
 pub struct StateLine<'a> {
     pub lane: usize,
@@ -15,7 +15,7 @@ pub struct StateLine<'a> {
     pub counts: Counts,
 }
 
-/// That a lane takes no more requests.
+/// The line of a drained lane.
 #[derive(Clone, Copy)]
 pub struct DrainLine {
     pub lane: usize,
@@ -23,18 +23,18 @@ pub struct DrainLine {
     pub count: u64,
 }
 
-/// How many requests a lane has had, and has.
+/// The counts of a lane, as they are printed.
 #[derive(Drop)]
 struct CountsText(Counts);
 
-/// Whether a home server is up.
+/// Returns whether a home server is marked up or down, as it is printed.
 fn watch_name(up: bool) -> &'static str
     ensures { result.now ≡ the_watch_name up }
 {
     if up { "up" } else { "down" }
 }
 
-/// Whether a lane takes requests, still has some, or is done.
+/// Returns whether a lane is not drained, drained but not done, or done, as it is printed.
 fn mode_name(counts: &Counts) -> &'static str
     ensures { result.now ≡ the_mode_name counts.now.draining counts.now.queued counts.now.outstanding }
 {

@@ -1,12 +1,12 @@
 //! What the commands `run` and `replay` share: configurations read from octets, the console, and the line of what is
 //! left at the end.
 //!
-//! [`Commands`] reads the commands of standard input, and [`obey`] obeys one and writes what it answers; an event of a
-//! script that is a command is obeyed by the same. The layer above uses the contract of [`close`]: the [`EndLine`] tells
-//! what the report of the closed proxy tells, so it is clean only where nothing is left.
+//! [`Commands`] reads the commands of standard input. [`obey`] executes a command and writes its result; it also
+//! executes an event of a script that is a command. The layer above uses the contract of [`close`]: the [`EndLine`] has
+//! the totals of the report of the closed proxy, so it is clean only if nothing is left.
 //!
-//! The definitions that the contracts cite stand in specs: `Closing` is what an end line tells, `Commands` what a line
-//! asks for, `Configurations` which octets are a configuration, `Pieces` how a text is cut, and `Lanes` and `Lines` how
+//! The definitions that the contracts cite are in specs: `Closing` is what an end line has, `Commands` which command a
+//! line is, `Configurations` which octets are a configuration, `Pieces` how a text is cut, and `Lanes` and `Lines` how
 //! the lines are printed.
 #![tactic(auto)]
 

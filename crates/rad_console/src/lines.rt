@@ -1,20 +1,20 @@
-//! The lines that tell of the whole proxy: where it listens, how much its configuration has, and what is left at the end.
+//! The lines about the whole proxy: where it listens, the counts of its configuration, and what is left at the end.
 
 use rad_realms::Endpoint;
 use std::fmt;
 
-/// What is left at the end.
+/// The line of what is left at the end.
 #[derive(Clone, Copy)]
 pub struct EndLine {
     /// How many requests were never sent.
     pub queued: usize,
-    /// How many requests were sent and not answered.
+    /// How many requests were outstanding.
     pub outstanding: usize,
-    /// How many responses were not taken, where that is known.
+    /// How many responses were not taken, if that is known.
     pub untaken: Option<usize>,
 }
 
-/// How many clients, home servers and realms a configuration has.
+/// The line of how many clients, home servers and realms a configuration has.
 #[derive(Clone, Copy)]
 pub struct CountLine {
     pub clients: usize,
@@ -22,7 +22,7 @@ pub struct CountLine {
     pub realms: usize,
 }
 
-/// Where the clients' datagrams come in.
+/// The line of the address and port that receive the clients' datagrams.
 #[derive(Clone, Copy)]
 pub struct ListeningLine {
     pub endpoint: Endpoint,
@@ -31,7 +31,7 @@ pub struct ListeningLine {
 impl EndLine {
     ghost use Rattle.std.specs.Prelude.{◌≡◌, ◌↔◌, IsTrue, Some};
 
-    /// Whether it is known that nothing is left.
+    /// Returns whether it is known that nothing is left.
     pub fn is_clean(&self) -> bool
         ensures { IsTrue result ↔ ((self.now.queued ≡ 0) × (self.now.outstanding ≡ 0) × (self.now.untaken ≡ Some 0)) }
     {

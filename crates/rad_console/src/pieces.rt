@@ -3,10 +3,10 @@
 ghost use Rattle.std.specs.Prelude.{◌≢◌, All, MatchOption};
 ghost use Rattle.rad_console.specs.Pieces.{IsFirstAt};
 
-/// The pieces of a text round each separator, in order; a text without one is one piece.
+/// The pieces of a text between its separators, in order. A text without a separator is one piece.
 #[derive(Drop)]
 pub struct Pieces<'a> {
-    /// The text that is left to be cut: none once the last piece was given.
+    /// The text that remains to be cut. There is none after the last piece.
     rest: Option<&'a [u8]>,
     separator: u8,
 }
@@ -15,7 +15,7 @@ impl<'a> Pieces<'a> {
     ghost use Rattle.std.specs.Prelude.{◌≡◌, Some};
     ghost use Rattle.rad_console.specs.Pieces.{text_left};
 
-    /// Cuts a text.
+    /// Makes the pieces of a text.
     pub fn new(text: &'a [u8], separator: u8) -> Self
         ensures text { text_left result ≡ Some text.now }
         ensures separator { result.separator ≡ separator }
@@ -26,7 +26,7 @@ impl<'a> Pieces<'a> {
         }
     }
 
-    /// What follows the pieces that were given, where the last piece was not among them.
+    /// Returns the text after the pieces returned so far, or none after the last piece.
     pub fn rest(&self) -> Option<&'a [u8]>
         ensures { result ≡ self.now.rest }
     {
@@ -59,7 +59,7 @@ impl<'a> Iterator for Pieces<'a> {
     }
 }
 
-/// Where an octet stands first in a text.
+/// Returns the place of the first octet of a text that equals `wanted`, if there is one.
 pub fn find_first(text: &[u8], wanted: u8) -> Option<usize>
     ensures { MatchOption result (All (λ octet. octet ≢ wanted) text.now) (λ place. IsFirstAt text.now wanted place) }
 {

@@ -4,7 +4,7 @@ use Rattle.rad_realms.specs.declared.reading.address.Endpoint.{Endpoint}
 use Rattle.rad_desk.specs.declared.wire.Delivery.{Delivery}
 use Rattle.rad_desk.specs.Traffic.{Event, arrived, departed, told, drew, logged}
 
--- These events passed, and nothing else did; they are right.
+-- Exactly these events passed, and they satisfy `Right`.
 pub record Passes (Right : List Event → Type 0) (old new : Option (List Event)) : Type 0 where
   pub events : List Event
   pub passed : new ≡ logged old events
@@ -18,7 +18,7 @@ IsQuiet (departed socket peer octets delivery ∷ more) = ⊥
 IsQuiet (told moment ∷ more) = IsQuiet more
 IsQuiet (drew octets ∷ more) = IsQuiet more
 
--- This datagram was given to a socket to be sent there, and nothing else passed.
+-- This datagram was given to this socket, to be sent to this peer, and nothing else passed.
 pub record IsSent (socket : ℕ) (peer : Endpoint) (octets : List ℕ) (events : List Event) : Type 0 where
   pub delivery : Delivery
   pub is : events ≡ departed socket peer octets delivery ∷ []

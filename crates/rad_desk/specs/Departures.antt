@@ -1,4 +1,4 @@
--- What goes onto a wire (own): whatever the lane, nothing is given to be sent but one of these.
+-- What is sent over a wire (own). Whatever the lane, nothing but one of these is given to a socket.
 use Rattle.std.specs.Prelude.{◌≡◌, ⊤, ℕ, List, length, Result, Ok, Err}
 use Rattle.rad_auth.specs.Forwarding.{forwarded}
 use Rattle.rad_auth.specs.Status.{status_server}
@@ -18,7 +18,7 @@ use Rattle.rad_lane.specs.Lawful.{IsLawful}
 use Rattle.rad_lane.specs.Datagrams.{Datagrams}
 use Rattle.rad_realms.specs.Checking.{Request}
 
--- The forwarded packet of a right record, with the mark of a lane, under a secret.
+-- The octets are the forwarded packet of a valid record, with the mark of some lane, under some secret.
 pub record ForwardsARecord (octets : List ℕ) : Type 0 where
   pub recorded : Recorded
   pub is_record : IsRecord recorded
@@ -27,7 +27,7 @@ pub record ForwardsARecord (octets : List ℕ) : Type 0 where
   pub secret : List ℕ
   pub forwards : octets ≡ forwarded recorded.text (record { lane = lane; number = recorded.stamp.number }) identifier secret
 
--- A Status-Server of some sixteen octets as Authenticator, under a secret.
+-- The octets are a Status-Server, with some sixteen octets as Authenticator, under some secret.
 pub record IsStatusServer (octets : List ℕ) : Type 0 where
   pub identifier : ℕ
   pub authenticator : List ℕ
@@ -35,7 +35,7 @@ pub record IsStatusServer (octets : List ℕ) : Type 0 where
   pub secret : List ℕ
   pub asks : octets ≡ status_server identifier authenticator secret
 
--- What a step leaves in the datagram: what is to be sent to the home server, or what was there.
+-- The datagram after a step: what is to be sent to the home server if the step sends, and otherwise unchanged.
 abbrev pub Departs : Action → Datagrams → Type 0
 Departs (Sent number slot) d = ForwardsARecord d.after
 Departs (Resent number slot) d = ForwardsARecord d.after
@@ -44,21 +44,23 @@ Departs WentDown d = d.after ≡ d.before
 Departs WentUp d = d.after ≡ d.before
 Departs (Idle moment) d = d.after ≡ d.before
 
--- A response that is an answer: it answers the request of a right record, after a verified reply to the forwarded packet
+-- The octets are a response that answers the request of a valid record, after a verified reply to the forwarded packet
 -- of that record.
 pub record IsVerifiedResponse (octets : List ℕ) : Type 0 where
   pub answer : AnswerKept
   pub answered : IsAnswered answer
   pub response : octets ≡ answer.reply.response
 
--- What taking a request leaves in the datagram: what is to be sent to the client, or what was there.
+-- The datagram after a request was taken: the response for the client if the request repeats an answered one, and
+-- otherwise unchanged.
 abbrev pub Returns : Result Taken Refusal → Datagrams → Type 0
 Returns (Ok (Again number)) d = IsVerifiedResponse d.after
 Returns (Ok (New number)) d = d.after ≡ d.before
 Returns (Ok (Waiting number)) d = d.after ≡ d.before
 Returns (Err refusal) d = d.after ≡ d.before
 
--- A lawful book of this number, whose home server has this secret, does this in one step, and is lawful after it.
+-- One step of a lawful book, with this lane's number and this home server's secret, has this action and these
+-- datagrams, and the book is lawful after it.
 pub record StepsFor (lane : ℕ) (secret : List ℕ) (moment : ℕ) (random : List ℕ) (action : Action) (d : Datagrams) : Type 0 where
   pub old : Book
   pub new : Book
@@ -67,12 +69,12 @@ pub record StepsFor (lane : ℕ) (secret : List ℕ) (moment : ℕ) (random : Li
   pub is_of : IsOf old.setup lane secret
   pub steps : Steps old moment random action d new
 
--- It does so, and then holds so many requests.
+-- Such a step, after which the book holds `held` requests.
 pub record StepsHolding (lane : ℕ) (secret : List ℕ) (moment : ℕ) (random : List ℕ) (action : Action) (held : ℕ) (d : Datagrams) : Type 0 where
   pub steps : StepsFor lane secret moment random action d
   pub counted : held ≡ length steps.new.accepted
 
--- A lawful book to which a request leads answers it like this, and is lawful after it.
+-- A lawful book to which the request leads has this result and these datagrams for it, and is lawful after it.
 pub record AcceptsLawfully (request : Request) (moment : ℕ) (result : Result Taken Refusal) (d : Datagrams) : Type 0 where
   pub old : Book
   pub new : Book
@@ -81,7 +83,7 @@ pub record AcceptsLawfully (request : Request) (moment : ℕ) (result : Result T
   pub taken : IsTaken old request
   pub accepts : Accepts old request moment result d new
 
--- A fact about each answer but that the lane is a wrong one.
+-- The fact holds unless the result is `WrongLane`.
 abbrev pub UnlessWrongLane : Result Taken Refusal → Type 0 → Type 0
 UnlessWrongLane (Ok taken) fact = fact
 UnlessWrongLane (Err WrongLane) fact = ⊤

@@ -9,18 +9,18 @@ use Rattle.rad_desk.specs.declared.desk.Desk.{Desk}
 abbrev pub book : Desk → Book
 book desk = desk.lane
 
--- all responses that its ring was given, in order
+-- all responses that were added to its ring, in order
 abbrev pub given : Desk → List Outgoing
 given desk = sent desk.giver
 
--- how many free places of the ring its giving end has seen
+-- how many free places of the ring its sending end has seen
 abbrev pub free_places : Desk → ℕ
 free_places desk = known_free desk.giver
 
--- nothing changed at the giving end
+-- The sending end is unchanged.
 abbrev pub SameOutlet : Desk → Desk → Type 0
 SameOutlet old new = new.giver ≡ old.giver
 
--- it is the giving end of the same ring
+-- It is the sending end of the same ring.
 abbrev pub SameRing : Desk → Desk → Type 0
 SameRing old new = SameProducer old.giver new.giver

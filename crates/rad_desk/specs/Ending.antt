@@ -1,4 +1,4 @@
--- What is told of the lanes at the end (own).
+-- The report of the lanes at the end (own).
 use Rattle.std.specs.Prelude.{◌≡◌, ℕ, ◌+◌, ◌<◌, List, ◌++◌, length, map as each, slice_get, All, Option, Some, None, ⊤}
 use Rattle.std.specs.List.{range_with_len, flat_map}
 use Rattle.std.specs.List.Sorted.{IsPermutation}
@@ -22,50 +22,51 @@ use Rattle.rad_desk.specs.Outlet.{Agrees}
 use Rattle.rad_desk.specs.Desk.{book}
 use Rattle.rad_desk.specs.Inlet.{lane_of, taken, Empties}
 
--- The responses have the serials from the first on.
+-- The serials of the responses are `first` and the numbers that follow it.
 abbrev pub GoOnFrom : ℕ → List Outgoing → Type 0
 GoOnFrom first responses = each (λ r. r.serial) responses ≡ range_with_len first (length responses)
 
--- The response of the answer's serial agrees with the answer, where it is among these.
+-- Each of the responses that has the answer's serial agrees with the answer.
 abbrev pub AgreesAmong : List Outgoing → AnswerKept → Type 0
 AgreesAmong responses answer = All (λ response. response.serial ≡ answer.serial → Agrees answer response) responses
 
--- After those that were taken come these, which are the last of so many that were answered, and agree with the
--- answers that are kept.
+-- `rest` follows the responses taken before: its serials continue from their number, both together are `served`
+-- responses, and each kept answer agrees with the response of its serial, if that is in `rest`.
 pub record IsTheRest (answered : List AnswerKept) (served : ℕ) (before rest : List Outgoing) : Type 0 where
   pub go_on : GoOnFrom (length before) rest
   pub all : length before + length rest ≡ served
   pub agree : All (AgreesAmong rest) answered
 
--- What a ring still has, as its inlet takes it at the end, is that rest.
+-- The inlet takes `rest` at the end, and that is the rest of the lane.
 abbrev pub IsKnown : List AnswerKept → ℕ → Inlet → List Outgoing → Type 0
 IsKnown answered served inlet rest = (after : Inlet) × Empties inlet rest after × IsTheRest answered served (taken inlet) rest
 
--- It is not.
+-- The inlet takes some responses at the end, and they are not the rest of the lane.
 abbrev pub IsNotKnown : List AnswerKept → ℕ → Inlet → Type 0
 IsNotKnown answered served inlet =
     (rest : List Outgoing) × (after : Inlet) × Empties inlet rest after × ¬ IsTheRest answered served (taken inlet) rest
 
--- What is told of the rest of a lane: known where the inlet is there and of this lane, and what it takes is that rest.
+-- What is reported of the rest of a lane. It is known if the inlet exists and is of this lane, and what it takes is the
+-- rest; otherwise it is unknown.
 abbrev pub TellsRest : ℕ → List AnswerKept → ℕ → Option Inlet → Rest → Type 0
 TellsRest lane answered served None (Known rest) = ⊥
 TellsRest lane answered served None Unknown = ⊤
 TellsRest lane answered served (Some inlet) (Known rest) = (lane_of inlet ≡ lane) × IsKnown answered served inlet rest
 TellsRest lane answered served (Some inlet) Unknown = lane_of inlet ≡ lane → IsNotKnown answered served inlet
 
--- An end accounts for each request: the counts tell the lengths, and each request that was accepted is outstanding,
--- answered or queued, once.
+-- An end accounts for each request: the counts equal the lengths (for accepted and answered after the opening is
+-- added), and each request that was accepted is outstanding, answered or queued, once.
 pub record Accounts (end : LaneEnd) (queued : List Recorded) : Type 0 where
   pub accepted : end.counts.accepted ≡ end.counts.opening + length end.accepted
   pub answered : end.counts.answered ≡ end.counts.opening + length end.answered
   pub outstanding : end.counts.outstanding ≡ map.len end.outstanding.entries
   pub queued_count : end.counts.queued ≡ length queued
-  -- those that were sent, and then those that are queued
+  -- first the requests that were sent, then those that are queued
   pub sent : List Stamp
   pub in_order : end.accepted ≡ sent ++ each (λ r. r.stamp) queued
   pub once : IsPermutation sent (each (λ e. e.request.stamp) (sendings_in end.outstanding.entries) ++ each (λ a. a.stamp) end.answered)
 
--- The end of a lane whose book was this, with this inlet.
+-- The end of a lane that had this book, with this inlet.
 pub record IsEnd (lane : ℕ) (book : Book) (inlet : Option Inlet) (end : LaneEnd) : Type 0 where
   pub lane_is : end.lane ≡ lane
   pub lawful : IsLawful book
@@ -78,7 +79,7 @@ pub record IsEnd (lane : ℕ) (book : Book) (inlet : Option Inlet) (end : LaneEn
   pub accounts : Accounts end book.queued
   pub rest : TellsRest lane book.answered book.served inlet end.rest
 
--- The end at a place is that of the desk at that place, with the inlet at that place, if there is one.
+-- The end at this place is that of the desk at the same place, with the inlet at that place, if there is one.
 pub record EndsAt (desks : List Desk) (inlets : List Inlet) (ends : List LaneEnd) (lane : ℕ) : Type 0 where
   pub desk : Desk
   pub end : LaneEnd
@@ -86,13 +87,13 @@ pub record EndsAt (desks : List Desk) (inlets : List Inlet) (ends : List LaneEnd
   pub there : slice_get ends lane ≡ Some end
   pub is_end : IsEnd lane (book desk) (slice_get inlets lane) end
 
--- The report of these desks, with these inlets: an end for each, and their queues one after the other.
+-- The report of these desks, with these inlets: an end for each desk, and their queues joined in order.
 pub record IsReport (desks : List Desk) (inlets : List Inlet) (report : Report) : Type 0 where
   pub counted : length report.ends ≡ length desks
   pub ends : (lane : ℕ) → lane < length desks → EndsAt desks inlets report.ends lane
   pub queued : each (λ k. k.recorded) report.queued.items ≡ flat_map (λ d. (book d).queued) desks
 
--- The report of so many desks: whoever closes a proxy finds them behind its locks.
+-- The report of `lanes` desks: those that closing the proxy finds behind its locks.
 pub record IsReportOf (lanes : ℕ) (inlets : List Inlet) (report : Report) : Type 0 where
   pub desks : List Desk
   pub counted : length desks ≡ lanes

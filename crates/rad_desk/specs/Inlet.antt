@@ -23,7 +23,7 @@ pub record SameInlet (old new : Inlet) : Type 0 where
   pub lane : lane_of new ≡ lane_of old
   pub ring : SameConsumer old.taker new.taker
 
--- What the inlet takes is what the desk gives.
+-- The desk's sending end and the inlet's receiving end are of one ring.
 abbrev pub AreOfOneRing : Desk → Inlet → Type 0
 AreOfOneRing desk inlet = IsPair desk.giver inlet.taker
 
@@ -31,16 +31,16 @@ AreOfOneRing desk inlet = IsPair desk.giver inlet.taker
 abbrev pub places_of : Inlet → ℕ
 places_of inlet = consumer_capacity inlet.taker
 
--- Nothing was taken and nothing looked at.
+-- Nothing was taken, and the ring was not looked at.
 pub record IsUntouched (old new : Inlet) : Type 0 where
   pub lane : lane_of new ≡ lane_of old
   pub taker : new.taker ≡ old.taker
 
--- It has room for as many responses as its ring can hold.
+-- It has empty room for as many responses as its ring can hold.
 abbrev pub HasRoom : Inlet → Type 0
 HasRoom inlet = MatchOption inlet.room ⊥ (λ room. (room.items ≡ []) × (places_of inlet ≤ vec_capacity room))
 
--- It takes these responses, until it sees no other, or as many as the ring can hold.
+-- The inlet takes these responses. If they are fewer than the ring has places, it sees no other afterwards.
 pub record Empties (old : Inlet) (rest : List Outgoing) (new : Inlet) : Type 0 where
   pub took : taken new ≡ taken old ++ rest
   pub all : length rest < places_of old → seen new ≡ []

@@ -1,4 +1,4 @@
--- What counts tell of a lane behind a lock (own): they are those of a book that is lawful.
+-- What the counts of a lane behind a lock are (own): those of a lawful book.
 use Rattle.std.specs.Prelude.{◌≡◌}
 use Rattle.rad_lane.specs.declared.counts.Counts.{Counts}
 use Rattle.rad_lane.specs.Book.{Book}

@@ -1,4 +1,4 @@
--- What the front does (own), as its wire sees it: one part after the other, each of which sends nothing, or answers the
+-- What the front does (own), as its wire sees it. It is a sequence of parts. Each part sends nothing, or answers the
 -- datagram that came right before it, or sends what an inlet gave. What each inlet gave is sent once, in order.
 use Rattle.std.specs.Prelude.{◌≡◌, ◌+◌, ◌<◌, ◌==◌, ⊤, ℕ, List, [], ◌∷◌, ◌++◌, ◌⊎◌, length, All, cond, Ok}
 use Rattle.std.specs.List.{flat_map}
@@ -19,9 +19,9 @@ use Rattle.rad_desk.specs.Inlet.{taken, SameInlet}
 use Rattle.rad_desk.specs.Traffic.{Event, arrived, departed, told, endpoint}
 use Rattle.rad_desk.specs.Calls.{IsQuiet}
 
--- The octets answer a request once more (RFC 2866 section 4.2): a lawful book, asked for this very request at this moment, gave
--- them as the answer to its repeat. They are a response after a verified reply, have the request's Identifier, and are right for
--- its Authenticator, under the client's secret.
+-- The octets answer a request again (RFC 2866 section 4.2). A lawful book gave them as the answer to this request, a
+-- repeat, at this moment. They are a response after a verified reply, have the request's Identifier, and are valid for
+-- its Authenticator under the client's secret.
 pub record AnswersAgain (request : Checked) (moment : ℕ) (octets : List ℕ) : Type 0 where
   pub number : ℕ
   pub before : List ℕ
@@ -30,33 +30,35 @@ pub record AnswersAgain (request : Checked) (moment : ℕ) (octets : List ℕ) :
   pub identifier : identifier_of octets ≡ identifier_of request.text
   pub right : IsRightResponse request.secret (authenticator_of request.text) octets
 
--- They answer a datagram that was taken at this moment: a request that is answered once more, or a Status-Server (RFC 5997
--- section 4.2).
+-- The octets answer a datagram that was handled at this moment: a request that is answered again, or a Status-Server
+-- (RFC 5997 section 4.2).
 abbrev pub IsAnswerTo : Incoming → ℕ → List ℕ → Type 0
 IsAnswerTo (incoming.Request r) moment octets = AnswersAgain r moment octets
 IsAnswerTo (incoming.Status s) moment octets = octets ≡ accounting_response (identifier_of s.text) (authenticator_of s.text) [] s.secret
 
--- A packet has the Identifier of the request that it answers, and is right for that under the client's secret.
+-- The packet has the Identifier of the request that it answers, and is valid for the request's Authenticator under the
+-- client's secret. Of a Status-Server this says nothing.
 abbrev pub Fits : Incoming → List ℕ → Type 0
 Fits (incoming.Request r) octets =
     (identifier_of octets ≡ identifier_of r.text) × IsRightResponse r.secret (authenticator_of r.text) octets
 Fits (incoming.Status s) octets = ⊤
 
--- A datagram from there is a right one of a client of this configuration, and the octets answer it.
+-- The datagram from this address and port is a valid one of a client of this configuration, and the octets answer it.
 pub record AnswersWhatCame (config : Configuration) (from : Endpoint) (question : List ℕ) (moment : ℕ) (octets : List ℕ) : Type 0 where
   pub incoming : Incoming
   pub right : Takes config from.address from.port question incoming
   pub answers : IsAnswerTo incoming moment octets
 
--- A part of the work: one in which these events passed and nothing was sent; one in which a datagram came to a socket, from
--- there, the wire told a moment, and these octets went back; or one in which the response went that the inlet at a place gave.
+-- A part of the work: `quiet`, in which these events passed and nothing was sent; `back`, in which a datagram was
+-- received on a socket, from this address and port, the moment was read, and these octets were sent back; or `given`,
+-- in which the response was sent that the inlet at this place gave.
 pub data Part : Type 0 where
   quiet : List Event → Part
   back : ℕ → Endpoint → List ℕ → ℕ → List ℕ → Delivery → Part
   given : ℕ → Outgoing → Delivery → Part
 
--- An answer goes back from the socket that its question came to, to where that came from. A response goes from the first socket,
--- to its client and port.
+-- An answer is sent back from the socket that received the question, to the address and port that the question came
+-- from. A response is sent from the first socket, to its client and port.
 abbrev pub events_of : Part → List Event
 events_of (quiet events) = events
 events_of (back socket from question moment octets delivery) =
@@ -64,7 +66,7 @@ events_of (back socket from question moment octets delivery) =
 events_of (given place outgoing delivery) =
     departed 0 (endpoint outgoing.client outgoing.port) outgoing.reply.response delivery ∷ []
 
--- What a turn takes in: nothing is sent, or an answer goes back.
+-- A datagram was received, the moment was read, and an answer to the datagram was sent back.
 pub record GoesBack (config : Configuration) (events : List Event) : Type 0 where
   pub socket : ℕ
   pub from : Endpoint
@@ -78,8 +80,8 @@ pub record GoesBack (config : Configuration) (events : List Event) : Type 0 wher
 abbrev pub SendsBack : Configuration → List Event → Type 0
 SendsBack config events = IsQuiet events ⊎ GoesBack config events
 
--- What serving a datagram does that came to a socket, from there: nothing is sent, or the wire tells the moment, and what then
--- answers it goes back.
+-- The moment was read, and what then answers the datagram was sent back, from the socket that received it, to the
+-- address and port that it came from.
 pub record AnswerGoes (socket : ℕ) (from : Endpoint) (asked : Incoming) (events : List Event) : Type 0 where
   pub moment : ℕ
   pub octets : List ℕ
@@ -90,7 +92,7 @@ pub record AnswerGoes (socket : ℕ) (from : Endpoint) (asked : Incoming) (event
 abbrev pub SendsAnAnswer : ℕ → Endpoint → Incoming → List Event → Type 0
 SendsAnAnswer socket from asked events = IsQuiet events ⊎ AnswerGoes socket from asked events
 
--- What a look at an inlet does: it gives nothing and nothing passes, or its response goes out.
+-- The inlet gave one response, and that was sent, and nothing else passed.
 pub record HandsOne (old new : Inlet) (events : List Event) : Type 0 where
   pub outgoing : Outgoing
   pub delivery : Delivery
@@ -100,7 +102,8 @@ pub record HandsOne (old new : Inlet) (events : List Event) : Type 0 where
 abbrev pub Hands : Inlet → Inlet → List Event → Type 0
 Hands old new events = SameInlet old new × (((taken new ≡ taken old) × (events ≡ [])) ⊎ HandsOne old new events)
 
--- Of so many inlets one gave it.
+-- What a valid part is: nothing was sent; or the octets answer what came; or the response is of one of the `inlets`
+-- inlets.
 abbrev pub IsRight : Configuration → ℕ → Part → Type 0
 IsRight config inlets (quiet events) = IsQuiet events
 IsRight config inlets (back socket from question moment octets delivery) = AnswersWhatCame config from question moment octets
@@ -115,7 +118,8 @@ given_in place (given other outgoing delivery) = cond (other == place) (outgoing
 abbrev pub given_by : ℕ → List Part → List Outgoing
 given_by place parts = flat_map (given_in place) parts
 
--- Each inlet, from this place on, is that of the same ring and lane, and took what it gave, each once, in order.
+-- Each inlet, from this place on, is still that of the same ring and lane, and took what the parts have of its place,
+-- each once, in order.
 abbrev pub EachGave : List Part → ℕ → List Inlet → List Inlet → Type 0
 EachGave parts place [] [] = ⊤
 EachGave parts place (a ∷ then) (b ∷ now) =

@@ -1,4 +1,4 @@
--- The outlet of a lane (own): the responses that its ring was given, beside the book of the lane.
+-- The outlet of a lane (own): the responses that were added to its ring, beside the book of the lane.
 use Rattle.std.specs.Prelude.{◌≡◌, ℕ, ◌+◌, List, length, map as each, slice_get, All, Option, Some, None, MatchOption}
 use Rattle.std.specs.List.{range_with_len}
 use Rattle.rad_lane.specs.declared.outgoing.Outgoing.{Outgoing}
@@ -9,13 +9,13 @@ use Rattle.rad_lane.specs.Book.{Book}
 abbrev pub InOrder : List Outgoing → Type 0
 InOrder responses = each (λ r. r.serial) responses ≡ range_with_len 0 (length responses)
 
--- How many responses there are up to the last one of this serial, which begin at 0.
+-- How many responses there are up to the one of this serial, counted from serial 0. Without a serial there are none.
 abbrev pub count_to : Option ℕ → ℕ
 count_to None = 0
 count_to (Some serial) = serial + 1
 
--- A response agrees with an answer that is kept: it goes to the same client and port, under the identifier of the same
--- request, and it is the same response, after the same reply to the same sending.
+-- A response agrees with a kept answer: it goes to the same client and port, under the same request's Identifier, and
+-- it is the same response, after the same reply to the same sending.
 pub record Agrees (answer : AnswerKept) (outgoing : Outgoing) : Type 0 where
   pub client : outgoing.client ≡ answer.stamp.client
   pub port : outgoing.port ≡ answer.stamp.port
@@ -24,13 +24,13 @@ pub record Agrees (answer : AnswerKept) (outgoing : Outgoing) : Type 0 where
   pub reply : outgoing.reply.reply ≡ answer.reply.reply
   pub response : outgoing.reply.response ≡ answer.reply.response
 
--- The response at the place of the answer's serial is there, and agrees with the answer.
+-- There is a response at the place of the answer's serial, and it agrees with the answer.
 abbrev pub AgreesAtItsSerial : List Outgoing → AnswerKept → Type 0
 AgreesAtItsSerial given answer = MatchOption (slice_get given answer.serial) ⊥ (λ response. Agrees answer response)
 
 pub record IsOutlet (book : Book) (given : List Outgoing) : Type 0 where
-  -- Each answer that was served was given, in order.
+  -- Each answer that was served was added, in order.
   pub served : length given ≡ book.served
   pub in_order : InOrder given
-  -- Each answer that is kept is the one that was given.
+  -- Each kept answer is the response that was added.
   pub agree : All (AgreesAtItsSerial given) book.answered

@@ -1,4 +1,4 @@
--- What a proxy that could not be closed hands back (own): itself and the inlets, with what they had taken.
+-- What a proxy that could not be closed returns (own): itself and the inlets, with what they had taken.
 use Rattle.std.specs.Prelude.{◌≡◌, ℕ, ◌<◌, List, length, slice_index_or}
 use Rattle.rad_desk.specs.declared.inlet.Inlet.{Inlet}
 use Rattle.rad_desk.specs.declared.closing.CloseFault.{CloseFault}

@@ -1,4 +1,4 @@
--- What is told of the request by which a lane goes down (own).
+-- What is reported of the request that marks a home server down (own).
 use Rattle.std.specs.Prelude.{◌≡◌, ℕ, ◌-◌, take, option_map}
 use Rattle.rad_lane.specs.Session.{session_id}
 use Rattle.rad_lane.specs.Outstanding.{Outstanding}
@@ -6,7 +6,8 @@ use Rattle.rad_lane.specs.Book.{Book}
 use Rattle.rad_lane.specs.Dues.{IsFirstSpent}
 use Rattle.rad_desk.specs.declared.spent.Spent.{Spent}
 
--- What is told of a sending at a moment: its number, the client's end, its session and how long ago it was accepted.
+-- What is reported of a sending at a moment: its number, its client's address and port, its session and how long ago it
+-- was accepted.
 abbrev pub spent_of : Outstanding → ℕ → Spent
 spent_of entry moment = record {
   number = entry.request.stamp.number;
@@ -15,6 +16,6 @@ spent_of entry moment = record {
   age = moment - entry.request.stamp.moment;
 }
 
--- This is told of the sending that is spent and is due first.
+-- This is reported of the spent sending with the earliest due time; ties go to the lowest number.
 abbrev pub TellsSpent : Book → ℕ → Spent → Type 0
 TellsSpent book moment spent = (entry : Outstanding) × IsFirstSpent book entry × (spent ≡ spent_of entry moment)

@@ -1,11 +1,12 @@
--- How a lane stands, by its book (own).
+-- The standing of a lane, by its book (own).
 use Rattle.std.specs.Prelude.{◌≡◌, ◌-◌, length, slice_get, option_map}
 use Rattle.rad_lane.specs.Book.{Book}
 use Rattle.rad_lane.specs.Counting.{counts_of}
 use Rattle.rad_lane.specs.Lawful.{IsLawful}
 use Rattle.rad_desk.specs.declared.standing.Standing.{Standing}
 
--- How much it has, and when the first of the queue, the first of the book and the last answer came.
+-- The counts, and the moments of the first request of the queue, of the first request of the book and of the last
+-- answer.
 abbrev pub standing_of : Book → Standing
 standing_of book = record {
   counts = counts_of book;
@@ -14,7 +15,7 @@ standing_of book = record {
   last_answered = option_map (λ a. a.moment) (slice_get book.answered (length book.answered - 1));
 }
 
--- What is told through a lock: how a lane stands whose book is lawful.
+-- What is returned through a lock: the standing of a lane whose book is lawful.
 pub record StandsLawfully (standing : Standing) : Type 0 where
   pub book : Book
   pub lawful : IsLawful book

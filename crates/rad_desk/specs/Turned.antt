@@ -1,4 +1,4 @@
--- What a turn through a lock tells (own): it is one of a book that is lawful.
+-- What a turn through a lock states (own): it is a turn of a lawful book.
 use Rattle.std.specs.Prelude.{ℕ, Result}
 use Rattle.rad_lane.specs.declared.turning.Volume.{Volume}
 use Rattle.rad_lane.specs.declared.turning.TurnFault.{TurnFault}

@@ -1,12 +1,12 @@
-//! Whether a response is the one that an answer keeps.
+//! The comparison of a response with a kept answer.
 
 ghost use Rattle.std.specs.Prelude.{◌↔◌, IsTrue};
 ghost use Rattle.rad_desk.specs.Outlet.{Agrees};
 
 use rad_lane::{Answered, Outgoing};
 
-/// Whether a response agrees with an answer that is kept: in the client's address and port, the identifier, and
-/// the octets of the sending, the reply and the response. It compares all octets.
+/// Returns whether a response agrees with a kept answer: in the client's address and port, the Identifier, and the
+/// octets of the sending, the reply and the response. It compares all octets.
 pub fn agrees(answer: &Answered, outgoing: &Outgoing) -> bool
     ensures { IsTrue result ↔ Agrees answer.now outgoing.now }
 {

@@ -18,11 +18,11 @@ use std::sync::Mutex;
 /// Why a proxy is not closed.
 #[derive(Drop)]
 pub enum CloseFault {
-    /// Memory was refused. Here are the proxy and the inlets.
+    /// Memory was refused. It returns the proxy and the inlets.
     OutOfMemory(Proxy, Series<Inlet>),
 }
 
-/// The room that it takes to close a proxy, beside that of its inlets.
+/// The room that closing a proxy needs, besides that of its inlets.
 #[derive(Drop)]
 struct Room {
     desks: Vec<Desk>,
@@ -30,12 +30,12 @@ struct Room {
 }
 
 impl Proxy {
-    /// Ends all lanes, and gives what is left of each: what its book holds, and what its ring still has, which the
-    /// inlet at its place takes. Surplus inlets are dropped. All room is made first.
+    /// Ends all lanes, and returns what is left of each: what its book holds, and what its ring still holds, which the
+    /// inlet at the same place takes. Surplus inlets are dropped. All room is allocated first.
     ///
     /// # Errors
     ///
-    /// Where memory is refused: the lanes and what the inlets took stay.
+    /// `OutOfMemory` if memory is refused. The lanes, and what the inlets took, are unchanged.
     pub fn close(self, alloc: Global, inlets: Vec<Inlet>) -> Result<Report, CloseFault>
         ensures closed { IfOk result (IsReportOf self inlets.items) }
         ensures refused { IfErr result (HandsBack self inlets.items) }
@@ -51,7 +51,7 @@ impl Proxy {
     }
 }
 
-/// Makes room for so many lanes, and in each inlet.
+/// Allocates the room for `lanes` lanes, and that of each inlet.
 fn make_room(alloc: Global, lanes: usize, inlets: &mut [Inlet]) -> Result<Room, AllocError>
     ensures untouched { AreUntouched inlets.old inlets.new }
     ensures rooms { OnOk result (All HasRoom inlets.new) }
@@ -66,7 +66,7 @@ fn make_room(alloc: Global, lanes: usize, inlets: &mut [Inlet]) -> Result<Room, 
     Ok(Room { desks, ends })
 }
 
-/// Takes the desks out of their locks, into a vector with room for them.
+/// Moves the desks out of their locks, into a vector that has room for them.
 fn unlock(locks: Vec<Mutex<Desk>>, desks: Vec<Desk>) -> Vec<Desk>
     requires none { desks.items ≡ [] }
     requires room { vec_len locks ≤ vec_capacity desks }

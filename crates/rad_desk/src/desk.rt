@@ -1,4 +1,4 @@
-//! A lane with the giving end of its ring.
+//! A lane with the sending end of its ring.
 
 ghost use Rattle.std.specs.Prelude.{◌≤◌};
 ghost use Rattle.std.proofs.Props.{props};
@@ -12,25 +12,25 @@ use rad_lane::{Lane, Leftover, Outgoing, Record, Setup};
 use rtrb::{Producer, RingBuffer};
 use std::alloc::Global;
 
-/// The queue of a lane behind its lock.
+/// The queue of a desk's lane.
 pub type RecordQueue = BlockQueue<Record>;
 
-/// Why there is no desk.
+/// Why no desk is made.
 #[derive(Clone, Copy, Debug, PartialEq, Eq)]
 pub enum OpenFault {
     /// Memory was refused.
     OutOfMemory,
 }
 
-/// A lane and the giving end of its ring.
+/// A lane and the sending end of its ring.
 ///
-/// Its type keeps that the ring was given each response that the lane served, in order of answering, and that
-/// each answer kept is the response that was given under its serial; and that the lane's queue has a bound, so that
-/// the queues of all lanes can be joined.
+/// Its type guarantees that each response that the lane served was added to the ring, in order of answering; that each
+/// kept answer is the response that was added under its serial; and that the lane's queue has a bound, so that the
+/// queues of all lanes can be joined.
 #[derive(Drop)]
 pub struct Desk {
     pub(crate) lane: Lane<RecordQueue>,
-    /// The end of the ring into which responses go.
+    /// The end of the ring to which responses are added.
     pub(crate) giver: Producer<Outgoing, Global, Numbered>,
     ghost outlet: { IsOutlet lane (sent giver) } by { Prim.hlevel props },
     ghost bounded: { lane.setup.limits.queue ≤ 65536 },
@@ -44,11 +44,12 @@ impl Desk {
     ghost use Rattle.rad_desk.specs.Desk.{book, given, free_places, SameRing};
     ghost use Rattle.rad_desk.specs.Inlet.{lane_of, taken, seen, AreOfOneRing, SameInlet};
 
-    /// An empty lane over this setup, with a ring of as many places as its limits say, and the inlet of that ring.
+    /// Makes an empty lane over this setup, with a ring of as many places as its limits say, and the inlet of that
+    /// ring.
     ///
     /// # Errors
     ///
-    /// Where memory is refused. The setup is dropped.
+    /// `OutOfMemory` if memory is refused. The setup is dropped.
     pub fn pair(alloc: Global, setup: Setup) -> Result<(Desk, Inlet), OpenFault>
         ensures book { IfOk result (λ pair. book pair.0 ≡ empty_book setup) }
         ensures given { IfOk result (λ pair. given pair.0 ≡ []) }
@@ -68,8 +69,8 @@ impl Desk {
         Ok((Desk { lane, giver }, Inlet::new(number, taker)))
     }
 
-    /// How many responses wait in the ring, for whoever has both its ends: what its inlet took, followed by these,
-    /// is all that the ring was given.
+    /// Returns how many responses wait in the ring, for a caller that has both of its ends. What the inlet took,
+    /// followed by these responses, is everything that was added to the ring.
     pub fn waiting(&mut self, inlet: &mut Inlet) -> usize
         requires { AreOfOneRing self.old inlet.old }
         ensures value { result ≡ length (seen inlet.new) }
@@ -83,7 +84,7 @@ impl Desk {
         inlet.taker.slots_beside(&mut self.giver)
     }
 
-    /// Ends the lane, and gives what its book holds. The giving end of its ring goes.
+    /// Ends the lane, drops the sending end of its ring, and returns what its book holds.
     pub(crate) fn close(self) -> Leftover<RecordQueue>
         ensures leaves { Leaves (book self) result }
         ensures lawful { IsLawful (book self) }

@@ -1,4 +1,4 @@
-//! The end of lanes whose desks and inlets are at hand.
+//! The end of the lanes, from their desks and inlets.
 
 ghost use Rattle.std.specs.Prelude.{◌≡◌, ◌≤◌, ◌↔◌, ℕ, [], length, map as each, All, IsTrue};
 ghost use Rattle.std.specs.Option.{ForSome};
@@ -15,8 +15,8 @@ use block_queue::Fifo;
 use rad_lane::{Answered, Outgoing, Series};
 use std::alloc::Global;
 
-/// What is left of all lanes: of each desk, with the inlet at its place, if there is one. The other inlets are
-/// dropped. It takes no memory.
+/// Returns what is left of all lanes: of each desk, with the inlet at the same place, if there is one. The other inlets
+/// are dropped. It allocates nothing.
 pub(crate) fn end_all(
     alloc: Global,
     desks: Vec<Desk>,
@@ -44,7 +44,7 @@ pub(crate) fn end_all(
     }
 }
 
-/// What is left of a lane, and the records that it never sent.
+/// Returns what is left of a lane, and the records that it never sent.
 fn end_of(lane: u16, desk: Desk, inlet: Option<Inlet>) -> (LaneEnd, RecordQueue)
     requires { ForSome inlet HasRoom }
     ensures end { IsEnd lane (book desk) inlet result.0 }
@@ -65,7 +65,7 @@ fn end_of(lane: u16, desk: Desk, inlet: Option<Inlet>) -> (LaneEnd, RecordQueue)
     (end, parts.queued)
 }
 
-/// What is told of the rest of a lane that has these answers, of so many.
+/// Returns the rest of a lane that has these kept answers and gave `served` answers in all.
 fn rest_of(lane: u16, answered: &[Answered], served: u64, inlet: Option<Inlet>) -> Rest
     requires { ForSome inlet HasRoom }
     ensures { TellsRest lane answered.now served inlet result }
@@ -84,8 +84,8 @@ fn rest_of(lane: u16, answered: &[Answered], served: u64, inlet: Option<Inlet>) 
     }
 }
 
-/// Whether each answer agrees with the response of its serial, where that is among these, whose serials go on from
-/// some first one.
+/// Returns whether each answer agrees with the response of its serial, if that is in `rest`, whose serials continue
+/// from its first one.
 fn agree(answered: &[Answered], rest: &[Outgoing]) -> bool
     requires { (first : ℕ) × GoOnFrom first rest.now }
     ensures { IsTrue result ↔ All (AgreesAmong rest.now) answered.now }
@@ -101,8 +101,8 @@ fn agree(answered: &[Answered], rest: &[Outgoing]) -> bool
     true
 }
 
-/// Whether an answer agrees with the response of its serial, where that is among these, whose serials go on from the
-/// first.
+/// Returns whether an answer agrees with the response of its serial, if that is in `rest`, whose serials continue from
+/// `first`.
 fn agrees_among(answer: &Answered, first: u64, rest: &[Outgoing]) -> bool
     requires { GoOnFrom first rest.now }
     ensures { IsTrue result ↔ AgreesAmong rest.now answer.now }

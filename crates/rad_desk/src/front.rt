@@ -19,14 +19,14 @@ use rad_realms::{Config, Dropped, Endpoint, Incoming, check_in};
 use std::alloc::Global;
 use std::sync::Wait;
 
-/// The socket on which the clients' datagrams are received.
+/// The index of the front's first socket. The responses of the inlets are sent from it.
 const LISTEN: u16 = 0;
 
-/// Works for the clients: so many turns at most, or until the gate stops it. In each turn it receives once and, where
-/// that is a request, has its lane take it, or where it is a Status-Server, answers it; a repeat of an answered
-/// request is answered again. Then it takes from each inlet once at most, and sends what it took.
+/// Serves the clients for at most `turns` turns, or until the gate stops the worker. In each turn it receives once. It
+/// passes a request to its lane, and answers a Status-Server; to a repeat of an answered request it sends the response
+/// again. Then it takes at most one response from each inlet, and sends it.
 ///
-/// A send that fails is a datagram lost, and a receive that fails ends nothing.
+/// If a send fails, that datagram is lost. A failed receive does not end the worker.
 pub fn front_worker<W: Wire, G: Gate>(
     rt: &impl Wait,
     alloc: Global,
@@ -62,8 +62,8 @@ pub fn front_worker<W: Wire, G: Gate>(
     shift.tally
 }
 
-/// Takes one turn: what an inlet gives in it goes out before it ends, also where the gate stops the worker. It answers whether
-/// the worker goes on.
+/// Does one turn, and returns whether the worker goes on. A response that an inlet gives in the turn is sent before the
+/// turn ends, even if the gate stops the worker.
 fn take_turn<W: Wire, G: Gate>(
     rt: &impl Wait,
     alloc: Global,
@@ -84,7 +84,7 @@ fn take_turn<W: Wire, G: Gate>(
     hand_out(inlets, wire, shift)
 }
 
-/// Receives once, and does what is to be done with what came. It answers whether the worker goes on.
+/// Receives once, handles what was received, and returns whether the worker goes on.
 fn take_in<W: Wire, G: Gate>(
     rt: &impl Wait,
     alloc: Global,
@@ -121,7 +121,7 @@ fn take_in<W: Wire, G: Gate>(
     }
 }
 
-/// Tells that a datagram is dropped, and of a packet that its realm leads to no lane where that is why.
+/// Reports that a datagram is dropped; before that, of a packet whose realm leads to no lane, the packet itself.
 fn tell_dropped<G: Gate>(shift: &Shift<'_, G>, reason: Dropped, octets: &[u8]) {
     if reason == Dropped::NoRealm {
         shift.gate.no_realm(octets);
@@ -129,7 +129,7 @@ fn tell_dropped<G: Gate>(shift: &Shift<'_, G>, reason: Dropped, octets: &[u8]) {
     shift.note(Note::Dropped(reason));
 }
 
-/// Tells of a request that it has Proxy-States as this proxy adds them, where it has some.
+/// Reports how many Proxy-States of this proxy's form a request has, if it has any.
 fn tell_marks<G: Gate>(shift: &Shift<'_, G>, incoming: &Incoming<'_>, from: Endpoint) {
     if let Incoming::Request(request) = incoming {
         let marks = count_marks(request.packet());
@@ -139,7 +139,7 @@ fn tell_marks<G: Gate>(shift: &Shift<'_, G>, incoming: &Incoming<'_>, from: Endp
     }
 }
 
-/// Has a lane take a request, or answers a Status-Server. It answers whether the worker goes on.
+/// Passes a request to its lane or answers a Status-Server, and returns whether the worker goes on.
 fn serve<W: Wire, G: Gate>(
     rt: &impl Wait,
     alloc: Global,
@@ -179,8 +179,8 @@ fn serve<W: Wire, G: Gate>(
     true
 }
 
-/// Whether a packet has the Identifier of the request that it is to answer, and is right for that by its Response Authenticator,
-/// under the client's secret (RFC 2866 section 4.2). It is asked of no Status-Server.
+/// Returns whether a packet has the Identifier of the request that it is to answer, and a Response Authenticator that
+/// is valid for that request under the client's secret (RFC 2866 section 4.2). It is not called for a Status-Server.
 fn fits(incoming: &Incoming<'_>, datagram: &Datagram) -> bool
     ensures { IsTrue result → Fits incoming.now datagram.now }
 {
@@ -195,7 +195,7 @@ fn fits(incoming: &Incoming<'_>, datagram: &Datagram) -> bool
     }
 }
 
-/// Takes from each inlet once at most, and sends what it took. It answers whether the worker goes on.
+/// Takes at most one response from each inlet, sends it, and returns whether the worker goes on.
 fn hand_out<W: Wire, G: Gate>(inlets: &mut [Inlet], wire: &mut W, shift: &mut Shift<'_, G>) -> bool
     ensures works { (config : Configuration) → Passes (WorksInFront config inlets.old inlets.new) (W.log wire.old) (W.log wire.new) }
     ensures turns { shift.new.tally.turns ≡ shift.old.tally.turns }
@@ -209,7 +209,7 @@ fn hand_out<W: Wire, G: Gate>(inlets: &mut [Inlet], wire: &mut W, shift: &mut Sh
     true
 }
 
-/// Takes a response where one is there, and sends it.
+/// Takes a response, if there is one, and sends it.
 fn take<W: Wire, G: Gate>(inlet: &mut Inlet, wire: &mut W, shift: &mut Shift<'_, G>)
     ensures hands { Passes (Hands inlet.old inlet.new) (W.log wire.old) (W.log wire.new) }
     ensures turns { shift.new.tally.turns ≡ shift.old.tally.turns }

@@ -1,4 +1,4 @@
-//! What a worker asks before each call, and what it tells.
+//! The interface that a worker asks before each call, and to which it reports.
 
 use crate::{DeskFault, Spent, Standing};
 use rad_lane::Refusal;
@@ -6,7 +6,7 @@ use rad_realms::{Dropped, Endpoint};
 use rad_tables::{Moment, Slot};
 use std::io::Error;
 
-/// Who works.
+/// The worker that asks or reports.
 #[derive(Clone, Copy, Debug, PartialEq, Eq)]
 pub enum Worker {
     /// The worker of the clients' side.
@@ -15,31 +15,31 @@ pub enum Worker {
     Lane(u16),
 }
 
-/// What a worker is about to do.
+/// A call that a worker is about to make.
 #[derive(Clone, Copy, Debug, PartialEq, Eq)]
 pub enum Call {
-    /// Have a lane take a request.
+    /// Pass a request to its lane.
     Accept,
     /// Take a response from an inlet.
     Take,
-    /// Have a lane hear its home server.
+    /// Pass a home server's datagram to its lane.
     Hear,
-    /// Have a lane do what is next.
+    /// Make a lane do its next step.
     Step,
-    /// Have a lane cut off the requests that are done with.
+    /// Remove what is over from the front of a lane's book.
     Turn,
 }
 
 /// Whether a worker goes on.
 #[derive(Clone, Copy, Debug, PartialEq, Eq)]
 pub enum Go {
-    /// It makes the call.
+    /// The worker makes the call.
     On,
-    /// It makes no call any more, and ends.
+    /// The worker makes no further call, and ends.
     Stop,
 }
 
-/// What a worker tells.
+/// An event that a worker reports.
 #[derive(Clone, Copy, Debug, PartialEq, Eq)]
 pub enum Note {
     /// The datagram that the front received last was dropped, for this reason.
@@ -60,100 +60,107 @@ pub enum Note {
     ReceiveFault,
     /// A send failed. The datagram is lost.
     SendFault,
-    /// So many requests were cut off, all answered and past their span.
+    /// This number of requests was removed from the book, all of them over.
     Cut(u64),
 }
 
-/// By which evidence a home server is taken to be up again.
+/// Why a home server is marked up.
 #[derive(Clone, Copy, Debug, PartialEq, Eq)]
 pub enum UpReason {
     /// It answered a request.
     Answered,
     /// It answered the probe.
     ProbeAnswered,
-    /// By none: the time is over for which it is taken to be down.
+    /// The time for which it is marked down is over, without an answer from it.
     DownWaitOver,
 }
 
-/// What a repeat of a request meets.
+/// The state of the request that a repeat copies.
 #[derive(Clone, Copy, Debug, PartialEq, Eq)]
 pub enum Repeat {
-    /// The request waits for its answer.
+    /// The request is unanswered.
     Waiting,
-    /// The request was answered, less than a span ago.
+    /// The request was answered less than a span ago.
     Answered,
 }
 
-/// What a worker asks before each call, and tells. A gate has to answer [`Gate::before`] and [`Gate::after`]; it may leave out
-/// the rest.
+/// The interface that a worker asks for permission before each call, and to which it reports. An implementation must
+/// have [`Gate::before`] and [`Gate::after`]; it may leave out the rest.
 pub trait Gate {
-    /// Whether a worker goes on to a call.
+    /// Returns whether a worker goes on to a call.
     fn before(&self, worker: Worker, call: Call) -> Go;
 
     /// A worker made a call.
     fn after(&self, worker: Worker, call: Call);
 
-    /// A worker tells something.
+    /// A worker reports an event.
     fn note(&self, _worker: Worker, _note: Note) {}
 
-    /// A worker has received, or waited for a datagram in vain: what it does until it waits again is done at one time.
+    /// A receive of a worker returned, with a datagram or without one. All that the worker does until its next receive
+    /// counts as done at one time.
     fn woke(&self, _worker: Worker) {}
 
-    /// A worker received a datagram from there. A note of it, where one comes, is the worker's next.
+    /// A worker received a datagram from this address and port. If the datagram is noted, that is the worker's next
+    /// note.
     fn received(&self, _worker: Worker, _from: Endpoint, _octets: &[u8]) {}
 
-    /// A worker is about to send a datagram to there. A note that the send failed, where one comes, is the worker's next.
+    /// A worker is about to send a datagram to this address and port. If the send fails, that is the worker's next
+    /// note.
     fn sends(&self, _worker: Worker, _to: Endpoint, _octets: &[u8]) {}
 
-    /// A lane took a new request, as this number, so that its worker has something to send.
+    /// A lane accepted a new request under this number, so its worker has something to send.
     fn accepted(&self, _lane: u16, _number: u64) {}
 
-    /// The request that the front received last is a repeat, which meets this.
+    /// The request that the front received last is a repeat of a request in this state.
     fn repeated(&self, _repeat: Repeat) {}
 
-    /// Whether the worker of a lane is to tell how its lane stands.
+    /// Returns whether the worker of a lane is to report the lane's standing.
     fn asks(&self, _lane: u16) -> bool {
         false
     }
 
-    /// A lane stands like this at this moment, as its worker was to tell. All that it has sent was told before.
+    /// The standing of a lane at this moment, which its worker was to report. All that the lane has sent was reported
+    /// before.
     fn stands(&self, _lane: u16, _moment: Moment, _standing: Standing) {}
 
-    /// A lane's request of this number is about to be sent for the first time, under this pair of source port and Identifier.
+    /// A lane's request of this number is about to be sent for the first time, under this pair of source port and
+    /// Identifier.
     fn first_sent(&self, _lane: u16, _number: u64, _slot: Slot) {}
 
-    /// The request that is out under this pair is answered, by the response of this serial. That it went into the lane's ring is
-    /// told next.
+    /// The request that is outstanding under this pair is answered, by the response of this serial. The worker's next
+    /// report, [`Gate::answered`], is that the response was added to the lane's ring.
     fn replied(&self, _lane: u16, _serial: u64, _slot: Slot) {}
 
-    /// The response of this serial went into a lane's ring, so that the front has something to take.
+    /// The response of this serial was added to a lane's ring, so the front has something to take.
     fn answered(&self, _lane: u16, _serial: u64) {}
 
-    /// A lane's home server is marked down, as its worker noted right before, since this request has no answer. Where several
-    /// were sent as often as a round allows, it is the one that is due first, and at one due that of the least number.
+    /// A lane's home server is marked down, since this request is unanswered. The worker noted that right before. If
+    /// several requests are spent, it is the one with the earliest due time; ties go to the lowest number.
     fn went_down(&self, _lane: u16, _spent: &Spent) {}
 
-    /// A lane's home server is marked up, as its worker noted right before, for this reason. That an answer took it up no worker
-    /// can tell: it is known by [`Gate::answered`], from whoever saw that it was down.
+    /// A lane's home server is marked up, for this reason. The worker noted that right before. No worker can report
+    /// that an answer to a request marked it up: whoever saw that it was down learns that from [`Gate::answered`].
     fn went_up(&self, _lane: u16, _reason: UpReason) {}
 
-    /// The front is about to drop this packet of a client, since its realm leads to no lane. The note of it is its next.
+    /// The front is about to drop this packet of a client, since its realm leads to no lane. The front's next note is
+    /// that drop.
     fn no_realm(&self, _packet: &[u8]) {}
 
-    /// The front received a request from there that leads to this lane, and that has so many Proxy-States, at least one, as this
-    /// proxy adds them: it, or another one like it, sent the request before.
+    /// The front received, from this address and port, a request that leads to this lane and has this number of
+    /// Proxy-States of this proxy's form, at least one: this proxy, or another one like it, sent the request before.
     fn came_marked(&self, _lane: u16, _from: Endpoint, _marks: u64) {}
 
-    /// A socket of this worker is bound to this address and port. The system granted it a receive buffer of so many octets.
+    /// A socket of this worker is bound to this address and port. The system granted it a receive buffer of this many
+    /// octets.
     fn bound(&self, _worker: Worker, _at: Endpoint, _buffer: u32) {}
 
-    /// No socket can be had at this address and port, for this reason of the system's. The service ends.
+    /// No socket can be bound to this address and port, for this reason of the system's. The service ends.
     fn unbound(&self, _at: Endpoint, _error: &Error) {}
 
-    /// The addresses of this machine can't be read. A response leaves from whichever of them the system picks.
+    /// The addresses of this machine can't be read. A response is sent from whichever of them the system chooses.
     fn addresses_unread(&self, _error: &Error) {}
 
-    /// This machine has this address, and no socket is bound to it alone: what is asked there is answered from whichever address
-    /// the system picks.
+    /// This machine has this address, and no socket is bound to it alone. A datagram sent to it is answered from
+    /// whichever address the system chooses.
     fn address_unbound(&self, _address: [u8; 4]) {}
 }

@@ -1,4 +1,4 @@
-//! What a checked datagram of a NAS leads to: to the lane of its realm, or to an answer.
+//! What a checked datagram of a NAS leads to: it is passed to the lane of its realm, or answered.
 
 ghost use Rattle.rad_lane.specs.Datagrams.{Datagrams};
 ghost use Rattle.rad_desk.specs.Handling.{Handles};
@@ -12,21 +12,22 @@ use rad_tables::Moment;
 use std::alloc::Global;
 use std::sync::Wait;
 
-/// What a checked datagram of a NAS led to.
+/// The result of a checked datagram of a NAS.
 #[derive(Clone, Copy, Debug, PartialEq, Eq)]
 pub enum Handled {
-    /// It is an Accounting-Request, which this lane took like this.
+    /// It is an Accounting-Request. The lane of this number took it like this.
     Taken(u16, Taken),
-    /// It is a Status-Server, and what is written answers it.
+    /// It is a Status-Server. What is written answers it.
     Answered,
 }
 
-/// Gives a NAS's request to the lane of its realm, or answers its Status-Server. What answers the NAS is written: of a
-/// request, that is the response to a repeat of one that was answered less than a span ago, where the lane still has it.
+/// Passes a NAS's request to the lane of its realm, or answers its Status-Server. What is to be sent to the NAS is
+/// written to `written`. For a request, that is the response to a repeat of a request that was answered less than a
+/// span ago and that the lane still holds.
 ///
 /// # Errors
 ///
-/// Why the request's lane refuses it: nothing is written then.
+/// The reason for which the request's lane refuses it. Then nothing is written.
 pub fn handle(
     rt: &impl Wait,
     alloc: Global,

@@ -1,4 +1,4 @@
-//! Hearing the home server, where the ring has a place for what is answered.
+//! Hearing the home server, if the ring has a place for the response.
 
 ghost use Rattle.rad_desk.specs.Tells.{Tells};
 
@@ -11,18 +11,18 @@ use std::fmt;
 /// What a datagram from the home server was.
 #[derive(Clone, Copy, Debug, PartialEq, Eq)]
 pub enum Told {
-    /// The verified reply to a request. The response of this serial went into the ring.
+    /// A verified reply to a request. The response of this serial was added to the ring.
     Answer(u64),
-    /// The right answer to the probe.
+    /// The valid answer to the probe.
     ProbeAnswered,
 }
 
-/// Why a datagram from the home server is not heard. It is printed as `RingFull`, or as the lane's fault.
+/// Why a datagram from the home server is unheard. It is printed as `RingFull`, or as the lane's fault.
 #[derive(Clone, Copy, Debug, PartialEq, Eq)]
 pub enum DeskFault {
     /// The ring had no free place for a response. The datagram was not read.
     RingFull,
-    /// Why the lane did not hear it.
+    /// The lane did not hear it, for this reason.
     Lane(HearFault),
 }
 
@@ -41,12 +41,13 @@ impl fmt::Display for DeskFault {
 }
 
 impl Desk {
-    /// Hears a datagram that came to a source port from the home server, where the ring has a free place: what the
-    /// lane answers goes into the ring.
+    /// Passes a datagram that came to a source port from the home server to the lane, if the ring has a free place. The
+    /// response that the lane gives is added to the ring.
     ///
     /// # Errors
     ///
-    /// Where the ring is full or the lane does not hear the datagram. The lane and the responses given stay.
+    /// `RingFull` if the ring is full, and `Lane` if the lane does not hear the datagram. The lane and the responses
+    /// added are unchanged.
     pub fn hear(
         &mut self,
         alloc: Global,

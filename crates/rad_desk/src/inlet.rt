@@ -1,4 +1,4 @@
-//! The end of a ring from which responses are taken.
+//! The receiving end of a lane's ring.
 
 ghost use Rattle.std.specs.Prelude.{◌≡◌, length};
 ghost use Rattle.rtrb.specs.Ring.{received};
@@ -11,15 +11,15 @@ use std::alloc::{AllocError, Global};
 
 /// The end of a lane's ring from which the front takes responses.
 ///
-/// Its type keeps, whatever other threads do, that the responses taken have the serials 0, 1, 2 and so on.
+/// Its type guarantees, whatever other threads do, that the responses taken have the serials 0, 1, 2 and so on.
 #[derive(Drop)]
 pub struct Inlet {
-    /// The lane whose ring it is.
+    /// The number of the lane.
     lane: u16,
     pub(crate) taker: Consumer<Outgoing, Global, Numbered>,
     /// The serial of the response that was taken last.
     last: Option<u64>,
-    /// Where the responses that are left go at the end. It is made when it is needed.
+    /// The room for the responses that are left at the end. It is allocated when it is needed.
     room: Option<Vec<Outgoing>>,
     ghost in_order: { InOrder (received taker) },
     ghost counted: { length (received taker) ≡ count_to last },
@@ -31,7 +31,7 @@ impl Inlet {
     ghost use Rattle.rad_desk.specs.Outlet.{InOrder};
     ghost use Rattle.rad_desk.specs.Inlet.{lane_of, taken, seen, SameInlet, IsUntouched, HasRoom, Empties};
 
-    /// An inlet that took nothing yet.
+    /// Makes an inlet that has taken nothing yet.
     pub(crate) fn new(lane: u16, taker: Consumer<Outgoing, Global, Numbered>) -> Inlet
         requires { received taker ≡ [] }
         ensures lane { lane_of result ≡ lane }
@@ -45,14 +45,14 @@ impl Inlet {
         }
     }
 
-    /// The number of the lane.
+    /// Returns the number of the lane.
     pub fn lane(&self) -> u16
         ensures { result ≡ lane_of self.now }
     {
         self.lane
     }
 
-    /// Takes the next response, if one is there. It takes no lock and waits for nobody.
+    /// Takes the next response, if there is one. It takes no lock and waits for nothing.
     pub fn take(&mut self) -> Option<Outgoing>
         ensures some { IfSome result (λ response. taken self.new ≡ taken self.old ++ response ∷ []) }
         ensures none { IfNone result (taken self.new ≡ taken self.old) }
@@ -72,7 +72,7 @@ impl Inlet {
         }
     }
 
-    /// Whether it took so many responses.
+    /// Returns whether the inlet took exactly `count` responses.
     pub(crate) fn has_taken(&self, count: u64) -> bool
         ensures { IsTrue result ↔ (length (taken self.now) ≡ count) }
     {
@@ -82,11 +82,11 @@ impl Inlet {
         }
     }
 
-    /// Makes room for as many responses as its ring can hold.
+    /// Allocates room for as many responses as the ring can hold.
     ///
     /// # Errors
     ///
-    /// Where memory is refused.
+    /// `AllocError` if memory is refused.
     pub(crate) fn make_room(&mut self, alloc: Global) -> Result<(), AllocError>
         ensures untouched { IsUntouched self.old self.new }
         ensures room { OnOk result (HasRoom self.new) }
@@ -95,7 +95,7 @@ impl Inlet {
         Ok(())
     }
 
-    /// Takes all that is left, into the room that was made for it.
+    /// Takes all responses that are left, into the room that was allocated for them.
     pub(crate) fn empty(&mut self) -> Vec<Outgoing>
         requires { HasRoom self.old }
         ensures { Empties self.old result.items self.new }

@@ -1,4 +1,4 @@
-//! The calls of a desk's lane. Hearing alone, which stands apart, changes what the ring was given.
+//! The calls of a desk's lane. None of them adds to the ring; [`Desk::hear`], in a file of its own, does.
 
 ghost use Rattle.std.specs.Prelude.{◌≡◌, ◌↔◌, IsTrue, IsSome};
 ghost use Rattle.rad_lane.specs.Accepts.{Accepts, IsTaken};
@@ -21,25 +21,26 @@ use rad_tables::Moment;
 use std::alloc::Global;
 
 impl Desk {
-    /// Whether a request leads to the lane, by the lane's own realms. It looks at each of these.
+    /// Returns whether a request leads to the lane, by the lane's own realms. Its realm is compared with one of them,
+    /// or with each if the request was checked against another configuration than the one that set up the lane.
     pub fn takes(&self, request: &Checked<'_>) -> bool
         ensures { IsTrue result ↔ IsTaken (book self.now) request.now }
     {
         self.lane.takes(request)
     }
 
-    /// Whether it is the lane of this number, and its home server has this secret.
+    /// Returns whether the lane has this number and its home server this secret.
     pub(crate) fn is_of(&self, number: u16, secret: &Secret) -> bool
         ensures { IsTrue result ↔ IsOf (book self.now).setup number secret.now }
     {
         self.lane.is_of(number, secret)
     }
 
-    /// Takes a request that is the lane's, as the lane does.
+    /// Passes a request, which must lead to this lane, to the lane.
     ///
     /// # Errors
     ///
-    /// Why a new request is not taken. The desk and the datagram stay.
+    /// The reason for which a new request is refused. The desk and the datagram are unchanged.
     pub fn accept(
         &mut self,
         alloc: Global,
@@ -59,7 +60,7 @@ impl Desk {
         taken
     }
 
-    /// Does what the lane does by itself at this moment, one thing. The octets are a probe's Authenticator.
+    /// Does the lane's next step at this moment. `random` is the Authenticator of a probe.
     pub fn step(&mut self, moment: Moment, random: [u8; 16], datagram: &mut Datagram) -> Action
         ensures steps { Steps (book self.old) moment random result (record { before = datagram.old; after = datagram.new }) (book self.new) }
         ensures outlet { SameOutlet self.old self.new }
@@ -73,8 +74,8 @@ impl Desk {
         action
     }
 
-    /// Takes no request from now on. It answers how many had been accepted since the first when it was drained; a
-    /// second call changes nothing.
+    /// Drains the lane: it accepts no new request from now on. Returns how many requests the lane had accepted in all
+    /// when it was drained. A second call changes nothing.
     pub fn drain(&mut self) -> u64
         ensures drains { Drains (book self.old) result (book self.new) }
         ensures outlet { SameOutlet self.old self.new }
@@ -82,7 +83,7 @@ impl Desk {
         self.lane.drain()
     }
 
-    /// How much the lane has.
+    /// Returns the counts of the lane.
     pub fn counts(&self) -> Counts
         ensures counts { result ≡ counts_of (book self.now) }
         ensures lawful { IsLawful (book self.now) }
@@ -91,21 +92,21 @@ impl Desk {
         self.lane.counts()
     }
 
-    /// Whether the lane is drained.
+    /// Returns whether the lane is drained.
     pub fn is_draining(&self) -> bool
         ensures { IsTrue result ↔ IsSome (book self.now).drain }
     {
         self.lane.is_draining()
     }
 
-    /// Whether the lane is drained, and nothing waits to be sent or for its answer.
+    /// Returns whether the lane is drained, with nothing queued and nothing outstanding.
     pub fn is_done(&self) -> bool
         ensures { IsTrue result ↔ IsDone (book self.now) }
     {
         self.lane.is_done()
     }
 
-    /// The law that the lane's type keeps, for whoever calls it to use.
+    /// States the law that the lane's type guarantees, for a caller that uses it.
     pub(crate) fn keep_law(&self)
         ensures { IsLawful (book self.now) }
     {

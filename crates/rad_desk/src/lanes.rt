@@ -16,12 +16,14 @@ use rad_tables::{Moment, Slot};
 use std::alloc::Global;
 use std::sync::Wait;
 
-/// Works for a lane and its home server: so many turns at most, or until the gate stops it. In each turn it receives
-/// once and, where that came from the home server's address and port, has the lane hear it. Then the lane does one
-/// thing that is next, and what that gives is sent to the home server, from the socket of its source port. Where the lane is idle
-/// and holds half of the requests that its book may hold, it cuts off what is over.
+/// Serves a lane and its home server for at most `turns` turns, or until the gate stops the worker. In each turn it
+/// receives once, and passes the datagram to the lane if it came from the home server's address and port. Then the lane
+/// does one step, and what that gives is sent to the home server, from the socket of its source port. If the lane is
+/// idle and holds at least half of the requests that its book may hold, the longest prefix of its requests that are all
+/// over is removed from the book.
 ///
-/// A send that fails is a datagram lost, and the sending stands; a receive that fails ends nothing.
+/// If a send fails, that datagram is lost, and the sending remains outstanding. A failed receive does not end the
+/// worker.
 pub fn lane_worker<W: Wire, G: Gate>(
     rt: &impl Wait,
     alloc: Global,
@@ -60,7 +62,7 @@ pub fn lane_worker<W: Wire, G: Gate>(
     shift.tally
 }
 
-/// Where a home server is.
+/// Returns the address and port of a home server.
 fn endpoint_of(home: &Home) -> Endpoint
     ensures { result ≡ home.now.endpoint }
 {
@@ -70,7 +72,7 @@ fn endpoint_of(home: &Home) -> Endpoint
     }
 }
 
-/// Receives once, and has the lane hear what came from its home server. It answers whether the worker goes on.
+/// Receives once, passes what came from the home server to the lane, and returns whether the worker goes on.
 fn hear<W: Wire, G: Gate>(
     rt: &impl Wait,
     alloc: Global,
@@ -123,13 +125,13 @@ fn hear<W: Wire, G: Gate>(
     true
 }
 
-/// Tells that a request was answered, and under which pair it was out.
+/// Reports that a request was answered, and the pair under which it was outstanding.
 fn tell_answer<G: Gate>(lane: u16, serial: u64, slot: Slot, shift: &Shift<'_, G>) {
     shift.gate.replied(lane, serial, slot);
     shift.gate.answered(lane, serial);
 }
 
-/// Has the lane do what is next, and sends what that gives. It answers whether the worker goes on.
+/// Makes the lane do its next step, sends what that gives, and returns whether the worker goes on.
 fn step<W: Wire, G: Gate>(
     rt: &impl Wait,
     alloc: Global,
@@ -163,14 +165,14 @@ fn step<W: Wire, G: Gate>(
     true
 }
 
-/// Tells of a request that it is about to be sent for the first time, where that is what the lane did.
+/// Reports that a request is about to be sent for the first time, if that is the step.
 fn tell_first<G: Gate>(lane: u16, action: &Action, shift: &Shift<'_, G>) {
     if let Action::Sent(number, slot) = action {
         shift.gate.first_sent(lane, *number, *slot);
     }
 }
 
-/// Tells how the lane stands at this moment, where that is asked for.
+/// Reports the lane's standing at this moment, if the gate asks for it.
 fn tell_standing<G: Gate>(
     rt: &impl Wait,
     proxy: &Proxy,
@@ -185,7 +187,7 @@ fn tell_standing<G: Gate>(
     }
 }
 
-/// The source port from which an action sends, where it does.
+/// Returns the source port from which an action sends, if it sends.
 fn port_of(action: &Action) -> Option<u16>
     ensures { MatchOption result (slot_of action.now ≡ None) (λ port. IsPortOf action.now port) }
 {
@@ -195,8 +197,9 @@ fn port_of(action: &Action) -> Option<u16>
     }
 }
 
-/// Does what follows a step that sends nothing: tells that the home server is marked down or up, or has the lane, which is idle,
-/// cut off what is over where its book is half full. It answers whether the worker goes on.
+/// Follows up a step that sends nothing, and returns whether the worker goes on: it reports that the home server is
+/// marked down or up, or, if the lane is idle and its book is half full, removes what is over from the front of the
+/// book.
 fn follow<W: Wire, G: Gate>(
     rt: &impl Wait,
     alloc: Global,
@@ -222,7 +225,7 @@ fn follow<W: Wire, G: Gate>(
     true
 }
 
-/// Tells that the home server is marked down, and by which request.
+/// Reports that the home server is marked down, and the request that marked it down.
 fn tell_down<G: Gate>(rt: &impl Wait, proxy: &Proxy, lane: u16, now: Moment, shift: &Shift<'_, G>)
     requires { lane < proxy.now }
 {
@@ -232,14 +235,14 @@ fn tell_down<G: Gate>(rt: &impl Wait, proxy: &Proxy, lane: u16, now: Moment, shi
     }
 }
 
-/// Tells that the home server is marked up, and why.
+/// Reports that the home server is marked up, and why.
 fn tell_up<G: Gate>(lane: u16, reason: UpReason, shift: &Shift<'_, G>) {
     shift.note(Note::WentUp);
     shift.gate.went_up(lane, reason);
 }
 
-/// Sends a datagram to the home server, from the socket of a source port. One of a port that the home server does not
-/// have, as where it is another lane's, is not sent.
+/// Sends a datagram to the home server, from the socket of a source port. If the home server does not have that port,
+/// since the port is another lane's, for example, nothing is sent.
 fn send_home<W: Wire, G: Gate>(
     home: &Home,
     port: u16,
@@ -256,7 +259,7 @@ fn send_home<W: Wire, G: Gate>(
     }
 }
 
-/// Whether a book holds half of the requests that it may, or more.
+/// Returns whether a book holds at least half of the requests that it may hold.
 fn is_half_full(held: u64, book: u32) -> bool
     ensures { IsTrue result ↔ (book ≤ 2 * held) }
 {
@@ -264,7 +267,7 @@ fn is_half_full(held: u64, book: u32) -> bool
     held >= book || 2 * held >= book
 }
 
-/// Has the lane cut off what is over, and drops what was cut. It answers whether the worker goes on.
+/// Removes what is over from the front of the lane's book, drops it, and returns whether the worker goes on.
 fn cut<W: Wire, G: Gate>(
     rt: &impl Wait,
     alloc: Global,

@@ -1,5 +1,5 @@
-//! What the workers do once for each: the calls of what stands behind a lock, which have their whole contracts here, by
-//! `&mut self`; and what a checked datagram of a NAS leads to.
+//! What a worker does for one datagram or one step: the calls of [`Desk`], the value behind a lane's lock, which have
+//! their full contracts here, by `&mut self`; and [`handle`], which decides what a checked datagram of a NAS leads to.
 
 pub use crate::agreeing::agrees;
 pub use crate::desk::{Desk, RecordQueue};

@@ -1,15 +1,16 @@
-//! The lanes of all home servers, for many threads (own): each stands behind a lock of its own, together with the
-//! giving end of a ring, through which its responses go to the front in order of answering, each once.
+//! The lanes of all home servers, for many threads (own). Each lane is behind a lock of its own, together with the
+//! sending end of a ring. Its responses pass through the ring to the front, in order of answering, each once.
 //!
-//! [`open`] makes the [`Proxy`], which holds the lanes, and for each lane an [`Inlet`], from which the front takes
-//! responses without a lock. A contract can't say what a call found behind its lock. What the call does there is the
-//! contract of the same call of [`laws::Desk`], and the calls through the lock say what every lane's type implies.
+//! [`open`] makes the [`Proxy`], which holds the lanes, and an [`Inlet`] for each lane, from which the front takes
+//! responses without a lock. A contract can't say which state a call found behind its lock. What the call does there is
+//! the contract of the same call of [`laws::Desk`]. The calls through the lock state what every lane's type guarantees.
 //!
-//! The definitions that the contracts cite stand in specs: `Desk` and `Inlet` are what a contract sees of either end
-//! of a ring, `Outlet` is what the ring was given beside the lane's book, `Tells` is hearing the home server, and
-//! `Departures` and `Lawful` are what a call through a lock tells, `Spent` what is told of the request by which a lane went down,
-//! `Standing` how a lane stands, and `Marks` how many Proxy-States of this proxy's form a request has. `Traffic` is what passes
-//! over a wire, `Working` what of it a lane's worker may send, and `Once` what the front may.
+//! The definitions that the contracts cite are in specs. `Desk` and `Inlet` are what a contract sees of the two ends of
+//! a ring, and `Outlet` is what was added to the ring, beside the lane's book. `Tells` is hearing the home server.
+//! `Departures` and `Lawful` are what a call through a lock states, `Spent` is what is reported of the request that
+//! marks a home server down, `Standing` is the standing of a lane, and `Marks` is how many Proxy-States of this proxy's
+//! form a request has. `Traffic` is what passes over a wire, `Working` what a lane's worker may send over it, and
+//! `Once` what the front may send.
 #![tactic(auto)]
 
 mod agreeing;

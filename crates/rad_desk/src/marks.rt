@@ -1,4 +1,4 @@
-//! Proxy-States as this proxy adds them.
+//! Proxy-States of the form that this proxy adds.
 
 ghost use Rattle.std.specs.Prelude.{◌≡◌, length};
 ghost use Rattle.rad_packet.specs.Item.{attribute_at};
@@ -11,10 +11,10 @@ use rad_packet::{AttributeRef, PacketRef};
 /// The Type of a Proxy-State (RFC 2865 section 5.33).
 const PROXY_STATE: u8 = 33;
 
-/// How many octets the Value of a mark has.
+/// The number of octets in the Value of a mark.
 const MARK_VALUE_LENGTH: usize = MARK_LENGTH - 2;
 
-/// How many Proxy-States a packet has that are of the form that this proxy's own have: of a Value of ten octets. It looks at each
+/// Returns how many Proxy-States of a packet have the form of this proxy's own: a Value of ten octets. It looks at each
 /// attribute once.
 pub fn count_marks(packet: &PacketRef<'_>) -> u64
     ensures { result ≡ length (marks_in (packet_attributes packet.now)) }
@@ -28,7 +28,7 @@ pub fn count_marks(packet: &PacketRef<'_>) -> u64
     count
 }
 
-/// Whether an attribute is a Proxy-State of that form.
+/// Returns whether an attribute is a Proxy-State of that form.
 fn is_mark(attribute: AttributeRef<'_>) -> bool
     ensures { result ≡ the_mark (attribute_at attribute.entry) }
 {

@@ -3,7 +3,7 @@
 use rad_lane::Outgoing;
 use rtrb::Protocol;
 
-/// The promise of a lane to whoever takes its responses: the serial of each is the number of those before it.
+/// The protocol of a lane's ring: the serial of each response is the number of responses before it.
 #[derive(Clone, Copy)]
 pub(crate) struct Numbered;
 

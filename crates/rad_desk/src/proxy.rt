@@ -21,16 +21,16 @@ use std::hint::spin_loop;
 use std::marker::Model;
 use std::sync::{Mutex, MutexGuard, Wait};
 
-/// How often a lock is tried before the thread sleeps for it. A lane is held for about as long as a packet is hashed,
-/// which is less than it takes to sleep and to wake.
+/// How many times a thread tries a lock before it sleeps until it has the lock. A lane is locked for about as long as
+/// hashing a packet takes, which is less than sleeping and waking take.
 const TRIES: u32 = 2000;
 
-/// The lanes of all home servers, each with the giving end of its ring behind a lock of its own.
+/// The lanes of all home servers, each with the sending end of its ring behind a lock of its own.
 ///
-/// A contract sees how many lanes there are.
+/// Contracts see a proxy as the number of its lanes.
 #[derive(Drop)]
 pub struct Proxy {
-    /// In the order of the lanes.
+    /// The desks, in the order of the lanes.
     pub(crate) desks: Vec<Mutex<Desk>>,
 }
 
@@ -44,19 +44,19 @@ impl Model for Proxy {
     ghost invariant = { λ p. length p.desks.items ≤ 64 };
 }
 
-/// What a step of a lane gave.
+/// The result of a step of a lane.
 #[derive(Clone, Copy)]
 pub(crate) struct Stepped {
     pub(crate) action: Action,
-    /// How many requests the book holds after it.
+    /// How many requests the book holds after the step.
     pub(crate) held: u64,
 }
 
-/// A lane for each home server of the configuration, and the inlets of their rings, in the order of the lanes.
+/// Makes a lane for each home server of the configuration, and the inlets of their rings, in the order of the lanes.
 ///
 /// # Errors
 ///
-/// Where memory is refused.
+/// `OutOfMemory` if memory is refused.
 pub fn open(alloc: Global, config: &Config) -> Result<(Proxy, Vec<Inlet>), OpenFault>
     ensures lanes { IfOk result (λ opened. opened.0 ≡ length config.now.homes) }
     ensures inlets { IfOk result (λ opened. each lane_of opened.1.items ≡ range_with_len 0 opened.0) }
@@ -81,19 +81,20 @@ pub fn open(alloc: Global, config: &Config) -> Result<(Proxy, Vec<Inlet>), OpenF
 }
 
 impl Proxy {
-    /// How many lanes there are.
+    /// Returns the number of lanes.
     pub fn lanes(&self) -> u16
         ensures { result ≡ self.now }
     {
         self.desks.len() as u16
     }
 
-    /// Takes a request into its lane.
+    /// Passes a request to its lane.
     ///
     /// # Errors
     ///
-    /// `WrongLane`, before all else, where there is no such lane or it does not take the request, which was then
-    /// checked against another configuration. Else why the lane does not take it. The datagram stays.
+    /// `WrongLane`, before all else, if there is no such lane or the request does not lead to it. Such a request was
+    /// checked against another configuration. Otherwise the reason for which the lane refuses it. The datagram is
+    /// unchanged.
     pub fn accept(
         &self,
         rt: &impl Wait,
@@ -117,7 +118,7 @@ impl Proxy {
         desk.accept(alloc, request, moment, datagram)
     }
 
-    /// Does what a lane does by itself at this moment, one thing. The octets are a probe's Authenticator.
+    /// Does a lane's next step at this moment. `random` is the Authenticator of a probe.
     pub fn step(
         &self,
         rt: &impl Wait,
@@ -132,8 +133,9 @@ impl Proxy {
         self.lock(rt, lane).step(moment, random, datagram)
     }
 
-    /// Does the same, where the lane is of this number and its home server has this secret, and else nothing. It tells how many
-    /// requests the book then holds, in the same hold of the lock.
+    /// Does a lane's next step like [`Proxy::step`], if the lane has this number and its home server this secret, and
+    /// otherwise does nothing. It returns the action with the number of requests that the book then holds, both under
+    /// one hold of the lock.
     pub(crate) fn step_for(
         &self,
         rt: &impl Wait,
@@ -159,11 +161,11 @@ impl Proxy {
         })
     }
 
-    /// Hears a datagram that came to a source port of a lane from its home server.
+    /// Passes a datagram that came to a source port of a lane from its home server to the lane.
     ///
     /// # Errors
     ///
-    /// Where the lane's ring is full or the lane does not hear the datagram.
+    /// `RingFull` if the lane's ring is full, and `Lane` if the lane does not hear the datagram.
     pub fn hear(
         &self,
         rt: &impl Wait,
@@ -178,15 +180,15 @@ impl Proxy {
         self.lock(rt, lane).hear(alloc, moment, port, datagram)
     }
 
-    /// Has a lane take no request from now on. It answers how many it had accepted since the first when it was
-    /// drained.
+    /// Drains a lane: it accepts no new request from now on. Returns how many requests it had accepted in all when it
+    /// was drained.
     pub fn drain(&self, rt: &impl Wait, lane: u16) -> u64
         requires { lane < self.now }
     {
         self.lock(rt, lane).drain()
     }
 
-    /// How much a lane has.
+    /// Returns the counts of a lane.
     pub fn counts(&self, rt: &impl Wait, lane: u16) -> Counts
         requires { lane < self.now }
         ensures { AreLawful result }
@@ -194,7 +196,7 @@ impl Proxy {
         self.lock(rt, lane).counts()
     }
 
-    /// Holds a lane. It tries for a while before it sleeps.
+    /// Locks a lane, trying for a while before the thread sleeps.
     pub(crate) fn lock(&self, rt: &impl Wait, lane: u16) -> MutexGuard<'_, Desk>
         requires { lane < self.now }
     {

@@ -1,4 +1,4 @@
-//! What is told of the lanes at the end.
+//! The report of the lanes at the end.
 
 use crate::laws::RecordQueue;
 use rad_lane::{Answered, Counts, Entry, Held, Outgoing, Series, Stamp};
@@ -13,30 +13,30 @@ pub struct Report {
     pub queued: RecordQueue,
 }
 
-/// What is left of a lane, but for its queue.
+/// What is left of a lane, except its queue.
 #[derive(Drop)]
 pub struct LaneEnd {
     /// The lane's number.
     pub lane: u16,
-    /// How much the lane had.
+    /// The lane's counts.
     pub counts: Counts,
-    /// The stamps of the requests that the book still held, in order of accepting.
+    /// The stamps of the requests that the book still held, in order of acceptance.
     pub accepted: Held<Stamp>,
     /// The answers that the book still held, in order of answering.
     pub answered: Held<Answered>,
-    /// What was sent and not answered, under its pairs. There is no probe among them.
+    /// What was outstanding, under its pairs, without a probe.
     pub outstanding: Slots<Entry>,
     /// The responses that nobody took.
     pub rest: Rest,
 }
 
-/// The responses that a lane's ring still had at the end.
+/// The responses that a lane's ring still held at the end.
 #[derive(Drop)]
 pub enum Rest {
-    /// These, in order of answering: with those that the inlet took they are as many as were answered, and each
-    /// agrees with the answer of its serial, where that is still kept.
+    /// These responses, in order of answering. Together with those that the inlet took, they are as many as the answers
+    /// given. Each agrees with the answer of its serial, if that answer is still kept.
     Known(Series<Outgoing>),
-    /// Not to be told: the inlet was missing or of another lane, or what it took and the ring still had is not what
-    /// the lane had answered.
+    /// The responses are not known: the inlet was missing or of another lane, or what it took and what the ring still
+    /// held are not what the lane had answered.
     Unknown,
 }

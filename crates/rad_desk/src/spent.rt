@@ -1,4 +1,4 @@
-//! The request by which a home server was taken to be down.
+//! The request that marks a home server down.
 
 ghost use Rattle.std.specs.Prelude.{◌≡◌, ◌<◌, ◌≤◌, ◌++◌, length, take, drop, MatchOption};
 ghost use Rattle.rad_lane.specs.Dues.{NoneSpent};
@@ -13,28 +13,28 @@ use rad_tables::Moment;
 use std::marker::Model;
 use std::sync::Wait;
 
-/// The most octets that an attribute's Value has (RFC 2865 section 5).
+/// The most octets that the Value of an attribute has (RFC 2865 section 5).
 const GREATEST_VALUE_LENGTH: usize = 253;
 
-/// A request that was sent as often as a round allows, and is not answered.
+/// A spent request: it was sent as often as a round allows, and is unanswered.
 #[derive(Drop)]
 pub struct Spent {
     /// Its number in its lane.
     pub number: u64,
-    /// The client that sent it.
+    /// The client's address and port.
     pub client: Endpoint,
-    /// Its Acct-Session-Id, where it has one.
+    /// Its Acct-Session-Id, if it has one.
     pub session: Option<Session>,
     /// How many milliseconds ago it was accepted.
     pub age: u64,
 }
 
-/// The octets of an Acct-Session-Id (RFC 2866 section 5.5), kept in place.
+/// The octets of an Acct-Session-Id (RFC 2866 section 5.5), stored in the value itself.
 #[derive(Drop)]
 pub struct Session {
-    /// The octets, and others behind them.
+    /// The octets, followed by others that don't count.
     octets: [u8; GREATEST_VALUE_LENGTH],
-    /// How many octets it has.
+    /// The number of octets.
     count: usize,
 }
 
@@ -49,7 +49,7 @@ impl Model for Session {
 }
 
 impl Session {
-    /// The session of these octets: of more than 253, which no attribute has, the first ones.
+    /// Makes the session of these octets. Of more than 253 octets, which no attribute has, it keeps the first 253.
     pub fn of(octets: &[u8]) -> Session
         ensures { result ≡ take 253 octets.now }
     {
@@ -62,7 +62,7 @@ impl Session {
         }
     }
 
-    /// The octets.
+    /// Returns the octets.
     pub fn octets(&self) -> &[u8]
         ensures { result.now ≡ self.now }
     {
@@ -79,7 +79,7 @@ fn put(buffer: &mut [u8], octets: &[u8])
 }
 
 impl Spent {
-    /// What is told of a sending at this moment.
+    /// Returns what is reported of a sending at this moment.
     pub(crate) fn of(sending: &Sending, moment: Moment) -> Spent
         ensures { result ≡ spent_of sending.now moment }
     {
@@ -100,8 +100,8 @@ impl Spent {
 }
 
 impl Desk {
-    /// Of the lane's requests that were sent as often as a round allows, the one that is due first, and at one due that of the
-    /// least number: the one by which the lane goes down. It is told as it stands at this moment.
+    /// Returns the request that marks the home server down: of the lane's spent requests, the one with the earliest due
+    /// time; ties go to the lowest number. Its age is that at `moment`.
     pub fn spent(&self, moment: Moment) -> Option<Spent>
         ensures { MatchOption result (NoneSpent (book self.now)) (TellsSpent (book self.now) moment) }
     {
@@ -111,8 +111,8 @@ impl Desk {
 }
 
 impl Proxy {
-    /// The request by which a lane went down, or will: of those that were sent as often as a round allows the one that is due
-    /// first, and at one due that of the least number.
+    /// Returns the request that marked, or will mark, a lane's home server down: of the lane's spent requests, the one
+    /// with the earliest due time; ties go to the lowest number.
     pub fn spent(&self, rt: &impl Wait, lane: u16, moment: Moment) -> Option<Spent>
         requires { lane < self.now }
     {

@@ -1,4 +1,4 @@
-//! How a lane stands: what it has, and since when.
+//! The standing of a lane: its counts and three moments.
 
 ghost use Rattle.std.specs.Prelude.{◌≡◌, ◌<◌, ◌-◌, length, slice_get, option_map};
 ghost use Rattle.rad_lane.specs.Lawful.{IsLawful};
@@ -11,12 +11,12 @@ use rad_lane::{Answered, Counts, Stamp};
 use rad_tables::Moment;
 use std::sync::Wait;
 
-/// How a lane stands, all of it at one moment.
+/// The standing of a lane, all of it at one moment.
 #[derive(Clone, Copy)]
 pub struct Standing {
-    /// How much it has.
+    /// The lane's counts.
     pub counts: Counts,
-    /// When the first request that waits to be sent was accepted.
+    /// When the first request of the queue was accepted.
     pub first_queued: Option<Moment>,
     /// When the first request that the book holds was accepted.
     pub first_held: Option<Moment>,
@@ -25,7 +25,7 @@ pub struct Standing {
 }
 
 impl Desk {
-    /// How the lane stands. It looks at three entries of the book, however long that is.
+    /// Returns the lane's standing. It looks at three entries of the book, whatever the book's length.
     pub fn standing(&self) -> Standing
         ensures standing { result ≡ standing_of (book self.now) }
         ensures lawful { IsLawful (book self.now) }
@@ -42,7 +42,8 @@ impl Desk {
         }
     }
 
-    /// When the first request that waits to be sent was accepted: it stands behind all that were sent.
+    /// Returns when the first request of the queue was accepted, whose stamp follows those of all requests that were
+    /// sent.
     #[tactic(auto, using(crate::proofs::Standings::first_queued_at))]
     fn first_queued(&self) -> Option<Moment>
         ensures { result ≡ option_map (λ r. r.stamp.moment) (slice_get (book self.now).queued 0) }
@@ -54,7 +55,7 @@ impl Desk {
 }
 
 impl Proxy {
-    /// How a lane stands.
+    /// Returns a lane's standing.
     pub fn standing(&self, rt: &impl Wait, lane: u16) -> Standing
         requires { lane < self.now }
         ensures { StandsLawfully result }
@@ -63,7 +64,7 @@ impl Proxy {
     }
 }
 
-/// When the request in a place was accepted, where there is one.
+/// Returns when the request at a place was accepted, if there is one.
 fn moment_at(stamps: &[Stamp], place: usize) -> Option<Moment>
     ensures { result ≡ option_map (λ s. s.moment) (slice_get stamps.now place) }
 {
@@ -73,7 +74,7 @@ fn moment_at(stamps: &[Stamp], place: usize) -> Option<Moment>
     }
 }
 
-/// When the last answer was given, where there is one.
+/// Returns when the last answer was given, if there is one.
 fn moment_of_last(answers: &[Answered]) -> Option<Moment>
     ensures { result ≡ option_map (λ a. a.moment) (slice_get answers.now (length answers.now - 1)) }
 {

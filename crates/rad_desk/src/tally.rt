@@ -1,4 +1,4 @@
-//! What a worker did, and whom it tells.
+//! A worker's tally, and its reports to the gate.
 
 ghost use Rattle.std.specs.Prelude.{◌≡◌, ◌<◌, ◌+◌};
 ghost use Rattle.rad_desk.specs.Traffic.{Receives};
@@ -8,12 +8,12 @@ use crate::gate::{Call, Gate, Go, Note, Worker};
 use crate::wire::{Delivery, Received, Wire};
 use rad_realms::Endpoint;
 
-/// How much a worker did. A count at the greatest number stays there.
+/// What a worker did. A count that has reached the greatest number stays there.
 #[derive(Clone, Copy, Debug, PartialEq, Eq)]
 pub struct Tally {
     /// How many turns it began.
     pub turns: u64,
-    /// How many datagrams came.
+    /// How many datagrams it received.
     pub received: u64,
     /// How many datagrams were handed over.
     pub sent: u64,
@@ -21,7 +21,7 @@ pub struct Tally {
     pub faults: u64,
 }
 
-/// A worker's time at work: who it is, whom it asks and tells, and what it did.
+/// A worker at work: which worker it is, its gate, and its tally.
 #[derive(Drop)]
 pub(crate) struct Shift<'a, G> {
     pub(crate) worker: Worker,
@@ -30,7 +30,7 @@ pub(crate) struct Shift<'a, G> {
 }
 
 impl<'a, G: Gate> Shift<'a, G> {
-    /// Nothing is done yet.
+    /// Makes a shift with an empty tally.
     pub(crate) fn new(worker: Worker, gate: &'a G) -> Shift<'a, G>
         ensures { result.tally.turns ≡ 0 }
     {
@@ -47,7 +47,7 @@ impl<'a, G: Gate> Shift<'a, G> {
         }
     }
 
-    /// Begins a turn, after so many others.
+    /// Begins a turn, after `others` other turns.
     pub(crate) fn begin_turn(&mut self, others: u64)
         requires { others < u64.MAX }
         ensures { self.new.tally.turns ≡ others + 1 }
@@ -55,12 +55,12 @@ impl<'a, G: Gate> Shift<'a, G> {
         self.tally.turns = others + 1;
     }
 
-    /// Whether it goes on to a call.
+    /// Asks the gate whether the worker goes on to a call.
     pub(crate) fn may(&self, call: Call) -> bool {
         self.gate.before(self.worker, call) == Go::On
     }
 
-    /// It made a call.
+    /// Reports that the worker made a call.
     pub(crate) fn made(&self, call: Call) {
         self.gate.after(self.worker, call);
     }
@@ -69,7 +69,7 @@ impl<'a, G: Gate> Shift<'a, G> {
         self.gate.note(self.worker, note);
     }
 
-    /// Receives a datagram, and counts it.
+    /// Receives a datagram, reports it and counts it.
     pub(crate) fn receive<W: Wire>(&mut self, wire: &mut W, datagram: &mut [u8; 4096]) -> Received
         ensures receives { Receives (W.log wire.old) result datagram.new (W.log wire.new) }
         ensures turns { self.new.tally.turns ≡ self.old.tally.turns }
@@ -96,7 +96,7 @@ impl<'a, G: Gate> Shift<'a, G> {
         received
     }
 
-    /// Sends a datagram, and counts it. Where that fails, it is lost.
+    /// Reports a datagram, sends it and counts it. If the send fails, the datagram is lost.
     pub(crate) fn send<W: Wire>(&mut self, wire: &mut W, socket: u16, to: Endpoint, octets: &[u8])
         ensures sends { Passes (IsSent socket to octets.now) (W.log wire.old) (W.log wire.new) }
         ensures turns { self.new.tally.turns ≡ self.old.tally.turns }
@@ -108,7 +108,7 @@ impl<'a, G: Gate> Shift<'a, G> {
         }
     }
 
-    /// Counts a datagram that could not be sent.
+    /// Counts and notes a datagram that could not be sent.
     fn lose(&mut self)
         ensures { self.new.tally.turns ≡ self.old.tally.turns }
     {

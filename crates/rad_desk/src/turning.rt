@@ -1,4 +1,4 @@
-//! Cutting off the front of a lane's book.
+//! The removal of a volume from a lane's book.
 
 ghost use Rattle.std.specs.Prelude.{◌<◌};
 ghost use Rattle.rad_lane.specs.Volumes.{Turns};
@@ -13,11 +13,12 @@ use std::alloc::Global;
 use std::sync::Wait;
 
 impl Desk {
-    /// Cuts off the front of the lane's book that is over, as the lane does. The ring stays.
+    /// Removes the longest prefix of the lane's requests that are all over, and returns it as a volume. The ring is
+    /// unchanged.
     ///
     /// # Errors
     ///
-    /// Why nothing is cut. The desk stays.
+    /// The reason for which nothing is removed. The desk is unchanged.
     pub fn turn(&mut self, alloc: Global, moment: Moment) -> Result<Volume, TurnFault>
         ensures turns { Turns (book self.old) moment result (book self.new) }
         ensures outlet { SameOutlet self.old self.new }
@@ -29,11 +30,11 @@ impl Desk {
 }
 
 impl Proxy {
-    /// Cuts off the front of a lane's book that is over, and gives it away as a volume.
+    /// Removes the longest prefix of a lane's requests that are all over, and returns it as a volume.
     ///
     /// # Errors
     ///
-    /// Why nothing is cut. The lane stays.
+    /// The reason for which nothing is removed. The lane is unchanged.
     pub fn turn(
         &self,
         rt: &impl Wait,

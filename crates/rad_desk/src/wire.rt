@@ -1,4 +1,4 @@
-//! The network as a worker sees it, and the record of all that passed over it.
+//! The network as a worker sees it, and the log of all that passed over it.
 
 ghost use Rattle.std.specs.Prelude.{◌≡◌, List, [], ◌∷◌, ◌++◌, Option, None};
 ghost use Rattle.std.specs.Borrow.{ftrue};
@@ -8,30 +8,30 @@ use rad_realms::Endpoint;
 use rad_tables::Moment;
 use std::marker::Model;
 
-/// What a receive gave.
+/// The result of a receive.
 #[derive(Clone, Copy, Debug, PartialEq, Eq)]
 pub enum Received {
-    /// A datagram came.
+    /// A datagram was received.
     Got {
         /// The sender's IPv4 address.
         address: [u8; 4],
         /// The sender's UDP port.
         port: u16,
-        /// The index of the socket that it came to.
+        /// The index of the socket that received it, counted from 0.
         socket: u16,
-        /// How many octets it has, at most 4096. Of a longer one the first 4096 count.
+        /// How many octets it has, at most 4096. Of a longer datagram only the first 4096 octets count.
         count: usize,
     },
-    /// Nothing came for now.
+    /// No datagram came for now.
     Nothing,
     /// The receive failed.
     Fault,
 }
 
-/// What became of a send.
+/// The outcome of a send.
 #[derive(Clone, Copy, Debug, PartialEq, Eq)]
 pub enum Delivery {
-    /// It was handed over.
+    /// The datagram was handed over.
     Sent,
     /// The send failed.
     Fault,
@@ -39,16 +39,16 @@ pub enum Delivery {
 
 /// The sockets of a worker, its clock and its random octets.
 ///
-/// A contract sees all that passed so far, in order, of a wire that keeps a log of it. A wire may leave the log out; then a
-/// contract says nothing of what passes over it.
+/// A wire may keep a log. Contracts see all that passed over such a wire so far, in order. They say nothing of what
+/// passes over a wire without a log.
 pub trait Wire {
     ghost log: { Self → Option (List Event) } = { λ _. None };
 
-    /// The moment. It may wait for nothing.
+    /// Returns the moment. It must not wait for anything.
     fn now(&mut self) -> Moment
         ensures { log self.new ≡ noted (log self.old) (told result) };
 
-    /// The Authenticator of a probe (RFC 5997 section 3): octets that nobody can foretell.
+    /// Draws the Authenticator of a probe (RFC 5997 section 3): octets that nobody can predict.
     fn random(&mut self) -> [u8; 16]
         ensures { log self.new ≡ noted (log self.old) (drew result) };
 
@@ -61,20 +61,20 @@ pub trait Wire {
         ensures { log self.new ≡ noted (log self.old) (departed socket (endpoint address port) octets.now result) };
 }
 
-/// All that passed over a wire so far, for clauses alone. It takes no memory.
+/// The log of a wire: all that passed over it so far. Only clauses see it, and it takes no memory.
 #[derive(Drop)]
 pub struct Traffic {
     pub ghost passed: { List Event },
 }
 
-/// What passed, but for the octets.
+/// An event of a wire, without its octets.
 #[derive(Clone, Copy)]
 pub(crate) enum Passing {
-    /// A datagram came to a socket, counted from 0, from there.
+    /// A datagram was received on this socket, counted from 0, from this address and port.
     Arrived(u16, Endpoint),
-    /// A datagram was given to a socket, to be sent there; what became of it.
+    /// A datagram was given to this socket, to be sent to this address and port, with this outcome.
     Departed(u16, Endpoint, Delivery),
-    /// The moment was told.
+    /// The moment was read.
     Told(Moment),
     /// Random octets were drawn.
     Drew,
@@ -88,14 +88,14 @@ impl Model for Traffic {
 unsafe impl Send for Traffic {}
 
 impl Traffic {
-    /// Nothing passed yet.
+    /// Makes an empty log.
     pub fn new() -> Traffic
         ensures { result.passed ≡ [] }
     {
         Traffic {}
     }
 
-    /// A datagram came to a socket, from an IPv4 address and a UDP port.
+    /// Adds that a datagram was received on a socket, from an IPv4 address and a UDP port.
     pub fn arrived(&mut self, socket: u16, address: [u8; 4], port: u16, octets: &[u8])
         ensures { self.new.passed ≡ self.old.passed ++ arrived socket (endpoint address port) octets.now ∷ [] }
     {
@@ -103,7 +103,7 @@ impl Traffic {
         *self = Traffic::with(self, &passing, octets);
     }
 
-    /// A datagram was given to a socket, to be sent to an IPv4 address and a UDP port, and this became of it.
+    /// Adds that a datagram was given to a socket, to be sent to an IPv4 address and a UDP port, with this outcome.
     pub fn departed(
         &mut self,
         socket: u16,
@@ -118,21 +118,21 @@ impl Traffic {
         *self = Traffic::with(self, &passing, octets);
     }
 
-    /// The moment was told.
+    /// Adds that this moment was read.
     pub fn told(&mut self, moment: Moment)
         ensures { self.new.passed ≡ self.old.passed ++ told moment ∷ [] }
     {
         *self = Traffic::with(self, &Passing::Told(moment), &[]);
     }
 
-    /// These random octets were drawn.
+    /// Adds that these random octets were drawn.
     pub fn drew(&mut self, octets: &[u8; 16])
         ensures { self.new.passed ≡ self.old.passed ++ drew octets.now ∷ [] }
     {
         *self = Traffic::with(self, &Passing::Drew, octets);
     }
 
-    /// One event more.
+    /// Returns the log with one more event.
     fn with(_before: &Traffic, _passing: &Passing, _octets: &[u8]) -> Traffic
         ensures { result.passed ≡ _before.now.passed ++ event _passing.now _octets.now ∷ [] }
     {

@@ -7,7 +7,7 @@ use Rattle.rad_replay.specs.declared.faults.ReplayFault.TheVariants as replaying
 use Rattle.rad_server.specs.declared.faults.ServeFault.{ServeFault}
 use Rattle.rad_server.specs.declared.faults.ServeFault.TheVariants as serving
 
--- The status of each fault.
+-- The exit status of each fault.
 abbrev pub status_of : Fault → ℕ
 status_of Usage = 1
 status_of (Configuration fault) = 2
@@ -21,7 +21,7 @@ status_of Memory = 4
 status_of (Events line) = 4
 status_of Output = 4
 
--- What ends a replay ends the program.
+-- A fault that ends a replay ends the program.
 abbrev pub fault_of_replay : ReplayFault → Fault
 fault_of_replay replaying.Input = Input
 fault_of_replay (replaying.Configuration fault) = Configuration fault
@@ -29,7 +29,8 @@ fault_of_replay replaying.Memory = Memory
 fault_of_replay (replaying.Events line) = Events line
 fault_of_replay replaying.Output = Output
 
--- What ends a service ends the program; a worker that ends by itself is told as one that can't be started.
+-- A fault that ends a service ends the program. A worker that ended by itself gives the same fault as one that can't be
+-- started.
 abbrev pub fault_of_serving : ServeFault → Fault
 fault_of_serving (serving.Listen endpoint) = Listen endpoint
 fault_of_serving (serving.LaneSocket lane) = LaneSocket lane

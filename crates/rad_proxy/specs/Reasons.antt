@@ -1,16 +1,16 @@
--- What the log tells of why a file can't be read, and of unread keys (own).
+-- What is logged of a file that can't be read, and of unread keys (own).
 use Rattle.std.specs.Prelude.{ℕ, List, ◌++◌, codes}
 use Rattle.std.specs.Fmt.{decimal}
 use Rattle.rad_proxy.specs.declared.reasons.FileReason.{FileReason}
 use Rattle.rad_proxy.specs.declared.reasons.FileReason.TheVariants.{Absent, Folder, TooLong, System}
 
--- Why a file can't be read. Behind the last stands what the system says.
+-- Why a file can't be read. After the last text the log line has the system's error.
 abbrev pub file_reason_text : FileReason → List ℕ
 file_reason_text Absent = codes "there is no such file"
 file_reason_text Folder = codes "it is a folder"
 file_reason_text TooLong = codes "it is longer than 1048576 octets"
 file_reason_text System = codes "it can't be read"
 
--- So many keys are unread beside those that are told one by one.
+-- This number of keys is unread, besides those that are logged one by one.
 abbrev pub more_keys_line : ℕ → List ℕ
 more_keys_line count = codes "event=unread-keys count=" ++ decimal count

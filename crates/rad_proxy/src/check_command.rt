@@ -1,4 +1,4 @@
-//! The command `check`: how much the configuration in a file has.
+//! The command `check`, which counts what the configuration in a file has.
 
 ghost use Rattle.std.specs.Prelude.{◌≡◌, IfOk, None};
 ghost use Rattle.rad_console.specs.Configurations.{counts_of};
@@ -17,7 +17,7 @@ use std::rt::Files;
 ///
 /// # Errors
 ///
-/// As `load`.
+/// Those of `load`.
 pub fn check_file<R: Files, L: Log>(
     rt: &R,
     alloc: Global,
@@ -32,7 +32,7 @@ where
     Ok(count_of(&config))
 }
 
-/// The same of the text that a reader gives, which is the file of this path.
+/// Counts the same in the text that a reader returns, which is that of the file of this path.
 pub fn check_text<R: Read + Drop, L: Log>(
     alloc: Global,
     log: &L,
@@ -45,7 +45,7 @@ pub fn check_text<R: Read + Drop, L: Log>(
     Ok(count_of(&config))
 }
 
-/// How many clients, home servers and realms a configuration has.
+/// Returns how many clients, home servers and realms a configuration has.
 fn count_of(config: &Config) -> CountLine
     ensures { result ≡ counts_of config.now }
 {

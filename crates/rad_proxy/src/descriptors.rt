@@ -1,5 +1,5 @@
-//! The standard descriptors, 0 to 2. Where one of them is closed as the program starts, the next file or socket would take its
-//! number, and what comes in there would be read as commands.
+//! The standard descriptors, 0 to 2. If one of them is closed when the program starts, the next file or socket would
+//! get its number, and what arrives there would be read as commands.
 
 use crate::faults::Fault;
 use libc::net::{POLLNVAL, poll};
@@ -9,7 +9,7 @@ use std::fs::{Files, OpenOptions};
 use std::io;
 use std::os::fd::{IntoRawFd, RawFd};
 
-/// What a closed descriptor is opened as.
+/// The file that is opened for a closed descriptor.
 const NULL_DEVICE: &str = "/dev/null";
 
 /// What a descriptor can do.
@@ -19,12 +19,13 @@ enum Access {
     Write,
 }
 
-/// Opens each standard descriptor that is closed as the null device, and leaves it open: 0 for writing alone and 1 for reading
-/// alone, so that a read of the input and a write to the output fail, and 2 for writing. Nothing else may be opened before.
+/// Opens the null device for each standard descriptor that is closed, and leaves it open: 0 for writing only and 1 for
+/// reading only, so that a read of the input and a write to the output fail, and 2 for writing. No other file may be
+/// opened before.
 ///
 /// # Errors
 ///
-/// `Input` where 0 is closed and the null device can't be opened, `Output` where 1 or 2 is.
+/// `Input` if 0 is closed and the null device can't be opened, `Output` if that happens for 1 or 2.
 pub fn open_standard<R: Files>(files: &R) -> Result<(), Fault>
 where
     R::File: IntoRawFd,
@@ -40,8 +41,8 @@ where
     Ok(())
 }
 
-/// Opens this descriptor as the null device where it is closed and those below it are open: the system gives the lowest number
-/// that is free.
+/// Opens the null device for this descriptor if it is closed. Those below it must be open, since the system gives the
+/// lowest free number.
 fn open_if_closed<R: Files>(files: &R, descriptor: RawFd, access: Access) -> io::Result<()>
 where
     R::File: IntoRawFd,
@@ -56,7 +57,7 @@ where
     Ok(())
 }
 
-/// Whether nothing is open under this descriptor.
+/// Returns whether nothing is open under this descriptor.
 fn is_closed(descriptor: RawFd) -> bool {
     let mut ends = [pollfd {
         fd: descriptor,

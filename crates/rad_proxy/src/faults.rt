@@ -20,10 +20,10 @@ pub enum Fault {
     File(FileName),
     #[error("configuration: {0}")]
     Configuration(ConfigFault),
-    /// The socket for the clients can't be had.
+    /// The socket for the clients can't be made.
     #[error("socket: {0}")]
     Listen(Endpoint),
-    /// The sockets of this lane can't be had.
+    /// The sockets of this lane can't be made.
     #[error("socket: lane {0}")]
     LaneSocket(usize),
     /// A worker's thread can't be started, or ended by itself.
@@ -31,11 +31,11 @@ pub enum Fault {
     Threads,
     #[error("memory: refused")]
     Memory,
-    /// The line of this number, counted from 1 after the separator, is malformed, or names a lane or a moment
-    /// that there is not.
+    /// The line of this number, counted from 1 after the separator, is malformed, names a lane or a moment that does
+    /// not exist, or cuts more octets than there are.
     #[error("events: line {0}")]
     Events(usize),
-    /// Standard output takes nothing more. Nobody is told.
+    /// Standard output takes nothing more. Its line is not printed.
     #[error("output: failed")]
     Output,
 }
@@ -44,7 +44,7 @@ impl Fault {
     ghost use Rattle.std.specs.Prelude.{◌≡◌};
     ghost use Rattle.rad_proxy.specs.Faults.{status_of};
 
-    /// The status that the program ends with.
+    /// Returns the status that the program ends with.
     pub fn status(&self) -> u8
         ensures { result ≡ status_of self.now }
     {
@@ -87,7 +87,7 @@ impl From<ServeFault> for Fault {
 
     ghost from_gives = { λ served fault. fault ≡ fault_of_serving served };
 
-    /// A worker that ends by itself is told as one that can't be started.
+    /// A worker that ended by itself gives the same fault as one that can't be started.
     fn from(fault: ServeFault) -> Fault {
         match fault {
             ServeFault::Listen(endpoint) => Fault::Listen(endpoint),

@@ -3,22 +3,22 @@
 use std::alloc::{AllocError, Global};
 use std::fmt;
 
-/// The name of a file. Where it is printed, its control characters, line ends among them, stand octet by octet as `%` and two
-/// hexadecimal digits, so that it is one line; all else is printed as it is.
+/// The name of a file. It is printed on one line: each octet of a control character, such as a line end, is printed as
+/// `%` and two hexadecimal digits, and all else unchanged.
 #[derive(Debug, Drop)]
 pub struct FileName(String);
 
 impl FileName {
-    /// The file of this path.
+    /// Makes the name of the file of this path.
     ///
     /// # Errors
     ///
-    /// Where memory is refused.
+    /// `AllocError` if memory is refused.
     pub fn new(alloc: Global, path: &str) -> Result<FileName, AllocError> {
         Ok(FileName(String::from_str(alloc, path)?))
     }
 
-    /// The path, as it was given.
+    /// Returns the path, as it was given.
     pub fn as_str(&self) -> &str {
         self.0.as_str()
     }
@@ -37,7 +37,7 @@ impl fmt::Display for FileName {
     }
 }
 
-/// Writes the octets of a character by two hexadecimal digits each.
+/// Writes each octet of a character as `%` and two hexadecimal digits.
 fn write_octets<W: fmt::Write>(f: &mut fmt::Formatter<W>, character: char) -> fmt::Result {
     let mut room = [0; 4];
     for octet in character.encode_utf8(&mut room).as_bytes() {

@@ -18,12 +18,13 @@ use std::rt::Files;
 /// The most octets of a configuration's file.
 pub const MOST_FILE_OCTETS: u64 = 1_048_576;
 
-/// Reads the configuration in a file. The log is told why it can't be read, and what an operator should know of it.
+/// Reads the configuration in a file. Logs why the file can't be read, and what an operator should know of the
+/// configuration.
 ///
 /// # Errors
 ///
-/// `File` where the file can't be read or is longer than 1,048,576 octets, `Configuration` where it is no
-/// configuration, `Memory` where a growth was refused.
+/// `File` if the file can't be read or is longer than 1,048,576 octets, `Configuration` if it is not a configuration,
+/// `Memory` if a growth is refused.
 pub fn load<R: Files, L: Log>(rt: &R, alloc: Global, log: &L, path: &str) -> Result<Config, Fault>
 where
     R::File: Drop,
@@ -40,7 +41,7 @@ where
     loaded
 }
 
-/// Tells what an operator should know of a configuration on this machine. Where the machine's addresses can't be read, only
+/// Logs what an operator should know of a configuration on this machine. If the machine's addresses can't be read, only
 /// those that every machine has are known.
 fn advise<R: Files, L: Log>(rt: &R, alloc: Global, log: &L, config: &Config)
 where
@@ -52,7 +53,8 @@ where
     }
 }
 
-/// The same of the text that a reader gives, which is the file of this path.
+/// Reads the configuration in the text that a reader returns, which is that of the file of this path. Logs why it can't
+/// be read, and what an operator should know of the text.
 pub fn load_text<R: Read + Drop, L: Log>(
     alloc: Global,
     log: &L,
@@ -72,7 +74,7 @@ pub fn load_text<R: Read + Drop, L: Log>(
     }
 }
 
-/// The fault of a file of this path that can't be read. The log is told why.
+/// Returns the fault for a file of this path that can't be read, and logs why, unless memory was refused.
 fn file_fault<L: Log>(alloc: Global, log: &L, path: &str, error: &Error) -> Fault {
     if error.kind() == ErrorKind::OutOfMemory {
         return Fault::Memory;

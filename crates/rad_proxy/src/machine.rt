@@ -22,7 +22,7 @@ impl<R: Files> LocalAddresses for Machine<R>
 where
     R::File: Drop,
 {
-    /// As [`read_local_addresses`].
+    /// Reads the addresses as [`read_local_addresses`] does.
     fn read(&self, alloc: Global) -> io::Result<Vec<[u8; 4]>> {
         read_local_addresses(&self.rt, alloc)
     }
@@ -32,7 +32,7 @@ impl<R: Files> UdpSockets for Machine<R>
 where
     R::File: Drop,
 {
-    /// As [`read_udp_sockets`].
+    /// Reads the table as [`read_udp_sockets`] does.
     fn read(&self, table: &mut Vec<u8>) {
         read_udp_sockets(&self.rt, table);
     }

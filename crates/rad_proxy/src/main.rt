@@ -1,6 +1,6 @@
-//! A RADIUS accounting proxy (RFC 2866 section 2.1): the words that it is called with, the files that it reads, and the
-//! status that it ends with. What it does stands in libraries: `rad_replay` answers a script, `rad_server` serves over UDP, and
-//! `rad_telemetry` logs and counts.
+//! A RADIUS accounting proxy (RFC 2866 section 2.1): the words of its command line, the files that it reads, and the
+//! status that it ends with. What it does is in libraries: `rad_replay` runs a script, `rad_server` serves over UDP,
+//! and `rad_telemetry` logs and counts.
 #![tactic(auto)]
 
 mod check_command;
@@ -35,7 +35,7 @@ use std::sync::Wait;
 use std::thread::Threads;
 use words::{Task, read_words};
 
-/// The status that a run ends with where something is left over.
+/// The status of the program if something is left over at the end.
 const LEFT_OVER: u8 = 3;
 
 fn main(rt: HostRuntime) -> ExitCode {
@@ -53,7 +53,7 @@ fn main(rt: HostRuntime) -> ExitCode {
     ExitCode::from(status)
 }
 
-/// Does what the words ask for, and gives the status.
+/// Does what the words of the command line ask for, and returns the status.
 fn obey_words<R, F, A>(rt: &R, files: F, machine: &A) -> Result<u8, Fault>
 where
     R: Runtime + AllocGlobal + Net + RandomSource + Threads + Wait + Sync + Copy + Send + 'static,
@@ -78,13 +78,13 @@ where
     }
 }
 
-/// What the words ask for that the program was called with.
+/// Returns what the words of the command line ask for.
 fn read_task<R: Env + AllocGlobal>(rt: &R, alloc: Global) -> Result<Task, Fault> {
     let words = read_arguments(rt)?;
     read_words(alloc, words.as_slice())
 }
 
-/// Answers the script of a reader, and gives the status.
+/// Runs the script of a reader, and returns the status.
 fn status_of_replay<R: Wait, I: Read + Drop, O: Write + Drop>(
     rt: &R,
     alloc: Global,
@@ -97,7 +97,7 @@ fn status_of_replay<R: Wait, I: Read + Drop, O: Write + Drop>(
     }
 }
 
-/// Prints how much the configuration in a file has, and gives the status.
+/// Prints the counts of the configuration in a file, and returns the status.
 fn print_counts<R: Files + Print, L: Log>(
     rt: &R,
     alloc: Global,
@@ -117,12 +117,12 @@ where
     }
 }
 
-/// The status of a run that came to its end.
+/// Returns the status of a `replay` or `run` that came to its end.
 fn status_at(end: &EndLine) -> u8 {
     if end.is_clean() { 0 } else { LEFT_OVER }
 }
 
-/// The words that the program was called with, with its own name first.
+/// Returns the words of the command line, the program's own name first.
 fn read_arguments<R: Env + AllocGlobal>(rt: &R) -> Result<Vec<String>, Fault> {
     let arguments = match env::args(rt) {
         Ok(arguments) => arguments,

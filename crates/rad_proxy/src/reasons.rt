@@ -22,7 +22,7 @@ pub enum FileReason {
 }
 
 impl FileReason {
-    /// The reason that an error of this kind tells.
+    /// Returns the reason that an error of this kind stands for.
     pub fn of(kind: ErrorKind) -> FileReason
         ensures absent { kind ≡ ErrorKind.NotFound → result ≡ FileReason.Absent }
         ensures folder { kind ≡ ErrorKind.IsADirectory → result ≡ FileReason.Folder }
@@ -74,7 +74,7 @@ impl Display for FileLine<'_> {
     }
 }
 
-/// The log line of so many keys that are unread and not told one by one.
+/// The log line of the number of unread keys that are not logged one by one.
 #[derive(Clone, Copy)]
 struct MoreKeysLine(usize);
 
@@ -90,12 +90,12 @@ impl Display for MoreKeysLine {
     }
 }
 
-/// Tells why the file of this path can't be read.
+/// Logs why the file of this path can't be read.
 pub fn tell_file<L: Log>(log: &L, path: &str, error: &Error) {
     tell_error(log, &FileLine { path, error });
 }
 
-/// Tells where a text stops being TOML, and which of its keys nobody reads. Where memory is refused it tells nothing.
+/// Logs where a text stops being TOML, or which of its keys are unread. If memory is refused, it logs nothing.
 pub fn tell_text<L: Log>(alloc: Global, log: &L, text: &[u8]) {
     if let Ok(Some(error)) = syntax_error(alloc, text) {
         tell_reason(log, "no-toml", &error);
@@ -106,7 +106,7 @@ pub fn tell_text<L: Log>(alloc: Global, log: &L, text: &[u8]) {
     }
 }
 
-/// Tells of keys that nobody reads.
+/// Logs unread keys.
 fn tell_keys<L: Log>(log: &L, keys: &UnreadKeys) {
     for key in keys.listed() {
         warn_of_reason(log, "unread-key", key);
@@ -116,8 +116,8 @@ fn tell_keys<L: Log>(log: &L, keys: &UnreadKeys) {
     }
 }
 
-/// Tells of home servers that send the proxy its own requests, or that nothing can be sent to, on a machine of these addresses.
-/// Where memory is refused it tells nothing.
+/// Logs the home servers that send the proxy its own requests, or that nothing can be sent to, on a machine with these
+/// addresses. If memory is refused, it logs nothing.
 pub fn tell_homes<L: Log>(alloc: Global, log: &L, config: &Config, local: &[[u8; 4]]) {
     if let Ok(advice) = advise_homes(alloc, config, local) {
         for home in advice.as_slice() {

@@ -1,4 +1,4 @@
-//! The command `run`: a configuration is served over UDP, while what is counted is reported.
+//! The command `run`: it serves a configuration over UDP, and reports the counters.
 
 ghost use denote.Param.Send.{IsSync};
 
@@ -25,20 +25,20 @@ use std::time::{Clock, Duration, Instant};
 /// How long the program waits at its end for the last text of the counters, in milliseconds.
 const LAST_TEXT: u64 = 500;
 
-/// How long it waits for that and for the log.
+/// How long it waits for that text and for the log together, in milliseconds.
 const LAST_LINES: u64 = 1000;
 
-/// Why there is no thread: the system tells one number for both.
+/// The reason for which a thread can't be started. The system gives one error number for both causes.
 const NO_THREAD: &str = "the system has no thread more, or no memory for one";
 
-/// Why the input can't be waited for, where the system tells no number.
+/// The reason for which the input can't be waited for, if the system gives no error number.
 const NO_WAIT: &str = "the system can't wait for it";
 
 /// Serves the configuration in a file until standard input ends.
 ///
 /// # Errors
 ///
-/// As [`load`], and as [`run`]; `Threads` where a thread that reports or writes can't be started.
+/// Those of [`load`] and of [`run`]; `Threads` if a thread that reports or writes can't be started.
 pub fn serve_file<R, F, A>(
     rt: &R,
     files: F,
@@ -58,7 +58,7 @@ where
     serve_logged(rt, files, machine, alloc, path, &log)
 }
 
-/// The same, where this is the log.
+/// Serves the configuration in a file until standard input ends, with this log.
 fn serve_logged<R, F, A>(
     rt: &R,
     files: F,
@@ -77,7 +77,7 @@ where
     serve_config(rt, files, machine, alloc, &config, log)
 }
 
-/// Serves a configuration, while what is left of the counters is written.
+/// Serves a configuration, while other threads write the log and the file of the counters.
 fn serve_config<R, F, A>(
     rt: &R,
     files: F,
@@ -111,7 +111,7 @@ where
     outcome
 }
 
-/// Serves a configuration over the standard streams. What ends it is told.
+/// Serves a configuration over the standard streams, and logs the fault that ends it.
 fn serve_told<'a, R, L, A>(
     rt: &'a R,
     machine: &'a A,
@@ -143,8 +143,8 @@ where
     }
 }
 
-/// What ends a service ends the program. The log is told why a thread can't be had, or what waits for the input; the other
-/// reasons were told as they came, and the clock has none.
+/// Returns the fault of the program for a fault of the service. Logs why a thread can't be started, or why the input
+/// can't be waited for; the other reasons were logged when they occurred, and a fault of the clock has none.
 fn fault_told<L: Log>(log: &L, fault: ServeFault) -> Fault {
     match fault {
         ServeFault::Threads => tell_reason(log, "thread-fault", &NO_THREAD),
@@ -157,7 +157,8 @@ fn fault_told<L: Log>(log: &L, fault: ServeFault) -> Fault {
     Fault::from(fault)
 }
 
-/// Starts the threads that write the log and the file of the counters, if there is one, and answers whether it could.
+/// Starts the threads that write the log and the file of the counters, if there is one, and returns whether that
+/// succeeded.
 fn start_writers<R, F>(
     rt: &R,
     alloc: Global,
@@ -178,7 +179,7 @@ where
     log.sink().start(rt)
 }
 
-/// Has what is left written, and waits a second for it at most: a thread that writes longer ends with the program.
+/// Lets the threads write what is left, for at most a second; a thread that writes for longer ends with the program.
 fn end_writers<R: Clock + Wait>(rt: &R, log: &Logged<(), ErrorLines>, texts: &CounterTexts) {
     let Ok(start) = Instant::now(rt) else {
         return;
@@ -191,7 +192,7 @@ fn end_writers<R: Clock + Wait>(rt: &R, log: &Logged<(), ErrorLines>, texts: &Co
     log.sink().end(rt, start, Duration::from_millis(LAST_LINES));
 }
 
-/// A configuration that is served, and what tells how that goes.
+/// A configuration that is served, with its telemetry and its reporter.
 struct Service<'a, R, L, A> {
     rt: &'a R,
     machine: &'a A,
@@ -209,7 +210,7 @@ impl<R, L, A> Clone for Service<'_, R, L, A> {
 
 impl<R, L, A> Copy for Service<'_, R, L, A> {}
 
-/// Serves a configuration, while a thread of its own reports what is counted.
+/// Serves a configuration, while a separate thread reports the counters.
 fn serve<R, L, A, I, O>(
     service: Service<'_, R, L, A>,
     reader: I,
@@ -240,7 +241,7 @@ where
     )
 }
 
-/// Starts the thread that reports until the flag is set, and answers whether it could.
+/// Starts the thread that reports until the flag is set, and returns whether that succeeded.
 fn start_reporter<'s, E, R, L, A>(
     scope: &Scope<'s, E>,
     service: Service<'s, R, L, A>,
@@ -263,7 +264,7 @@ where
         .is_ok()
 }
 
-/// Serves a configuration. That a worker ended by itself is logged.
+/// Serves a configuration, and logs it if a worker ended by itself.
 fn serve_and_tell<R, L, A, I, O>(
     service: Service<'_, R, L, A>,
     reader: I,

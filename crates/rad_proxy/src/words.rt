@@ -1,4 +1,4 @@
-//! The words that the program is called with.
+//! The words of the command line.
 
 use crate::faults::Fault;
 use clap::error::ErrorKind;
@@ -8,19 +8,19 @@ use std::alloc::{AllocError, Global};
 /// What the program is to do.
 #[derive(Drop)]
 pub enum Task {
-    /// Runs a script from standard input.
+    /// Run the script on standard input.
     Replay,
-    /// Checks the configuration in this file.
+    /// Check the configuration in this file.
     Check(String),
-    /// Serves the configuration in this file.
+    /// Serve the configuration in this file.
     Run(String),
 }
 
-/// What the words ask for. The first word is the program's name; no others mean `replay`.
+/// Returns what the words ask for. The first word is the program's name. Without other words it is `replay`.
 ///
 /// # Errors
 ///
-/// `Usage` for words of another form, `Memory` where a growth was refused.
+/// `Usage` for words of any other form, `Memory` if a growth is refused.
 pub fn read_words(alloc: Global, words: &[String]) -> Result<Task, Fault> {
     let Ok(command) = command(alloc) else {
         return Err(Fault::Memory);
@@ -37,7 +37,7 @@ pub fn read_words(alloc: Global, words: &[String]) -> Result<Task, Fault> {
     task_of(alloc, &matches)
 }
 
-/// What the words that were matched ask for.
+/// Returns what the matched words ask for.
 fn task_of(alloc: Global, matches: &ArgMatches) -> Result<Task, Fault> {
     match matches.subcommand() {
         Some(("check", check)) => Ok(Task::Check(read_file_word(alloc, check)?)),
@@ -46,7 +46,7 @@ fn task_of(alloc: Global, matches: &ArgMatches) -> Result<Task, Fault> {
     }
 }
 
-/// The word FILE of a command.
+/// Returns the word FILE of a command.
 fn read_file_word(alloc: Global, matches: &ArgMatches) -> Result<String, Fault> {
     let Some(file) = matches.get_str("FILE") else {
         return Err(Fault::Usage);
@@ -57,7 +57,7 @@ fn read_file_word(alloc: Global, matches: &ArgMatches) -> Result<String, Fault> 
     }
 }
 
-/// The words that the program takes.
+/// Returns the words that the program takes.
 fn command<'a>(alloc: Global) -> Result<Command<'a>, AllocError> {
     let program = Command::new(alloc, "rad_proxy");
     let program = program.subcommand(Command::new(alloc, "replay"))?;
@@ -65,12 +65,12 @@ fn command<'a>(alloc: Global) -> Result<Command<'a>, AllocError> {
     program.subcommand(command_of_file(alloc, "run")?)
 }
 
-/// A command of this name, and the word FILE after it.
+/// Returns a command of this name, with the word FILE after it.
 fn command_of_file<'a>(alloc: Global, name: &'a str) -> Result<Command<'a>, AllocError> {
     Command::new(alloc, name).arg(file(alloc))
 }
 
-/// The word FILE, which has to be there.
+/// Returns the word FILE, which is required.
 fn file<'a>(alloc: Global) -> Arg<'a> {
     Arg::new(alloc, "FILE")
         .required(true)

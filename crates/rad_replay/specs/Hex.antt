@@ -14,23 +14,23 @@ is_letter octet = nat_le 97 octet && nat_le octet 102
 abbrev pub is_digit : ℕ → Bool
 is_digit octet = is_decimal octet || is_letter octet
 
--- The value of a digit, and 0 of any other octet.
+-- The value of a digit, and 0 for any other octet.
 abbrev pub digit_value : ℕ → ℕ
 digit_value octet = if is_decimal octet then octet - 48 else (if is_letter octet then octet - 97 + 10 else 0)
 
--- The octets that digits write: each two write one, the first of them its higher half.
+-- The octets that digits write: each two digits write one octet, and the first of them is its higher half.
 abbrev pub octets_written : List ℕ → List ℕ
 octets_written [] = []
 octets_written (digit ∷ []) = []
 octets_written (high ∷ low ∷ digits) = (16 * digit_value high + digit_value low) ∷ octets_written digits
 
--- Digits in an even count, at least two.
+-- An even number of digits, at least two.
 pub record AreDigits (word : List ℕ) : Type 0 where
   pub some : 0 < length word
   pub even : length word % 2 ≡ 0
   pub digits : list_all is_digit word ≡ true
 
--- A word that writes octets: `-` writes none.
+-- The word writes octets. `-` writes none.
 abbrev pub WritesOctets : List ℕ → Type 0
 WritesOctets word = (word ≡ codes "-") ⊎ AreDigits word
 

@@ -1,4 +1,4 @@
--- The lines of the answers to events, without their line feeds.
+-- The lines of the results of events, without their line feeds.
 use Rattle.std.specs.Prelude.{ℕ, List, ◌++◌, codes, Option, Some, None, Result, Ok, Err}
 use Rattle.std.specs.Fmt.{decimal}
 use Rattle.rad_realms.specs.Printed.{address_text, dropped_text}
@@ -20,11 +20,11 @@ use Rattle.rad_replay.specs.declared.lines.Cut.{Cut}
 use Rattle.rad_replay.specs.declared.path.PathFault.{PathFault}
 use Rattle.rad_replay.specs.declared.path.PathFault.TheVariants.{Dropped, Refused}
 
--- A lane with a number: of a request, or of a response.
+-- A lane's number, and the number of a request or of a response.
 abbrev pub request_text : ℕ → ℕ → List ℕ
 request_text lane number = decimal lane ++ codes " " ++ decimal number
 
--- What a checked datagram of a NAS led to, with the octets of the packet that was written for it.
+-- The result of a checked datagram of a NAS, with the octets of the packet that was written for it.
 abbrev pub handled_text : Handled → List ℕ → List ℕ
 handled_text Answered written = codes "status " ++ packet_text written
 handled_text (Taken lane (New number)) written = codes "new " ++ request_text lane number
@@ -32,22 +32,22 @@ handled_text (Taken lane (Waiting number)) written = codes "waiting " ++ request
 handled_text (Taken lane (Again number)) written =
     codes "again " ++ request_text lane number ++ codes " " ++ packet_text written
 
--- Why it was neither taken nor answered.
+-- Why the datagram was neither taken nor answered.
 abbrev pub path_fault_text : PathFault → List ℕ
 path_fault_text (Dropped reason) = codes "dropped " ++ dropped_text reason
 path_fault_text (Refused reason) = codes "refused " ++ refusal_text reason
 
--- What became of a NAS's datagram, with the octets of the packet that was written for it.
+-- The line of a NAS's datagram, with the octets of the packet that was written for it.
 abbrev pub nas_line : Result Handled PathFault → List ℕ → List ℕ
 nas_line (Ok handled) written = codes "nas: " ++ handled_text handled written
 nas_line (Err fault) written = codes "nas: " ++ path_fault_text fault
 
--- That a step had nothing to do, and when there is something to do next, where that is known.
+-- An idle step, with the moment before which there is nothing to do, if that is known.
 abbrev pub idle_text : Option ℕ → List ℕ
 idle_text None = codes "idle"
 idle_text (Some next) = codes "idle " ++ decimal next
 
--- What a step did, with the source port that is told and the octets of the packet that the step gave to be sent.
+-- The line of a step, with the source port that is printed, if any, and the octets of the packet that the step sends.
 abbrev pub step_line : Action → Option ℕ → List ℕ → List ℕ
 step_line (Sent number slot) port sent = codes "step: sent " ++ sent_text port sent
 step_line (Resent number slot) port sent = codes "step: resent " ++ sent_text port sent
@@ -56,23 +56,23 @@ step_line WentDown port sent = codes "step: down"
 step_line WentUp port sent = codes "step: up"
 step_line (Idle next) port sent = codes "step: " ++ idle_text next
 
--- What became of a datagram of a lane's home server.
+-- The line of a datagram of a lane's home server.
 abbrev pub home_line : ℕ → Result Told DeskFault → List ℕ
 home_line lane (Ok (Answer serial)) = codes "home: answer " ++ request_text lane serial
 home_line lane (Ok ProbeAnswered) = codes "home: probe"
 home_line lane (Err fault) = codes "home: dropped " ++ desk_fault_text fault
 
--- To whom a response goes: an address and a port.
+-- The address and port that a response goes to.
 abbrev pub receiver_text : List ℕ → ℕ → List ℕ
 receiver_text address port = address_text address ++ codes " " ++ decimal port
 
--- What was taken of the responses that wait.
+-- The line of a response that was taken, or of none.
 abbrev pub take_line : Option Outgoing → List ℕ
 take_line None = codes "take: none"
 take_line (Some response) =
     codes "take: " ++ receiver_text response.client response.port ++ codes " " ++ packet_text response.reply.response
 
--- What became of cutting off the front of a lane's book.
+-- The line of the removal of a volume from a lane's book.
 abbrev pub turn_line : ℕ → Result Cut TurnFault → List ℕ
 turn_line lane (Ok cut) =
     codes "turn: " ++ decimal lane ++ codes " " ++ decimal cut.count ++ codes " " ++ decimal cut.opening

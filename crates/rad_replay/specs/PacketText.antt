@@ -1,4 +1,4 @@
--- A packet as it is printed: Code, Identifier, Length and attributes, one space between each two.
+-- A packet as it is printed: Code, Identifier, Length and attributes, with one space between each two.
 use Rattle.std.specs.Prelude.{ℕ, ◌/◌, ◌%◌, List, [], ◌∷◌, ◌++◌, length, drop, slice_index, codes, false, Option, Some, None}
 use Rattle.std.specs.List.{flat_map}
 use Rattle.std.specs.Fmt.{decimal, digits}
@@ -21,12 +21,12 @@ head_text octets =
 abbrev pub packet_text : List ℕ → List ℕ
 packet_text octets = head_text octets ++ codes " " ++ attributes_text (drop 20 octets)
 
--- An Identifier, with the source port behind a dot where that is told.
+-- An Identifier, followed by a dot and the source port if that is printed.
 abbrev pub identifier_text : Option ℕ → ℕ → List ℕ
 identifier_text None identifier = decimal identifier
 identifier_text (Some port) identifier = decimal identifier ++ codes "." ++ decimal port
 
--- The Code, Identifier and Length of a packet that goes out from a source port.
+-- The Code, Identifier and Length of a packet that is sent from a source port.
 abbrev pub sent_head_text : Option ℕ → List ℕ → List ℕ
 sent_head_text port octets =
     decimal (slice_index octets 0) ++ codes " " ++ identifier_text port (slice_index octets 1) ++ codes " " ++ decimal (length octets)

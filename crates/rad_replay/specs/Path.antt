@@ -1,5 +1,5 @@
--- The way of a NAS's datagram (RFC 2866 section 2.1, Proxy): a request goes to the lane of its realm. A
--- Status-Server (RFC 5997 section 3) is answered in place. What the lane has is behind its lock.
+-- The path of a NAS's datagram (RFC 2866 section 2.1, Proxy). A request is passed to the lane of its realm. A
+-- Status-Server (RFC 5997 section 3) is answered in place. The state of the lane is behind its lock.
 use Rattle.std.specs.Prelude.{◌≡◌, ℕ, Result, Ok, Err}
 use Rattle.rad_realms.specs.Configuration.{Configuration}
 use Rattle.rad_realms.specs.Checking.{Drops}
@@ -13,13 +13,13 @@ use Rattle.rad_replay.specs.declared.path.Arrival.{Arrival}
 use Rattle.rad_replay.specs.declared.path.PathFault.{PathFault}
 use Rattle.rad_replay.specs.declared.path.PathFault.TheVariants.{Dropped, Refused}
 
--- The datagram is a request or a Status-Server, which leads to this where there are so many lanes.
+-- The datagram is a valid request or Status-Server, and this is its result with `lanes` lanes.
 pub record IsHandled (config : Configuration) (arrival : Arrival) (lanes : ℕ) (outcome : Result Handled Refusal) (d : Datagrams) : Type 0 where
   pub incoming : Incoming
   pub taken : Takes config arrival.address arrival.port arrival.octets.now incoming
   pub handled : Handles incoming arrival.moment lanes outcome d
 
--- What becomes of a NAS's datagram.
+-- The result of a NAS's datagram. If it is dropped, nothing is written.
 abbrev pub TakesIn : Configuration → Arrival → ℕ → Result Handled PathFault → Datagrams → Type 0
 TakesIn config arrival lanes (Ok handled) d = IsHandled config arrival lanes (Ok handled) d
 TakesIn config arrival lanes (Err (Dropped reason)) d =

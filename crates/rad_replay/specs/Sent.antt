@@ -4,7 +4,7 @@ use Rattle.rad_packet.specs.Packet.{identifier_of, authenticator_of}
 use Rattle.rad_lane.specs.declared.stepping.Action.{Action}
 use Rattle.rad_lane.specs.declared.stepping.Action.TheVariants.{Sent, Resent, Probed, WentDown, WentUp, Idle}
 
--- What a port sent last, by Identifier, once it has sent this packet.
+-- What a port sent last, by Identifier, after it has sent this packet.
 abbrev pub with_sent : List (List ℕ) → List ℕ → List (List ℕ)
 with_sent last packet = slice_set last (identifier_of packet) (authenticator_of packet)
 
@@ -17,16 +17,16 @@ sends WentDown = false
 sends WentUp = false
 sends (Idle next) = false
 
--- This port has sent the packet, and the others stay; all stay where there is no such port.
+-- This port has sent the packet, and the others are unchanged. If there is no such port, all are unchanged.
 abbrev pub KeepsAt : List (List (List ℕ)) → ℕ → List ℕ → List (List (List ℕ)) → Type 0
 KeepsAt old port packet new =
     MatchOption (slice_get old port) (new ≡ old) (λ last. new ≡ slice_set old port (with_sent last packet))
 
--- The same where a step gave the packet to be sent; else all stay.
+-- The same if the step gave the packet to be sent; otherwise all are unchanged.
 abbrev pub KeepsSent : List (List (List ℕ)) → ℕ → Action → List ℕ → List (List (List ℕ)) → Type 0
 KeepsSent old port action packet new = MatchBool (sends action) (KeepsAt old port packet new) (new ≡ old)
 
--- The source port that a step's packet goes out from.
+-- The source port that a step's packet is sent from.
 abbrev pub port_of : Action → Option ℕ
 port_of (Sent number slot) = Some slot.port
 port_of (Resent number slot) = Some slot.port

@@ -13,20 +13,21 @@ use rad_packet::{Datagram, PacketRef, read};
 use rad_realms::Config;
 use std::alloc::AllocError;
 
-/// The Authenticator of a Status-Server that is made.
+/// The Authenticator of each Status-Server that is made.
 const STATUS_AUTHENTICATOR: [u8; 16] = [0xa5; 16];
 
-/// Who sends a datagram.
+/// The sender of a datagram.
 #[derive(Clone, Copy)]
 enum Sender<'a> {
-    /// A NAS, with its client's secret, where its address is a client's.
+    /// A NAS, with its client's secret if its address is a client's.
     Nas(Option<&'a Secret>),
-    /// A home server, with its secret, which answers what its lane sent last from a source port, where the lane has it.
+    /// A home server, with its secret, and with what its lane sent last from the source port that it answers, if the
+    /// lane has that port.
     Home(&'a Secret, Option<&'a LastSent>),
 }
 
 impl Sender<'_> {
-    /// The secret that it signs with, where it has one.
+    /// Returns the secret that the sender signs with, if it has one.
     fn secret(&self) -> Option<&Secret> {
         match self {
             Sender::Nas(secret) => *secret,
@@ -34,8 +35,8 @@ impl Sender<'_> {
         }
     }
 
-    /// The Authenticator of its packet (RFC 2866 section 3): a Request Authenticator of a NAS, or zeros
-    /// without a secret; a Response Authenticator of a home server, for the packet that was sent to it last
+    /// Returns the Authenticator of the sender's packet (RFC 2866 section 3): the Request Authenticator of a NAS, or
+    /// zeros without a secret; the Response Authenticator of a home server, for the packet that was last sent to it
     /// under the packet's Identifier.
     fn authenticator_of(&self, packet: &PacketRef<'_>) -> [u8; 16] {
         match self {
@@ -52,12 +53,12 @@ impl Sender<'_> {
     }
 }
 
-/// Writes the octets of a datagram of a NAS at this address in place of what `octets` had. What is made is right for
-/// its client, where it is one's.
+/// Writes the octets of a datagram of a NAS at this address, in place of what `octets` had. A packet that is made is
+/// valid under the client's secret, if the address is a client's.
 ///
 /// # Errors
 ///
-/// `Memory` where a growth was refused, `Malformed` where more octets are cut than there are.
+/// `Memory` if a growth is refused, `Malformed` if more octets are cut than there are.
 pub fn build_request(
     config: &Config,
     address: [u8; 4],
@@ -73,12 +74,12 @@ pub fn build_request(
     }
 }
 
-/// Writes the octets of a datagram of a lane's home server in place of what `octets` had. What is made is right for it,
-/// and answers what this source port sent last.
+/// Writes the octets of a datagram of a lane's home server, in place of what `octets` had. A packet that is made is
+/// valid under the home server's secret, and answers what this source port sent last.
 ///
 /// # Errors
 ///
-/// `Memory` where a growth was refused, `Malformed` where there is no such lane or more octets are cut than there are.
+/// `Memory` if a growth is refused, `Malformed` if there is no such lane or more octets are cut than there are.
 pub fn build_reply(
     config: &Config,
     sent: &Ports,
@@ -94,11 +95,11 @@ pub fn build_reply(
     build(packet, Sender::Home(home.secret(), sent), octets)
 }
 
-/// Writes the octets of a datagram in place of what `octets` had. What is made is right for its sender.
+/// Writes the octets of a datagram, in place of what `octets` had. A packet that is made is valid for its sender.
 ///
 /// # Errors
 ///
-/// `Memory` where a growth was refused, `Malformed` where more octets are cut than there are.
+/// `Memory` if a growth is refused, `Malformed` if more octets are cut than there are.
 fn build(packet: &Packet<'_>, sender: Sender<'_>, octets: &mut Vec<u8>) -> Result<(), Halt> {
     octets.clear();
     match packet {
@@ -135,7 +136,7 @@ fn write_template(
     }
 }
 
-/// Writes a packet with these parts, signed by its sender where it reads as a packet.
+/// Writes a packet with these parts, signed by its sender if it is read as a packet.
 fn write_made(make: &Make<'_>, sender: Sender<'_>, octets: &mut Vec<u8>) -> Result<(), AllocError>
     ensures { OnOk result (20 ≤ vec_len octets.new) }
 {
@@ -150,8 +151,8 @@ fn write_made(make: &Make<'_>, sender: Sender<'_>, octets: &mut Vec<u8>) -> Resu
     Ok(())
 }
 
-/// A Status-Server that is right under the secret. Without one, zeros stand in its Authenticator and in its
-/// Message-Authenticator.
+/// Writes a Status-Server that is valid under the secret, or, without a secret, one whose Authenticator and
+/// Message-Authenticator are zeros.
 fn write_status(
     identifier: u8,
     secret: Option<&Secret>,
@@ -170,8 +171,8 @@ fn write_status(
     octets.extend_from_slice(status.bytes())
 }
 
-/// Sets the Authenticator to the sender's. Octets that read as no packet stay: they are dropped before
-/// anyone looks at their Authenticator.
+/// Sets the Authenticator to the sender's, except in octets that are not read as a packet, which are dropped before
+/// their Authenticator is looked at.
 fn sign(octets: &mut [u8], sender: Sender<'_>) {
     let authenticator = match read(octets) {
         Ok(packet) => sender.authenticator_of(&packet),
@@ -180,7 +181,7 @@ fn sign(octets: &mut [u8], sender: Sender<'_>) {
     octets[4..20].copy_from_slice(&authenticator);
 }
 
-/// Makes what authenticates the packet wrong.
+/// Makes the packet's authenticator invalid.
 fn spoil(template: &Template<'_>, octets: &mut [u8])
     requires { 20 ≤ length octets.old }
 {
@@ -191,7 +192,7 @@ fn spoil(template: &Template<'_>, octets: &mut [u8])
     octets[place] ^= 1;
 }
 
-/// Pads and then cuts what was made.
+/// Pads the packet, and then cuts it.
 fn change(changes: &Changes<'_>, octets: &mut Vec<u8>) -> Result<(), Halt> {
     changes.pad.push_to(octets)?;
     if changes.cut > octets.len() {

@@ -1,4 +1,4 @@
-//! How the datagrams of a script are made, and the words that say so.
+//! How the datagrams of a script are made, and the words that describe them.
 
 ghost use Rattle.std.specs.Prelude.{◌≤◌, length, IfSome};
 ghost use Rattle.rad_replay.specs.Hex.{octets_of};
@@ -19,7 +19,7 @@ pub enum Packet<'a> {
 /// A packet that is made for the script.
 #[derive(Clone, Copy)]
 pub enum Template<'a> {
-    /// A packet with the Authenticator that is right for its sender.
+    /// A packet with the Authenticator that is valid for its sender.
     Make(Make<'a>),
     /// A Status-Server (RFC 5997 section 3).
     Status { identifier: u8 },
@@ -30,26 +30,26 @@ pub enum Template<'a> {
 pub struct Make<'a> {
     pub code: u8,
     pub identifier: u8,
-    /// Written as they are, whether they are attributes or not.
+    /// The attributes. They are written unchanged, whether they are valid or not.
     pub attributes: Hex<'a>,
     ghost short: { length (octets_of attributes) ≤ 4076 },
 }
 
-/// What is changed in a packet that was made, in this order.
+/// The changes to a packet that was made, in this order.
 #[derive(Clone, Copy)]
 pub struct Changes<'a> {
-    /// The last octet of its Authenticator is changed, or of a Status-Server's Message-Authenticator.
+    /// Whether the last octet of its Authenticator is changed, or of a Status-Server's Message-Authenticator.
     pub spoil: bool,
-    /// These octets are added after it.
+    /// The octets that are added at its end.
     pub pad: Hex<'a>,
-    /// So many of the last octets are taken away.
+    /// How many of the last octets are removed.
     pub cut: usize,
 }
 
 /// The most octets of a datagram (UDP over IPv4).
 const MOST_OCTETS: usize = 65_507;
 
-/// The most octets of attributes in a packet: its Length is at most 4096.
+/// The most octets of attributes in a packet, whose Length is at most 4096.
 const MOST_ATTRIBUTES: usize = 4076;
 
 /// Reads how a datagram is made.
@@ -65,13 +65,13 @@ pub fn parse_packet<'a>(words: &mut Pieces<'a>) -> Option<Packet<'a>> {
     Some(Packet::Made(template, Changes { spoil, pad, cut }))
 }
 
-/// Reads the words behind `raw`.
+/// Reads the words after `raw`.
 fn parse_raw<'a>(words: &mut Pieces<'a>) -> Option<Packet<'a>> {
     let octets = parse_hex(words, MOST_OCTETS)?;
     Some(Packet::Raw(octets))
 }
 
-/// Reads whether a packet is spoiled, and the word behind that.
+/// Reads whether a packet is spoiled, and the word after that.
 fn parse_spoil<'a>(word: &'a [u8], words: &mut Pieces<'a>) -> Option<(bool, &'a [u8])> {
     if word == b"spoil".as_slice() {
         return Some((true, words.next()?));
@@ -79,7 +79,7 @@ fn parse_spoil<'a>(word: &'a [u8], words: &mut Pieces<'a>) -> Option<(bool, &'a 
     Some((false, word))
 }
 
-/// Reads the octets that are added to a packet, and the word behind them.
+/// Reads the octets that are added to a packet, and the word after them.
 fn parse_pad<'a>(word: &'a [u8], words: &mut Pieces<'a>) -> Option<(Hex<'a>, &'a [u8])> {
     if word == b"pad".as_slice() {
         let octets = Hex::parse(words.next()?)?;
@@ -88,7 +88,7 @@ fn parse_pad<'a>(word: &'a [u8], words: &mut Pieces<'a>) -> Option<(Hex<'a>, &'a
     Some((Hex::none(), word))
 }
 
-/// Reads how many octets are taken away from a packet, and the word behind that.
+/// Reads how many octets are removed from a packet, and the word after that.
 fn parse_cut<'a>(word: &'a [u8], words: &mut Pieces<'a>) -> Option<(usize, &'a [u8])> {
     if word == b"cut".as_slice() {
         let count = parse_usize(words.next()?)?;
@@ -106,7 +106,7 @@ fn parse_template<'a>(word: &[u8], words: &mut Pieces<'a>) -> Option<Template<'a
     }
 }
 
-/// Reads the words behind `make`.
+/// Reads the words after `make`.
 fn parse_make<'a>(words: &mut Pieces<'a>) -> Option<Template<'a>> {
     let code = parse_u8(words.next()?)?;
     let identifier = parse_u8(words.next()?)?;
@@ -118,13 +118,13 @@ fn parse_make<'a>(words: &mut Pieces<'a>) -> Option<Template<'a>> {
     }))
 }
 
-/// Reads the word behind `status`.
+/// Reads the word after `status`.
 fn parse_status<'a>(words: &mut Pieces<'a>) -> Option<Template<'a>> {
     let identifier = parse_u8(words.next()?)?;
     Some(Template::Status { identifier })
 }
 
-/// Reads the next word as octets, where they are no more than `most`.
+/// Reads the next word as octets, if they are at most `most`.
 fn parse_hex<'a>(words: &mut Pieces<'a>, most: usize) -> Option<Hex<'a>>
     ensures { IfSome result (λ octets. length (octets_of octets) ≤ most) }
 {

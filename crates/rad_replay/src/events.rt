@@ -4,43 +4,43 @@ use crate::datagrams::{Packet, Template, parse_packet};
 use crate::numbers::{parse_address, parse_u16, parse_usize};
 use rad_console::{Command, Pieces};
 
-/// What happens to the proxy.
+/// An event that happens to the proxy.
 #[derive(Clone, Copy)]
 pub enum Event<'a> {
-    /// A datagram comes from a NAS.
+    /// A datagram arrives from a NAS.
     Nas {
         address: [u8; 4],
         port: u16,
         packet: Packet<'a>,
     },
-    /// A datagram comes from the home server of a lane to this source port.
+    /// A datagram arrives from the home server of a lane at this source port.
     Home {
         lane: u16,
         port: u16,
         packet: Packet<'a>,
     },
-    /// The first response that waits at a lane is taken.
+    /// The first response that waits in a lane's ring is taken.
     Take {
         lane: u16,
     },
-    /// A lane is to do its next step.
+    /// A lane does its next step.
     Step {
         lane: u16,
     },
-    /// A lane is to cut off the front of its book.
+    /// A lane removes a volume from its book.
     Turn {
         lane: u16,
     },
-    /// The events from now on happen at this moment.
+    /// The following events happen at this moment.
     At {
         milliseconds: u64,
     },
-    /// The console is given a command.
+    /// The console executes a command.
     Console(Command),
 }
 
 impl<'a> Event<'a> {
-    /// The event that a line writes, where it writes one.
+    /// Reads the event of a line, if the line is one.
     pub fn parse(line: &'a [u8]) -> Option<Self> {
         let mut words = Pieces::new(line, b' ');
         let first = words.next()?;
@@ -65,7 +65,7 @@ fn parse_event<'a>(first: &[u8], words: &mut Pieces<'a>) -> Option<Event<'a>> {
     }
 }
 
-/// Reads the words behind `nas`.
+/// Reads the words after `nas`.
 fn parse_nas<'a>(words: &mut Pieces<'a>) -> Option<Event<'a>> {
     let address = parse_address(words.next()?)?;
     let port = parse_u16(words.next()?)?;
@@ -77,7 +77,7 @@ fn parse_nas<'a>(words: &mut Pieces<'a>) -> Option<Event<'a>> {
     })
 }
 
-/// Reads the words behind `home`. A home server sends no Status-Server.
+/// Reads the words after `home`, which describe no Status-Server, since a home server sends none.
 fn parse_home<'a>(words: &mut Pieces<'a>) -> Option<Event<'a>> {
     let (lane, port) = parse_source(words.next()?)?;
     match parse_packet(words)? {
@@ -86,7 +86,7 @@ fn parse_home<'a>(words: &mut Pieces<'a>) -> Option<Event<'a>> {
     }
 }
 
-/// Reads a lane, and behind a dot its source port, which is else the first.
+/// Reads a lane and, after a dot, its source port, which without one is the first.
 fn parse_source(word: &[u8]) -> Option<(u16, u16)> {
     let mut numbers = Pieces::new(word, b'.');
     let lane = parse_u16(numbers.next()?)?;
@@ -100,25 +100,25 @@ fn parse_source(word: &[u8]) -> Option<(u16, u16)> {
     }
 }
 
-/// Reads the word behind `at`.
+/// Reads the word after `at`.
 fn parse_at<'a>(words: &mut Pieces<'a>) -> Option<Event<'a>> {
     let milliseconds = parse_usize(words.next()?)? as u64;
     Some(Event::At { milliseconds })
 }
 
-/// Reads the lane behind `take`.
+/// Reads the lane after `take`.
 fn parse_take<'a>(words: &mut Pieces<'a>) -> Option<Event<'a>> {
     let lane = parse_u16(words.next()?)?;
     Some(Event::Take { lane })
 }
 
-/// Reads the lane behind `step`.
+/// Reads the lane after `step`.
 fn parse_step<'a>(words: &mut Pieces<'a>) -> Option<Event<'a>> {
     let lane = parse_u16(words.next()?)?;
     Some(Event::Step { lane })
 }
 
-/// Reads the lane behind `turn`.
+/// Reads the lane after `turn`.
 fn parse_turn<'a>(words: &mut Pieces<'a>) -> Option<Event<'a>> {
     let lane = parse_u16(words.next()?)?;
     Some(Event::Turn { lane })

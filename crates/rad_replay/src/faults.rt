@@ -11,8 +11,8 @@ pub enum ReplayFault {
     Configuration(ConfigFault),
     /// A growth was refused.
     Memory,
-    /// The line of this number, counted from 1 after the separator, is malformed, or names a lane or a moment
-    /// that there is not.
+    /// The line of this number, counted from 1 after the separator, is malformed, names a lane or a moment that does
+    /// not exist, or cuts more octets than there are.
     Events(usize),
     /// The output takes nothing more.
     Output,
@@ -21,7 +21,7 @@ pub enum ReplayFault {
 /// Why an event ends the replay.
 #[derive(Clone, Copy, Debug)]
 pub enum Halt {
-    /// Its line writes no event, names a lane or a moment that there is not, or cuts more octets than there are.
+    /// Its line is no event, names a lane or a moment that does not exist, or cuts more octets than there are.
     Malformed,
     /// A growth was refused.
     Memory,
@@ -33,7 +33,7 @@ impl Halt {
     ghost use Rattle.std.specs.Prelude.{◌≡◌};
     ghost use Rattle.rad_replay.specs.Faults.{fault_at};
 
-    /// The fault that this is at the event of this line, counted from 1.
+    /// Returns the fault of the replay that this fault is at the line of this number, counted from 1.
     pub fn at_line(self, number: usize) -> ReplayFault
         ensures { result ≡ fault_at self number }
     {

@@ -16,15 +16,15 @@ impl<'a> Hex<'a> {
     ghost use Rattle.std.specs.Prelude.{◌≡◌, ◌+◌, ◌<◌, ◌↔◌, [], ◌++◌, length, slice_index, vec_len, IsSome, IfSome, OnOk, OnErr};
     ghost use Rattle.rad_replay.specs.Hex.{WritesOctets, octets_of, octets_written};
 
-    /// No octets.
+    /// Returns no octets.
     pub fn none() -> Self
         ensures { octets_of result ≡ [] }
     {
         Hex { digits: b"" }
     }
 
-    /// The octets that a word writes: an even count of digits, at least two, or `-` for none. Any other
-    /// word writes none.
+    /// Reads the octets that a word writes: an even number of digits, at least two, or `-` for none. Any other word
+    /// writes no octets, and the result is `None`.
     pub fn parse(word: &'a [u8]) -> Option<Self>
         ensures written { IsSome result ↔ WritesOctets word.now }
         ensures octets { IfSome result (λ hex. octets_of hex ≡ octets_written word.now) }
@@ -39,7 +39,7 @@ impl<'a> Hex<'a> {
         Some(Hex { digits: word })
     }
 
-    /// How many octets these are.
+    /// Returns the number of octets.
     #[tactic(auto, using(crate::proofs::HexLemmas::written_count))]
     pub fn count(&self) -> usize
         ensures { result ≡ length (octets_of self.now) }
@@ -47,11 +47,11 @@ impl<'a> Hex<'a> {
         self.digits.len() / 2
     }
 
-    /// Adds the octets at the end.
+    /// Adds the octets at the end of `octets`.
     ///
     /// # Errors
     ///
-    /// Where memory is refused; nothing is added then.
+    /// `AllocError` if memory is refused. Then nothing is added.
     pub fn push_to(&self, octets: &mut Vec<u8>) -> Result<(), AllocError>
         ensures added { OnOk result (octets.new.items ≡ octets.old.items ++ octets_of self.now) }
         ensures len { OnOk result (vec_len octets.new ≡ vec_len octets.old + length (octets_of self.now)) }
@@ -64,13 +64,13 @@ impl<'a> Hex<'a> {
         Ok(())
     }
 
-    /// The octet of this index.
+    /// Returns the octet of this index.
     #[tactic(auto, using(crate::proofs::HexLemmas::written_count, crate::proofs::HexLemmas::written_octet))]
     fn octet_at(&self, index: usize) -> u8
         requires { index < length (octets_of self.now) }
         ensures { result ≡ slice_index (octets_of self.now) index }
     {
-        // The length of the text bounds the places of both digits.
+        // The length of the text bounds the indices of both digits.
         let length = self.digits.len();
         prove!(index < length / 2);
         let high = self.digits[2 * index];
@@ -79,7 +79,7 @@ impl<'a> Hex<'a> {
     }
 }
 
-/// Whether a text has digits alone.
+/// Returns whether a text has digits only.
 fn are_digits(text: &[u8]) -> bool
     ensures { result ≡ list_all the_is_digit text.now }
 {
@@ -92,7 +92,7 @@ fn is_digit(octet: u8) -> bool
     matches!(octet, b'0'..=b'9' | b'a'..=b'f')
 }
 
-/// The value of a digit, and 0 of any other octet.
+/// Returns the value of a digit, and 0 for any other octet.
 fn value_of(digit: u8) -> u8
     ensures value { result ≡ digit_value digit }
     ensures bound { result < 16 }

@@ -1,4 +1,4 @@
-//! The lines of the answers to events.
+//! The lines of the results of events.
 
 ghost use Rattle.std.specs.Prelude.{◌≡◌, ◌≤◌, length};
 
@@ -12,7 +12,7 @@ use rad_realms::AddressText;
 use rad_tables::Moment;
 use std::fmt;
 
-/// What became of a NAS's datagram.
+/// The line of a NAS's datagram.
 #[derive(Clone, Copy)]
 pub struct NasLine<'a> {
     pub outcome: Result<Handled, PathFault>,
@@ -20,7 +20,7 @@ pub struct NasLine<'a> {
     pub written: PacketText<'a>,
 }
 
-/// What a NAS's datagram led to.
+/// The result of a checked datagram of a NAS, as it is printed.
 #[derive(Clone, Copy)]
 struct HandledText<'a> {
     handled: Handled,
@@ -28,7 +28,7 @@ struct HandledText<'a> {
     written: PacketText<'a>,
 }
 
-/// What a lane's step did.
+/// The line of a lane's step.
 #[derive(Clone, Copy)]
 pub struct StepLine<'a> {
     pub action: Action,
@@ -36,34 +36,34 @@ pub struct StepLine<'a> {
     pub sent: SentText<'a>,
 }
 
-/// That a step had nothing to do, and when the lane has something to do next, where that is known.
+/// An idle step, with the moment at which the lane has something to do next, if that is known.
 #[derive(Clone, Copy)]
 struct IdleText(Option<Moment>);
 
-/// What became of a datagram of a lane's home server.
+/// The line of a datagram of a lane's home server.
 #[derive(Clone, Copy)]
 pub struct HomeLine {
     pub lane: u16,
     pub outcome: Result<Told, DeskFault>,
 }
 
-/// The response that was taken of those that wait at a lane, where one waited.
+/// The line of the response that was taken from those that wait in a lane's ring, if one waited.
 #[derive(Drop)]
 pub struct TakeLine {
     pub taken: Option<Outgoing>,
 }
 
-/// What became of cutting off the front of a lane's book.
+/// The line of the removal of a volume from a lane's book.
 #[derive(Clone, Copy)]
 pub struct TurnLine {
     pub lane: u16,
     pub outcome: Result<Cut, TurnFault>,
 }
 
-/// How much was cut off.
+/// The size of a volume.
 #[derive(Clone, Copy)]
 pub struct Cut {
-    /// How many requests.
+    /// The number of requests that were removed.
     pub count: usize,
     /// The number of the first request that the book holds from then on.
     pub opening: u64,
@@ -199,7 +199,7 @@ impl fmt::Display for TakeLine {
     }
 }
 
-/// The octets of a response. That they are a packet is kept by its type, and told with its head.
+/// Returns the octets of a response, which its type guarantees to be a packet, as the contract of its head states.
 fn response_of(reply: &Reply) -> &[u8]
     ensures value { result.now ≡ reply.now.response }
     ensures packet { 20 ≤ length result.now }
@@ -211,7 +211,7 @@ fn response_of(reply: &Reply) -> &[u8]
 impl Cut {
     ghost use Rattle.std.specs.Prelude.{◌≡◌, ◌+◌, ◌-◌, ◌^◌, length, min};
 
-    /// How much this volume is.
+    /// Returns the size of a volume.
     pub fn of(volume: &Volume) -> Cut
         ensures count { result.count ≡ length volume.now.stamps }
         ensures opening { result.opening ≡ min (volume.now.opening + length volume.now.stamps) (2 ^ 64 - 1) }

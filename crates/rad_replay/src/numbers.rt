@@ -1,4 +1,4 @@
-//! The numbers and addresses of an event's words.
+//! The numbers and addresses in an event's words.
 
 use rad_realms::read_address;
 
@@ -17,7 +17,7 @@ pub fn parse_u16(word: &[u8]) -> Option<u16> {
     u16::try_from(parse_usize(word)?).ok()
 }
 
-/// Reads a decimal number below 2^64, which has no leading zero.
+/// Reads a decimal number below 2^64 without a leading zero.
 pub fn parse_usize(word: &[u8]) -> Option<usize> {
     if word.is_empty() || (word.len() > 1 && word[0] == b'0') {
         return None;
@@ -29,7 +29,7 @@ pub fn parse_usize(word: &[u8]) -> Option<usize> {
     Some(number)
 }
 
-/// A decimal number with one digit more.
+/// Returns a decimal number with one more digit.
 fn with_digit(number: usize, digit: u8) -> Option<usize> {
     if !digit.is_ascii_digit() {
         return None;

@@ -18,8 +18,8 @@ pub struct HeadText<'a> {
     ghost whole: { 20 ≤ length octets.now },
 }
 
-/// A packet that a lane gave to be sent, printed as a packet with its source port behind the Identifier, where the lane
-/// has several.
+/// A packet that a lane gave to be sent, printed as a packet, with its source port after the Identifier if the lane has
+/// several.
 #[derive(Clone, Copy)]
 pub struct SentText<'a> {
     packet: PacketText<'a>,
@@ -33,7 +33,7 @@ pub struct SentHeadText<'a> {
     port: Option<u16>,
 }
 
-/// An Identifier, with a source port where there is one.
+/// An Identifier, with a source port if there is one.
 #[derive(Clone, Copy)]
 struct IdentifierText {
     identifier: u8,
@@ -47,7 +47,7 @@ struct AttributesText<'a>(&'a [u8]);
 impl<'a> PacketText<'a> {
     ghost use Rattle.std.specs.Prelude.{◌≡◌, ◌≤◌, length};
 
-    /// Prints these octets of a packet.
+    /// Makes the text of a packet from its octets.
     pub fn new(octets: &'a [u8]) -> Self
         requires { 20 ≤ length octets.now }
         ensures { result.octets ≡ octets.entry }
@@ -55,7 +55,7 @@ impl<'a> PacketText<'a> {
         PacketText { octets }
     }
 
-    /// The packet without its attributes.
+    /// Returns the packet without its attributes.
     pub fn head(&self) -> HeadText<'a>
         ensures { result.octets ≡ self.now.octets }
     {
@@ -68,7 +68,7 @@ impl<'a> PacketText<'a> {
 impl<'a> SentText<'a> {
     ghost use Rattle.std.specs.Prelude.{◌≡◌};
 
-    /// Prints a packet that goes out from this source port, where that is to be printed.
+    /// Makes the text of a packet that is sent from this source port, if the port is to be printed.
     pub fn new(packet: PacketText<'a>, port: Option<u16>) -> Self
         ensures packet { result.packet ≡ packet.entry }
         ensures port { result.port ≡ port }
@@ -76,7 +76,7 @@ impl<'a> SentText<'a> {
         SentText { packet, port }
     }
 
-    /// The packet without its attributes.
+    /// Returns the packet without its attributes.
     pub fn head(&self) -> SentHeadText<'a>
         ensures packet { result.packet ≡ self.now.packet }
         ensures port { result.port ≡ self.now.port }

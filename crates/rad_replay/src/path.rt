@@ -1,4 +1,4 @@
-//! The way of a NAS's datagram through the proxy: to the lane of its realm, or to an answer.
+//! The path of a NAS's datagram through the proxy: it is passed to the lane of its realm, or answered.
 
 ghost use Rattle.rad_lane.specs.Datagrams.{Datagrams};
 ghost use Rattle.rad_replay.specs.Path.{TakesIn};
@@ -12,7 +12,7 @@ use rad_tables::Moment;
 use std::alloc::Global;
 use std::sync::Wait;
 
-/// A datagram of a NAS: where it comes from, its octets, and when it comes.
+/// A datagram of a NAS: the address and port that it comes from, its octets, and the moment at which it arrives.
 #[derive(Clone, Copy)]
 pub struct Arrival<'a> {
     pub address: [u8; 4],
@@ -30,13 +30,13 @@ pub enum PathFault {
     Refused(Refusal),
 }
 
-/// Gives a NAS's request to the lane of its realm, or answers its Status-Server. What answers the NAS is
-/// written; of a request that is the response, where the lane still has it. The datagram is checked before the
-/// lane is locked.
+/// Passes a NAS's request to the lane of its realm, or answers its Status-Server. What is to be sent to the NAS is
+/// written to `written`; for a request, that is the response, if the lane still has it. The datagram is checked before
+/// the lane is locked.
 ///
 /// # Errors
 ///
-/// Why neither is done: nothing is written then.
+/// The reason for which it is neither taken nor answered. Then nothing is written.
 pub fn take_in(
     rt: &impl Wait,
     alloc: Global,

@@ -1,4 +1,4 @@
-//! `replay`: a configuration and a script of events go in, and a line for each answer comes out.
+//! `replay`: its input is a configuration and a script of events, and its output is a line for each result.
 
 ghost use Rattle.std.specs.Prelude.{IfOk};
 ghost use Rattle.rad_replay.specs.Replaying.{IsEnd};
@@ -17,11 +17,11 @@ const MOST_INPUT: u64 = 16_777_216;
 /// The line between the configuration and the events.
 const SEPARATOR: &[u8] = b"%%";
 
-/// Reads a configuration and events, and writes the answers. Returns what is left at the end.
+/// Reads a configuration and events, and writes the results. Returns what is left at the end.
 ///
 /// # Errors
 ///
-/// The first fault, once the answers of the events before it are written.
+/// The first fault, after the results of the events before it are written.
 pub fn replay<T: Wait, R: Read + Drop, W: Write + Drop>(
     rt: &T,
     alloc: Global,
@@ -41,7 +41,7 @@ pub fn replay<T: Wait, R: Read + Drop, W: Write + Drop>(
     }
 }
 
-/// Runs events over a configuration, and writes the answers.
+/// Runs events over a configuration, and writes the results.
 fn run<T: Wait, W: Write + Drop>(
     rt: &T,
     alloc: Global,
@@ -64,7 +64,7 @@ fn run<T: Wait, W: Write + Drop>(
     ran
 }
 
-/// Reads the whole input, where it is no longer than the most.
+/// Reads the whole input, if it is at most as long as allowed.
 fn read_input<R: Read + Drop>(alloc: Global, reader: R) -> Result<Vec<u8>, ReplayFault> {
     match read_at_most(alloc, reader, MOST_INPUT) {
         Ok(input) => Ok(input),
@@ -75,7 +75,7 @@ fn read_input<R: Read + Drop>(alloc: Global, reader: R) -> Result<Vec<u8>, Repla
     }
 }
 
-/// The lines before the separator, and those after it; without a separator all lines are before it.
+/// Returns the lines before the separator and those after it; without a separator, all lines are before it.
 fn split_input(input: &[u8]) -> (&[u8], &[u8]) {
     let mut lines = Pieces::new(input, b'\n');
     let mut before = 0;

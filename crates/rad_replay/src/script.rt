@@ -24,7 +24,7 @@ use std::sync::Wait;
 /// The octets that every step gets in place of random ones.
 const RANDOM: [u8; 16] = [0x5a; 16];
 
-/// A script that runs: the proxy, the moment, and the room for a datagram.
+/// A running script: the proxy, the moment, and the room for a datagram.
 #[derive(Drop)]
 pub struct Script<'a> {
     alloc: Global,
@@ -36,16 +36,16 @@ pub struct Script<'a> {
     sent: Ports,
     /// The moment of the next event.
     moment: Moment,
-    /// Room for the datagram of an event.
+    /// The room for the datagram of an event.
     datagram: Vec<u8>,
 }
 
 impl<'a> Script<'a> {
-    /// A script at moment 0, over empty lanes.
+    /// Makes a script at moment 0, over empty lanes.
     ///
     /// # Errors
     ///
-    /// Where memory is refused.
+    /// `AllocError` if memory is refused.
     pub fn new(alloc: Global, config: &'a Config) -> Result<Self, AllocError> {
         let sent = Ports::new(alloc, config.homes())?;
         match open(alloc, config) {
@@ -62,11 +62,11 @@ impl<'a> Script<'a> {
         }
     }
 
-    /// Writes the answers of all events, and then what is left.
+    /// Writes the results of all events, and then what is left.
     ///
     /// # Errors
     ///
-    /// The first event that has no answer, `Memory` or `Output`; the answers before it are written.
+    /// The first event that has no result, as `Events`; `Memory`; or `Output`. The results before it are written.
     pub fn run<R: Wait, W: Write>(
         mut self,
         rt: &R,
@@ -85,7 +85,7 @@ impl<'a> Script<'a> {
         }
     }
 
-    /// Writes the answers of all events. An empty line is none, nor is one that begins with `#`.
+    /// Writes the results of all events, skipping empty lines and lines that begin with `#`.
     fn answer_all<R: Wait, W: Write>(
         &mut self,
         rt: &R,
@@ -103,7 +103,7 @@ impl<'a> Script<'a> {
         Ok(())
     }
 
-    /// Writes the answer of one event.
+    /// Writes the result of one event.
     fn answer<R: Wait, W: Write>(
         &mut self,
         rt: &R,
@@ -128,7 +128,7 @@ impl<'a> Script<'a> {
         }
     }
 
-    /// Makes this the moment of the events from now on, where it is one.
+    /// Makes this the moment of the following events, if it is a moment.
     fn set_moment(&mut self, milliseconds: u64) -> Result<(), Halt> {
         match Moment::new(milliseconds) {
             Some(moment) => {
@@ -139,7 +139,7 @@ impl<'a> Script<'a> {
         }
     }
 
-    /// Writes what a NAS's datagram comes to.
+    /// Writes the result of a NAS's datagram.
     fn nas<R: Wait, W: Write>(
         &mut self,
         rt: &R,
@@ -168,7 +168,7 @@ impl<'a> Script<'a> {
         print(output, &NasLine { outcome, written })
     }
 
-    /// Writes what a datagram of a lane's home server comes to.
+    /// Writes the result of a datagram of a lane's home server.
     fn home<R: Wait, W: Write>(
         &mut self,
         rt: &R,
@@ -199,7 +199,7 @@ impl<'a> Script<'a> {
         print(output, &HomeLine { lane, outcome })
     }
 
-    /// Writes what a lane's step does.
+    /// Writes the result of a lane's step.
     fn step<R: Wait, W: Write>(&mut self, rt: &R, lane: u16, output: &mut W) -> Result<(), Halt> {
         if lane >= self.proxy.lanes() {
             return Err(Halt::Malformed);
@@ -216,7 +216,7 @@ impl<'a> Script<'a> {
         print(output, &StepLine { action, sent })
     }
 
-    /// Whether a lane has several source ports, so that the lines tell them.
+    /// Returns whether a lane has several source ports, so that the lines print them.
     fn has_ports(&self, lane: u16) -> bool {
         match self.config.homes().get(usize::from(lane)) {
             Some(home) => home.limits().numbers().ports > 1,
@@ -224,7 +224,7 @@ impl<'a> Script<'a> {
         }
     }
 
-    /// Takes a lane's first response that waits, and writes it.
+    /// Takes the first response that waits in a lane's ring, and writes it.
     fn take<W: Write>(&mut self, lane: u16, output: &mut W) -> Result<(), Halt> {
         let Some(inlet) = self.inlets.get_mut(usize::from(lane)) else {
             return Err(Halt::Malformed);
@@ -233,7 +233,7 @@ impl<'a> Script<'a> {
         print(output, &TakeLine { taken })
     }
 
-    /// Cuts off the front of a lane's book, and writes how much that was.
+    /// Removes a volume from a lane's book, and writes its size.
     fn turn<R: Wait, W: Write>(&mut self, rt: &R, lane: u16, output: &mut W) -> Result<(), Halt> {
         if lane >= self.proxy.lanes() {
             return Err(Halt::Malformed);
@@ -245,7 +245,7 @@ impl<'a> Script<'a> {
         print(output, &TurnLine { lane, outcome })
     }
 
-    /// Obeys a command of the console, and writes what it answers.
+    /// Executes a command of the console, and writes its result.
     fn obey<R: Wait, W: Write>(
         &self,
         rt: &R,

@@ -9,10 +9,10 @@ use rad_realms::Home;
 use std::alloc::{AllocError, Global};
 use std::marker::Model;
 
-/// How many Identifiers there are.
+/// The number of Identifiers.
 const IDENTIFIERS: usize = 256;
 
-/// The Authenticators of the packets that a source port sent last, one for each Identifier: zeros where none was sent.
+/// The Authenticators of the packets that a source port sent last, one for each Identifier: zeros if none was sent.
 #[derive(Drop)]
 pub struct LastSent {
     authenticators: Vec<[u8; 16]>,
@@ -33,11 +33,11 @@ impl LastSent {
     ghost use Rattle.rad_packet.specs.Packet.{IsPacketText};
     ghost use Rattle.rad_replay.specs.Sent.{with_sent};
 
-    /// A source port that has sent nothing.
+    /// Makes a source port that has sent nothing.
     ///
     /// # Errors
     ///
-    /// Where memory is refused.
+    /// `AllocError` if memory is refused.
     pub fn new(alloc: Global) -> Result<Self, AllocError>
         ensures { IfOk result (λ sent. (k : ℕ) → k < 256 → slice_get sent k ≡ Some (replicate 16 0)) }
     {
@@ -46,14 +46,14 @@ impl LastSent {
         Ok(LastSent { authenticators })
     }
 
-    /// The Authenticator of the packet that was sent last under an Identifier.
+    /// Returns the Authenticator of the packet that was last sent under an Identifier.
     pub fn authenticator(&self, identifier: u8) -> [u8; 16]
         ensures { slice_get self.now identifier ≡ Some result }
     {
         self.authenticators[usize::from(identifier)]
     }
 
-    /// Keeps a packet that was sent, given as its octets.
+    /// Keeps the Authenticator of a packet that was sent, given as the packet's octets.
     pub fn keep(&mut self, packet: &[u8])
         requires { IsPacketText packet.now }
         ensures { self.new ≡ with_sent self.old packet.now }
@@ -67,16 +67,16 @@ impl LastSent {
 /// What each source port of each lane sent last.
 #[derive(Drop)]
 pub struct Ports {
-    /// Those of each lane, in the order of the configuration.
+    /// The source ports of each lane, in the order of the configuration.
     lanes: Vec<Vec<LastSent>>,
 }
 
 impl Ports {
-    /// The source ports of these home servers' lanes, which have sent nothing.
+    /// Makes the source ports of these home servers' lanes, which have sent nothing.
     ///
     /// # Errors
     ///
-    /// Where memory is refused.
+    /// `AllocError` if memory is refused.
     pub fn new(alloc: Global, homes: &[Home]) -> Result<Self, AllocError> {
         let mut lanes = Vec::with_capacity(alloc, homes.len())?;
         for home in homes {
@@ -86,12 +86,12 @@ impl Ports {
         Ok(Ports { lanes })
     }
 
-    /// What this source port of a lane sent last, where there is one.
+    /// Returns what this source port of a lane sent last, if there is such a port.
     pub fn get(&self, lane: u16, port: u16) -> Option<&LastSent> {
         self.lanes.get(usize::from(lane))?.get(usize::from(port))
     }
 
-    /// Keeps the packet that a lane's step gave to be sent, where it gave one.
+    /// Keeps the packet that a lane's step gave to be sent, if it gave one.
     pub fn keep(&mut self, lane: u16, action: &Action, packet: &Datagram) {
         let Some(port) = source_port(action) else {
             return;
@@ -102,7 +102,7 @@ impl Ports {
     }
 }
 
-/// So many source ports that have sent nothing.
+/// Makes `count` source ports that have sent nothing.
 fn new_ports(alloc: Global, count: u32) -> Result<Vec<LastSent>, AllocError> {
     let mut ports = Vec::with_capacity(alloc, count as usize)?;
     for _ in 0..count {
@@ -111,7 +111,7 @@ fn new_ports(alloc: Global, count: u32) -> Result<Vec<LastSent>, AllocError> {
     Ok(ports)
 }
 
-/// Keeps the packet that a step gave to be sent from a source port, where it gave one.
+/// Keeps the packet that a step gave to be sent from a source port, if it gave one.
 fn keep_sent(sent: &mut [LastSent], port: u16, action: &Action, packet: &Datagram)
     ensures { KeepsSent sent.old port action.now packet.now sent.new }
 {
@@ -122,7 +122,7 @@ fn keep_sent(sent: &mut [LastSent], port: u16, action: &Action, packet: &Datagra
     }
 }
 
-/// Whether a step gave a packet to be sent.
+/// Returns whether a step gave a packet to be sent.
 fn sends(action: &Action) -> bool
     ensures { result ≡ the_sends action.now }
 {
@@ -132,7 +132,7 @@ fn sends(action: &Action) -> bool
     )
 }
 
-/// The source port that a step's packet goes out from, where the step gave one.
+/// Returns the source port that a step's packet is sent from, if the step gave one.
 pub fn source_port(action: &Action) -> Option<u16>
     ensures { result ≡ port_of action.now }
 {

@@ -1,4 +1,5 @@
-//! What no clause says of the console: how lines are cut into commands however they are read, and what is printed.
+//! Tests of what no clause says of the console: how lines are cut into commands however they are read, and what is
+//! printed.
 
 use crate::comparing::{holds, same};
 use crate::streams::{Narrow, Slow};
@@ -11,7 +12,7 @@ use std::result::Result;
 use std::sync::Wait;
 use std::test::Fail;
 
-/// A client and two home servers.
+/// A configuration with one client and two home servers.
 const TWO_HOMES: &str = r#"
 listen = "127.0.0.1:1813"
 [[client]]
@@ -33,7 +34,7 @@ name = "example.net"
 home = "h2"
 "#;
 
-/// What the commands of the test below print.
+/// What the commands of [`obey_each`] print.
 const PRINTED: &str = "\
 lane 0 h1 up open accepted 0 queued 0 outstanding 0 answered 0 opening 0
 lane 1 h2 up open accepted 0 queued 0 outstanding 0 answered 0 opening 0
@@ -44,7 +45,7 @@ lane 0 h1 up done accepted 0 queued 0 outstanding 0 answered 0 opening 0
 lane 1 h2 up done accepted 0 queued 0 outstanding 0 answered 0 opening 0
 ";
 
-/// The commands of a text that is read a few octets at a time.
+/// Returns the commands of a text that is read at most `most` octets at a time.
 fn commands(text: &[u8], most: usize) -> Commands<Slow<'_>> {
     Commands::new(Slow {
         rest: text,
@@ -74,7 +75,7 @@ fn each_line_is_a_command(rt: HostRuntime) -> Result<(), Fail> {
     Ok(())
 }
 
-/// Has some commands obeyed, and keeps what they print.
+/// Executes some commands, and keeps what they print.
 fn obey_each(
     rt: &impl Wait,
     config: &Config,
@@ -93,7 +94,7 @@ fn obey_each(
     Ok(())
 }
 
-/// The end of a proxy that obeyed them.
+/// Closes a proxy that executed them, and returns what is left.
 fn end_of(
     rt: &impl Wait,
     alloc: Global,
@@ -116,7 +117,7 @@ fn each_command_is_obeyed(rt: HostRuntime) -> Result<(), Fail> {
     Ok(())
 }
 
-/// Whether a command fails where there is room for so many octets, once these are written.
+/// Returns whether a command fails with room for `room` octets, after these octets are written.
 fn is_cut(
     rt: &impl Wait,
     config: &Config,

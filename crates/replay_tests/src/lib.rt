@@ -1,5 +1,5 @@
-//! Tests over the public calls of `rad_replay` and `rad_console`, apart from them so that no proof of theirs is made again
-//! for a test. It has no other code.
+//! Tests of the public calls of `rad_replay` and `rad_console`, in a crate of their own, so that no proof of those
+//! crates is repeated for a test. It has no other code.
 #![tactic(auto)]
 
 #[cfg(test)]

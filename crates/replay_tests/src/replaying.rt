@@ -1,4 +1,4 @@
-//! What no clause says of a replay: the octets that it writes, whatever reads and writes do.
+//! Tests of what no clause says of a replay: the octets that it writes, whatever reads and writes do.
 
 use crate::comparing::{holds, same};
 use crate::streams::{Narrow, Padded, Slow, Starved};
@@ -9,7 +9,7 @@ use std::result::Result;
 use std::sync::Wait;
 use std::test::Fail;
 
-/// The one configuration, and the line that ends it.
+/// The one configuration, and the separator after it.
 const HEAD: &str =
     "listen = \"127.0.0.1:1813\"\n\n[[client]]\naddress = \"10.0.0.1\"\nsecret = \"nas-secret\"\n\n[[home]]\nname = \"h1\"\naddress = \"127.0.0.1:2813\"\nsecret = \"home-secret\"\n\n[[realm]]\nname = \"example.org\"\nhome = \"h1\"\n%%\n";
 
@@ -21,7 +21,7 @@ const EVENTS: &str =
 const ANSWERS: &str =
     "nas: new 0 0\nstep: sent 4 0 59 0111626f62406578616d706c652e6f72672806000000012c045331210c00000000000000000000\nend: queued 0 outstanding 1 untaken 0\n";
 
-/// How many steps fill more than one buffer of answers.
+/// The number of steps whose results fill more than one buffer.
 const MANY: usize = 2000;
 
 fn input(alloc: Global, events: &str) -> Result<String, AllocError> {

@@ -1,8 +1,8 @@
-//! Readers and writers that give and take as much as a test wants, and then fail.
+//! Readers and writers that return and take as much as a test wants, and then fail.
 
 use std::io::{Error, ErrorKind, Read, Result, Write};
 
-/// Gives a text a few octets at a time, and then fails where it is to.
+/// A reader that returns a text at most `most` octets at a time, and then fails if `fails` is set.
 #[derive(Drop)]
 pub struct Slow<'a> {
     pub rest: &'a [u8],
@@ -10,21 +10,21 @@ pub struct Slow<'a> {
     pub fails: bool,
 }
 
-/// Takes octets as long as there is room, and then fails.
+/// A writer that takes octets as long as there is room, and then fails.
 #[derive(Drop)]
 pub struct Narrow<'a> {
     pub taken: &'a mut Vec<u8>,
     pub room: usize,
 }
 
-/// Gives a text and then `#` until so many octets are given: a comment that no one has to store.
+/// A reader that returns a text and then `#`, `count` octets in all: a comment that need not be stored.
 #[derive(Drop)]
 pub struct Padded<'a> {
     pub text: &'a [u8],
     pub count: usize,
 }
 
-/// Fails at once, for want of memory.
+/// A reader that fails at once, since memory is refused.
 #[derive(Drop)]
 pub struct Starved;
 
