@@ -122,7 +122,7 @@ MANY = -e 's,@of@, %i,' -e 's,@config@,%i,g' -e 's,@runtime@,rad_proxy-%i,'
 
 .PHONY: install uninstall manual deb service
 
-# Installs the program that `make build` left, the scripts of the service, the units, the manual and the examples. The
+# Installs the program that `make build` left, the scripts of the service, the units, the manual, the pages and the examples. The
 # configuration is the operator's: $(SYSCONFDIR)/rad_proxy is made, and nothing is put there.
 install:
 	@test -x $(PROGRAM) || { echo "there is no $(PROGRAM): run make build first" >&2; exit 1; }
@@ -140,7 +140,7 @@ install:
 	install -m 644 packaging/sysusers.conf $(DESTDIR)$(SYSUSERSDIR)/rad_proxy.conf
 	install -m 644 man/man8/rad_proxy.8 man/man8/rad_proxyctl.8 $(DESTDIR)$(MANDIR)/man8
 	install -m 644 man/man5/rad_proxy.toml.5 $(DESTDIR)$(MANDIR)/man5
-	install -m 644 README.md LICENSE $(DESTDIR)$(DOCDIR)
+	install -m 644 README.md SECURITY.md CHANGELOG.md LICENSE $(DESTDIR)$(DOCDIR)
 	cp -R docs examples $(DESTDIR)$(DOCDIR)
 	chmod -R u=rwX,go=rX $(DESTDIR)$(DOCDIR)
 
