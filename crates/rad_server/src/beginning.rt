@@ -10,7 +10,7 @@ pub(crate) struct Beginnings {
 }
 
 impl Beginnings {
-    /// Makes a count of none.
+    /// Makes a count of 0.
     pub(crate) fn new() -> Beginnings {
         Beginnings {
             count: Mutex::new(0),
@@ -18,7 +18,7 @@ impl Beginnings {
         }
     }
 
-    /// Counts one worker more.
+    /// Counts one more worker.
     pub(crate) fn add<R: Wait>(&self, rt: &R) {
         let mut count = self.count.lock(rt);
         *count = count.saturating_add(1);

@@ -18,7 +18,7 @@ pub enum ServeFault {
     Ended(Worker),
     /// The reader failed.
     Input,
-    /// The poll that waits for the reader can't be made. The number is the system's error code, if it has one.
+    /// The wait for the reader can't be set up. The number is the system's error code, if it has one.
     InputWait(Option<i32>),
     /// The clock failed.
     Clock,

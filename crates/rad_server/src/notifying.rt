@@ -27,8 +27,7 @@ struct Shared {
     waker: Waker,
 }
 
-/// Notifies a worker that there is work for it. The waker of its poll, a system call, is called only if the worker
-/// sleeps.
+/// Notifies a worker that there is work for it. The waker of its poll is called only if the worker sleeps.
 ///
 /// The worker calls [`Notifier::try_sleep`] before it sleeps, and [`Notifier::set_awake`] before it looks for work. In
 /// any other order a notification may be lost.

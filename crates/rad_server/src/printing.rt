@@ -70,7 +70,7 @@ pub(crate) struct Output<O: Drop> {
 
 impl<O: Write + Drop> Output<O> {
     /// Makes an output for this writer, with room for `lines` lines. Once the input has ended, it waits for the writer
-    /// for at most `most`, which starts anew with each octet that is written.
+    /// for at most `most`, and that time starts anew with each octet that is written.
     ///
     /// # Errors
     ///
