@@ -59,7 +59,7 @@ impl Draft {
     ///
     /// # Errors
     ///
-    /// An error if memory is refused.
+    /// `OutOfMemory` if memory is refused.
     pub fn finish<R: Clock>(
         &mut self,
         config: &Config,

@@ -65,7 +65,7 @@ impl Histogram {
 }
 
 /// Returns the bucket of a duration of `microseconds` microseconds: the first whose bound is not below it, or the last
-/// if all bounds are.
+/// if all bounds are below it.
 pub(crate) fn bucket_of(microseconds: u64) -> usize
     ensures most { result ≤ 17 }
     ensures within { result < 17 → microseconds ≤ bound_of result }

@@ -19,7 +19,7 @@ const BESIDE: u32 = 256;
 /// The number of serials that the word of a response distinguishes, besides which side wrote it.
 const SERIALS: u64 = 1 << 23;
 
-/// The content of a place that was not written yet. It matches no number that is the first one there.
+/// The content of a place that was not written yet. No number that is reported there first matches it.
 const UNTOLD: u64 = u64::MAX;
 
 /// The side that reports a time of a response.
@@ -113,8 +113,7 @@ impl HomeTimes {
         time_in(place.swap(word_of(own, time), Ordering::SeqCst), others)
     }
 
-    /// Returns how many milliseconds before `now` the first sending of an outstanding request was, of all such requests
-    /// the earliest.
+    /// Returns the longest time from the first sending of an outstanding request to `now`, in milliseconds.
     pub(crate) fn oldest(&self, now: u64) -> u64 {
         let mut oldest = now;
         for place in &self.sent {

@@ -7,9 +7,9 @@
 //!
 //! Contracts say what each family is called, what its help text is and how each line is printed, which part of its
 //! [`Reading`] each metric of a home server is, and as which event of a client a note is counted. No contract covers
-//! what is behind a lock or in an atomic, such as a count: tests do. The definitions are in `specs`: `Families` and
-//! `Samples` define the lines, `ProgramNumbers`, `LimitNumbers`, `ClientEvents`, `HomeNumbers` and `SocketNumbers` the
-//! metrics of each, and `Buckets` the bounds of a histogram.
+//! what is behind a lock or in an atomic, such as a count: tests check it. The definitions are in `specs`: `Families`
+//! and `Samples` define the lines, `ProgramNumbers`, `LimitNumbers`, `ClientEvents`, `HomeNumbers` and `SocketNumbers`
+//! the metrics of each, and `Buckets` the bounds of a histogram.
 #![tactic(auto)]
 
 mod client_event;

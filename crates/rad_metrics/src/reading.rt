@@ -23,7 +23,7 @@ pub struct Reading {
     pub last_answer: u64,
     /// How many Accounting-Requests were sent to it.
     pub sent: u64,
-    /// How many milliseconds ago the first sending of an outstanding request was, of all such requests the earliest.
+    /// The longest time since the first sending of an outstanding request, in milliseconds.
     pub oldest_outstanding: u64,
 }
 
