@@ -1,4 +1,5 @@
--- The buckets of a histogram (own): the greatest number of microseconds in each but the last, and that as a label in seconds.
+-- The buckets of a histogram (own): the greatest number of microseconds in each but the last, and that bound as a label
+-- in seconds.
 use Rattle.std.specs.Prelude.{ℕ, List, [], ◌∷◌, codes, get_or}
 
 abbrev pub bounds : List ℕ

@@ -1,4 +1,4 @@
--- What is counted of a client, and how that is told (own).
+-- The events that are counted for a client, and their metrics (own).
 use Rattle.std.specs.Prelude.{ℕ, List, ◌++◌, codes, Option, Some, None}
 use Rattle.rad_realms.specs.declared.checking.Dropped.TheVariants as dropped
 use Rattle.rad_realms.specs.Printed.{dropped_text}
@@ -13,7 +13,8 @@ use Rattle.rad_metrics.specs.declared.client_event.ClientEvent.TheVariants as ev
 use Rattle.rad_metrics.specs.declared.client_event.ClientFamily.{ClientFamily}
 use Rattle.rad_metrics.specs.declared.client_event.ClientFamily.TheVariants as family
 
--- What a note is counted as, of the client that sent the datagram. What came from no client is counted of none.
+-- The event as which a note is counted, for the client that sent the datagram. A datagram that came from no client is
+-- counted for none.
 abbrev pub client_event_of : Note → Option ClientEvent
 client_event_of (note.Dropped dropped.UnknownClient) = None
 client_event_of (note.Dropped (dropped.Unread reason)) = Some event.Unread
@@ -25,7 +26,8 @@ abbrev pub repeat_event : Repeat → ClientEvent
 repeat_event repeat.Waiting = event.Waiting
 repeat_event repeat.Answered = event.Again
 
--- The place of each kind, in the order of the families and of their reasons; what no client sent has none.
+-- The index of each kind of event. The kinds of a family are in the order of their reasons. A drop of a datagram that
+-- came from no client has none of these indexes: it has 17.
 abbrev pub event_place : ClientEvent → ℕ
 event_place event.Received = 0
 event_place event.Accepted = 1
@@ -73,7 +75,7 @@ family_help family.Responses = codes "Responses that were sent to the client, th
 family_help family.Refused = codes "New requests of the client that were refused."
 family_help family.Dropped = codes "Datagrams of the client that were dropped."
 
--- The label by which a kind differs from the others of its family.
+-- The label that distinguishes a kind from the others of its family. It is empty if the family has one kind.
 abbrev pub reason_label : ClientEvent → List ℕ
 reason_label event.Waiting = codes "repeat=\"waiting\""
 reason_label event.Again = codes "repeat=\"again\""

@@ -1,4 +1,4 @@
--- What is told of a home server, by what was read of its lane (own).
+-- The metrics of a home server, and their values by what was read of its lane (own).
 use Rattle.std.specs.Prelude.{ℕ, ◌-◌, List, codes, Option, Some, None}
 use Rattle.rad_metrics.specs.declared.family.Kind.{Kind}
 use Rattle.rad_metrics.specs.declared.family.Kind.TheVariants.{Counter, Gauge}
@@ -47,12 +47,12 @@ home_help OldestOutstanding = codes "How long ago the first request was sent tha
 home_help OldestHeld = codes "How long ago the first request was accepted that the book holds."
 home_help LastAnswer = codes "When the home server answered a request last, in seconds since 1970, and 0 before that."
 
--- How long before a moment something was, and 0 where there is nothing.
+-- How long before a moment something was; 0 if there is nothing.
 abbrev pub age_at : Option ℕ → ℕ → ℕ
 age_at None moment = 0
 age_at (Some first) moment = moment - first
 
--- Of what was sent, all but the first sending of each request.
+-- The sendings that were not the first of their request: all sendings, less the accepted requests that are not queued.
 abbrev pub resent : Reading → ℕ
 resent reading = reading.sent - (reading.standing.counts.accepted - reading.standing.counts.queued)
 

@@ -1,4 +1,4 @@
--- The limits of a lane as they are told (own).
+-- The limits of a lane as metrics (own).
 use Rattle.std.specs.Prelude.{ℕ, List, codes}
 use Rattle.rad_realms.specs.declared.limits.LimitNumbers.{LimitNumbers}
 use Rattle.rad_metrics.specs.declared.value.Value.{Value}

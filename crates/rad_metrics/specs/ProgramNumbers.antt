@@ -1,4 +1,4 @@
--- What is told of the program itself (own).
+-- The metrics of the program itself (own).
 use Rattle.std.specs.Prelude.{ℕ, List, codes}
 use Rattle.rad_metrics.specs.declared.family.Kind.{Kind}
 use Rattle.rad_metrics.specs.declared.family.Kind.TheVariants.{Counter, Gauge}

@@ -10,15 +10,15 @@ use Rattle.rad_metrics.specs.declared.sample.Labels.{Labels}
 use Rattle.rad_metrics.specs.declared.sample.Labels.TheVariants as labels
 use Rattle.rad_metrics.specs.declared.sample.Sample.{Sample}
 
--- A client, by its address.
+-- The label of a client: its address.
 abbrev pub client_label : List ℕ → List ℕ
 client_label address = codes "client=\"" ++ address_text address ++ codes "\""
 
--- A lane and its home server.
+-- The labels of a lane: its number and its home server's name.
 abbrev pub home_labels : ℕ → List ℕ → List ℕ
 home_labels lane home = codes "lane=\"" ++ decimal lane ++ codes "\",home=\"" ++ home ++ codes "\""
 
--- Why a home server went up.
+-- Why a home server was marked up.
 abbrev pub up_text : UpReason → List ℕ
 up_text reason.Answered = codes "answered"
 up_text reason.ProbeAnswered = codes "probe answered"
@@ -35,6 +35,6 @@ labels_text (labels.HomeBound lane home bound) = codes "{" ++ home_labels lane h
 labels_text (labels.Socket at) = codes "{side=\"clients\",socket=\"" ++ endpoint_text at ++ codes "\"}"
 labels_text (labels.HomeSocket lane home place) = codes "{" ++ home_labels lane home.now ++ codes ",port=\"" ++ decimal place ++ codes "\"}"
 
--- A number under its name.
+-- A sample: its name, its labels and its value.
 abbrev pub sample_line : Sample → List ℕ
 sample_line sample = codes "rad_proxy_" ++ sample.name.now ++ labels_text sample.labels ++ codes " " ++ value_text sample.value

@@ -1,4 +1,4 @@
--- What is told of a socket (own).
+-- The metrics of a socket (own).
 use Rattle.std.specs.Prelude.{ℕ, List, codes}
 use Rattle.rad_metrics.specs.declared.family.Kind.{Kind}
 use Rattle.rad_metrics.specs.declared.family.Kind.TheVariants.{Counter, Gauge}

@@ -1,4 +1,4 @@
--- Numbers as samples have them: counts, and times in seconds with three or six digits behind the point (own).
+-- The values of samples: counts, and times in seconds with three or six decimals (own).
 use Rattle.std.specs.Prelude.{ℕ, ◌/◌, ◌%◌, Bool, if◌then◌else◌, List, ◌++◌, codes}
 use Rattle.std.specs.Fmt.{decimal}
 use Rattle.rad_metrics.specs.declared.value.Value.{Value}
@@ -7,7 +7,7 @@ use Rattle.rad_metrics.specs.declared.value.Value.TheVariants.{Count, Millisecon
 abbrev pub value_of_bool : Bool → Value
 value_of_bool is_so = if is_so then Count 1 else Count 0
 
--- Three digits of a number below 1000.
+-- The three digits of a number below 1000.
 abbrev pub digits_text : ℕ → List ℕ
 digits_text n = decimal (n / 100) ++ decimal (n / 10 % 10) ++ decimal (n % 10)
 

@@ -1,4 +1,4 @@
-//! What is counted of a client.
+//! The events that are counted for a client.
 
 ghost use Rattle.std.specs.Prelude.{◌≡◌};
 ghost use Rattle.rad_metrics.specs.ClientEvents.{client_event_of, event_place, family_of, family_name, family_help, repeat_event};
@@ -10,28 +10,28 @@ use rad_lane::Refusal;
 use rad_realms::Dropped;
 use std::fmt;
 
-/// What is counted of a client.
+/// An event that is counted for a client.
 #[derive(Clone, Copy)]
 pub enum ClientEvent {
-    /// A datagram came from it.
+    /// A datagram came from the client.
     Received,
-    /// A new request of it was accepted.
+    /// A new request of the client was accepted.
     Accepted,
-    /// A request of it came again that waits for its answer.
+    /// A repeat of an unanswered request came.
     Waiting,
-    /// A request of it came again that was answered.
+    /// A repeat of an answered request came.
     Again,
-    /// A response went to it.
+    /// A response was sent to the client.
     Responded,
-    /// A datagram of it was dropped, which is no packet.
+    /// A datagram of the client was dropped, since it is not a packet.
     Unread,
-    /// A datagram of it was dropped for this other reason.
+    /// A datagram of the client was dropped, for this other reason.
     Dropped(Dropped),
-    /// A request of it was refused for this reason.
+    /// A request of the client was refused, for this reason.
     Refused(Refusal),
 }
 
-/// The names under which that is told.
+/// The families in which these events are reported.
 #[derive(Clone, Copy, PartialEq, Eq)]
 pub enum ClientFamily {
     Received,
@@ -42,14 +42,14 @@ pub enum ClientFamily {
     Dropped,
 }
 
-/// The label by which an event differs from the others of its family.
+/// The label that distinguishes an event from the others of its family.
 #[derive(Clone, Copy)]
 pub(crate) struct ReasonText(pub ClientEvent);
 
-/// How many kinds of events there are.
+/// The number of kinds of events.
 pub(crate) const EVENTS: usize = 17;
 
-/// Each kind, in its place.
+/// Each kind of event, at its index.
 pub const CLIENT_EVENTS: [ClientEvent; EVENTS] = [
     ClientEvent::Received,
     ClientEvent::Accepted,
@@ -81,7 +81,8 @@ pub(crate) const CLIENT_FAMILIES: [ClientFamily; 6] = [
 ];
 
 impl ClientEvent {
-    /// What a note of the front is counted as, of the client that sent the datagram. What came from no client is of none.
+    /// Returns the event as which a note of the front is counted, for the client that sent the datagram. A datagram
+    /// that came from no client is counted for none.
     pub fn of(note: Note) -> Option<ClientEvent>
         ensures { result ≡ client_event_of note }
     {
@@ -101,7 +102,7 @@ impl ClientEvent {
         }
     }
 
-    /// What a repeat is counted as.
+    /// Returns the event as which a repeat is counted.
     pub fn of_repeat(repeat: Repeat) -> ClientEvent
         ensures { result ≡ repeat_event repeat }
     {
@@ -111,7 +112,7 @@ impl ClientEvent {
         }
     }
 
-    /// The place of the kind in [`CLIENT_EVENTS`].
+    /// Returns the index of the kind in [`CLIENT_EVENTS`].
     pub fn place(self) -> usize
         ensures { result ≡ event_place self }
     {
@@ -127,7 +128,7 @@ impl ClientEvent {
         }
     }
 
-    /// The family that the kind is told in.
+    /// Returns the family in which the kind is reported.
     pub fn family(self) -> ClientFamily
         ensures { result ≡ family_of self }
     {
@@ -143,7 +144,7 @@ impl ClientEvent {
 }
 
 impl ClientFamily {
-    /// What stands before its samples.
+    /// Returns the name, the kind and the help text of the family, which precede its samples.
     pub fn family(self) -> Family
         ensures name { result.name.now ≡ family_name self }
         ensures kind { result.kind ≡ counting }
@@ -196,7 +197,7 @@ impl fmt::Display for ReasonText {
     }
 }
 
-/// The place of what is dropped for a reason. What came from no client has none, and is never asked for.
+/// Returns the index of a drop for this reason. A datagram that came from no client has none, and is never asked for.
 fn dropped_place(reason: Dropped) -> usize
     ensures { result ≡ event_place (ClientEvent.Dropped reason) }
 {
@@ -211,7 +212,7 @@ fn dropped_place(reason: Dropped) -> usize
     }
 }
 
-/// The place of what is refused for a reason.
+/// Returns the index of a refusal for this reason.
 fn refused_place(reason: Refusal) -> usize
     ensures { result ≡ event_place (ClientEvent.Refused reason) }
 {

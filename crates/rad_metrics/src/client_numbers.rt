@@ -1,4 +1,4 @@
-//! What is counted of each client. Counting takes no lock and no memory.
+//! The counts of each client's events. Counting takes no lock and no memory.
 
 use crate::client_event::{CLIENT_EVENTS, ClientEvent, EVENTS};
 use rad_realms::Config;
@@ -6,28 +6,29 @@ use std::alloc::{AllocError, Global};
 use std::collections::BTreeMap;
 use std::sync::atomic::{AtomicU64, AtomicUsize, Ordering};
 
-/// The place of whoever is no client.
+/// The index of a sender that is not a client.
 const NOBODY: usize = usize::MAX;
 
-/// What is counted of the clients of a configuration, and of all others together.
+/// The counts of the events of each client of a configuration, and of the datagrams of all other senders together.
 #[derive(Drop)]
 pub(crate) struct ClientNumbers {
-    /// The place of each client's address.
+    /// The index of each client's address.
     places: BTreeMap<[u8; 4], usize>,
-    /// The place of the client that sent the datagram which the front received last. The front alone reads and writes it.
+    /// The index of the client that sent the datagram which the front received last. Only the front reads and writes
+    /// it.
     last: AtomicUsize,
-    /// The counts of the first client in the order of the kinds, then those of the others.
+    /// The counts of the first client in the order of the kinds, then those of the next clients.
     counts: Vec<AtomicU64>,
-    /// How many datagrams came from whoever is no client.
+    /// The number of datagrams that came from senders that are not clients.
     strangers: AtomicU64,
 }
 
 impl ClientNumbers {
-    /// Nothing was counted yet.
+    /// Makes the counts, all 0.
     ///
     /// # Errors
     ///
-    /// Where memory is refused.
+    /// `AllocError` if memory is refused.
     pub(crate) fn new(alloc: Global, config: &Config) -> Result<ClientNumbers, AllocError> {
         let mut places = BTreeMap::new(alloc);
         let mut counts = Vec::new(alloc);
@@ -45,7 +46,7 @@ impl ClientNumbers {
         })
     }
 
-    /// The front received a datagram from this address.
+    /// Counts a datagram that the front received from this address.
     pub(crate) fn received(&self, address: [u8; 4]) {
         let place = self.place_of(address);
         self.last.store(place, Ordering::SeqCst);
@@ -56,17 +57,17 @@ impl ClientNumbers {
         }
     }
 
-    /// Counts what became of the datagram that the front received last.
+    /// Counts an event of the datagram that the front received last.
     pub(crate) fn count(&self, event: ClientEvent) {
         self.add(self.last.load(Ordering::SeqCst), event);
     }
 
-    /// A response goes to this address.
+    /// Counts a response that is sent to this address.
     pub(crate) fn responded(&self, address: [u8; 4]) {
         self.add(self.place_of(address), ClientEvent::Responded);
     }
 
-    /// How often something happened to the client in this place.
+    /// Returns how often an event happened to the client at this index.
     pub(crate) fn get(&self, place: usize, event: ClientEvent) -> u64 {
         match self.counter(place, event) {
             Some(count) => count.load(Ordering::SeqCst),
@@ -74,7 +75,7 @@ impl ClientNumbers {
         }
     }
 
-    /// How many datagrams came from whoever is no client.
+    /// Returns how many datagrams came from senders that are not clients.
     pub(crate) fn strangers(&self) -> u64 {
         self.strangers.load(Ordering::SeqCst)
     }
@@ -90,7 +91,7 @@ impl ClientNumbers {
         self.counts.get(row.checked_add(event.place())?)
     }
 
-    /// The place of the client of this address, where there is one.
+    /// Returns the index of the client of this address, if there is one.
     fn place_of(&self, address: [u8; 4]) -> usize {
         match self.places.get(&address) {
             Some(place) => *place,

@@ -1,4 +1,4 @@
-//! The text of the numbers while it is made.
+//! The text of the metrics while it is made.
 
 use crate::numbers::Numbers;
 use crate::reading::Reading;
@@ -11,18 +11,18 @@ use std::io;
 use std::sync::Wait;
 use std::time::Clock;
 
-/// A text, and what it is made of. The memory serves the next one too.
+/// A text of the metrics, and what it is made of. Its memory is used again for the next text.
 #[derive(Drop)]
 pub struct Draft {
     text: Vec<u8>,
     readings: Vec<Reading>,
-    /// What the system tells of its UDP sockets.
+    /// The system's text of its UDP sockets.
     table: Vec<u8>,
     sockets: Vec<SocketReading>,
 }
 
 impl Draft {
-    /// Nothing is written yet.
+    /// Makes a draft with an empty text.
     pub fn new(alloc: Global) -> Draft {
         Draft {
             text: Vec::new(alloc),
@@ -32,11 +32,11 @@ impl Draft {
         }
     }
 
-    /// Reads what was told of each lane last, and what the system tells of each socket.
+    /// Reads what was last reported of each lane, and what the system reports of each socket.
     ///
     /// # Errors
     ///
-    /// Where memory is refused.
+    /// `AllocError` if memory is refused.
     pub fn read<S: Wait, U: UdpSockets, R>(
         &mut self,
         rt: &S,
@@ -49,17 +49,17 @@ impl Draft {
         numbers.read_sockets(rt, table, &mut self.sockets)
     }
 
-    /// Begins a text, which has nothing yet.
+    /// Begins a text, and returns it empty.
     pub fn begin(&mut self) -> &mut Vec<u8> {
         self.text.clear();
         &mut self.text
     }
 
-    /// Writes all numbers behind what stands there.
+    /// Writes all metrics after what the text already has.
     ///
     /// # Errors
     ///
-    /// Where memory is refused.
+    /// `OutOfMemory` if memory is refused.
     pub fn finish<R: Clock>(
         &mut self,
         config: &Config,
@@ -74,7 +74,7 @@ impl Draft {
         )
     }
 
-    /// The text.
+    /// Returns the text.
     pub fn text(&mut self) -> &mut Vec<u8> {
         &mut self.text
     }

@@ -1,32 +1,32 @@
-//! Families: what stands before the samples of one name.
+//! Families of metrics: what precedes the samples of one name.
 
 ghost use Rattle.std.specs.Prelude.{◌≡◌};
 ghost use Rattle.rad_metrics.specs.declared.family.Kind.TheVariants.{Counter as counting, Gauge as standing, Histogram as lasting};
 
 use std::fmt;
 
-/// What a number does.
+/// The kind of a metric.
 #[derive(Clone, Copy)]
 pub enum Kind {
-    /// It counts from the start of the program on.
+    /// It counts from the start of the program.
     Counter,
-    /// It tells how something stands.
+    /// It is the present state of something.
     Gauge,
     /// It counts how often something took no longer than each of some bounds.
     Histogram,
 }
 
-/// What one name tells.
+/// A family: the metrics of one name.
 #[derive(Clone, Copy)]
 pub struct Family {
-    /// The name behind `rad_proxy_`.
+    /// The name after the prefix `rad_proxy_`.
     pub name: &'static str,
     pub kind: Kind,
-    /// What it tells, as Prometheus shows it.
+    /// The help text, as Prometheus shows it.
     pub help: &'static str,
 }
 
-/// The first line of a family: what it tells.
+/// The first line of a family: its help text.
 #[derive(Clone, Copy)]
 pub struct HelpLine(pub Family);
 
@@ -35,7 +35,7 @@ pub struct HelpLine(pub Family);
 pub struct TypeLine(pub Family);
 
 impl Family {
-    /// A family that counts.
+    /// Makes a family of counters.
     pub(crate) fn counter(name: &'static str, help: &'static str) -> Family
         ensures name { result.name.now ≡ name.now }
         ensures kind { result.kind ≡ counting }
@@ -48,7 +48,7 @@ impl Family {
         }
     }
 
-    /// A family that counts how long something took.
+    /// Makes a family of histograms, which count how long something took.
     pub(crate) fn histogram(name: &'static str, help: &'static str) -> Family
         ensures name { result.name.now ≡ name.now }
         ensures kind { result.kind ≡ lasting }
@@ -61,7 +61,7 @@ impl Family {
         }
     }
 
-    /// A family that tells how something stands.
+    /// Makes a family of gauges.
     pub(crate) fn gauge(name: &'static str, help: &'static str) -> Family
         ensures name { result.name.now ≡ name.now }
         ensures kind { result.kind ≡ standing }

@@ -1,23 +1,23 @@
-//! How long something took, by how often it took no longer than each of some bounds.
+//! A histogram: how often something took no longer than each of some bounds.
 
 ghost use Rattle.std.specs.Prelude.{◌≡◌, ◌<◌, ◌≤◌, ◌-◌};
 ghost use Rattle.rad_metrics.specs.Buckets.{bound_of, bound_text};
 
 use std::sync::atomic::{AtomicU64, Ordering};
 
-/// How many buckets there are: one for each bound, and one for what took longer than all of them.
+/// The number of buckets: one for each bound, and one for what took longer than all of them.
 pub(crate) const BUCKETS: usize = 18;
 
 /// How often something took how long. Counting takes no lock and no memory.
 #[derive(Drop)]
 pub(crate) struct Histogram {
     counts: [AtomicU64; BUCKETS],
-    /// How long it took in all, in microseconds.
+    /// The sum of all durations, in microseconds.
     sum: AtomicU64,
 }
 
 impl Histogram {
-    /// Nothing took any time yet.
+    /// Makes a histogram without any duration.
     pub(crate) fn new() -> Histogram {
         Histogram {
             counts: [
@@ -44,13 +44,13 @@ impl Histogram {
         }
     }
 
-    /// Something took so many microseconds.
+    /// Counts a duration of `microseconds` microseconds.
     pub(crate) fn count(&self, microseconds: u64) {
         self.counts[bucket_of(microseconds)].fetch_add(1, Ordering::SeqCst);
         self.sum.fetch_add(microseconds, Ordering::SeqCst);
     }
 
-    /// How often something took longer than the bound before that of a bucket, and no longer than that.
+    /// Returns how many durations are in a bucket: above the bound of the bucket before it, and not above its own.
     pub(crate) fn get(&self, bucket: usize) -> u64 {
         match self.counts.get(bucket) {
             Some(count) => count.load(Ordering::SeqCst),
@@ -58,13 +58,14 @@ impl Histogram {
         }
     }
 
-    /// How long it took in all, in microseconds.
+    /// Returns the sum of all durations, in microseconds.
     pub(crate) fn sum(&self) -> u64 {
         self.sum.load(Ordering::SeqCst)
     }
 }
 
-/// The bucket of so many microseconds: the first whose bound is not below, and the last where each is.
+/// Returns the bucket of a duration of `microseconds` microseconds: the first whose bound is not below it, or the last
+/// if all bounds are below it.
 pub(crate) fn bucket_of(microseconds: u64) -> usize
     ensures most { result ≤ 17 }
     ensures within { result < 17 → microseconds ≤ bound_of result }
@@ -92,7 +93,7 @@ pub(crate) fn bucket_of(microseconds: u64) -> usize
     }
 }
 
-/// The bound of a bucket in seconds, as a label.
+/// Returns the bound of a bucket in seconds, as a label.
 pub(crate) fn bound_label(bucket: usize) -> &'static str
     ensures { result.now ≡ bound_text bucket }
 {

@@ -1,4 +1,4 @@
-//! What the workers told of each home server.
+//! What the workers reported of each home server.
 
 ghost use Rattle.std.specs.Prelude.{◌<◌};
 
@@ -12,32 +12,33 @@ use std::alloc::{AllocError, Global};
 use std::sync::atomic::{AtomicBool, AtomicU64, Ordering};
 use std::sync::{Mutex, Wait};
 
-/// How many reasons there are to go up.
+/// The number of reasons for which a home server is marked up.
 const REASONS: usize = 3;
 
-/// What is known of a home server. All of it but the times and whether its worker is asked is written by that worker alone.
+/// What is known of a home server. Only its worker writes it, except for the times and for whether the worker is asked.
 #[derive(Drop)]
 pub(crate) struct HomeCell {
-    /// Whether its worker is to tell how its lane stands.
+    /// Whether its worker is to report the standing of its lane.
     is_asked: AtomicBool,
     /// When its worker's turn began, in microseconds since the start.
     turn: AtomicU64,
-    /// Since when it is up or down.
+    /// Since when it is marked up or down.
     since: AtomicU64,
-    /// When it answered last, and 0 before that.
+    /// When it last answered; 0 before its first answer.
     last_answer: AtomicU64,
-    /// How often it went up for each reason.
+    /// How often it was marked up for each reason.
     ups: [AtomicU64; REASONS],
     times: HomeTimes,
     reading: Mutex<Reading>,
 }
 
 impl HomeCell {
-    /// Nothing was told yet, at this time since 1970: the home server is up, and its lane is empty.
+    /// Makes the cell of a home server of which nothing was reported yet, at this time since 1970: it is up, and its
+    /// lane is empty.
     ///
     /// # Errors
     ///
-    /// Where memory is refused.
+    /// `AllocError` if memory is refused.
     fn new(alloc: Global, home: &Home, start: u64) -> Result<HomeCell, AllocError> {
         Ok(HomeCell {
             is_asked: AtomicBool::new(false),
@@ -50,53 +51,53 @@ impl HomeCell {
         })
     }
 
-    /// Its worker's turn began, so many microseconds after the start.
+    /// Records that its worker's turn began `turn` microseconds after the start.
     pub(crate) fn set_turn(&self, turn: u64) {
         self.turn.store(turn, Ordering::SeqCst);
     }
 
-    /// When its worker's turn began.
+    /// Returns when its worker's turn began.
     pub(crate) fn turn(&self) -> u64 {
         self.turn.load(Ordering::SeqCst)
     }
 
-    /// Has its worker tell how its lane stands.
+    /// Asks its worker to report the standing of its lane.
     pub(crate) fn ask(&self) {
         self.is_asked.store(true, Ordering::SeqCst);
     }
 
-    /// Whether its worker is to tell how its lane stands.
+    /// Returns whether its worker is to report the standing of its lane.
     pub(crate) fn is_asked(&self) -> bool {
         self.is_asked.load(Ordering::SeqCst)
     }
 
-    /// It went up or down at this time.
+    /// Records that it was marked up or down at this time.
     pub(crate) fn set_since(&self, time: u64) {
         self.since.store(time, Ordering::SeqCst);
     }
 
-    /// It answered at this time.
+    /// Records that it answered at this time.
     pub(crate) fn set_last_answer(&self, time: u64) {
         self.last_answer.store(time, Ordering::SeqCst);
     }
 
-    /// It went up for a reason.
+    /// Counts that it was marked up for this reason.
     pub(crate) fn count_up(&self, reason: UpReason) {
         self.ups[place_of(reason)].fetch_add(1, Ordering::SeqCst);
     }
 
-    /// How often it went up for a reason.
+    /// Returns how often it was marked up for this reason.
     pub(crate) fn ups(&self, reason: UpReason) -> u64 {
         self.ups[place_of(reason)].load(Ordering::SeqCst)
     }
 
-    /// The times of its requests.
+    /// Returns the times of its requests.
     pub(crate) fn times(&self) -> &HomeTimes {
         &self.times
     }
 
-    /// Its lane stands like this at this moment and time, and so many requests were sent to it. Where the one before is being
-    /// read its worker is asked again.
+    /// Records the standing of its lane at this moment and time, and how many Accounting-Requests were sent to it. If
+    /// the reading before is being read, nothing is recorded, and its worker is asked again.
     pub(crate) fn set_standing(&self, standing: Standing, moment: Moment, told: u64, sent: u64) {
         let oldest_outstanding = self.times.oldest(self.turn());
         let Some(mut reading) = self.reading.try_lock() else {
@@ -115,18 +116,18 @@ impl HomeCell {
         self.is_asked.store(false, Ordering::SeqCst);
     }
 
-    /// What was told last.
+    /// Returns what was last reported.
     pub(crate) fn reading<R: Wait>(&self, rt: &R) -> Reading {
         let reading = self.reading.lock(rt);
         *reading
     }
 }
 
-/// A cell for each of these home servers.
+/// Makes a cell for each of these home servers.
 ///
 /// # Errors
 ///
-/// Where memory is refused.
+/// `AllocError` if memory is refused.
 pub(crate) fn home_cells(
     alloc: Global,
     homes: &[Home],
@@ -149,7 +150,7 @@ fn place_of(reason: UpReason) -> usize
     }
 }
 
-/// What is told before a worker told anything.
+/// Returns the reading before a worker reported anything.
 fn first_reading(start: u64) -> Reading {
     Reading {
         standing: Standing {

@@ -1,18 +1,18 @@
-//! What is told of a home server.
+//! The metrics of a home server.
 
 ghost use Rattle.std.specs.Prelude.{◌≡◌};
 ghost use Rattle.rad_metrics.specs.HomeNumbers.{home_name, home_help, home_kind};
 
 use crate::family::Family;
 
-/// A number of a home server.
+/// A metric of a home server.
 #[derive(Clone, Copy)]
 pub enum HomeNumber {
-    /// Whether it is taken to be up.
+    /// Whether it is marked up.
     Up,
-    /// Since when it is that.
+    /// Since when it is marked up or down.
     Since,
-    /// When its numbers were told.
+    /// When its metrics were reported.
     Told,
     /// Whether its lane is drained.
     Draining,
@@ -20,9 +20,9 @@ pub enum HomeNumber {
     Accepted,
     /// How many requests were answered.
     Answered,
-    /// How many requests wait to be sent.
+    /// How many requests are queued.
     Queued,
-    /// How many requests were sent and not answered.
+    /// How many requests are outstanding.
     Outstanding,
     /// How many requests the book holds.
     Held,
@@ -30,15 +30,15 @@ pub enum HomeNumber {
     Resent,
     /// How long the first request of the queue has waited.
     OldestQueued,
-    /// How long ago the first request was sent that is not answered.
+    /// The longest time since the first sending of an outstanding request.
     OldestOutstanding,
-    /// How long ago the first request was accepted that the book holds.
+    /// How long ago the first request of the book was accepted.
     OldestHeld,
-    /// When it answered last.
+    /// When it last answered.
     LastAnswer,
 }
 
-/// The numbers, in the order in which they are written.
+/// The metrics, in the order in which they are written.
 pub(crate) const HOME_NUMBERS: [HomeNumber; 14] = [
     HomeNumber::Up,
     HomeNumber::Since,
@@ -57,7 +57,7 @@ pub(crate) const HOME_NUMBERS: [HomeNumber; 14] = [
 ];
 
 impl HomeNumber {
-    /// What stands before its samples.
+    /// Returns the name, the kind and the help text of the family, which precede its samples.
     pub fn family(self) -> Family
         ensures name { result.name.now ≡ home_name self }
         ensures kind { result.kind ≡ home_kind self }

@@ -1,4 +1,4 @@
-//! How long the requests of a home server take: when each was accepted and sent for the first time, until it is answered.
+//! How long the requests of a home server take: when each was accepted and first sent, until it is answered.
 
 ghost use Rattle.std.specs.Prelude.{◌≡◌, ◌+◌, ◌*◌, ◌%◌, ◌^◌};
 
@@ -9,51 +9,53 @@ use rad_tables::Slot;
 use std::alloc::{AllocError, Global};
 use std::sync::atomic::{AtomicU64, Ordering};
 
-/// How many Identifiers there are on each source port.
+/// The number of Identifiers on each source port.
 const IDENTIFIERS: u32 = 256;
 
-/// How many requests more may be accepted while the worker of a lane, which took one from a full queue, looks when that was
-/// accepted.
+/// The number of further requests that may be accepted between the moment when a lane's worker took a request from a
+/// full queue and the moment when it reads that request's time of acceptance.
 const BESIDE: u32 = 256;
 
-/// How many serials the word of a response tells apart, beside which of the two came.
+/// The number of serials that the word of a response distinguishes, besides which side wrote it.
 const SERIALS: u64 = 1 << 23;
 
-/// What a place has that nobody wrote to: no number that is told first.
+/// The content of a place that was not written yet. No number that is reported there first matches it.
 const UNTOLD: u64 = u64::MAX;
 
-/// Who tells of a response.
+/// The side that reports a time of a response.
 #[derive(Clone, Copy)]
 enum Teller {
-    /// The lane's worker, when its request was accepted.
+    /// The lane's worker, which reports when the request was accepted.
     Lane,
-    /// The front, when it goes out.
+    /// The front, which reports when the response is sent.
     Front,
 }
 
-/// The times of the requests of a home server that are not answered yet, and how long the others took.
+/// The times of a home server's unanswered requests, and how long the others took.
 #[derive(Drop)]
 pub(crate) struct HomeTimes {
-    /// For each number that may wait, by its rest: when that request was accepted.
+    /// For each number that may be queued, at the remainder of its division by the length: when that request was
+    /// accepted.
     waiting: Vec<AtomicU64>,
-    /// For each pair of source port and Identifier, when the request was accepted that is out under it.
+    /// For each pair of source port and Identifier: when the request that is outstanding under it was accepted.
     accepted: Vec<AtomicU64>,
-    /// For the same, when it was first sent; 0 where none is out.
+    /// For each pair: when that request was first sent; 0 if none is outstanding.
     sent: Vec<AtomicU64>,
-    /// For each serial that may be on its way to the client, by its rest: what was told of it first.
+    /// For each serial that may be on its way to the client, at the remainder of its division by the length: what was
+    /// first reported of it.
     leaving: Vec<AtomicU64>,
-    /// From the first sending to the reply.
+    /// The times from the first sending to the reply.
     replies: Histogram,
-    /// From the acceptance to the response.
+    /// The times from the acceptance to the response.
     responses: Histogram,
 }
 
 impl HomeTimes {
-    /// No request was accepted yet, of a lane with these limits.
+    /// Makes the times of a lane with these limits that accepted no request yet.
     ///
     /// # Errors
     ///
-    /// Where memory is refused.
+    /// `AllocError` if memory is refused.
     pub(crate) fn new(alloc: Global, limits: LimitNumbers) -> Result<HomeTimes, AllocError> {
         let pairs = limits.ports.saturating_mul(IDENTIFIERS);
         Ok(HomeTimes {
@@ -66,15 +68,15 @@ impl HomeTimes {
         })
     }
 
-    /// The request of this number was accepted at this time.
+    /// Records that the request of this number was accepted at this time.
     pub(crate) fn was_accepted(&self, number: u64, time: u64) {
         if let Some(place) = place_by(&self.waiting, number) {
             place.store(word_of(number, time), Ordering::SeqCst);
         }
     }
 
-    /// The request of this number is sent for the first time, under this pair. Where the front, which began its turn at that
-    /// time, has not told of it yet, it was accepted in that turn.
+    /// Records that the request of this number is sent for the first time, under this pair. If the front, whose turn
+    /// began at `front`, has not reported its acceptance yet, it was accepted in that turn.
     pub(crate) fn first_sent(&self, number: u64, slot: Slot, front: u64, now: u64) {
         let accepted = match place_by(&self.waiting, number) {
             Some(place) => time_in(place.load(Ordering::SeqCst), number),
@@ -84,7 +86,7 @@ impl HomeTimes {
         store(&self.sent, slot, now.max(1));
     }
 
-    /// The request that is out under this pair is answered, by the response of this serial.
+    /// Records that the request that is outstanding under this pair is answered, by the response of this serial.
     pub(crate) fn replied(&self, serial: u64, slot: Slot, now: u64) {
         let sent = load(&self.sent, slot);
         store(&self.sent, slot, 0);
@@ -97,21 +99,21 @@ impl HomeTimes {
         }
     }
 
-    /// The response of this serial goes out at this time.
+    /// Records that the response of this serial is sent at this time.
     pub(crate) fn left(&self, serial: u64, time: u64) {
         if let Some(accepted) = self.tell(Teller::Front, serial, time) {
             self.responses.count(passed(accepted, time));
         }
     }
 
-    /// Keeps what is told of a response, and gives what the other one told of it before, if that came first.
+    /// Keeps what a side reports of a response, and returns what the other side reported of it, if that came first.
     fn tell(&self, teller: Teller, serial: u64, time: u64) -> Option<u64> {
         let (own, others) = tags_of(teller, serial);
         let place = place_by(&self.leaving, serial)?;
         time_in(place.swap(word_of(own, time), Ordering::SeqCst), others)
     }
 
-    /// How many milliseconds before this time the first request was sent that is out.
+    /// Returns the longest time from the first sending of an outstanding request to `now`, in milliseconds.
     pub(crate) fn oldest(&self, now: u64) -> u64 {
         let mut oldest = now;
         for place in &self.sent {
@@ -123,18 +125,18 @@ impl HomeTimes {
         now.saturating_sub(oldest) / 1000
     }
 
-    /// How long it was from the first sending of each request to its reply.
+    /// Returns the times from the first sending of each request to its reply.
     pub(crate) fn replies(&self) -> &Histogram {
         &self.replies
     }
 
-    /// How long it was from the acceptance of each request to its response.
+    /// Returns the times from the acceptance of each request to its response.
     pub(crate) fn responses(&self) -> &Histogram {
         &self.responses
     }
 }
 
-/// So many places with this number.
+/// Makes `count` places with the content `first`.
 fn places(alloc: Global, count: u32, first: u64) -> Result<Vec<AtomicU64>, AllocError> {
     let mut places = Vec::new(alloc);
     for _ in 0..count {
@@ -143,7 +145,7 @@ fn places(alloc: Global, count: u32, first: u64) -> Result<Vec<AtomicU64>, Alloc
     Ok(places)
 }
 
-/// The place of a number among so many, by its rest.
+/// Returns the place of a number: the one at the remainder of its division by the number of places.
 fn place_by(places: &[AtomicU64], number: u64) -> Option<&AtomicU64> {
     let count = places.len() as u64;
     if count == 0 {
@@ -165,14 +167,14 @@ fn store(places: &[AtomicU64], slot: Slot, time: u64) {
     }
 }
 
-/// The place of a pair among all of its lane.
+/// Returns the index of a pair among all pairs of its lane.
 fn place_in(slot: Slot) -> usize
     ensures { result ≡ slot.port * 256 + slot.identifier }
 {
     usize::from(slot.port) * 256 + usize::from(slot.identifier)
 }
 
-/// Under which number a teller tells of a serial, and under which the other one does.
+/// Returns the tag under which a side reports a serial, and the tag of the other side.
 fn tags_of(teller: Teller, serial: u64) -> (u64, u64) {
     let even = serial % SERIALS * 2;
     match teller {

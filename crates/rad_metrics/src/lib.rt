@@ -1,13 +1,15 @@
-//! The numbers of a proxy that serves, in Prometheus' text format: of the program, of the limits, of each client, of each home
-//! server and of each socket.
+//! The metrics of a running proxy, in Prometheus' text format: of the program, of the limits, of each client, of each
+//! home server and of each socket.
 //!
-//! [`Numbers`] keeps what the workers tell. The numbers of one home server are of one hold of its lane, which the lane's worker
-//! takes where it is asked to. All labels are of the configuration, whoever sends.
+//! [`Numbers`] keeps what the workers report. The metrics of one home server are taken under one hold of its lane's
+//! lock, by the lane's worker, when it is asked for them. All labels come from the configuration, from the program and
+//! from its sockets, whoever sends.
 //!
-//! Contracts say what each family is called, what it tells and how a line is printed, which number of a home server is which part
-//! of its [`Reading`], and as what a note is counted of a client. What stands behind a lock or in an atomic, such as a count, no
-//! contract tells, and tests show it. The definitions stand in specs: `Families` and `Samples` have the lines, `ProgramNumbers`,
-//! `LimitNumbers`, `ClientEvents`, `HomeNumbers` and `SocketNumbers` what is told of each, and `Buckets` the bounds of a histogram.
+//! Contracts say what each family is called, what its help text is and how each line is printed, which part of its
+//! [`Reading`] each metric of a home server is, and as which event of a client a note is counted. No contract covers
+//! what is behind a lock or in an atomic, such as a count: tests check it. The definitions are in `specs`: `Families`
+//! and `Samples` define the lines, `ProgramNumbers`, `LimitNumbers`, `ClientEvents`, `HomeNumbers` and `SocketNumbers`
+//! the metrics of each, and `Buckets` the bounds of a histogram.
 #![tactic(auto)]
 
 mod client_event;

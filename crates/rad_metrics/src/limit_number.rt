@@ -1,4 +1,4 @@
-//! The limits of a home server's lane, beside what they limit.
+//! The limits of a home server's lane, as metrics beside those that they limit.
 
 ghost use Rattle.std.specs.Prelude.{◌≡◌};
 ghost use Rattle.rad_metrics.specs.LimitNumbers.{limit_name, limit_help, limit_value};
@@ -8,7 +8,7 @@ use crate::family::Family;
 use crate::value::Value;
 use rad_realms::LimitNumbers;
 
-/// A limit that is told.
+/// A limit that is a metric.
 #[derive(Clone, Copy)]
 pub enum LimitNumber {
     Book,
@@ -28,7 +28,7 @@ pub(crate) const LIMIT_NUMBERS: [LimitNumber; 5] = [
 ];
 
 impl LimitNumber {
-    /// What stands before its samples.
+    /// Returns the name, the kind and the help text of the family, which precede its samples.
     pub fn family(self) -> Family
         ensures name { result.name.now ≡ limit_name self }
         ensures kind { result.kind ≡ standing }
@@ -56,7 +56,7 @@ impl LimitNumber {
         }
     }
 
-    /// The limit of a lane.
+    /// Returns the value of the limit for a lane.
     pub fn value(self, numbers: LimitNumbers) -> Value
         ensures { result ≡ limit_value self numbers }
     {

@@ -1,4 +1,4 @@
-//! All numbers of a proxy that serves.
+//! All metrics of a running proxy.
 
 use crate::client_event::ClientEvent;
 use crate::client_numbers::ClientNumbers;
@@ -14,11 +14,12 @@ use std::sync::Wait;
 use std::sync::atomic::{AtomicU64, Ordering};
 use std::time::{Clock, Instant, SystemTime, UNIX_EPOCH};
 
-/// What the workers of a configuration told. To tell takes no memory, and waits for no lock.
+/// What the workers of a configuration reported. Reporting takes no memory, except for the socket of
+/// [`Numbers::bound`], and waits for no lock.
 #[derive(Drop)]
 pub struct Numbers<'a, R> {
     rt: &'a R,
-    /// When the program started, by the clock that never goes back, where there is one.
+    /// When the program started, by the clock that never goes back, if that can be read.
     start: Option<Instant>,
     /// The same in milliseconds since 1970.
     started: u64,
@@ -31,11 +32,11 @@ pub struct Numbers<'a, R> {
 }
 
 impl<'a, R: Clock> Numbers<'a, R> {
-    /// Nothing was told yet. The program starts now.
+    /// Makes the metrics before any report. The program starts now.
     ///
     /// # Errors
     ///
-    /// Where memory is refused.
+    /// `AllocError` if memory is refused.
     pub fn new(alloc: Global, rt: &'a R, config: &Config) -> Result<Numbers<'a, R>, AllocError> {
         let started = time_since_1970(rt);
         Ok(Numbers {
@@ -49,7 +50,7 @@ impl<'a, R: Clock> Numbers<'a, R> {
         })
     }
 
-    /// A worker has received, or waited in vain: its turn begins.
+    /// Records that a worker's receive returned, with a datagram or without one: its turn begins.
     pub fn woke(&self, worker: Worker) {
         let now = self.microseconds();
         match worker {
@@ -64,12 +65,12 @@ impl<'a, R: Clock> Numbers<'a, R> {
         }
     }
 
-    /// The time now, in milliseconds since 1970.
+    /// Returns the time now, in milliseconds since 1970.
     pub fn now(&self) -> u64 {
         time_since_1970(self.rt)
     }
 
-    /// How many microseconds the program has run.
+    /// Returns how many microseconds the program has run.
     fn microseconds(&self) -> u64 {
         let Some(start) = &self.start else {
             return 0;
@@ -86,24 +87,24 @@ impl<R> Numbers<'_, R> {
         self.homes.get(usize::from(lane))
     }
 
-    /// The time so many microseconds after the start, in milliseconds since 1970.
+    /// Returns the time `microseconds` microseconds after the start, in milliseconds since 1970.
     fn time_at(&self, microseconds: u64) -> u64 {
         self.started.saturating_add(microseconds / 1000)
     }
 
-    /// The front received a datagram from there.
+    /// Records that the front received a datagram from this address and port.
     pub fn received(&self, from: Endpoint) {
         self.clients.received(from.address);
     }
 
-    /// The front noted this of the datagram that it received last.
+    /// Records a note of the front about the datagram that it received last.
     pub fn noted(&self, note: Note) {
         if let Some(event) = ClientEvent::of(note) {
             self.clients.count(event);
         }
     }
 
-    /// The request that the front received last was accepted by a lane, as this number.
+    /// Records that the request that the front received last was accepted by a lane, under this number.
     pub fn accepted(&self, lane: u16, number: u64) {
         self.clients.count(ClientEvent::Accepted);
         if let Some(home) = self.home(lane) {
@@ -111,22 +112,22 @@ impl<R> Numbers<'_, R> {
         }
     }
 
-    /// When the front's turn began.
+    /// Returns when the front's turn began.
     fn front_turn(&self) -> u64 {
         self.front.load(Ordering::SeqCst)
     }
 
-    /// The request that the front received last is a repeat.
+    /// Records that the request that the front received last is a repeat.
     pub fn repeated(&self, repeat: Repeat) {
         self.clients.count(ClientEvent::of_repeat(repeat));
     }
 
-    /// A response goes there.
+    /// Records that a response is sent to this address and port.
     pub fn responds(&self, to: Endpoint) {
         self.clients.responded(to.address);
     }
 
-    /// A lane is about to send the request of this number for the first time, under this pair.
+    /// Records that a lane is about to send the request of this number for the first time, under this pair.
     pub fn first_sent(&self, lane: u16, number: u64, slot: Slot) {
         if let Some(home) = self.home(lane) {
             home.times()
@@ -134,49 +135,49 @@ impl<R> Numbers<'_, R> {
         }
     }
 
-    /// A lane's request that is out under this pair is answered, by the response of this serial.
+    /// Records that a lane's request that is outstanding under this pair is answered, by the response of this serial.
     pub fn replied(&self, lane: u16, serial: u64, slot: Slot) {
         if let Some(home) = self.home(lane) {
             home.times().replied(serial, slot, home.turn());
         }
     }
 
-    /// A lane's response of this serial went out.
+    /// Records that a lane's response of this serial was sent.
     pub fn left(&self, lane: u16, serial: u64) {
         if let Some(home) = self.home(lane) {
             home.times().left(serial, self.front_turn());
         }
     }
 
-    /// A home server answered a request.
+    /// Records that a home server answered a request.
     pub fn answered(&self, lane: u16) {
         if let Some(home) = self.home(lane) {
             home.set_last_answer(self.time_at(home.turn()));
         }
     }
 
-    /// A home server is marked up or down from now on.
+    /// Records that a home server is marked up or down from now on.
     pub fn turned(&self, lane: u16) {
         if let Some(home) = self.home(lane) {
             home.set_since(self.time_at(home.turn()));
         }
     }
 
-    /// Why it is marked up.
+    /// Records why a home server is marked up.
     pub fn went_up(&self, lane: u16, reason: UpReason) {
         if let Some(home) = self.home(lane) {
             home.count_up(reason);
         }
     }
 
-    /// Has the worker of each lane tell how that stands.
+    /// Asks the worker of each lane to report the lane's standing.
     pub fn ask_each(&self) {
         for home in &self.homes {
             home.ask();
         }
     }
 
-    /// Whether the worker of a lane is to tell how that stands.
+    /// Returns whether the worker of a lane is to report the lane's standing.
     pub fn asks(&self, lane: u16) -> bool {
         match self.home(lane) {
             Some(home) => home.is_asked(),
@@ -184,23 +185,23 @@ impl<R> Numbers<'_, R> {
         }
     }
 
-    /// A lane stands like this at this moment, and so many Accounting-Requests were sent to its home server.
+    /// Records the standing of a lane at this moment, and how many Accounting-Requests were sent to its home server.
     pub fn stands(&self, lane: u16, moment: Moment, standing: Standing, sent: u64) {
         if let Some(home) = self.home(lane) {
             home.set_standing(standing, moment, self.time_at(home.turn()), sent);
         }
     }
 
-    /// A worker's socket is bound there, with a receive buffer of so many octets.
+    /// Records that a worker's socket is bound to this address and port, with a receive buffer of `buffer` octets.
     pub fn bound(&self, worker: Worker, at: Endpoint, buffer: u32) {
         self.sockets.bound(worker, at, buffer);
     }
 
-    /// Reads all sockets in place of what was read before, with what a table of /proc/self/net/udp tells of each.
+    /// Replaces `readings` with those of all sockets, with what a table of /proc/self/net/udp reports of each.
     ///
     /// # Errors
     ///
-    /// Where memory is refused.
+    /// `AllocError` if memory is refused.
     pub fn read_sockets<S: Wait>(
         &self,
         rt: &S,
@@ -210,17 +211,17 @@ impl<R> Numbers<'_, R> {
         self.sockets.read(rt, table, readings)
     }
 
-    /// How often something happened to the client in this place of the configuration.
+    /// Returns how often an event happened to the client at this index of the configuration.
     pub fn of_client(&self, place: usize, event: ClientEvent) -> u64 {
         self.clients.get(place, event)
     }
 
-    /// How many datagrams came from whoever is no client.
+    /// Returns how many datagrams came from senders that are not clients.
     pub fn strangers(&self) -> u64 {
         self.clients.strangers()
     }
 
-    /// How often a lane's home server went up for a reason.
+    /// Returns how often a lane's home server was marked up for a reason.
     pub fn ups(&self, lane: usize, reason: UpReason) -> u64 {
         match self.homes.get(lane) {
             Some(home) => home.ups(reason),
@@ -228,17 +229,17 @@ impl<R> Numbers<'_, R> {
         }
     }
 
-    /// How long the requests of a lane take.
+    /// Returns how long the requests of a lane take.
     pub(crate) fn times(&self, lane: usize) -> Option<&HomeTimes> {
         let home = self.homes.get(lane)?;
         Some(home.times())
     }
 
-    /// Reads what was told of each lane last, in order, in place of what was read before.
+    /// Replaces `readings` with what was last reported of each lane, in order.
     ///
     /// # Errors
     ///
-    /// Where memory is refused.
+    /// `AllocError` if memory is refused.
     pub fn read_each<S: Wait>(
         &self,
         rt: &S,
@@ -251,13 +252,13 @@ impl<R> Numbers<'_, R> {
         Ok(())
     }
 
-    /// When the program started, in milliseconds since 1970.
+    /// Returns when the program started, in milliseconds since 1970.
     pub fn started(&self) -> u64 {
         self.started
     }
 }
 
-/// The time, in milliseconds since 1970; 0 where there is none.
+/// Returns the time, in milliseconds since 1970; 0 if there is none.
 fn time_since_1970<R: Clock>(rt: &R) -> u64 {
     let Ok(now) = SystemTime::now(rt) else {
         return 0;

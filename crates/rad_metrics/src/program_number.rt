@@ -1,25 +1,25 @@
-//! What is told of the program itself.
+//! The metrics of the program itself.
 
 ghost use Rattle.std.specs.Prelude.{◌≡◌};
 ghost use Rattle.rad_metrics.specs.ProgramNumbers.{program_name, program_help, program_kind};
 
 use crate::family::Family;
 
-/// A number of the program.
+/// A metric of the program.
 #[derive(Clone, Copy)]
 pub enum ProgramNumber {
     /// 1, with the version as a label.
     BuildInfo,
     /// When it started.
     Start,
-    /// When the numbers were gathered.
+    /// When the metrics were gathered.
     Report,
-    /// How many datagrams came from whoever is no client.
+    /// How many datagrams came from senders that are not clients.
     Strangers,
 }
 
 impl ProgramNumber {
-    /// What stands before its sample.
+    /// Returns the name, the kind and the help text of the family, which precede its sample.
     pub fn family(self) -> Family
         ensures name { result.name.now ≡ program_name self }
         ensures kind { result.kind ≡ program_kind self }

@@ -1,4 +1,4 @@
-//! What was told of a home server last, all of one hold of its lane.
+//! What was last reported of a home server, all of it under one hold of its lane's lock.
 
 ghost use Rattle.std.specs.Prelude.{◌≡◌, ◌-◌};
 ghost use Rattle.rad_metrics.specs.HomeNumbers.{age_at, home_value, resent};
@@ -8,27 +8,27 @@ use crate::value::Value;
 use rad_desk::Standing;
 use rad_tables::Moment;
 
-/// What is known of a home server. Its times are in milliseconds since 1970, but for those of the lane.
+/// What is known of a home server. Its times are in milliseconds since 1970, except for those of the lane.
 #[derive(Clone, Copy)]
 pub struct Reading {
-    /// How its lane stands.
+    /// The standing of its lane.
     pub standing: Standing,
-    /// The lane's moment then.
+    /// The lane's moment at that time.
     pub moment: Moment,
-    /// When that was told.
+    /// When that was reported.
     pub told: u64,
-    /// Since when the home server is taken to be up, or to be down.
+    /// Since when the home server is marked up or down.
     pub since: u64,
-    /// When it answered last, and 0 where it never did.
+    /// When it last answered; 0 if it never did.
     pub last_answer: u64,
-    /// How many Accounting-Requests it was sent.
+    /// How many Accounting-Requests were sent to it.
     pub sent: u64,
-    /// How many milliseconds ago the first of the requests was sent that are outstanding.
+    /// The longest time since the first sending of an outstanding request, in milliseconds.
     pub oldest_outstanding: u64,
 }
 
 impl Reading {
-    /// A number of the home server.
+    /// Returns the value of a metric of the home server.
     pub fn value(&self, number: HomeNumber) -> Value
         ensures { result ≡ home_value number self.now }
     {
@@ -55,7 +55,7 @@ impl Reading {
         }
     }
 
-    /// How many of the sendings were not the first of their request.
+    /// Returns how many of the sendings were not the first of their request.
     fn resent(&self) -> u64
         ensures { result ≡ resent self.now }
     {
@@ -65,7 +65,7 @@ impl Reading {
     }
 }
 
-/// How many milliseconds lie between when something was and a moment, and 0 where there is nothing.
+/// Returns how many milliseconds lie between `first` and a moment; 0 if there is no `first`.
 fn age_of(first: Option<Moment>, moment: Moment) -> u64
     ensures { result ≡ age_at first moment }
 {

@@ -1,4 +1,4 @@
-//! Samples: a number under a name, and of whom it is.
+//! Samples: a value under a name, with its labels.
 
 use crate::client_event::{ClientEvent, ReasonText};
 use crate::value::Value;
@@ -6,7 +6,7 @@ use rad_desk::UpReason;
 use rad_realms::{AddressText, Endpoint};
 use std::fmt;
 
-/// Of whom a number is, and for which reason.
+/// The labels of a sample: whose it is, and for which reason.
 #[derive(Clone, Copy)]
 pub enum Labels<'a> {
     /// The program.
@@ -15,24 +15,24 @@ pub enum Labels<'a> {
     Version(&'a str),
     /// A client, by its address.
     Client([u8; 4]),
-    /// A client and what the number counts.
+    /// A client, by its address, and what the metric counts.
     ClientReason([u8; 4], ClientEvent),
     /// A lane and its home server's name.
     Home(usize, &'a str),
-    /// A lane and its home server's name, and why that went up.
+    /// A lane, its home server's name, and why that was marked up.
     HomeUp(usize, &'a str, UpReason),
-    /// A lane and its home server's name, and a bound in seconds.
+    /// A lane, its home server's name, and a bound in seconds.
     HomeBound(usize, &'a str, &'static str),
-    /// The clients' side, and where a socket of it is bound.
+    /// The clients' side, and the address and port to which a socket of it is bound.
     Socket(Endpoint),
-    /// A lane and its home server's name, and the place of a socket among those of the lane.
+    /// A lane, its home server's name, and the index of a socket among those of the lane.
     HomeSocket(usize, &'a str, usize),
 }
 
-/// A number of a name.
+/// A value under a name.
 #[derive(Clone, Copy)]
 pub struct Sample<'a> {
-    /// The name behind `rad_proxy_`.
+    /// The name after the prefix `rad_proxy_`.
     pub name: &'static str,
     pub labels: Labels<'a>,
     pub value: Value,
@@ -46,7 +46,7 @@ struct HomeLabels<'a>(usize, &'a str);
 #[derive(Clone, Copy)]
 struct ClientLabel([u8; 4]);
 
-/// Why a home server went up.
+/// Why a home server was marked up.
 #[derive(Clone, Copy)]
 struct UpText(UpReason);
 

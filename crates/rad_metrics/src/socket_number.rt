@@ -1,4 +1,4 @@
-//! What is told of a socket.
+//! The metrics of a socket.
 
 ghost use Rattle.std.specs.Prelude.{◌≡◌};
 ghost use Rattle.rad_metrics.specs.SocketNumbers.{socket_name, socket_help, socket_kind, socket_value};
@@ -7,20 +7,20 @@ use crate::family::Family;
 use crate::socket_numbers::SocketReading;
 use crate::value::Value;
 
-/// A number of a socket.
+/// A metric of a socket.
 #[derive(Clone, Copy)]
 pub enum SocketNumber {
-    /// How much room it has.
+    /// The size of its receive buffer.
     Buffer,
-    /// How many datagrams were dropped since that was full.
+    /// How many datagrams were dropped because that buffer was full.
     Dropped,
 }
 
-/// The numbers, in the order in which they are written.
+/// The metrics, in the order in which they are written.
 pub(crate) const SOCKET_NUMBERS: [SocketNumber; 2] = [SocketNumber::Buffer, SocketNumber::Dropped];
 
 impl SocketNumber {
-    /// What stands before its samples.
+    /// Returns the name, the kind and the help text of the family, which precede its samples.
     pub fn family(self) -> Family
         ensures name { result.name.now ≡ socket_name self }
         ensures kind { result.kind ≡ socket_kind self }
@@ -38,7 +38,7 @@ impl SocketNumber {
         }
     }
 
-    /// The number of a socket.
+    /// Returns the value of the metric for a socket.
     pub fn value(self, reading: &SocketReading) -> Value
         ensures { result ≡ socket_value self reading.now }
     {

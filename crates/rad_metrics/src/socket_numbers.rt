@@ -1,4 +1,5 @@
-//! The sockets of the workers: the room that the system granted each, and what it dropped there since that was full.
+//! The sockets of the workers: the receive buffer that the system granted each, and how many datagrams it dropped
+//! because that was full.
 
 use crate::udp_table::dropped_at;
 use rad_desk::Worker;
@@ -9,15 +10,15 @@ use std::sync::{Mutex, Wait};
 /// What is known of a socket.
 #[derive(Clone, Copy)]
 pub struct SocketReading {
-    /// Whose it is.
+    /// The worker that it belongs to.
     pub worker: Worker,
-    /// How many sockets of the same worker stand before it.
+    /// The number of sockets of the same worker before it.
     pub place: usize,
-    /// Where it is bound.
+    /// The address and port that it is bound to.
     pub at: Endpoint,
-    /// How many octets of datagrams that nobody has received yet it may hold.
+    /// The octets of datagrams not yet received that it may hold.
     pub buffer: u32,
-    /// How many datagrams were dropped there, since it was full.
+    /// How many datagrams were dropped there because that was full.
     pub dropped: u64,
 }
 
@@ -28,14 +29,15 @@ pub(crate) struct SocketNumbers {
 }
 
 impl SocketNumbers {
-    /// None is bound yet.
+    /// Makes it without a socket.
     pub(crate) fn new(alloc: Global) -> SocketNumbers {
         SocketNumbers {
             sockets: Mutex::new(Vec::new(alloc)),
         }
     }
 
-    /// A worker's socket is bound there, with this room. One for which there is no memory is not told of.
+    /// Records that a worker's socket is bound to this address and port, with this receive buffer. A socket is omitted
+    /// if memory for it is refused, or while the sockets are being read.
     pub(crate) fn bound(&self, worker: Worker, at: Endpoint, buffer: u32) {
         let Some(mut sockets) = self.sockets.try_lock() else {
             return;
@@ -55,11 +57,11 @@ impl SocketNumbers {
         });
     }
 
-    /// Reads all of them in place of what was read before, with what a table of the system's tells of each.
+    /// Replaces `readings` with those of all sockets, with what a table of the system reports of each.
     ///
     /// # Errors
     ///
-    /// Where memory is refused.
+    /// `AllocError` if memory is refused.
     pub(crate) fn read<S: Wait>(
         &self,
         rt: &S,

@@ -1,21 +1,21 @@
-//! Reading what the system tells of its UDP sockets.
+//! Reading what the system reports of its UDP sockets.
 
 use std::fs::{self, Files};
 use std::io::Read;
 
-/// Where Linux tells of its UDP sockets, those of this program's network alone.
+/// The file in which Linux lists the UDP sockets of this program's network alone.
 const UDP_TABLE: &str = "/proc/self/net/udp";
 
-/// The most octets that are read there, which are those of some 30,000 sockets.
+/// The most octets that are read of it: those of some 30,000 sockets.
 const MOST_OCTETS: u64 = 1 << 22;
 
-/// Tells of the UDP sockets of a machine.
+/// A source of what the system reports of the UDP sockets of a machine.
 pub trait UdpSockets {
-    /// Reads the text of /proc/self/net/udp, in place of what was read before; nothing where there is none.
+    /// Replaces `table` with the text of /proc/self/net/udp, or with nothing if there is none.
     fn read(&self, table: &mut Vec<u8>);
 }
 
-/// Reads what the system tells of its UDP sockets, in place of what was read before; nothing where it tells nothing.
+/// Replaces `table` with what the system reports of its UDP sockets, or with nothing if it reports nothing.
 pub fn read_udp_sockets<R: Files>(files: &R, table: &mut Vec<u8>)
 where
     R::File: Drop,

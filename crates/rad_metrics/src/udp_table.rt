@@ -1,9 +1,9 @@
-//! What Linux tells of its UDP sockets, in /proc/self/net/udp: a line for each, whose second word is where it is bound, in
-//! hexadecimal, and whose last word is how many datagrams were dropped there.
+//! What Linux reports of its UDP sockets in /proc/self/net/udp: a line for each. The second word is the address and
+//! port that it is bound to, in hexadecimal. The last word is how many datagrams were dropped there.
 
 use rad_realms::Endpoint;
 
-/// How many datagrams a table tells that were dropped at the socket that is bound there.
+/// Returns how many datagrams were dropped, by a table, at the socket that is bound to `at`.
 pub(crate) fn dropped_at(table: &str, at: Endpoint) -> Option<u64> {
     for line in table.lines() {
         let mut words = line.split_ascii_whitespace();
@@ -15,7 +15,8 @@ pub(crate) fn dropped_at(table: &str, at: Endpoint) -> Option<u64> {
     None
 }
 
-/// An address and a port: the address as the number that this machine takes its octets for.
+/// Reads an address and a port in hexadecimal. The address is written as the number that its octets make in this
+/// machine's byte order.
 fn read_endpoint(word: &str) -> Option<Endpoint> {
     let (address, port) = word.split_once(':')?;
     Some(Endpoint {

@@ -1,31 +1,31 @@
-//! The number of a sample. Times are in seconds.
+//! The value of a sample. Times are in seconds.
 
 ghost use Rattle.std.specs.Prelude.{◌≡◌};
 ghost use Rattle.rad_metrics.specs.Values.{value_of_bool};
 
 use std::fmt;
 
-/// A number.
+/// A value.
 #[derive(Clone, Copy)]
 pub enum Value {
-    /// How many there are.
+    /// A count.
     Count(u64),
-    /// A time of so many milliseconds.
+    /// A time in milliseconds.
     Milliseconds(u64),
-    /// A time of so many microseconds.
+    /// A time in microseconds.
     Microseconds(u64),
 }
 
-/// A time of so many milliseconds in seconds, with three digits behind the point.
+/// A time in milliseconds, printed in seconds with three decimals.
 #[derive(Clone, Copy)]
 struct Seconds(u64);
 
-/// Three digits of a number below 1000.
+/// A number below 1000, printed with three digits.
 #[derive(Clone, Copy)]
 struct Digits(u64);
 
 impl Value {
-    /// 1 where something is so, and else 0.
+    /// Returns 1 if `is_so`, and otherwise 0.
     pub fn of_bool(is_so: bool) -> Value
         ensures { result ≡ value_of_bool is_so }
     {

@@ -1,4 +1,4 @@
-//! The text of all numbers, a family after the other.
+//! The text of all metrics, one family after the other.
 
 use crate::client_event::{CLIENT_EVENTS, CLIENT_FAMILIES, ClientEvent, ClientFamily};
 use crate::family::{Family, HelpLine, TypeLine};
@@ -20,13 +20,13 @@ use std::time::Clock;
 /// The version of the program.
 const VERSION: &str = "0.1.0";
 
-/// The name of the family of what took the home servers up.
+/// The name of the family that counts how often the home servers were marked up.
 const UPS: &str = "ups_total";
 
-/// What it tells.
+/// The help text of that family.
 const UPS_HELP: &str = "How often the home server went up again.";
 
-/// The names of the samples of a histogram, and of its family first.
+/// The name of the family of a histogram, and the names of its samples.
 #[derive(Clone, Copy)]
 struct Names {
     family: &'static str,
@@ -35,7 +35,7 @@ struct Names {
     count: &'static str,
 }
 
-/// How long the home servers take.
+/// How long the home servers take to reply.
 const REPLIES: Names = Names {
     family: "reply_seconds",
     bucket: "reply_seconds_bucket",
@@ -45,7 +45,7 @@ const REPLIES: Names = Names {
 
 const REPLIES_HELP: &str = "From the first sending of a request to the home server's reply.";
 
-/// How long the clients wait.
+/// How long the clients wait for their responses.
 const RESPONSES: Names = Names {
     family: "response_seconds",
     bucket: "response_seconds_bucket",
@@ -55,18 +55,18 @@ const RESPONSES: Names = Names {
 
 const RESPONSES_HELP: &str = "From the acceptance of a request to the response to the client.";
 
-/// Why a home server goes up.
+/// Why a home server is marked up.
 const UP_REASONS: [UpReason; 3] = [
     UpReason::Answered,
     UpReason::ProbeAnswered,
     UpReason::DownWaitOver,
 ];
 
-/// Writes all numbers: those that were told until now, and what was read of each lane and each socket.
+/// Writes all metrics: those reported so far, and what was read of each lane and each socket.
 ///
 /// # Errors
 ///
-/// The writer's own.
+/// The writer's own error.
 pub fn write_numbers<W: Write, R: Clock>(
     writer: &mut W,
     config: &Config,
@@ -84,7 +84,7 @@ pub fn write_numbers<W: Write, R: Clock>(
     write_sockets(writer, config, sockets)
 }
 
-/// Writes what stands before the samples of a family.
+/// Writes the lines that precede the samples of a family.
 fn write_head<W: Write>(writer: &mut W, family: Family) -> io::Result<()> {
     let help = HelpLine(family);
     writeln!(writer, "{help}")?;
@@ -101,7 +101,7 @@ fn write_sample<W: Write>(
     write_named(writer, family.name, labels, value)
 }
 
-/// Writes a sample of this name.
+/// Writes a sample with this name.
 fn write_named<W: Write>(
     writer: &mut W,
     name: &'static str,
@@ -128,7 +128,7 @@ fn write_one<W: Write>(
     write_sample(writer, family, labels, value)
 }
 
-/// Writes the numbers of the program, which started at this time and is asked at that one.
+/// Writes the metrics of the program, which started at `started` and is asked at `now`.
 fn write_program<W: Write>(writer: &mut W, started: u64, now: u64) -> io::Result<()> {
     let labels = Labels::Version(VERSION);
     write_one(writer, ProgramNumber::BuildInfo, labels, Value::Count(1))?;
@@ -140,7 +140,7 @@ fn write_time<W: Write>(writer: &mut W, number: ProgramNumber, time: u64) -> io:
     write_one(writer, number, Labels::None, Value::Milliseconds(time))
 }
 
-/// Writes the numbers of all clients, and of those that are none.
+/// Writes the metrics of all clients, and of senders that are not clients.
 fn write_clients<W: Write, R>(
     writer: &mut W,
     config: &Config,
@@ -168,7 +168,7 @@ fn write_client_family<W: Write, R>(
     Ok(())
 }
 
-/// Writes the samples of a family and a client.
+/// Writes the samples of a family for a client.
 fn write_client<W: Write, R>(
     writer: &mut W,
     family: ClientFamily,
@@ -186,7 +186,7 @@ fn write_client<W: Write, R>(
     Ok(())
 }
 
-/// The labels of what is counted of a client: a family of one kind has no reason.
+/// Returns the labels of an event of a client. The event of a family of one kind has no reason.
 fn labels_of<'a>(address: [u8; 4], event: ClientEvent) -> Labels<'a> {
     match event {
         ClientEvent::Received | ClientEvent::Accepted | ClientEvent::Responded => {
@@ -227,7 +227,7 @@ fn write_homes<W: Write>(writer: &mut W, config: &Config, readings: &[Reading]) 
     Ok(())
 }
 
-/// Writes how often each home server went up for each reason.
+/// Writes how often each home server was marked up for each reason.
 fn write_ups<W: Write, R>(
     writer: &mut W,
     config: &Config,
@@ -264,7 +264,7 @@ fn write_replies<W: Write, R>(
     Ok(())
 }
 
-/// Writes how long it takes until each home server's requests are answered.
+/// Writes how long it takes until the requests of each home server are answered to the client.
 fn write_responses<W: Write, R>(
     writer: &mut W,
     config: &Config,
@@ -279,7 +279,7 @@ fn write_responses<W: Write, R>(
     Ok(())
 }
 
-/// Writes how often something took no longer than each bound, how long it took in all, and how often it was.
+/// Writes how often something took no longer than each bound, the sum of all durations, and their number.
 fn write_histogram<W: Write>(
     writer: &mut W,
     names: Names,
@@ -299,7 +299,7 @@ fn write_histogram<W: Write>(
     write_named(writer, names.count, labels, Value::Count(count))
 }
 
-/// Writes what is told of the sockets, in the order in which they were bound.
+/// Writes the metrics of the sockets, in the order in which they were bound.
 fn write_sockets<W: Write>(
     writer: &mut W,
     config: &Config,
@@ -315,7 +315,8 @@ fn write_sockets<W: Write>(
     Ok(())
 }
 
-/// Whose a socket is: that of a lane by its place, since its port is another one at each start.
+/// Returns the labels of a socket. A lane's socket is labelled by its index, since its port is another one at each
+/// start.
 fn socket_labels<'a>(config: &'a Config, socket: &SocketReading) -> Labels<'a> {
     match socket.worker {
         Worker::Front => Labels::Socket(socket.at),

@@ -1,4 +1,4 @@
-//! Looking for addresses that this machine has later than the start.
+//! Looking for addresses that this machine gets after the start.
 
 use crate::known_addresses::KnownAddresses;
 use crate::local_addresses::LocalAddresses;
@@ -6,13 +6,14 @@ use rad_desk::Gate;
 use std::alloc::Global;
 use std::time::{Clock, Duration, Instant};
 
-/// How long it is at least from one look to the next, in seconds.
+/// The least time between two reads of the machine's addresses, in seconds.
 const LOOK: u64 = 10;
 
-/// Tells the gate of an address that this machine has later than the start.
+/// Reports to the gate each address that this machine gets after the start.
 ///
-/// What is asked at such an address comes to the socket that is bound to all of them. So the machine's addresses are read
-/// anew only after a datagram came there, where the front has nothing else to receive, and once in ten seconds at most.
+/// A datagram that is sent to such an address arrives at the socket that is bound to all addresses. So the machine's
+/// addresses are read anew only after a datagram arrived there, when the front has nothing else to receive, and at most
+/// once in ten seconds.
 #[derive(Drop)]
 pub(crate) struct AddressMonitor<'a, R, G, A> {
     clock: &'a R,
@@ -20,14 +21,14 @@ pub(crate) struct AddressMonitor<'a, R, G, A> {
     alloc: Global,
     gate: &'a G,
     known: KnownAddresses,
-    /// Whether a datagram came to the socket of all addresses since the last look.
+    /// Whether a datagram came to the socket of all addresses since the last read.
     has_come: bool,
-    /// When the last look was, if there was one.
+    /// The time of the last read, if there was one.
     looked: Option<Instant>,
 }
 
 impl<'a, R, G, A> AddressMonitor<'a, R, G, A> {
-    /// These addresses are known, and no datagram came yet.
+    /// Makes a monitor that knows these addresses, before any datagram came.
     pub(crate) fn new(
         clock: &'a R,
         addresses: &'a A,
@@ -46,14 +47,15 @@ impl<'a, R, G, A> AddressMonitor<'a, R, G, A> {
         }
     }
 
-    /// A datagram came to the socket of all addresses.
+    /// Records that a datagram came to the socket of all addresses.
     pub(crate) fn set_come(&mut self) {
         self.has_come = true;
     }
 }
 
 impl<R: Clock, G: Gate, A: LocalAddresses> AddressMonitor<'_, R, G, A> {
-    /// Looks for new addresses, where it is time. The clock is read only where a datagram came to the socket of all addresses.
+    /// Looks for new addresses, if that is due. The clock is read only if a datagram came to the socket of all
+    /// addresses.
     pub(crate) fn look_if_due(&mut self) {
         if self.has_come && self.is_due() {
             self.has_come = false;
@@ -61,7 +63,7 @@ impl<R: Clock, G: Gate, A: LocalAddresses> AddressMonitor<'_, R, G, A> {
         }
     }
 
-    /// Whether there was no look for some time. There was none then where the clock fails.
+    /// Returns whether the last read is at least [`LOOK`] seconds ago. If there was none, or the clock fails, it is.
     fn is_due(&self) -> bool {
         match &self.looked {
             Some(last) => match last.elapsed(self.clock) {
@@ -72,7 +74,7 @@ impl<R: Clock, G: Gate, A: LocalAddresses> AddressMonitor<'_, R, G, A> {
         }
     }
 
-    /// Tells the gate of each address that is new.
+    /// Reads the machine's addresses, and reports each new one to the gate.
     fn look(&mut self) {
         self.looked = Instant::now(self.clock).ok();
         let Ok(addresses) = self.addresses.read(self.alloc) else {

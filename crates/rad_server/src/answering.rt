@@ -1,4 +1,4 @@
-//! The front's sockets as one: what is asked at one of them is answered from it.
+//! The front's sockets as one: a datagram is answered from the socket that it came to.
 
 ghost use Rattle.rad_server.specs.internal.Wires.{FitsRoom};
 
@@ -9,7 +9,7 @@ use rad_desk::{Gate, Received};
 use rad_realms::Endpoint;
 use std::time::Clock;
 
-/// Shows the front's sockets as one, and keeps which of them each client asked.
+/// Presents the front's sockets as one, and keeps to which of them each client's last datagram came.
 #[derive(Drop)]
 pub(crate) struct Answering<'a, R, G, A> {
     origins: Origins,
@@ -17,7 +17,7 @@ pub(crate) struct Answering<'a, R, G, A> {
 }
 
 impl<'a, R, G, A> Answering<'a, R, G, A> {
-    /// Nothing came yet.
+    /// Makes it from these origins and this monitor, before any datagram came.
     pub(crate) fn new(
         origins: Origins,
         monitor: AddressMonitor<'a, R, G, A>,
@@ -25,12 +25,12 @@ impl<'a, R, G, A> Answering<'a, R, G, A> {
         Answering { origins, monitor }
     }
 
-    /// The socket from which this peer is answered.
+    /// Returns the socket from which this peer is answered.
     pub(crate) fn socket_of(&self, peer: Endpoint) -> u16 {
         self.origins.socket_of(peer)
     }
 
-    /// A datagram came from there to this socket. The first one is that of all addresses.
+    /// Notes that a datagram came from `peer` to this socket. Socket 0 is the one that is bound to all addresses.
     fn note(&mut self, peer: Endpoint, socket: u16) {
         self.origins.note(peer, socket);
         if socket == 0 {
@@ -40,7 +40,8 @@ impl<'a, R, G, A> Answering<'a, R, G, A> {
 }
 
 impl<R: Clock, G: Gate, A: LocalAddresses> Answering<'_, R, G, A> {
-    /// The same receive, as if there were one socket. Where nothing came, there is time to look for new addresses.
+    /// Returns this receive as if the front had one socket. If no datagram came, it looks for new addresses, if that is
+    /// due.
     pub(crate) fn received(&mut self, received: Received) -> Received
         requires { FitsRoom received }
         ensures { FitsRoom result }

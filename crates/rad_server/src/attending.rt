@@ -1,4 +1,4 @@
-//! Attending to the commands while the workers work.
+//! Reading and obeying commands while the workers work.
 
 use crate::faults::ServeFault;
 use crate::lingering::linger;
@@ -10,12 +10,13 @@ use std::io::{self, ErrorKind, Read, Write};
 use std::sync::{Wait, WaitMethods};
 use std::time::{Clock, Instant};
 
-/// Once all workers have begun has what stands in the output go out, and obeys the commands of a reader to its end. Then drains
-/// the lanes and waits until they are done or have lingered.
+/// Writes what the output holds once all workers have begun, and obeys the commands of a reader to its end. Then it
+/// drains the lanes and waits until they are done or `linger` has passed.
 ///
 /// # Errors
 ///
-/// `Ended` where a worker ended by itself, `Input` where the reader failed, `Clock` where the clock did, and as [`Output::advance`].
+/// `Ended` if a worker ended by itself, `Input` if the reader failed, `Clock` if the clock failed, `Memory` if a growth
+/// was refused, and otherwise as [`Output::advance`].
 pub(crate) fn attend<R: Clock + Wait, G: Gate, I: Read + Drop, O: Write + Drop>(
     service: Service<'_, R, G>,
     reader: I,
@@ -29,7 +30,7 @@ pub(crate) fn attend<R: Clock + Wait, G: Gate, I: Read + Drop, O: Write + Drop>(
     check_workers(service)
 }
 
-/// When the input ended: when that was seen while the output was waited for, and else now.
+/// Returns when the input ended: the time at which that was seen while output waited, and otherwise now.
 fn end_of_input<O: Write + Drop>(
     clock: &impl Clock,
     output: &Output<O>,
@@ -58,8 +59,8 @@ fn obey_each<R: Clock + Wait, G, I: Read + Drop, O: Write + Drop>(
     unreachable!()
 }
 
-/// Obeys the next command, where all workers go on and there is one, and answers whether the reader is to be read again: so is
-/// one that was interrupted.
+/// Obeys the next command, if all workers go on and there is one, and returns whether to read again: also after an
+/// interrupted read.
 fn obey_next<R: Clock + Wait, G, O: Write + Drop>(
     service: Service<'_, R, G>,
     command: io::Result<Option<Command>>,
@@ -75,7 +76,7 @@ fn obey_next<R: Clock + Wait, G, O: Write + Drop>(
     Ok(true)
 }
 
-/// Obeys a command. What it answers goes out before the next one is read.
+/// Obeys a command. Its answer is written before the next command is read.
 fn answer<R: Clock + Wait, G, O: Write + Drop>(
     service: Service<'_, R, G>,
     command: Command,
@@ -93,7 +94,7 @@ fn answer<R: Clock + Wait, G, O: Write + Drop>(
     send(service, output)
 }
 
-/// Has all that stands in the output go out. Where that has to wait, and the input ends meanwhile, each lane is drained.
+/// Writes all that the output holds. If that has to wait, and the input ends meanwhile, each lane is drained.
 fn send<R: Clock + Wait, G, O: Write + Drop>(
     service: Service<'_, R, G>,
     output: &mut Output<O>,
@@ -108,7 +109,7 @@ fn send<R: Clock + Wait, G, O: Write + Drop>(
     unreachable!()
 }
 
-/// Looks after the workers and the lanes while the output is waited for.
+/// Checks the workers while the output is waited for, and drains the lanes if the input has ended.
 fn mind<R: Wait, G>(service: Service<'_, R, G>, has_input_ended: bool) -> Result<(), ServeFault> {
     if has_input_ended {
         drain_each(service);
@@ -123,7 +124,7 @@ fn drain_each<R: Wait, G>(service: Service<'_, R, G>) {
     }
 }
 
-/// That no worker ended by itself.
+/// Returns `Ended` if a worker ended by itself.
 fn check_workers<R, G>(service: Service<'_, R, G>) -> Result<(), ServeFault> {
     match service.supervisor.ended() {
         Some(worker) => Err(ServeFault::Ended(worker)),

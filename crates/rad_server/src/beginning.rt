@@ -1,8 +1,8 @@
-//! That the workers have begun.
+//! Waiting until the workers have begun.
 
 use std::sync::{Condvar, Mutex, Wait};
 
-/// How many workers have begun, each in its thread.
+/// Counts the workers that have begun, each in its thread.
 #[derive(Drop)]
 pub(crate) struct Beginnings {
     count: Mutex<usize>,
@@ -10,7 +10,7 @@ pub(crate) struct Beginnings {
 }
 
 impl Beginnings {
-    /// None has begun.
+    /// Makes a count of 0.
     pub(crate) fn new() -> Beginnings {
         Beginnings {
             count: Mutex::new(0),
@@ -18,7 +18,7 @@ impl Beginnings {
         }
     }
 
-    /// One has begun.
+    /// Counts one more worker.
     pub(crate) fn add<R: Wait>(&self, rt: &R) {
         let mut count = self.count.lock(rt);
         *count = count.saturating_add(1);
@@ -26,7 +26,7 @@ impl Beginnings {
         self.more.notify_all();
     }
 
-    /// Waits until so many have begun.
+    /// Waits until at least `all` workers have begun.
     pub(crate) fn wait_for<R: Wait>(&self, rt: &R, all: usize) {
         let count = self.count.lock(rt);
         drop(self.more.wait_while(rt, count, |count| *count < all));

@@ -1,4 +1,5 @@
-//! The sockets for the clients: one at `listen`, and where that is all addresses of this machine, one for each beside it.
+//! The sockets for the clients: one at `listen`, and if that is all addresses of this machine, one more for each
+//! address.
 
 use crate::faults::ServeFault;
 use crate::known_addresses::KnownAddresses;
@@ -17,21 +18,22 @@ const ALL: [u8; 4] = [0, 0, 0, 0];
 /// The most addresses that have a socket of their own.
 const MOST: usize = 256;
 
-/// The sockets for the clients. None of them waits.
+/// The sockets for the clients. All are non-blocking.
 #[derive(Drop)]
 pub(crate) struct ClientSockets {
-    /// The one at `listen`, and behind it those of single addresses.
+    /// The socket at `listen`, followed by those of single addresses.
     pub(crate) sockets: Vec<UdpSocket>,
-    /// The addresses that are known, where all of this machine are served.
+    /// The known addresses, if all addresses of this machine are served.
     pub(crate) known: Option<KnownAddresses>,
 }
 
 impl ClientSockets {
-    /// Binds them. The gate is told of each address of this machine that has none, and of one that can't be had.
+    /// Binds the sockets. It reports to the gate each address of this machine that has no socket of its own, and each
+    /// socket that can't be bound.
     ///
     /// # Errors
     ///
-    /// `Listen` where one can't be had, `Memory` where a growth was refused.
+    /// `Listen` if a socket can't be bound, and `Memory` if a growth is refused.
     pub(crate) fn bind<R: Net, A: LocalAddresses, G: Gate>(
         rt: &R,
         addresses: &A,
@@ -66,7 +68,7 @@ impl ClientSockets {
     }
 }
 
-/// These sockets, of which the first is at `listen`, and one for each of these addresses beside them.
+/// Adds to these sockets, of which the first is at `listen`, one for each of these addresses.
 fn bind_each<G: Gate>(
     alloc: Global,
     mut sockets: Vec<UdpSocket>,
@@ -90,7 +92,7 @@ fn bind_each<G: Gate>(
     })
 }
 
-/// One socket more, for this address. There is none where so many have one, or where the machine has the address no more.
+/// Adds a socket for this address, unless [`MOST`] addresses have one or the machine no longer has the address.
 fn bind_next<G: Gate>(
     sockets: &mut Vec<UdpSocket>,
     listen: Endpoint,
@@ -112,7 +114,7 @@ fn bind_next<G: Gate>(
     }
 }
 
-/// One socket more.
+/// Adds a socket.
 fn add(sockets: &mut Vec<UdpSocket>, socket: UdpSocket) -> Result<(), ServeFault> {
     widen(&socket, RECEIVE_BUFFER);
     match sockets.push(socket) {
@@ -121,7 +123,7 @@ fn add(sockets: &mut Vec<UdpSocket>, socket: UdpSocket) -> Result<(), ServeFault
     }
 }
 
-/// Whether others may be bound beside these sockets from now on.
+/// Sets whether other sockets may be bound beside these from now on.
 fn share_each<G: Gate>(
     sockets: &[UdpSocket],
     is_shared: bool,
@@ -136,7 +138,7 @@ fn share_each<G: Gate>(
     Ok(())
 }
 
-/// That a socket can't be had, of which the gate is told.
+/// Reports to the gate that a socket can't be bound or set up, and returns the fault.
 pub(crate) fn fault_at<G: Gate>(
     listen: Endpoint,
     at: Endpoint,

@@ -4,12 +4,13 @@ use rad_desk::Worker;
 use rad_realms::Endpoint;
 use std::io::{Error, ErrorKind};
 
-/// Why a service ends early. The workers have ended then, and the lanes were not drained but where that is said.
+/// Why a service ends early. The workers have ended by then. By itself the service drains the lanes only at the end of
+/// the input: an earlier fault leaves them as they are.
 #[derive(Clone, Copy, Debug, PartialEq, Eq)]
 pub enum ServeFault {
-    /// The socket for the clients can't be had at this address and port.
+    /// The socket for the clients can't be bound to this address and port, or can't be set up.
     Listen(Endpoint),
-    /// The sockets of this lane can't be had.
+    /// The sockets of this lane can't be bound or set up.
     LaneSocket(usize),
     /// A worker's thread can't be started.
     Threads,
@@ -17,19 +18,19 @@ pub enum ServeFault {
     Ended(Worker),
     /// The reader failed.
     Input,
-    /// What waits for the reader can't be had. The number is that by which the system tells the reason, where it has one.
+    /// The wait for the reader can't be set up. The number is the system's error code, if it has one.
     InputWait(Option<i32>),
     /// The clock failed.
     Clock,
-    /// The writer failed, or took nothing for as long as it was waited for after the end of the input; the lanes were drained
-    /// then.
+    /// The writer failed, or accepted nothing for the whole of `linger` after the end of the input. In the second case
+    /// the lanes were drained, unless the clock failed.
     Output,
     /// A growth was refused.
     Memory,
 }
 
 impl ServeFault {
-    /// `Memory` where the system refused memory, and else this fault.
+    /// Returns `Memory` if the system refused memory, and otherwise this fault.
     pub(crate) fn or_memory(self, error: &Error) -> ServeFault {
         match error.kind() {
             ErrorKind::OutOfMemory => ServeFault::Memory,

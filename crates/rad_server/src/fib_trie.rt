@@ -7,11 +7,12 @@ ghost use Rattle.rad_server.specs.FibTrie.{named_in, is_local, local_by, local_a
 use rad_realms::read_address;
 use std::alloc::{AllocError, Global};
 
-/// The single addresses of this machine that a text of /proc/net/fib_trie lists, in its order. It may list one twice.
+/// Returns the single addresses of this machine that a text of /proc/net/fib_trie lists, in its order. An address may
+/// occur twice.
 ///
 /// # Errors
 ///
-/// Where memory is refused.
+/// `AllocError` if memory is refused.
 pub fn list_local(alloc: Global, text: &str) -> Result<Vec<[u8; 4]>, AllocError>
     ensures { IfOk result (λ addresses. addresses.items ≡ local_addresses text.now) }
 {
@@ -27,7 +28,7 @@ pub fn list_local(alloc: Global, text: &str) -> Result<Vec<[u8; 4]>, AllocError>
     Ok(listed)
 }
 
-/// The text of the address that a line names, if it names one.
+/// Returns the text of the address that a line names, if it names one.
 fn name_in(line: &str) -> Option<&str>
     ensures { option_copied result ≡ named_in line.now }
 {
@@ -46,11 +47,11 @@ fn split_around(text: &str, delimiter: char) -> Option<(&str, &str)>
     text.split_once(delimiter)
 }
 
-/// Adds the address that was named last, where a line says that it is local.
+/// Adds the address that was named last, if a line says that it is local.
 ///
 /// # Errors
 ///
-/// Where memory is refused.
+/// `AllocError` if memory is refused.
 fn add_if_local(
     listed: &mut Vec<[u8; 4]>,
     named: Option<[u8; 4]>,
@@ -65,7 +66,7 @@ fn add_if_local(
     }
 }
 
-/// Whether a line says that the address above it is local.
+/// Returns whether a line says that the address above it is local.
 #[tactic(auto, unfolding(crate::specs::FibTrie::is_local))]
 fn tells_local(line: &str) -> bool
     ensures { result ≡ is_local line.now }

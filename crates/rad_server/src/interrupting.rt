@@ -1,4 +1,4 @@
-//! A reader whose wait others can end.
+//! A reader whose wait can be interrupted by a notification.
 
 use crate::notifying::Notifier;
 use libc::net::{POLLIN, poll};
@@ -9,19 +9,20 @@ use std::io::{self, Error, ErrorKind, Read};
 use std::net::Net;
 use std::os::fd::{AsRawFd, RawFd};
 
-/// Waits for as long as it takes.
+/// The timeout of a poll that waits without a limit.
 const FOR_EVER: i32 = -1;
 
-/// A reader that waits where nothing is there to be read, and gives up its wait where it is notified.
+/// A reader that waits until there is something to read, and ends the wait if it is notified.
 #[derive(Drop)]
 pub struct Interruptible<I: Drop> {
     reader: I,
-    /// What the reader reads from, and none where it never waits.
+    /// The descriptor that the reader reads from; `None` if the reader never waits.
     descriptor: Option<RawFd>,
     interrupts: Interrupts,
 }
 
-/// Where a notification comes in. It is never taken from there, so that one ends each wait from then on.
+/// The receiving side of the notifications. One that comes during a wait is never consumed, so it ends each later wait
+/// too; one that comes between two waits ends the next one.
 #[derive(Drop)]
 struct Interrupts {
     poll: Poll,
@@ -35,8 +36,8 @@ impl Interrupts {
         Ok(Interrupts { poll, notifier })
     }
 
-    /// Waits until this descriptor has something to be read, and answers whether it may have; it has not where a
-    /// notification came before.
+    /// Waits until this descriptor has something to read, and returns whether it may have. It returns `false` if a
+    /// notification came first.
     fn wait(&self, descriptor: RawFd) -> bool {
         let may_sleep = self.notifier.try_sleep();
         let is_there = may_sleep && wait_for_first(descriptor, self.poll.as_raw_fd());
@@ -46,11 +47,11 @@ impl Interrupts {
 }
 
 impl<I: Read + Drop> Interruptible<I> {
-    /// Reads from this descriptor by this reader, which keeps nothing read ahead.
+    /// Reads from this descriptor with this reader, which reads nothing ahead.
     ///
     /// # Errors
     ///
-    /// The system's, and `OutOfMemory`.
+    /// The system's error, and `OutOfMemory` if memory is refused.
     pub fn new(
         net: &impl Net,
         alloc: Global,
@@ -65,11 +66,11 @@ impl<I: Read + Drop> Interruptible<I> {
         })
     }
 
-    /// What ends a wait.
+    /// Returns a notifier that ends a wait.
     ///
     /// # Errors
     ///
-    /// Where memory is refused.
+    /// `AllocError` if memory is refused.
     pub fn notifier(&self) -> Result<Notifier, AllocError> {
         self.interrupts.notifier.share()
     }
@@ -78,11 +79,11 @@ impl<I: Read + Drop> Interruptible<I> {
 impl<I: Read + Drop> Read for Interruptible<I> {
     ghost remaining = { λ s. I.remaining s.reader };
 
-    /// Reads what is there, and waits until something is.
+    /// Reads what is there, and waits until there is something.
     ///
     /// # Errors
     ///
-    /// `Interrupted` where a notification came before; else the reader's own.
+    /// `Interrupted` if a notification came first, and otherwise the reader's own error.
     fn read(&mut self, buf: &mut [u8]) -> io::Result<usize> {
         let Some(descriptor) = self.descriptor else {
             return self.reader.read(buf);
@@ -94,7 +95,7 @@ impl<I: Read + Drop> Read for Interruptible<I> {
     }
 }
 
-/// Waits until one of two descriptors has something to be read, and answers whether the first one may have.
+/// Waits until one of two descriptors has something to read, and returns whether the first one may have.
 fn wait_for_first(first: RawFd, second: RawFd) -> bool {
     let mut ends = [first, second].map(|fd| pollfd {
         fd,

@@ -2,7 +2,7 @@
 
 use std::alloc::{AllocError, Global};
 
-/// The most addresses that are known. None is told beyond them.
+/// The most addresses that are known. None beyond them is reported.
 const MOST: usize = 512;
 
 /// Addresses of this machine, each once.
@@ -10,16 +10,17 @@ const MOST: usize = 512;
 pub(crate) struct KnownAddresses(Vec<[u8; 4]>);
 
 impl KnownAddresses {
-    /// None is known yet.
+    /// Makes it without a known address.
     ///
     /// # Errors
     ///
-    /// Where memory is refused.
+    /// `AllocError` if memory is refused.
     pub(crate) fn new(alloc: Global) -> Result<KnownAddresses, AllocError> {
         Ok(KnownAddresses(Vec::with_capacity(alloc, MOST)?))
     }
 
-    /// Whether an address is new, and is known from now on. None is where so many are known, or where memory is refused.
+    /// Adds an address, and returns whether it was new. If [`MOST`] addresses are known, or memory is refused, it adds
+    /// none and returns `false`.
     pub(crate) fn learn(&mut self, address: [u8; 4]) -> bool {
         if self.0.len() >= MOST || self.0.as_slice().contains(&address) {
             return false;

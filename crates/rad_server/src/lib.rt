@@ -1,9 +1,10 @@
-//! Serving a configuration over UDP: a thread for the clients and one for each home server, each over sockets of its own,
-//! while commands are read and obeyed.
+//! Serving a configuration over UDP: one thread for the clients and one for each home server, each with sockets of its
+//! own, while commands are read and obeyed.
 //!
-//! [`run`] binds the sockets and serves over them, and [`serve`] serves over any wires. Both end with what is left of as many
-//! lanes as the configuration has home servers, which is their contract; what the workers send is the contract of those
-//! of `rad_desk`. What is received, sent and noted only the gate is told: this crate knows no log and no counters.
+//! [`run`] binds the sockets and serves over them. [`serve`] serves over any wires. Their contract is that they end
+//! with what is left of as many lanes as the configuration has home servers. What the workers send is in the contracts
+//! of the workers of `rad_desk`. What is received, sent and noted is reported to the gate only: this crate contains no
+//! log and no counters.
 #![tactic(auto)]
 
 mod address_monitor;

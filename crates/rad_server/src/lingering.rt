@@ -1,4 +1,4 @@
-//! Waiting at the end for what the lanes still have.
+//! Waiting, at the end, for what the lanes still hold.
 
 use crate::working::Service;
 use rad_lane::Counts;
@@ -7,16 +7,16 @@ use std::sync::{Wait, WaitMethods};
 use std::thread;
 use std::time::{Clock, Duration, Instant};
 
-/// How long it is from one look at whether the lanes are done to the next, in milliseconds.
+/// The time between two checks whether the lanes are done, in milliseconds.
 const LOOK: u64 = 1;
 
-/// How long lanes linger.
+/// Returns the configuration's `linger`: the longest time that a stop waits for the lanes.
 pub(crate) fn linger_of(config: &Config) -> Duration {
     Duration::from_millis(u64::from(config.linger()))
 }
 
-/// Waits until all lanes are done and the front took all their responses, or until the configuration's time has
-/// passed since they were drained, or until the workers are stopped.
+/// Waits until all lanes are done and the front took all their responses, until the configuration's `linger` has passed
+/// since `drained`, or until the workers are stopped.
 pub(crate) fn linger<R: Clock + Wait, G>(service: Service<'_, R, G>, drained: Instant) {
     let most = linger_of(service.config);
     for _ in service.rt.forever() {
@@ -30,7 +30,7 @@ pub(crate) fn linger<R: Clock + Wait, G>(service: Service<'_, R, G>, drained: In
     }
 }
 
-/// Whether so much time has passed since the start. It has where the clock fails.
+/// Returns whether at least `most` has passed since `start`. If the clock fails, it has.
 pub(crate) fn has_passed(clock: &impl Clock, start: Instant, most: Duration) -> bool {
     match start.elapsed(clock) {
         Ok(passed) => passed >= most,
@@ -38,7 +38,7 @@ pub(crate) fn has_passed(clock: &impl Clock, start: Instant, most: Duration) -> 
     }
 }
 
-/// Whether all lanes are done and the front took all their responses.
+/// Returns whether all lanes are done and the front took all their responses.
 fn are_done<R: Wait, G>(service: Service<'_, R, G>) -> bool {
     for lane in 0..service.proxy.lanes() {
         let taken = service.supervisor.taken(lane);
@@ -50,7 +50,7 @@ fn are_done<R: Wait, G>(service: Service<'_, R, G>) -> bool {
     true
 }
 
-/// Whether a lane takes no more requests and has none that waits for an answer.
+/// Returns whether a lane is done: it accepts no new request, and has none queued or outstanding.
 fn is_done(counts: &Counts) -> bool {
     counts.draining && counts.queued == 0 && counts.outstanding == 0
 }

@@ -7,19 +7,19 @@ use std::fs;
 use std::io::{self, Error, ErrorKind};
 use std::rt::Files;
 
-/// Where Linux tells of them.
+/// The file in which Linux lists them.
 const PATH: &str = "/proc/self/net/fib_trie";
 
-/// The most octets of that file, which are those of some 50,000 routes.
+/// The most octets that are read of that file: those of some 50,000 routes.
 const MOST_OCTETS: u64 = 1 << 22;
 
-/// Tells which addresses a machine has.
+/// A source of the addresses of a machine.
 pub trait LocalAddresses {
-    /// Its single IPv4 addresses, each once or more.
+    /// Returns the machine's single IPv4 addresses, each at least once.
     ///
     /// # Errors
     ///
-    /// Why they can't be read.
+    /// The reason why they can't be read.
     fn read(&self, alloc: Global) -> io::Result<Vec<[u8; 4]>>;
 }
 
@@ -39,18 +39,18 @@ impl<R: Files> LocalAddresses for RuntimeAddresses<R>
 where
     R::File: Drop,
 {
-    /// As [`read_local_addresses`].
+    /// Reads them as [`read_local_addresses`] does.
     fn read(&self, alloc: Global) -> io::Result<Vec<[u8; 4]>> {
         read_local_addresses(&self.rt, alloc)
     }
 }
 
-/// The single IPv4 addresses of this machine, each once or more.
+/// Returns the single IPv4 addresses of this machine, each at least once.
 ///
 /// # Errors
 ///
-/// The system's where they can't be read, `FileTooLarge` where Linux's text of its routes has more than 4,194,304 octets, and
-/// `OutOfMemory`.
+/// The system's error if they can't be read, `FileTooLarge` if Linux's text of its routes has more than 4,194,304
+/// octets, `InvalidData` if it is not UTF-8, and `OutOfMemory` if memory is refused.
 pub fn read_local_addresses<R: Files>(files: &R, alloc: Global) -> io::Result<Vec<[u8; 4]>>
 where
     R::File: Drop,

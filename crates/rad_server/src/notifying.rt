@@ -1,4 +1,4 @@
-//! Notifying a worker that sleeps, by whoever has work for it.
+//! Notifying a worker that sleeps that there is work for it.
 
 use mio::{Poll, Token, Waker};
 use rad_desk::Worker;
@@ -7,39 +7,39 @@ use std::io;
 use std::sync::Arc;
 use std::sync::atomic::{AtomicU8, Ordering};
 
-/// The worker looks for work.
+/// The worker is looking for work.
 const AWAKE: u8 = 0;
 
-/// The worker sleeps, or is about to, and has to be woken.
+/// The worker sleeps, or is about to sleep, and has to be woken.
 const ASLEEP: u8 = 1;
 
-/// There is work for the worker, and it need not be told again.
+/// There is work for the worker, and it need not be notified again.
 const NOTIFIED: u8 = 2;
 
 /// The token of a notifier at its poll.
 const TOKEN: Token = Token(usize::MAX);
 
-/// What a worker and those that have work for it share.
+/// What a worker shares with those that have work for it.
 #[derive(Drop)]
 struct Shared {
-    /// One of the three above.
+    /// One of the three states above.
     state: AtomicU8,
     waker: Waker,
 }
 
-/// Notifies a worker where there is work for it. The waker of its poll is called only where it sleeps.
+/// Notifies a worker that there is work for it. The waker of its poll is called only if the worker sleeps.
 ///
-/// The worker calls [`Notifier::try_sleep`] before it sleeps, and [`Notifier::set_awake`] before it looks for work; in another
-/// order a notification is lost.
+/// The worker calls [`Notifier::try_sleep`] before it sleeps, and [`Notifier::set_awake`] before it looks for work. In
+/// any other order a notification may be lost.
 #[derive(Drop)]
 pub struct Notifier(Arc<Shared>);
 
 impl Notifier {
-    /// The notifier of a worker that is awake, and sleeps over this poll.
+    /// Makes the notifier of a worker that is awake and that sleeps over this poll.
     ///
     /// # Errors
     ///
-    /// The system's, and `OutOfMemory`.
+    /// The system's error, and `OutOfMemory` if memory is refused.
     pub(crate) fn new(alloc: Global, poll: &Poll) -> io::Result<Notifier> {
         let shared = Shared {
             state: AtomicU8::new(AWAKE),
@@ -48,24 +48,24 @@ impl Notifier {
         Ok(Notifier(Arc::new(alloc, shared)?))
     }
 
-    /// Another one of the same worker.
+    /// Returns another notifier of the same worker.
     ///
     /// # Errors
     ///
-    /// Where memory is refused.
+    /// `AllocError` if memory is refused.
     pub fn share(&self) -> Result<Notifier, AllocError> {
         Ok(Notifier(self.0.clone()?))
     }
 
-    /// Tells the worker that there is work for it. A call of the waker that fails only delays the worker, since no sleep is
-    /// long.
+    /// Notifies the worker that there is work for it. If the call of the waker fails, that only delays the worker,
+    /// since no sleep is long.
     pub fn notify(&self) {
         if self.0.state.swap(NOTIFIED, Ordering::SeqCst) == ASLEEP {
             let _ = self.0.waker.wake();
         }
     }
 
-    /// Whether the worker may sleep now: nobody notified it since it was awake.
+    /// Marks the worker as asleep and returns `true`, unless it was notified since it was awake.
     pub(crate) fn try_sleep(&self) -> bool {
         self.0
             .state
@@ -73,13 +73,13 @@ impl Notifier {
             .is_ok()
     }
 
-    /// The worker looks for work from now on: whoever has more has to notify it again.
+    /// Marks the worker as awake: it looks for work from now on, and more work has to be notified again.
     pub(crate) fn set_awake(&self) {
         self.0.state.store(AWAKE, Ordering::SeqCst);
     }
 }
 
-/// Those who are notified: the workers, and the reader of the commands, as far as they have a notifier.
+/// The notifiers of the workers and of the reader of the commands, as far as they have one.
 #[derive(Drop)]
 pub struct Notifiers {
     pub front: Option<Notifier>,
@@ -89,7 +89,7 @@ pub struct Notifiers {
 }
 
 impl Notifiers {
-    /// Nobody is notified.
+    /// Makes it without any notifier.
     pub fn none(alloc: Global) -> Notifiers {
         Notifiers {
             front: None,
@@ -98,7 +98,7 @@ impl Notifiers {
         }
     }
 
-    /// Notifies a worker.
+    /// Notifies a worker, if it has a notifier.
     pub(crate) fn notify(&self, worker: Worker) {
         match worker {
             Worker::Front => notify_if_any(&self.front),
@@ -110,7 +110,7 @@ impl Notifiers {
         }
     }
 
-    /// Notifies all.
+    /// Notifies all workers and the reader.
     pub(crate) fn notify_all(&self) {
         notify_if_any(&self.front);
         for notifier in &self.lanes {

@@ -1,24 +1,24 @@
-//! Which of the front's sockets each client's last datagram came to.
+//! To which of the front's sockets each client's last datagram came.
 
 use rad_realms::{Client, Endpoint};
 use std::alloc::{AllocError, Global};
 
-/// How many rows there are, and how many ports of clients a row holds: together 65,536.
+/// The number of rows, each of which holds [`ROW`] ports of clients: 65,536 together.
 const ROWS: usize = 1 << 13;
 
 const ROW: usize = 8;
 
-/// By how many bits a product of 64 is cut to a row's index.
+/// The number of bits by which a 64-bit product is shifted right to give a row's index.
 const CUT: u32 = 51;
 
-/// Which socket the last datagram from there came to.
+/// The socket to which the last datagram from `peer` came.
 #[derive(Clone, Copy)]
 struct Origin {
     peer: Endpoint,
     socket: u16,
 }
 
-/// Holds nobody's place: no datagram comes from port 0 of this address.
+/// The content of a free place: no datagram comes from port 0 of this address.
 const NOBODY: Origin = Origin {
     peer: Endpoint {
         address: [0, 0, 0, 0],
@@ -27,12 +27,12 @@ const NOBODY: Origin = Origin {
     socket: 0,
 };
 
-/// Ports of clients, the one from which a datagram came last first.
+/// Ports of clients, the one with the most recent datagram first.
 #[derive(Clone, Copy)]
 struct Row([Origin; ROW]);
 
 impl Row {
-    /// The socket that the last datagram from there came to, where it is known.
+    /// Returns the socket to which the last datagram from `peer` came, if the row holds it.
     fn find(&self, peer: Endpoint) -> Option<u16> {
         for place in &self.0 {
             if place.peer == peer {
@@ -42,8 +42,8 @@ impl Row {
         None
     }
 
-    /// Puts an origin first. The others move on to the place of the one that was there of the same peer, or the last one
-    /// falls out.
+    /// Puts an origin first. Those before the place of the same peer's earlier origin move back by one. If there is
+    /// none, all move back, and the last one is dropped.
     fn put(&mut self, origin: Origin) {
         let mut moved = origin;
         for place in &mut self.0 {
@@ -57,30 +57,30 @@ impl Row {
     }
 }
 
-/// Which socket the last datagram of a client came to, from whatever port.
+/// The socket to which the last datagram of a client came, from any of its ports.
 #[derive(Clone, Copy)]
 struct ClientOrigin {
     address: [u8; 4],
     socket: u16,
 }
 
-/// Which of the front's sockets each client's last datagram came to: by its address and port for the last ones, and by its
-/// address for each. It takes no memory once it is made.
+/// To which of the front's sockets each client's last datagram came: by address and port for the most recent ones, and
+/// by address for every client. It allocates nothing after it is made.
 #[derive(Drop)]
 pub(crate) struct Origins {
-    /// In the order of their addresses.
+    /// The clients, sorted by address.
     clients: Vec<ClientOrigin>,
     rows: Vec<Row>,
-    /// Spreads the ports over the rows: an odd number that nobody can foretell.
+    /// The factor that spreads the ports over the rows: an odd number that nobody can predict.
     factor: u64,
 }
 
 impl Origins {
-    /// Nothing came yet from these clients.
+    /// Makes the origins of these clients, none of which sent anything yet.
     ///
     /// # Errors
     ///
-    /// Where memory is refused.
+    /// `AllocError` if memory is refused.
     pub(crate) fn new(
         alloc: Global,
         clients: &[Client],
@@ -93,7 +93,7 @@ impl Origins {
         })
     }
 
-    /// A datagram came from there to a socket. Of one that is no client's nothing is kept.
+    /// Notes that a datagram came from `peer` to a socket. For a sender that is not a client nothing is kept.
     pub(crate) fn note(&mut self, peer: Endpoint, socket: u16) {
         let Ok(place) = self.place_of(peer.address) else {
             return;
@@ -107,8 +107,8 @@ impl Origins {
         }
     }
 
-    /// The socket that the last datagram from there came to, and where that is no longer kept, the last one of this client. It
-    /// is the first one for who is no client.
+    /// Returns the socket to which the last datagram from `peer` came. If that is no longer kept, it returns the socket
+    /// of the client's last datagram from any port, and for a sender that is not a client the first socket.
     pub(crate) fn socket_of(&self, peer: Endpoint) -> u16 {
         let row = self.rows.get(self.row_of(peer));
         match row.and_then(|row| row.find(peer)) {
@@ -124,14 +124,14 @@ impl Origins {
         }
     }
 
-    /// The place of a client, where this is one.
+    /// Returns the index of a client, if the address is a client's.
     fn place_of(&self, address: [u8; 4]) -> Result<usize, usize> {
         self.clients
             .as_slice()
             .binary_search_by_key(&address, |client| client.address)
     }
 
-    /// The row of an address and port.
+    /// Returns the index of the row of an address and port.
     fn row_of(&self, peer: Endpoint) -> usize {
         let [a, b, c, d] = peer.address;
         let [e, f] = peer.port.to_be_bytes();
@@ -140,7 +140,7 @@ impl Origins {
     }
 }
 
-/// These clients in the order of their addresses.
+/// Returns these clients, sorted by address, each with socket 0.
 fn client_origins(alloc: Global, clients: &[Client]) -> Result<Vec<ClientOrigin>, AllocError> {
     let mut origins = Vec::with_capacity(alloc, clients.len())?;
     for client in clients {

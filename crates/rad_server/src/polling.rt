@@ -1,4 +1,4 @@
-//! The sockets of a worker, and how it sleeps where none of them has a datagram.
+//! The sockets of a worker, and its sleep while none of them has a datagram.
 
 ghost use Rattle.rad_server.specs.internal.Wires.{FitsRoom};
 
@@ -14,11 +14,11 @@ use std::time::Duration;
 /// The longest sleep, in milliseconds.
 const SLEEP: u64 = 20;
 
-/// How many events a sleep gives at once: those of a lane's sockets and of its notifier. What more there are the next sleep
-/// gives, which ends at once then.
+/// The most events that one sleep returns: those of a lane's sockets and of its notifier. The next sleep, which then
+/// ends at once, returns the others.
 const EVENTS: usize = 8;
 
-/// How many receives there may be without a sleep, for each socket, before each is looked at again.
+/// The number of receives for each socket that a worker may do without a sleep before it tries every socket again.
 const RECEIVES: usize = 16;
 
 /// What a worker sleeps over.
@@ -30,11 +30,11 @@ struct Sleeper {
 }
 
 impl Sleeper {
-    /// No socket is registered yet.
+    /// Makes it without a registered socket.
     ///
     /// # Errors
     ///
-    /// The system's, and `OutOfMemory`.
+    /// The system's error, and `OutOfMemory` if memory is refused.
     fn new(net: &impl Net, alloc: Global) -> io::Result<Sleeper> {
         let poll = Poll::new(net)?;
         let notifier = Notifier::new(alloc, &poll)?;
@@ -46,7 +46,7 @@ impl Sleeper {
         })
     }
 
-    /// Sleeps until a datagram comes, the worker is notified or a while has passed.
+    /// Sleeps until a datagram arrives, the worker is notified, or [`SLEEP`] milliseconds have passed.
     fn sleep(&mut self) {
         let _ = self
             .poll
@@ -54,29 +54,29 @@ impl Sleeper {
     }
 }
 
-/// The sockets of a worker, and how it sleeps where none of them has a datagram.
+/// The sockets of a worker, and its sleep while none of them has a datagram.
 ///
-/// A sleep tells which sockets have datagrams. A worker that doesn't sleep, since one socket has datagrams all the time or
-/// since there is always something to send, looks at each socket again after some receives.
+/// A sleep returns which sockets have datagrams. A worker does not sleep while one socket always has datagrams, or
+/// while there is always something to send. It then tries every socket again after some receives.
 #[derive(Drop)]
 pub(crate) struct PolledSockets {
-    /// In the order of a lane's source ports; the front's first one is that of `listen`.
+    /// The sockets in the order of a lane's source ports. The front's first socket is that of `listen`.
     sockets: Vec<ReadySocket>,
-    /// The socket that is received from next.
+    /// The index of the socket that is received from next.
     turn: u16,
     sleeper: Sleeper,
-    /// How many receives there were since the worker slept or looked at each socket again.
+    /// The number of receives since the worker last slept or tried every socket again.
     receives: usize,
-    /// Whether a datagram went out since the last receive.
+    /// Whether a datagram was sent since the last receive.
     has_sent: bool,
 }
 
 impl PolledSockets {
-    /// These sockets, which do not wait.
+    /// Registers these sockets, which are non-blocking.
     ///
     /// # Errors
     ///
-    /// The system's, and `OutOfMemory`.
+    /// The system's error, and `OutOfMemory` if memory is refused.
     pub(crate) fn new(
         net: &impl Net,
         alloc: Global,
@@ -93,16 +93,16 @@ impl PolledSockets {
         })
     }
 
-    /// What ends a sleep.
+    /// Returns a notifier that ends a sleep.
     ///
     /// # Errors
     ///
-    /// Where memory is refused.
+    /// `AllocError` if memory is refused.
     pub(crate) fn notifier(&self) -> Result<Notifier, AllocError> {
         self.sleeper.notifier.share()
     }
 
-    /// Receives a datagram, and waits for one where there is nothing else to do. The worker looks for work afterwards.
+    /// Receives a datagram, and waits for one if there is nothing else to do. The worker looks for work afterwards.
     pub(crate) fn receive(&mut self, room: &mut [u8; 4096]) -> Received
         ensures { FitsRoom result }
     {
@@ -113,7 +113,7 @@ impl PolledSockets {
         received
     }
 
-    /// Counts a receive, and has each socket looked at again where there were so many without a sleep.
+    /// Counts a receive, and marks every socket for another try if there were too many receives without a sleep.
     fn count_receive(&mut self) {
         self.receives = self.receives.saturating_add(1);
         if self.receives > self.sockets.len().saturating_mul(RECEIVES) {
@@ -121,7 +121,7 @@ impl PolledSockets {
         }
     }
 
-    /// Each socket may have datagrams.
+    /// Marks every socket as one that may have datagrams.
     fn set_each_waiting(&mut self) {
         self.receives = 0;
         for socket in &mut self.sockets {
@@ -129,7 +129,7 @@ impl PolledSockets {
         }
     }
 
-    /// Receives a datagram, and waits for one where there is nothing else to do.
+    /// Receives a datagram, and waits for one if there is nothing else to do.
     fn wait(&mut self, room: &mut [u8; 4096]) -> Received
         ensures { FitsRoom result }
     {
@@ -141,7 +141,7 @@ impl PolledSockets {
         self.try_each(room)
     }
 
-    /// Receives a datagram of one of the sockets where one waits.
+    /// Receives a datagram from the first socket, in turn, that has one.
     fn try_each(&mut self, room: &mut [u8; 4096]) -> Received
         ensures { FitsRoom result }
     {
@@ -154,7 +154,7 @@ impl PolledSockets {
         Received::Nothing
     }
 
-    /// Receives a datagram of the socket whose turn it is, where one waits there. Then it is another's turn.
+    /// Receives a datagram from the socket whose turn it is, if it has one, and passes the turn to the next socket.
     fn try_next(&mut self, room: &mut [u8; 4096]) -> Received
         ensures { FitsRoom result }
     {
@@ -171,8 +171,8 @@ impl PolledSockets {
         }
     }
 
-    /// Sleeps until a datagram comes, the worker is notified or a while has passed. Where neither a socket nor a notification
-    /// ended the sleep, each socket is looked at again.
+    /// Sleeps until a datagram arrives, the worker is notified, or [`SLEEP`] milliseconds have passed. If neither a
+    /// socket nor a notification ended the sleep, every socket is tried again.
     fn sleep(&mut self) {
         self.sleeper.sleep();
         self.receives = 0;
@@ -197,11 +197,11 @@ impl PolledSockets {
     }
 }
 
-/// These sockets, of which a poll tells.
+/// Registers these sockets at a poll.
 ///
 /// # Errors
 ///
-/// The system's, and `OutOfMemory`.
+/// The system's error, and `OutOfMemory` if memory is refused.
 fn register_each(
     alloc: Global,
     poll: &Poll,

@@ -1,5 +1,5 @@
-//! What is printed: it goes out as far as the output takes it, and once the input has ended the output is waited for no longer
-//! than the lanes linger.
+//! Printed lines: they are written as far as the output accepts them. Once the input has ended, the output is waited
+//! for no longer than `linger`.
 
 use crate::faults::ServeFault;
 use crate::lingering::has_passed;
@@ -10,17 +10,17 @@ use std::io::{ErrorKind, Write};
 use std::sync::{Wait, WaitMethods};
 use std::time::{Clock, Duration, Instant};
 
-/// How many octets a line has room for. The longest, of `state`, has 237 with its line feed.
+/// The octets of room for a line. The longest, of `state`, has 237 with its line feed.
 const LINE: usize = 256;
 
-/// How far what is printed has come.
+/// How far the output was written.
 #[derive(Clone, Copy, PartialEq, Eq)]
 pub(crate) enum Progress {
-    /// All went out.
+    /// All was written.
     Done,
-    /// Some went out.
+    /// Some was written.
     Went,
-    /// Nothing went out in a short while.
+    /// Nothing was written in a short while.
     Waits,
 }
 
@@ -30,17 +30,17 @@ struct Patience {
     most: Duration,
     /// When the output was first waited for after the end of the input.
     first: Option<Instant>,
-    /// Since when it takes nothing.
+    /// Since when the output has accepted nothing.
     since: Option<Instant>,
 }
 
 impl Patience {
-    /// The output takes something.
+    /// Records that the output accepts something.
     fn renew(&mut self) {
         self.since = None;
     }
 
-    /// Whether the output was waited for as long as it may be. So it is where the clock fails.
+    /// Returns whether the output was waited for as long as allowed. If the clock fails, it was.
     fn is_over(&mut self, clock: &impl Clock) -> bool {
         if let Some(since) = self.since {
             return has_passed(clock, since, self.most);
@@ -56,25 +56,25 @@ impl Patience {
     }
 }
 
-/// What is printed, and did not go out yet.
+/// The printed lines that are not written yet.
 #[derive(Drop)]
 pub(crate) struct Output<O: Drop> {
     writer: O,
     streams: StreamPoll,
     patience: Patience,
-    /// The lines that were printed since all had gone out.
+    /// The lines that were printed since all was written.
     text: Vec<u8>,
-    /// How many of these octets went out.
+    /// How many of these octets were written.
     gone: usize,
 }
 
 impl<O: Write + Drop> Output<O> {
-    /// Prints by this writer. There is room for so many lines, and once the input has ended they are waited for so long,
-    /// anew with each octet that goes out.
+    /// Makes an output for this writer, with room for `lines` lines. Once the input has ended, it waits for the writer
+    /// for at most `most`, and that time starts anew with each octet that is written.
     ///
     /// # Errors
     ///
-    /// `Memory` where that is refused.
+    /// `Memory` if that room is refused.
     pub(crate) fn new(
         alloc: Global,
         writer: O,
@@ -98,16 +98,16 @@ impl<O: Write + Drop> Output<O> {
         })
     }
 
-    /// Where lines are written that are to go out.
+    /// Returns the text to which lines are added that are to be written.
     pub(crate) fn text(&mut self) -> &mut Vec<u8> {
         &mut self.text
     }
 
-    /// Has a line be the next to go out.
+    /// Adds a line.
     ///
     /// # Errors
     ///
-    /// `Memory` where that is refused.
+    /// `Memory` if memory is refused.
     pub(crate) fn add<D: Display>(&mut self, line: &D) -> Result<(), ServeFault> {
         match writeln!(self.text, "{line}") {
             Ok(()) => Ok(()),
@@ -115,17 +115,17 @@ impl<O: Write + Drop> Output<O> {
         }
     }
 
-    /// Whether the input was seen to have ended while the output was waited for.
+    /// Returns whether the input was seen to have ended while the output was waited for.
     pub(crate) fn has_input_ended(&self) -> bool {
         self.streams.has_ended()
     }
 
-    /// When the output was first waited for after the end of the input, where it was.
+    /// Returns when the output was first waited for after the end of the input, if it was.
     pub(crate) fn waited_from(&self) -> Option<Instant> {
         self.patience.first
     }
 
-    /// Has all go out, after the input was read to its end.
+    /// Writes all, after the input was read to its end.
     ///
     /// # Errors
     ///
@@ -140,11 +140,11 @@ impl<O: Write + Drop> Output<O> {
         unreachable!()
     }
 
-    /// Writes the next line, or as much of it as the output takes. Waits for that a short while only.
+    /// Writes the next line, or as much of it as the output accepts. Waits for that for a short while only.
     ///
     /// # Errors
     ///
-    /// `Output` where the writer fails, or where it was waited for as long as it may be.
+    /// `Output` if the writer fails, or was waited for as long as allowed.
     pub(crate) fn advance(&mut self, clock: &impl Clock) -> Result<Progress, ServeFault> {
         if self.gone >= self.text.len() {
             return self.clear();
@@ -159,7 +159,7 @@ impl<O: Write + Drop> Output<O> {
         Ok(Progress::Waits)
     }
 
-    /// All went out.
+    /// Empties the text, all of which was written, and flushes the writer.
     fn clear(&mut self) -> Result<Progress, ServeFault> {
         self.text.clear();
         self.gone = 0;
@@ -169,7 +169,7 @@ impl<O: Write + Drop> Output<O> {
         }
     }
 
-    /// Writes the next line, or as much of it as the output takes.
+    /// Writes the next line, or as much of it as the output accepts.
     fn write(&mut self) -> Result<(), ServeFault> {
         let at = self.gone.min(self.text.len());
         let part = first_line(&self.text.as_slice()[at..], self.streams.most());
@@ -186,7 +186,7 @@ impl<O: Write + Drop> Output<O> {
     }
 }
 
-/// The first line of a text with its line feed, or so many octets of it where it is longer.
+/// Returns the first line of a text with its line feed, or its first `most` octets if it is longer.
 fn first_line(text: &[u8], most: usize) -> &[u8] {
     let line = match find_feed(text) {
         Some(place) => place.saturating_add(1),
@@ -196,7 +196,7 @@ fn first_line(text: &[u8], most: usize) -> &[u8] {
     &text[..count]
 }
 
-/// Where the first line feed of a text stands.
+/// Returns the index of the first line feed of a text.
 fn find_feed(text: &[u8]) -> Option<usize> {
     text.iter().position(|octet| *octet == b'\n')
 }

@@ -8,8 +8,8 @@ use rad_desk::{Delivery, Received};
 use std::io::{self, ErrorKind};
 use std::net::{self, SocketAddr};
 
-/// A socket, and whether datagrams may wait there. The system tells of a socket only once, when datagrams come to one
-/// that was empty; so it is received from until it has no more.
+/// A socket, and whether datagrams may wait there. The system reports a socket only once, when datagrams arrive at one
+/// that was empty. So it is received from until it has no more.
 #[derive(Drop)]
 pub(crate) struct ReadySocket {
     socket: UdpSocket,
@@ -17,11 +17,11 @@ pub(crate) struct ReadySocket {
 }
 
 impl ReadySocket {
-    /// This socket, which does not wait, and of which a poll tells under this index.
+    /// Registers this socket, which is non-blocking. The poll reports it under this index.
     ///
     /// # Errors
     ///
-    /// The system's.
+    /// The system's error.
     pub(crate) fn register(
         registry: &Registry,
         index: usize,
@@ -35,12 +35,12 @@ impl ReadySocket {
         })
     }
 
-    /// Datagrams may wait there from now on.
+    /// Records that datagrams may wait there.
     pub(crate) fn set_waiting(&mut self) {
         self.waiting = true;
     }
 
-    /// Receives a datagram, where one waits. The socket has this index among those of its worker.
+    /// Receives a datagram, if one waits. The socket has this index among those of its worker.
     pub(crate) fn receive(&mut self, index: u16, room: &mut [u8; 4096]) -> Received
         ensures { FitsRoom result }
     {

@@ -1,4 +1,4 @@
-//! `run` and `serve`: the proxy over UDP, and over any wires.
+//! `run` and `serve`: the proxy over UDP sockets, and over any wires.
 
 ghost use Rattle.std.specs.Prelude.{length, IfOk, IsSome};
 ghost use Rattle.rad_console.specs.Closing.{IsEndOf};
@@ -25,14 +25,18 @@ use std::sync::Wait;
 use std::thread::Threads;
 use std::time::Clock;
 
-/// Serves a configuration until the reader ends: binds its sockets, serves, and says where it listens once all workers have
-/// begun. Where the reader reads from a descriptor and so may wait, a worker that ends ends its wait. Where the writer writes
-/// to one and so may wait, the input is watched meanwhile: from its end on the lanes are drained, and the writer is waited for
-/// no longer than they linger. Where all addresses of the machine are served, `addresses` says which these are.
+/// Serves a configuration over UDP until the reader ends. It binds the sockets, serves, and prints where it listens
+/// once all workers have begun.
+///
+/// If the reader reads from a descriptor, so that a read may wait, a worker that ends by itself ends that wait. If the
+/// writer writes to a descriptor, so that a write may wait, the input is watched during the wait. From the end of the
+/// input on the lanes are drained, and the writer is waited for no longer than `linger`. If all addresses of the
+/// machine are served, `addresses` says which these are.
 ///
 /// # Errors
 ///
-/// `Listen` or `LaneSocket` where a socket can't be had; else as `serve`.
+/// `Listen` or `LaneSocket` if a socket can't be bound or set up, `InputWait` if a wait for the reader can't be set up,
+/// and otherwise as [`serve`].
 pub fn run<R, A, G, I, O>(
     rt: &R,
     addresses: &A,
@@ -64,16 +68,19 @@ where
     serve_over(rt, alloc, config, wires, &notifiers, gate, reader, output)
 }
 
-/// Serves a configuration over these wires until the reader ends, then drains the lanes, waits until they are done or
-/// have lingered, and says what is left. The wires keep a log, so that a contract says what goes onto them. The notifiers are
-/// those of the wires and of the reader, as far as they have some.
-/// The gate is asked before each call of a worker. A worker that ends by itself stops the others.
+/// Serves a configuration over these wires until the reader ends. Then it drains the lanes, waits until they are done
+/// or `linger` has passed, and prints what is left.
+///
+/// The wires keep a log, so that a contract can say what is sent on them. The notifiers are those of the wires and of
+/// the reader, as far as these have any. The gate is asked before each call of a worker. A worker that ends by itself
+/// stops the others.
 ///
 /// # Errors
 ///
-/// `Input` where the reader fails, `Clock` where the clock does, `Output` where the writer does, `Threads` where a worker can't be started,
-/// `Ended` where one ends by itself, `Memory` where a growth was refused. The workers have ended then, and the lanes were not
-/// drained. A reader that is `Interrupted` is read again, where all workers go on.
+/// `Input` if the reader fails, `Clock` if the clock fails, `Output` if the writer fails, `Threads` if a worker can't
+/// be started, `Ended` if a worker ends by itself, and `Memory` if a growth is refused. The workers have ended by then.
+/// A fault before the end of the input leaves the lanes as they are. A reader that returns `Interrupted` is read again,
+/// if all workers go on.
 pub fn serve<R, W, G, I, O>(
     rt: &R,
     alloc: Global,
@@ -97,7 +104,7 @@ where
     serve_over(rt, alloc, config, wires, notifiers, gate, reader, output)
 }
 
-/// What is printed by this writer. It has room for what a command answers.
+/// Makes the output for this writer, with room for the answer to a command.
 fn open_output<O: Write + Drop>(
     alloc: Global,
     config: &Config,
@@ -108,7 +115,7 @@ fn open_output<O: Write + Drop>(
     Output::new(alloc, writer, descriptors, lines, linger_of(config))
 }
 
-/// Serves as `serve` does. What stands in the output goes out once all workers have begun.
+/// Serves as `serve` does. What the output already holds is written once all workers have begun.
 fn serve_over<R, W, G, I, O>(
     rt: &R,
     alloc: Global,

@@ -10,16 +10,16 @@ use std::alloc::Global;
 use std::io::{self, Error};
 use std::net::{Ipv4Addr, Net, SocketAddr, SocketAddrV4, UdpSocket};
 
-/// How many octets of datagrams a socket may hold that nobody has received yet. The system may grant less.
+/// The octets of datagrams not yet received that a socket may hold. The system may grant less.
 pub(crate) const RECEIVE_BUFFER: i32 = 1 << 20;
 
-/// Where a lane's sockets are bound: the system picks their ports.
+/// The address and port to which a lane's sockets are bound: the system chooses their ports.
 const ANY: Endpoint = Endpoint {
     address: [0, 0, 0, 0],
     port: 0,
 };
 
-/// The sockets of the proxy. None of them waits.
+/// The sockets of the proxy. All are non-blocking.
 #[derive(Drop)]
 pub(crate) struct BoundSockets {
     pub(crate) front: ClientSockets,
@@ -28,12 +28,12 @@ pub(crate) struct BoundSockets {
 }
 
 impl BoundSockets {
-    /// Binds the sockets of a configuration. The gate is told why one can't be bound.
+    /// Binds the sockets of a configuration. If one can't be bound, the reason is reported to the gate.
     ///
     /// # Errors
     ///
-    /// `Listen`, then `LaneSocket` of the first lane, where a socket can't be bound; `Memory` where a growth was
-    /// refused.
+    /// `Listen`, and after that `LaneSocket` of the first such lane, if a socket can't be bound; `Memory` if a growth
+    /// is refused.
     pub(crate) fn bind<R: Net, A: LocalAddresses, G: Gate>(
         rt: &R,
         addresses: &A,
@@ -48,7 +48,7 @@ impl BoundSockets {
 }
 
 impl BoundSockets {
-    /// Tells a gate of each socket, and of the room that it was granted.
+    /// Reports to a gate each socket and the receive buffer that it was granted.
     pub(crate) fn tell<G: Gate>(&self, gate: &G) {
         tell_each(self.front.sockets.as_slice(), Worker::Front, gate);
         for (lane, sockets) in self.lanes.iter().enumerate() {
@@ -58,7 +58,7 @@ impl BoundSockets {
     }
 }
 
-/// Tells of a worker's sockets. One of which the system does not say where it is bound is left out.
+/// Reports a worker's sockets. A socket is omitted if the system does not say where it is bound.
 fn tell_each<G: Gate>(sockets: &[UdpSocket], worker: Worker, gate: &G) {
     for socket in sockets {
         if let Ok(SocketAddr::V4(at)) = socket.local_addr() {
@@ -71,7 +71,7 @@ fn tell_each<G: Gate>(sockets: &[UdpSocket], worker: Worker, gate: &G) {
     }
 }
 
-/// The sockets of the lanes of these home servers, in order.
+/// Binds the sockets of the lanes of these home servers, in order.
 fn bind_lanes<R: Net, G: Gate>(
     rt: &R,
     alloc: Global,
@@ -94,17 +94,17 @@ fn bind_lanes<R: Net, G: Gate>(
     Ok(lanes)
 }
 
-/// That the sockets of a lane can't be had, of which the gate is told.
+/// Reports to the gate that the sockets of a lane can't be bound or set up, and returns the fault.
 pub(crate) fn lane_fault<G: Gate>(lane: usize, error: &Error, gate: &G) -> ServeFault {
     gate.unbound(ANY, error);
     ServeFault::LaneSocket(lane).or_memory(error)
 }
 
-/// So many sockets, at ports that the system picks.
+/// Binds `count` sockets, to ports that the system chooses.
 ///
 /// # Errors
 ///
-/// The system's, and `OutOfMemory`.
+/// The system's error, and `OutOfMemory` if memory is refused.
 fn bind_ports<R: Net>(rt: &R, alloc: Global, count: u32) -> io::Result<Vec<UdpSocket>> {
     let mut sockets = Vec::with_capacity(alloc, count as usize)?;
     for _ in 0..count {
@@ -113,11 +113,11 @@ fn bind_ports<R: Net>(rt: &R, alloc: Global, count: u32) -> io::Result<Vec<UdpSo
     Ok(sockets)
 }
 
-/// A socket that is bound and does not wait.
+/// Binds a socket, which is non-blocking.
 ///
 /// # Errors
 ///
-/// The system's.
+/// The system's error.
 pub(crate) fn bind<R: Net>(rt: &R, endpoint: Endpoint) -> io::Result<UdpSocket> {
     let address = SocketAddr::V4(SocketAddrV4::new(
         Ipv4Addr::from(endpoint.address),

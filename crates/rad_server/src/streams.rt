@@ -1,4 +1,4 @@
-//! Whether the output takes something, and whether the input has ended.
+//! Polling whether the output accepts something, and whether the input has ended.
 
 ghost use Rattle.std.specs.Prelude.{◌≡◌, None};
 
@@ -7,29 +7,29 @@ use libc::types::pollfd;
 use libc::{SEEK_CUR, isatty, lseek};
 use std::os::fd::RawFd;
 
-/// The longest look, in milliseconds.
+/// The longest wait of a poll, in milliseconds.
 const LOOK: i32 = 20;
 
-/// How many octets a pipe or a socket takes without waiting once a poll says that it takes some.
+/// The octets that a pipe or a socket accepts without waiting once a poll reports that it accepts some.
 const MOST: usize = 4096;
 
-/// The same of a terminal, whose poll says so while there is room for one.
+/// The same for a terminal, whose poll reports that while there is room for one octet.
 const MOST_OF_TERMINAL: usize = 1;
 
-/// What a poll does not look at.
+/// The descriptor that a poll ignores.
 const NOTHING: RawFd = -1;
 
-/// Where the reader and the writer may wait; none where they never do.
+/// The descriptors on which the reader and the writer may wait; `None` for one that never waits.
 #[derive(Clone, Copy, Debug, PartialEq, Eq)]
 pub struct Descriptors {
-    /// What the reader reads from.
+    /// The descriptor that the reader reads from.
     pub input: Option<RawFd>,
-    /// What the writer writes to.
+    /// The descriptor that the writer writes to.
     pub output: Option<RawFd>,
 }
 
 impl Descriptors {
-    /// Neither the reader nor the writer ever waits.
+    /// Returns the descriptors of a reader and a writer that never wait.
     pub fn none() -> Descriptors
         ensures { (result.input ≡ None) × (result.output ≡ None) }
     {
@@ -40,19 +40,19 @@ impl Descriptors {
     }
 }
 
-/// Looks at the output and at the input.
+/// Polls the output and the input.
 #[derive(Clone, Copy)]
 pub(crate) struct StreamPoll {
     descriptors: Descriptors,
     /// The most octets of one write.
     most: usize,
-    /// Whether nothing comes in any more but what is there already.
+    /// Whether nothing more comes in than what is there already.
     has_ended: bool,
 }
 
 impl StreamPoll {
-    /// Watches these. An input that can be sought in, as a regular file and the null device can, has its end in it from the
-    /// start: to read it never waits. A poll never tells that.
+    /// Watches these descriptors. An input that allows seeking, such as a regular file or the null device, counts as
+    /// ended from the start: reading it never waits. A poll never reports that end.
     pub(crate) fn new(descriptors: Descriptors) -> StreamPoll {
         let has_ended = match descriptors.input {
             Some(input) => lseek(input, 0, SEEK_CUR) >= 0,
@@ -69,24 +69,24 @@ impl StreamPoll {
         }
     }
 
-    /// The most octets that the output takes without waiting once it takes something.
+    /// Returns the most octets that the output accepts without waiting once it accepts something.
     pub(crate) fn most(&self) -> usize {
         self.most
     }
 
-    /// Whether the input was seen to have ended. What it had before may not be read yet.
+    /// Returns whether the input was seen to have ended. What came before its end may be unread.
     pub(crate) fn has_ended(&self) -> bool {
         self.has_ended
     }
 
-    /// The input was read to its end.
+    /// Records that the input was read to its end.
     pub(crate) fn end(&mut self) {
         self.has_ended = true;
     }
 
-    /// Whether the output takes something. Waits for that, or for the end of the input, but a short while only. A poll says at
-    /// once of a regular file that it takes all: to write one waits for no reader. So it says of what nobody reads any more,
-    /// and the write fails then.
+    /// Returns whether the output accepts something. Waits for that, or for the end of the input, but for a short while
+    /// only. A poll reports at once that a regular file accepts everything: a write to it waits for no reader. It
+    /// reports the same of an output that nobody reads any more, and the write then fails.
     pub(crate) fn look(&mut self) -> bool {
         let Some(output) = self.descriptors.output else {
             return true;
@@ -96,7 +96,7 @@ impl StreamPoll {
         takes
     }
 
-    /// The input, as long as its end was not seen.
+    /// Returns the input, as long as its end was not seen.
     fn watched_input(&self) -> RawFd {
         match self.descriptors.input {
             Some(input) if !self.has_ended => input,
@@ -105,8 +105,8 @@ impl StreamPoll {
     }
 }
 
-/// Waits a short while until the output takes something or the input has ended, and answers whether each is so. An input has
-/// ended once nobody writes there any more, also while there is something to be read yet.
+/// Waits for a short while until the output accepts something or the input has ended, and returns whether each is so.
+/// An input has ended once nobody writes to it any more, even if there is still something to read.
 fn look_at(output: RawFd, input: RawFd) -> (bool, bool) {
     let mut ends = [polled(output, POLLOUT), polled(input, POLLRDHUP)];
     let has_failed = poll(&mut ends, LOOK) < 0;
@@ -114,7 +114,7 @@ fn look_at(output: RawFd, input: RawFd) -> (bool, bool) {
     (has_failed || of_output.revents != 0, of_input.revents != 0)
 }
 
-/// A descriptor that is to be polled for these events.
+/// Returns a descriptor that is to be polled for these events.
 fn polled(fd: RawFd, events: i16) -> pollfd {
     pollfd {
         fd,

@@ -1,4 +1,4 @@
-//! The gate that the workers ask and tell: it stops them, notifies them where there is work, and counts what the front took.
+//! The gate of the workers: it stops them, notifies them of work, and counts the responses that the front took.
 
 use crate::beginning::Beginnings;
 use crate::notifying::Notifiers;
@@ -9,17 +9,17 @@ use std::alloc::{AllocError, Global};
 use std::sync::atomic::{AtomicBool, AtomicU64, Ordering};
 use std::sync::{OnceLock, Wait};
 
-/// What is known of a lane from what the workers told.
+/// What is known of a lane from the workers' reports.
 #[derive(Drop)]
 struct LaneState {
-    /// How many responses the front took from it and sent.
+    /// The number of responses that the front took from the lane and sent.
     taken: AtomicU64,
-    /// Whether its home server was told to be down.
+    /// Whether the home server was last reported as marked down.
     is_down: AtomicBool,
 }
 
 impl LaneState {
-    /// Nothing was taken yet, and the home server is up.
+    /// Makes the state of a lane from which nothing was taken and whose home server is up.
     fn new() -> LaneState {
         LaneState {
             taken: AtomicU64::new(0),
@@ -28,16 +28,16 @@ impl LaneState {
     }
 }
 
-/// What is known of the lanes, in order.
+/// What is known of each lane, in the order of the lanes.
 #[derive(Drop)]
 struct LaneStates(Vec<LaneState>);
 
 impl LaneStates {
-    /// So many lanes, of which nothing was taken, and whose home servers are up.
+    /// Makes the states of `count` lanes from which nothing was taken and whose home servers are up.
     ///
     /// # Errors
     ///
-    /// Where memory is refused.
+    /// `AllocError` if memory is refused.
     fn new(alloc: Global, count: usize) -> Result<LaneStates, AllocError> {
         let mut lanes = Vec::with_capacity(alloc, count)?;
         for _ in 0..count {
@@ -50,7 +50,7 @@ impl LaneStates {
         self.0.get(usize::from(lane))
     }
 
-    /// How many responses the front took from a lane and sent.
+    /// Returns how many responses the front took from a lane and sent.
     fn taken(&self, lane: u16) -> u64 {
         match self.of(lane) {
             Some(state) => state.taken.load(Ordering::SeqCst),
@@ -58,14 +58,14 @@ impl LaneStates {
         }
     }
 
-    /// The front took a response from a lane and sent it.
+    /// Counts a response that the front took from a lane and sent.
     fn count_taken(&self, lane: u16) {
         if let Some(state) = self.of(lane) {
             state.taken.fetch_add(1, Ordering::SeqCst);
         }
     }
 
-    /// A lane's home server is down or up from now on. It answers whether that is news.
+    /// Records that a lane's home server is marked down or up, and returns whether that is a change.
     fn set_down(&self, lane: u16, is_down: bool) -> bool {
         match self.of(lane) {
             Some(state) => state.is_down.swap(is_down, Ordering::SeqCst) != is_down,
@@ -74,7 +74,7 @@ impl LaneStates {
     }
 }
 
-/// Whether the workers are to stop, and whether one ended before it was told to.
+/// Whether the workers are to stop, and the first worker that ended by itself.
 #[derive(Drop)]
 struct Stopping {
     is_stopped: AtomicBool,
@@ -87,8 +87,8 @@ impl Stopping {
     }
 }
 
-/// Supervises the workers. Another gate is asked and told too; that a home server went down or up it is told where that
-/// is news.
+/// Supervises the workers, as their gate. It passes each question and report on to another gate. The note that a home
+/// server is marked down or up is passed on only if that is a change.
 #[derive(Drop)]
 pub(crate) struct Supervisor<'a, G> {
     outer: &'a G,
@@ -99,11 +99,11 @@ pub(crate) struct Supervisor<'a, G> {
 }
 
 impl<'a, G> Supervisor<'a, G> {
-    /// Supervises the workers of the front and of so many lanes.
+    /// Supervises the workers of the front and of `lanes` lanes.
     ///
     /// # Errors
     ///
-    /// Where memory is refused.
+    /// `AllocError` if memory is refused.
     pub(crate) fn new(
         alloc: Global,
         lanes: usize,
@@ -122,7 +122,7 @@ impl<'a, G> Supervisor<'a, G> {
         })
     }
 
-    /// A worker has begun, in its thread.
+    /// Records that a worker has begun, in its thread.
     pub(crate) fn begin<R: Wait>(&self, rt: &R) {
         self.beginnings.add(rt);
     }
@@ -133,25 +133,26 @@ impl<'a, G> Supervisor<'a, G> {
             .wait_for(rt, self.lanes.0.len().saturating_add(1));
     }
 
-    /// Has all workers stop before their next call.
+    /// Stops all workers before their next call, and notifies them.
     pub(crate) fn stop(&self) {
         self.stopping.set();
         self.notifiers.notify_all();
     }
 
-    /// Whether the workers are to stop.
+    /// Returns whether the workers are to stop.
     pub(crate) fn is_stopped(&self) -> bool {
         self.stopping.is_stopped.load(Ordering::SeqCst)
     }
 
-    /// A worker ended. Where it was not told to, the others stop too; the first of several is known from then on.
+    /// Records that a worker ended. If it was not stopped, it ended by itself, and the others are stopped too; of
+    /// several, the first is kept.
     pub(crate) fn end(&self, worker: Worker) {
         if !self.is_stopped() && self.stopping.ended.try_set(worker).is_ok() {
             self.stop();
         }
     }
 
-    /// The worker that ended before it was told to, where one did.
+    /// Returns the worker that ended by itself, if there is one.
     pub(crate) fn ended(&self) -> Option<Worker> {
         match self.stopping.ended.get() {
             Some(worker) => Some(*worker),
@@ -159,14 +160,15 @@ impl<'a, G> Supervisor<'a, G> {
         }
     }
 
-    /// How many responses the front took from a lane and sent.
+    /// Returns how many responses the front took from a lane and sent.
     pub(crate) fn taken(&self, lane: u16) -> u64 {
         self.lanes.taken(lane)
     }
 }
 
 impl<G: Gate> Supervisor<'_, G> {
-    /// A worker's home server is down or up from now on, which is passed on where it is news. It answers whether it is.
+    /// Records that a worker's home server is marked down or up, notes it at the outer gate if it is a change, and
+    /// returns whether it is.
     fn set_down(&self, worker: Worker, is_down: bool) -> bool {
         let Worker::Lane(lane) = worker else {
             return false;
@@ -183,8 +185,8 @@ impl<G: Gate> Supervisor<'_, G> {
         is_news
     }
 
-    /// A worker's home server went down or up. Its worker has more to do then: going down is all that a step did, and so
-    /// is going up, but where an answer took it up.
+    /// Records that a worker's home server is marked down or up, and notifies that worker. It has more to do then:
+    /// marking down was all that its step did, and so was marking up, unless an answer did that.
     fn home_changed(&self, worker: Worker, is_down: bool) {
         self.set_down(worker, is_down);
         self.notifiers.notify(worker);
@@ -252,7 +254,7 @@ impl<G: Gate> Gate for Supervisor<'_, G> {
         self.outer.replied(lane, serial, slot);
     }
 
-    /// An answer takes a home server up without a step.
+    /// Records an answer, which marks a home server up without a step, and notifies the front.
     fn answered(&self, lane: u16, serial: u64) {
         if self.set_down(Worker::Lane(lane), false) {
             self.outer.went_up(lane, UpReason::Answered);

@@ -1,4 +1,4 @@
-//! A thread for each worker.
+//! One thread for each worker.
 
 ghost use denote.Param.Send.{IsSend, IsSync};
 ghost use Rattle.std.specs.Prelude.{IsSome};
@@ -14,8 +14,8 @@ use std::sync::Wait;
 use std::thread::{self, JoinHandle, Scope, Threads};
 use std::time::Clock;
 
-/// Has a thread work for each wire, and once all do has what stands in the output go out and obeys the commands of the reader.
-/// Gives back the inlets. All threads have ended when it returns.
+/// Starts a thread for each wire, writes what the output holds once all have begun, and obeys the reader's commands.
+/// Returns the inlets. All threads have ended when it returns.
 pub(crate) fn work<R, W, G, I, O>(
     service: Service<'_, R, G>,
     wires: Wires<W>,
@@ -40,7 +40,7 @@ where
     )
 }
 
-/// The same, by threads of this scope.
+/// Does the same with threads of this scope.
 fn work_in<'s, E, R, W, G, I, O>(
     scope: &Scope<'s, E>,
     service: Service<'s, R, G>,
@@ -72,7 +72,7 @@ where
     }
 }
 
-/// Starts the worker of the clients' side. It gives back the inlets at its end.
+/// Starts the worker of the clients' side, which returns the inlets at its end.
 fn start_front<'s, E, R, W, G>(
     scope: &Scope<'s, E>,
     service: Service<'s, R, G>,
@@ -101,8 +101,8 @@ where
     }
 }
 
-/// Starts a worker for each of these wires of the lanes, in order. It answers whether all were started; it starts no more
-/// after one that wasn't.
+/// Starts a worker for each of these wires of the lanes, in order, and returns whether all were started. After one that
+/// could not be started it starts no more.
 fn start_lanes<'s, E, R, W, G>(
     scope: &Scope<'s, E>,
     service: Service<'s, R, G>,
@@ -121,7 +121,7 @@ where
     started
 }
 
-/// Starts the worker of a lane, and answers whether it could.
+/// Starts the worker of a lane, and returns whether it could.
 fn start_lane<'s, E, R, W, G>(
     scope: &Scope<'s, E>,
     service: Service<'s, R, G>,

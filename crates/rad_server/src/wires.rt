@@ -1,4 +1,4 @@
-//! The sockets of a worker as the wire that it works over.
+//! The sockets of a worker as its wire.
 
 ghost use Rattle.std.specs.Prelude.{Some};
 
@@ -13,15 +13,15 @@ use rand::rngs::StdRng;
 use std::alloc::AllocError;
 use std::time::{Clock, Instant};
 
-/// The sockets of a worker, its clock and its random octets.
+/// The sockets of a worker, with its clock and its random octets.
 ///
-/// A receive waits at most 20 milliseconds, and not at all in the turn after a send, when there may be more to send.
-/// Whoever has work for the worker notifies it and so ends the wait.
+/// A receive waits for at most 20 milliseconds. In the turn after a send it does not wait at all, since there may be
+/// more to send. Whoever has work for the worker ends the wait by a notification.
 #[derive(Drop)]
 pub(crate) struct UdpWire<'a, R, G, A> {
     clock: &'a R,
     start: Instant,
-    /// The moment that was told last.
+    /// The last moment that was returned.
     moment: Moment,
     random: StdRng,
     sockets: WorkerSockets<'a, R, G, A>,
@@ -29,7 +29,7 @@ pub(crate) struct UdpWire<'a, R, G, A> {
 }
 
 impl<'a, R, G, A> UdpWire<'a, R, G, A> {
-    /// A wire over these sockets, whose moments count from the start.
+    /// Makes a wire over these sockets, whose moments count from `start`.
     pub(crate) fn new(
         clock: &'a R,
         start: Instant,
@@ -46,11 +46,11 @@ impl<'a, R, G, A> UdpWire<'a, R, G, A> {
         }
     }
 
-    /// What ends a wait.
+    /// Returns a notifier that ends a wait.
     ///
     /// # Errors
     ///
-    /// Where memory is refused.
+    /// `AllocError` if memory is refused.
     pub(crate) fn notifier(&self) -> Result<Notifier, AllocError> {
         self.sockets.notifier()
     }

@@ -1,4 +1,4 @@
-//! The wires over a configuration's sockets, and what notifies those who wait there.
+//! Making the wires over a configuration's sockets, and the notifiers of those that wait there.
 
 use crate::address_monitor::AddressMonitor;
 use crate::answering::Answering;
@@ -42,11 +42,11 @@ struct WireMaker<'a, R, G, A> {
 }
 
 impl<'a, R: Clock + Net + RandomSource, G: Gate, A> WireMaker<'a, R, G, A> {
-    /// The wire of the front over these sockets, which are one to these clients.
+    /// Makes the wire of the front over these sockets, which these clients see as one.
     ///
     /// # Errors
     ///
-    /// The system's, and `OutOfMemory`.
+    /// The system's error, and `OutOfMemory` if memory is refused.
     fn make_front(
         &self,
         sockets: ClientSockets,
@@ -61,11 +61,11 @@ impl<'a, R: Clock + Net + RandomSource, G: Gate, A> WireMaker<'a, R, G, A> {
         self.make(random, sockets, answering)
     }
 
-    /// What has each of the front's sockets answer what came to it.
+    /// Makes what answers each datagram from the front's socket that it came to.
     ///
     /// # Errors
     ///
-    /// Where memory is refused.
+    /// `AllocError` if memory is refused.
     fn answer(
         &self,
         clients: &[Client],
@@ -77,11 +77,11 @@ impl<'a, R: Clock + Net + RandomSource, G: Gate, A> WireMaker<'a, R, G, A> {
         Ok(Answering::new(origins, monitor))
     }
 
-    /// A wire over these sockets.
+    /// Makes a wire over these sockets.
     ///
     /// # Errors
     ///
-    /// The system's, and `OutOfMemory`.
+    /// The system's error, and `OutOfMemory` if memory is refused.
     fn make(
         &self,
         random: StdRng,
@@ -93,12 +93,12 @@ impl<'a, R: Clock + Net + RandomSource, G: Gate, A> WireMaker<'a, R, G, A> {
         Ok(UdpWire::new(self.rt, self.start, random, sockets))
     }
 
-    /// The wire of a lane over these sockets.
+    /// Makes the wire of a lane over these sockets.
     ///
     /// # Errors
     ///
-    /// `LaneSocket` where the system refuses what waits at them, of which the gate is told, or random octets; `Memory` where a
-    /// growth was refused.
+    /// `LaneSocket` if the system refuses the poll of the sockets or the random octets, which is reported to the gate,
+    /// and `Memory` if a growth is refused.
     fn make_lane(
         &self,
         lane: usize,
@@ -110,20 +110,20 @@ impl<'a, R: Clock + Net + RandomSource, G: Gate, A> WireMaker<'a, R, G, A> {
         }
     }
 
-    /// A wire over these sockets, each of which answers for itself.
+    /// Makes a wire over these sockets, each of which has a number of its own.
     ///
     /// # Errors
     ///
-    /// The system's, and `OutOfMemory`.
+    /// The system's error, and `OutOfMemory` if memory is refused.
     fn make_over(&self, sockets: Vec<UdpSocket>) -> io::Result<UdpWire<'a, R, G, A>> {
         self.make(make_rng(self.rt)?, sockets, None)
     }
 
-    /// The wires of the lanes over these sockets, in order.
+    /// Makes the wires of the lanes over these sockets, in order.
     ///
     /// # Errors
     ///
-    /// `LaneSocket` of the first one that can't be made, `Memory` where a growth was refused.
+    /// `LaneSocket` for the first lane whose wire can't be made, and `Memory` if a growth is refused.
     fn make_lanes(
         &self,
         lanes: Vec<Vec<UdpSocket>>,
@@ -141,12 +141,13 @@ impl<'a, R: Clock + Net + RandomSource, G: Gate, A> WireMaker<'a, R, G, A> {
     }
 }
 
-/// The wires over these sockets of a configuration. Their moments count from now. The gate is told of an address that this
-/// machine has later, and of what the system refuses.
+/// Makes the wires over these sockets of a configuration. Their moments count from now. An address that this machine
+/// gets later, and what the system refuses, is reported to the gate.
 ///
 /// # Errors
 ///
-/// `Listen` or `LaneSocket` where the system refuses one, `Memory` where a growth was refused, `Clock` where the clock fails.
+/// `Listen` or `LaneSocket` if the system refuses a wire, `Memory` if a growth is refused, and `Clock` if the clock
+/// fails.
 pub(crate) fn make_wires<'a, R: Clock + Net + RandomSource, G: Gate, A>(
     rt: &'a R,
     addresses: &'a A,
@@ -174,11 +175,11 @@ pub(crate) fn make_wires<'a, R: Clock + Net + RandomSource, G: Gate, A>(
     Ok(Wires { front, lanes })
 }
 
-/// What notifies the workers of these wires and the reader.
+/// Returns the notifiers of the workers of these wires and of the reader.
 ///
 /// # Errors
 ///
-/// Where memory is refused.
+/// `AllocError` if memory is refused.
 pub(crate) fn notifiers_of<R, G, A, I: Read + Drop>(
     alloc: Global,
     wires: &Wires<UdpWire<'_, R, G, A>>,
@@ -194,11 +195,11 @@ pub(crate) fn notifiers_of<R, G, A, I: Read + Drop>(
     })
 }
 
-/// What notifies the workers of these wires.
+/// Returns the notifiers of the workers of these wires.
 ///
 /// # Errors
 ///
-/// Where memory is refused.
+/// `AllocError` if memory is refused.
 fn notifiers_of_lanes<R, G, A>(
     alloc: Global,
     wires: &[UdpWire<'_, R, G, A>],
@@ -210,11 +211,11 @@ fn notifiers_of_lanes<R, G, A>(
     Ok(notifiers)
 }
 
-/// A reader that a notification interrupts.
+/// Makes a reader that a notification interrupts.
 ///
 /// # Errors
 ///
-/// `Memory` where a growth was refused, else `InputWait`.
+/// `Memory` if a growth is refused, and otherwise `InputWait`.
 pub(crate) fn make_reader<I: Read + Drop>(
     net: &impl Net,
     alloc: Global,

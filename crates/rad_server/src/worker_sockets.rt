@@ -1,4 +1,4 @@
-//! The sockets of a worker as the worker numbers them.
+//! The sockets of a worker, by the numbers that the worker uses.
 
 ghost use Rattle.rad_server.specs.internal.Wires.{FitsRoom};
 
@@ -12,17 +12,17 @@ use std::alloc::AllocError;
 use std::net::{Ipv4Addr, SocketAddr, SocketAddrV4};
 use std::time::Clock;
 
-/// The sockets of a worker. Those of a lane have the numbers of its source ports. The front's are all 0, where there are
-/// several: each answers what came to it.
+/// The sockets of a worker. A lane's have the numbers of its source ports. If the front has several, the worker knows
+/// them all as 0: each answers what came to it.
 #[derive(Drop)]
 pub(crate) struct WorkerSockets<'a, R, G, A> {
     polled: PolledSockets,
-    /// Where they are all 0.
+    /// Present if the worker knows all sockets as 0.
     answering: Option<Answering<'a, R, G, A>>,
 }
 
 impl<'a, R, G, A> WorkerSockets<'a, R, G, A> {
-    /// These sockets by their indexes, or as one.
+    /// Makes the sockets: each with its index as its number, or all as one.
     pub(crate) fn new(
         polled: PolledSockets,
         answering: Option<Answering<'a, R, G, A>>,
@@ -30,11 +30,11 @@ impl<'a, R, G, A> WorkerSockets<'a, R, G, A> {
         WorkerSockets { polled, answering }
     }
 
-    /// What ends a sleep.
+    /// Returns a notifier that ends a sleep.
     ///
     /// # Errors
     ///
-    /// Where memory is refused.
+    /// `AllocError` if memory is refused.
     pub(crate) fn notifier(&self) -> Result<Notifier, AllocError> {
         self.polled.notifier()
     }
@@ -52,7 +52,7 @@ impl<'a, R, G, A> WorkerSockets<'a, R, G, A> {
 }
 
 impl<R: Clock, G: Gate, A: LocalAddresses> WorkerSockets<'_, R, G, A> {
-    /// Receives a datagram, and waits for one where there is nothing else to do.
+    /// Receives a datagram, and waits for one if there is nothing else to do.
     pub(crate) fn receive(&mut self, room: &mut [u8; 4096]) -> Received
         ensures { FitsRoom result }
     {

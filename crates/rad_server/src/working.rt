@@ -1,4 +1,4 @@
-//! What each worker does in its thread.
+//! The work of each worker in its thread.
 
 ghost use Rattle.std.specs.Prelude.{IsSome};
 ghost use Rattle.rad_desk.specs.Calls.{Passes};
@@ -11,7 +11,7 @@ use rad_realms::{Config, Home};
 use std::alloc::{AllocError, Global};
 use std::sync::Wait;
 
-/// What all that serve share.
+/// What all workers and the reader of the commands share.
 pub(crate) struct Service<'a, R, G> {
     pub(crate) rt: &'a R,
     pub(crate) alloc: Global,
@@ -29,7 +29,7 @@ impl<R, G> Clone for Service<'_, R, G> {
 impl<R, G> Copy for Service<'_, R, G> {}
 
 impl<R: Wait, G: Gate> Service<'_, R, G> {
-    /// Works for the clients until the worker is stopped.
+    /// Serves the clients until the worker is stopped.
     pub(crate) fn work_in_front<W: Wire>(self, inlets: &mut [Inlet], wire: &mut W)
         requires { IsSome (W.log wire.old) }
         ensures { Passes (WorksInFront self.entry.config.now inlets.old inlets.new) (W.log wire.old) (W.log wire.new) }
@@ -48,7 +48,7 @@ impl<R: Wait, G: Gate> Service<'_, R, G> {
         self.supervisor.end(Worker::Front);
     }
 
-    /// Works for a lane until the worker is stopped.
+    /// Serves a lane until the worker is stopped.
     pub(crate) fn work_on_lane<W: Wire>(self, lane: u16, wire: &mut W)
         requires { IsSome (W.log wire.old) }
         ensures { Passes (WorksOnLane self.entry.config.now lane) (W.log wire.old) (W.log wire.new) }
@@ -60,7 +60,7 @@ impl<R: Wait, G: Gate> Service<'_, R, G> {
         self.supervisor.end(Worker::Lane(lane));
     }
 
-    /// Works for a lane and its home server, where there is such a lane.
+    /// Serves a lane and its home server, if there is such a lane.
     fn work_for<W: Wire>(self, lane: u16, home: &Home, wire: &mut W)
         ensures { Passes (WorksForHome lane home.now) (W.log wire.old) (W.log wire.new) }
     {

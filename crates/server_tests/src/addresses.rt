@@ -1,11 +1,11 @@
-//! The addresses of a machine, as Linux's texts list them.
+//! Tests of the addresses of a machine that Linux's texts list.
 
 use crate::comparing::holds;
 use rad_server::list_local;
 use std::test::Fail;
 
-/// What Linux 6 wrote in a namespace with two addresses beside 127.0.0.1, and a network behind one of them. Where no rule
-/// parts them the two tables are one, and are written twice.
+/// The text that Linux 6 wrote in a namespace with two addresses besides 127.0.0.1, and a network behind one of them.
+/// If no rule separates the two tables, they are one table, which is written twice.
 const TWO_TABLES: &str = "Main:
   +-- 0.0.0.0/0 3 0 5
      |-- 0.0.0.0
@@ -36,7 +36,7 @@ Local:
         /32 host LOCAL
 ";
 
-/// One address with a route of each length that it has one of, and one whose route has a type of service.
+/// An address with a route of each of two lengths, and one whose /32 route has a type of service.
 const SEVERAL_ROUTES: &str = "Local:
   |-- 192.0.2.7
      /32 host LOCAL

@@ -1,4 +1,5 @@
-//! What no clause says of a worker that ends by itself: the others end too, it is told, and no input is waited for.
+//! Tests of what no contract says of a worker that ends by itself: the others end too, its end is reported, and no
+//! input is waited for.
 
 use crate::gates::Ending;
 use crate::serving::ran;
@@ -19,7 +20,7 @@ use std::test::Fail;
 use std::thread::Threads;
 use std::time::Clock;
 
-/// A client and a home server of this machine.
+/// A client and a home server on this machine.
 const ONE_HOME: &str = r#"
 listen = "127.0.0.1:1816"
 [[client]]
@@ -34,7 +35,7 @@ name = "example.org"
 home = "h1"
 "#;
 
-/// Gives no line for a long time, and then fails.
+/// A reader that gives no line for a long time, and then fails.
 #[derive(Drop)]
 struct Silent<'a, R> {
     clock: &'a R,
@@ -52,12 +53,12 @@ impl<R: Clock> Read for Silent<'_, R> {
     }
 }
 
-/// Whether it is told that this worker ended.
+/// Returns whether the result reports that this worker ended.
 fn is_told(ran: Result<EndLine, ServeFault>, worker: Worker) -> bool {
     matches!(ran, Err(ServeFault::Ended(ended)) if ended == worker)
 }
 
-/// Whether it is told that a worker ended, and nothing is printed, where wires on which nothing comes are served.
+/// Serves over wires on which nothing comes, and returns whether the worker's end is reported and nothing is printed.
 fn ends_the_service<R: Clock + Threads + Wait + Sync>(
     rt: &R,
     alloc: Global,
@@ -86,7 +87,8 @@ fn a_worker_that_ends_ends_the_service(rt: HostRuntime) -> Result<(), Fail> {
     Ok(())
 }
 
-/// Whether it is told that a worker ended, and only printed where the program listens, while a reader waits.
+/// Serves while a reader waits, and returns whether the worker's end is reported and only the listening address is
+/// printed.
 fn ends_the_wait<R, A>(
     rt: &R,
     addresses: &A,

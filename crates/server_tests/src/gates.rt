@@ -1,9 +1,9 @@
-//! Gates that let every worker pass, or stop one.
+//! Gates that let every worker go on, or stop one.
 
 use rad_desk::{Call, Gate, Go, Worker};
 use std::sync::atomic::{AtomicBool, Ordering};
 
-/// Lets every worker pass.
+/// Lets every worker go on.
 #[derive(Clone, Copy)]
 pub struct Open;
 
@@ -15,7 +15,7 @@ impl Gate for Open {
     fn after(&self, _worker: Worker, _call: Call) {}
 }
 
-/// Has one worker end by itself.
+/// Makes one worker end by itself.
 #[derive(Clone, Copy)]
 pub struct Ending(pub Worker);
 
@@ -27,7 +27,7 @@ impl Gate for Ending {
     fn after(&self, _worker: Worker, _call: Call) {}
 }
 
-/// Has the first lane's worker end by itself once this is set.
+/// Makes the first lane's worker end by itself once this is set.
 #[derive(Clone, Copy)]
 pub struct EndingLate<'a>(pub &'a AtomicBool);
 

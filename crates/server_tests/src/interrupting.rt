@@ -1,4 +1,4 @@
-//! That a notification interrupts a read.
+//! Tests that a notification interrupts a read.
 
 use crate::comparing::same;
 use rad_server::Interruptible;
@@ -9,7 +9,7 @@ use std::os::fd::AsRawFd;
 use std::os::unix::net::UnixStream;
 use std::test::Fail;
 
-/// A reader whose wait others can end.
+/// Makes a reader whose wait can be interrupted.
 fn interruptible(
     net: &impl Net,
     alloc: Global,
@@ -19,13 +19,13 @@ fn interruptible(
     Interruptible::new(net, alloc, reader, input)
 }
 
-/// Has the reader notified.
+/// Notifies the reader.
 fn notify(reader: &Interruptible<UnixStream>) -> Result<(), Fail> {
     reader.notifier()?.notify();
     Ok(())
 }
 
-/// How many octets are read, or why none.
+/// Returns how many octets are read, or why none are.
 fn read(reader: &mut Interruptible<UnixStream>) -> Result<usize, ErrorKind> {
     match reader.read(&mut [0; 8]) {
         Ok(count) => Ok(count),

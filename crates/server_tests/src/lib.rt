@@ -1,5 +1,5 @@
-//! Tests over the public calls of `rad_server`, apart from it so that no proof of its is made again for a test. It has no
-//! other code.
+//! Tests of the public calls of `rad_server`. They are in a crate of their own, so that a test does not make the proofs
+//! of `rad_server` again. The crate has no other code.
 #![tactic(auto)]
 
 #[cfg(test)]

@@ -1,4 +1,5 @@
-//! That what lingers too long is left over, and that a worker that ends meanwhile is told.
+//! Tests that a request that is unanswered after `linger` is left over, and that a worker that ends meanwhile is
+//! reported.
 
 use crate::comparing::holds;
 use crate::gates::{EndingLate, Open};
@@ -15,7 +16,8 @@ use std::test::Fail;
 use std::time::Clock;
 use test_octets::nas::SEVENTH;
 
-/// Sends a request, asks how the lane stands until the request is accepted, and then ends, which it marks.
+/// A reader that sends a request and gives the command `state` until the request is accepted. Then it ends, and marks
+/// that.
 #[derive(Drop)]
 struct Sending<'a, R> {
     clock: &'a R,
@@ -43,7 +45,7 @@ impl<R: Clock> Read for Sending<'_, R> {
     }
 }
 
-/// Looks whether a line says that a request is accepted.
+/// A writer that looks for a line that says that a request is accepted.
 #[derive(Drop)]
 struct Looking<'a> {
     is_accepted: &'a Cell<bool>,
@@ -65,7 +67,7 @@ impl Write for Looking<'_> {
     }
 }
 
-/// Whether one request is left over.
+/// Returns whether one request is left over.
 fn is_one_left(ran: Result<EndLine, ServeFault>) -> bool {
     match ran {
         Ok(end) => end.queued.saturating_add(end.outstanding) == 1 && !end.is_clean(),
@@ -104,7 +106,7 @@ fn what_lingers_is_left_over(rt: HostRuntime) -> Result<(), Fail> {
     Ok(())
 }
 
-/// The same configuration, but that it waits for a minute at the end.
+/// The same configuration, with a `linger` of a minute.
 const LONG_LINGER: &str = r#"
 listen = "127.0.0.1:1815"
 linger = 60000

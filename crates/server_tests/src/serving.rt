@@ -1,4 +1,4 @@
-//! What no clause says of `run`: what it prints, and that a failed read ends it.
+//! Tests of what no contract says of `run`: what it prints, and that a failed read ends it.
 
 use crate::comparing::holds;
 use crate::gates::Open;
@@ -25,7 +25,7 @@ const CONFIGURATION: &str =
      [[realm]]\nname = \"b.example.org\"\nhome = \"h2\"\n\
      [[realm]]\nname = \"c.example.org\"\nhome = \"h1\"\n";
 
-/// A client and a home server of this machine, and no time to wait at the end.
+/// A client and a home server on this machine, and a `linger` of 0.
 pub const NO_LINGER: &str = r#"
 listen = "127.0.0.1:1815"
 linger = 0
@@ -41,7 +41,7 @@ name = "example.org"
 home = "h1"
 "#;
 
-/// How it ends where the configuration of a text is served over UDP.
+/// Serves the configuration of a text over UDP, and returns how that ends.
 pub fn ran<R, A, G, I, O>(
     rt: &R,
     addresses: &A,
@@ -72,7 +72,8 @@ where
     ))
 }
 
-/// The same where all workers go on, and nobody waits for the reader. What is printed is added to a text.
+/// Does the same with a gate that lets all workers go on and without descriptors, so that the reader never waits. What
+/// is printed is added to `taken`.
 fn ran_open<R, A>(
     rt: &R,
     addresses: &A,

@@ -1,8 +1,8 @@
-//! Readers and writers that give and take as much as a test wants, and then fail.
+//! Readers and writers that give and accept as much as a test wants, and then fail.
 
 use std::io::{Error, ErrorKind, Read, Result, Write};
 
-/// Gives a text a few octets at a time, and then fails where it is to.
+/// Gives a text a few octets at a time, and then fails if `fails` is set.
 #[derive(Drop)]
 pub struct Slow<'a> {
     pub rest: &'a [u8],
@@ -10,7 +10,7 @@ pub struct Slow<'a> {
     pub fails: bool,
 }
 
-/// Takes octets as long as there is room, and then fails.
+/// Accepts octets while there is room, and then fails.
 #[derive(Drop)]
 pub struct Narrow<'a> {
     pub taken: &'a mut Vec<u8>,

@@ -1,4 +1,4 @@
-//! That the lanes have threads of their own.
+//! Tests that each lane has a thread of its own.
 
 use crate::comparing::{holds, same};
 use crate::streams::Narrow;
@@ -14,7 +14,7 @@ use std::time::Clock;
 use test_octets::homes::{NAME_ONLY_REPLY, SEVENTH_REPLY};
 use test_octets::nas::{NAME_ONLY_REQUEST, SEVENTH};
 
-/// Asks how the lanes stand until enough datagrams went out, and then ends.
+/// A reader that gives the command `state` until enough datagrams were sent, and then ends.
 #[derive(Drop)]
 struct Asking<'a, R> {
     clock: &'a R,
@@ -40,7 +40,7 @@ impl<R: Clock> Read for Asking<'_, R> {
     }
 }
 
-/// Holds each lane before it hears until the other lane came there too, and the front to a take after that.
+/// A gate that holds each lane, before it hears, until the other lane is there too and the front takes after that.
 #[derive(Drop)]
 struct Crossing<'a, R> {
     clock: &'a R,
@@ -88,7 +88,7 @@ const CLIENT: Endpoint = Endpoint {
     port: 40000,
 };
 
-/// The home server of a lane.
+/// Returns the home server of a lane.
 fn home(lane: u16) -> Endpoint {
     Endpoint {
         address: [127, 0, 0, 1],
@@ -96,7 +96,7 @@ fn home(lane: u16) -> Endpoint {
     }
 }
 
-/// A wire in memory that gives these once it sent as many as it waits for.
+/// Makes a wire in memory that gives these datagrams once it has sent `waits_for` datagrams.
 fn scripted<'a, R: Clock>(
     clock: &'a R,
     from: Endpoint,
@@ -115,8 +115,8 @@ fn scripted<'a, R: Clock>(
     }
 }
 
-/// A request for each lane comes to the front, and each lane has a reply once it sent its request. How many each sent is
-/// counted.
+/// Makes wires on which the front receives a request for each lane, and each lane receives a reply once it has sent its
+/// request. What each wire sends is counted.
 fn wires_of<'a, R: Clock>(
     alloc: Global,
     clock: &'a R,
@@ -135,7 +135,7 @@ fn wires_of<'a, R: Clock>(
 /// A request for each of two lanes.
 const REQUESTS: [&[u8]; 2] = [&SEVENTH, &NAME_ONLY_REQUEST];
 
-/// The replies to them.
+/// The replies to these requests.
 const REPLIES: [&[u8]; 2] = [&SEVENTH_REPLY, &NAME_ONLY_REPLY];
 
 #[test]

@@ -15,10 +15,10 @@ use std::test::Fail;
 use std::thread::{self, Threads};
 use std::time::{Clock, Duration};
 
-/// The most looks at what another thread does, a millisecond apart.
+/// The most times that a test looks at the work of another thread, a millisecond apart.
 pub const LOOKS: u32 = 10_000;
 
-/// One client and two home servers.
+/// A configuration of one client and two home servers.
 const TWO_HOMES: &str = r#"
 listen = "127.0.0.1:1813"
 [[client]]
@@ -44,13 +44,13 @@ pub fn pause(clock: &impl Clock) {
     thread::sleep(clock, Duration::from_millis(1));
 }
 
-/// A wire in memory: it gives datagrams in order, once it sent as many as it waits for.
+/// A wire in memory: it gives datagrams in order, once it has sent `waits_for` datagrams.
 #[derive(Drop)]
 pub struct Scripted<'a, R> {
     pub clock: &'a R,
     pub from: Endpoint,
     pub gives: &'a [&'a [u8]],
-    /// The place of the one that it gives next.
+    /// The index of the datagram that it gives next.
     pub next: usize,
     pub waits_for: u64,
     pub sent: &'a AtomicU64,
@@ -102,7 +102,7 @@ impl<R: Clock> Wire for Scripted<'_, R> {
     }
 }
 
-/// A wire in memory on which nothing comes.
+/// Makes a wire in memory on which nothing comes.
 fn quiet<'a, R: Clock>(clock: &'a R, sent: &'a AtomicU64) -> Scripted<'a, R> {
     Scripted {
         clock,
@@ -118,7 +118,7 @@ fn quiet<'a, R: Clock>(clock: &'a R, sent: &'a AtomicU64) -> Scripted<'a, R> {
     }
 }
 
-/// Such wires for the clients and for two home servers.
+/// Makes such wires for the clients and for two home servers.
 pub fn quiet_wires<'a, R: Clock>(
     alloc: Global,
     clock: &'a R,
@@ -134,7 +134,7 @@ pub fn quiet_wires<'a, R: Clock>(
     })
 }
 
-/// How it ends where one client and two home servers are served over these wires.
+/// Serves one client and two home servers over these wires, and returns how that ends.
 pub fn served<R, W, G, I, O>(
     rt: &R,
     alloc: Global,
