@@ -17,7 +17,7 @@ pub enum FileFault {
     /// At the path is a directory, a link, a pipe, a device or something else that is not a regular file. It is left
     /// alone.
     NotRegular,
-    /// The system refused the new file or its renaming, or memory for its name was refused.
+    /// The system refused a step of the replacement, or memory was refused.
     NotWritten,
     /// The file system takes longer for a text than the time until the next one.
     Late,

@@ -95,7 +95,7 @@ impl Counters {
         &self.realm
     }
 
-    /// Counts a datagram that a worker sends, if it has the Code of one to a home server.
+    /// Counts a datagram that a worker sends, if its Code is that of a datagram to a home server.
     pub fn count_sent(&self, worker: Worker, to: Endpoint, octets: &[u8]) {
         if let Some(kind) = octets.first().and_then(|code| EventKind::of_code(*code)) {
             self.add(worker, kind, 1, to);

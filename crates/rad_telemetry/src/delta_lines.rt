@@ -27,7 +27,7 @@ pub struct HomeDelta<'a> {
     pub count: u64,
 }
 
-/// The number of sends of a worker that failed, or of its receives.
+/// The number of a worker's sends that failed, or of its receives.
 #[derive(Clone, Copy)]
 pub struct FaultDelta<'a> {
     pub kind: EventKind,
@@ -60,7 +60,7 @@ pub struct MarkedDelta<'a> {
 struct MarkedCounts(u64, u64);
 
 impl ClientDelta {
-    /// Makes the sum of what was counted of a kind, the last one from the client of the delta.
+    /// Makes the sum of a kind from what was counted of it. The endpoint that the last one was about is the client.
     pub fn new(kind: EventKind, delta: Delta) -> ClientDelta
         ensures kind { result.kind ≡ kind }
         ensures count { result.count ≡ delta.count }

@@ -1,4 +1,4 @@
-//! Log lines on standard error. One thread writes them, and no other thread waits for it.
+//! Log lines on standard error. One thread writes them, and no other thread waits for standard error.
 
 use crate::levels::read_level;
 use crate::line_queue::LineQueue;

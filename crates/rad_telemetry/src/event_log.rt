@@ -1,5 +1,5 @@
-//! The log lines of what the workers note, receive and send. Each line has an event and its keys, as in `event=down
-//! home=h1`.
+//! The log lines of what the workers note, receive and send. Each line has an event and its keys, as in
+//! `event=down home=h1`.
 
 use crate::delta_lines::CutDelta;
 use crate::last_datagram::LastDatagram;

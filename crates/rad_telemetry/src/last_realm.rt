@@ -14,8 +14,7 @@ const GREATEST_REALM_LENGTH: usize = 253;
 const TRIES: u32 = 2000;
 
 /// The realm of the last packet that was dropped since its realm leads to no lane. The front keeps it, and takes no
-/// memory for it. While another thread logs it, the front does not wait, and keeps the realm of that packet not at
-/// all.
+/// memory for it. While another thread logs it, the front does not wait, and does not keep the realm of its packet.
 #[derive(Drop)]
 pub struct LastRealm {
     realm: Mutex<Realm>,
@@ -31,7 +30,7 @@ struct Realm {
 }
 
 impl LastRealm {
-    /// Makes the realm of no packet yet.
+    /// Makes a value that keeps no realm yet.
     pub fn new() -> LastRealm {
         LastRealm {
             realm: Mutex::new(Realm {

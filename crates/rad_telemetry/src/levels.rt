@@ -10,7 +10,7 @@ use std::str;
 /// The environment variable that names the level.
 const LEVEL: &str = "RAD_PROXY_LOG";
 
-/// How many octets of its value are read: more than any level has.
+/// How many octets of its value are read: more than the name of any level has.
 const ROOM: usize = 16;
 
 /// Returns the level that a word names: `off`, `error`, `warn`, `info`, `debug` or `trace`, in letters of either

@@ -18,8 +18,8 @@ const ROOM: usize = 65_536;
 /// The most octets of a line, with its line end.
 const LONGEST: usize = 4096;
 
-/// How many times a thread tries to lock the buffer for a line. Each holder keeps the lock for as long as a line is
-/// copied.
+/// How many times a thread tries to lock the buffer for a line. Each holder keeps the lock about as long as copying a
+/// line takes.
 const TRIES: u32 = 2000;
 
 /// Lines that wait, in the order in which they came. Until there is a thread that writes them, the thread that logs a
@@ -76,7 +76,7 @@ impl<O: LineOutput + Drop> LineQueue<O> {
         }
     }
 
-    /// Adds the text of a line, or counts it as dropped if it is not whole.
+    /// Adds the text of a line, or counts it as dropped if it is not whole or others hold the buffer for too long.
     fn put_text(&self, text: &[u8], is_whole: bool) {
         match self.hold() {
             Some(mut room) if is_whole => room.put(text),

@@ -24,7 +24,7 @@ use std::time::Clock;
 const PERIOD: u64 = 1000;
 
 /// How long before a report the workers are asked for the standings of their lanes, in milliseconds. The reporter
-/// waits this long for them at most. Each worker looks for that at least every 20 milliseconds.
+/// waits this long for them at most. Each worker checks at least every 20 milliseconds whether it is asked.
 const ASKED: u64 = 40;
 
 /// What is reported, and where it goes.

@@ -31,7 +31,8 @@ pub struct Telemetry<'a, L, R> {
 }
 
 impl<'a, L: Log, R: Clock> Telemetry<'a, L, R> {
-    /// Makes a gate that has counted nothing yet, and that writes its lines to `log`. The program's start is now.
+    /// Makes a gate that has counted nothing yet, and that writes its lines to `log`. The program counts as started
+    /// now.
     ///
     /// # Errors
     ///

@@ -8,7 +8,7 @@ use crate::peer_text::ClientText;
 use rad_desk::{Spent, UpReason};
 use std::fmt;
 
-/// A home server is marked down, since this request is unanswered.
+/// The log line of a home server that is marked down, since this request is unanswered.
 #[derive(Clone, Copy)]
 pub struct DownLine<'a> {
     /// The home server's name.
@@ -16,7 +16,7 @@ pub struct DownLine<'a> {
     pub spent: &'a Spent,
 }
 
-/// A home server is marked up, for this reason.
+/// The log line of a home server that is marked up, for this reason.
 #[derive(Clone, Copy)]
 pub struct UpLine<'a> {
     /// The home server's name.

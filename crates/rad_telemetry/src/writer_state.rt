@@ -18,7 +18,7 @@ pub struct WriterState {
 }
 
 impl WriterState {
-    /// Makes the state of no thread, with nothing to write.
+    /// Makes a state without a thread, and with nothing to write.
     pub fn new() -> WriterState {
         WriterState {
             started: AtomicU64::new(0),
