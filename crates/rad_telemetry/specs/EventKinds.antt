@@ -1,4 +1,4 @@
--- Which notes are counted, as what, and how each kind is logged and written (own).
+-- Which notes are counted, as which kind, and how each kind is logged and written (own).
 use Rattle.std.specs.Prelude.{ℕ, ◌==◌, List, codes, Option, Some, None, if◌then◌else◌}
 use Rattle.rad_realms.specs.declared.checking.Dropped.TheVariants as dropped
 use Rattle.rad_realms.specs.Printed.{dropped_text}
@@ -14,7 +14,8 @@ use Rattle.rad_telemetry.specs.declared.metric.Metric.TheVariants as metric
 use Rattle.rad_lane.specs.Printed.{refusal_text}
 use Rattle.rad_desk.specs.Printed.{desk_fault_text}
 
--- The kind of a note; that a response was taken is not counted. What is no packet is of one kind, whatever is wrong with it.
+-- The kind of a note. The note that a response was taken is not counted. All datagrams of one side that are not
+-- packets are of one kind, whatever is wrong with them.
 abbrev pub kind_of : Note → Option EventKind
 kind_of (note.Dropped (dropped.Unread reason)) = Some kind.Unread
 kind_of (note.Dropped reason) = Some (kind.Dropped reason)
@@ -29,11 +30,12 @@ kind_of (note.Cut count) = Some kind.Cut
 kind_of note.ReceiveFault = Some kind.ReceiveFault
 kind_of note.SendFault = Some kind.SendFault
 
--- The kind of what a home server is sent: an Accounting-Request or a Status-Server.
+-- The kind of a datagram to a home server by its Code: an Accounting-Request or a Status-Server.
 abbrev pub code_kind : ℕ → Option EventKind
 code_kind code = if code == 4 then Some kind.Sent else (if code == 12 then Some kind.Probed else None)
 
--- The place of a kind among all: what is counted most stands first, and the kinds of a metric in the order of their reasons.
+-- The place of a kind among all. `Sent`, which is counted most often, is the first. The kinds of one metric are in
+-- the order of their reasons.
 abbrev pub kind_place : EventKind → ℕ
 kind_place kind.Sent = 0
 kind_place kind.Probed = 1
@@ -68,7 +70,7 @@ kind_place kind.WentUp = 27
 kind_place kind.Cut = 28
 kind_place kind.Marked = 29
 
--- The metric of a kind.
+-- The metric in which a kind is counted.
 abbrev pub metric_of : EventKind → Metric
 metric_of kind.Sent = metric.Sent
 metric_of kind.Probed = metric.Probed
@@ -85,7 +87,7 @@ metric_of kind.WentUp = metric.WentUp
 metric_of kind.Cut = metric.Cut
 metric_of kind.Marked = metric.Marked
 
--- The reason by which a kind differs from the others of its metric.
+-- The reason that distinguishes a kind from the others of its metric, or no octets.
 abbrev pub reason_text : EventKind → List ℕ
 reason_text kind.Unread = codes "Unread"
 reason_text (kind.Dropped reason) = dropped_text reason
@@ -109,7 +111,7 @@ event_of metric.Probed = codes "probed"
 event_of metric.Cut = codes "cut"
 event_of metric.Marked = codes "marked"
 
--- The name of a counter, behind `rad_proxy_`.
+-- The name of a counter after `rad_proxy_`.
 abbrev pub metric_name : Metric → List ℕ
 metric_name metric.Dropped = codes "dropped_total"
 metric_name metric.Refused = codes "refused_total"

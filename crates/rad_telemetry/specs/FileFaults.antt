@@ -1,4 +1,4 @@
--- Why the file of the counters is not replaced, in the words of its log line (own).
+-- Why the file of the counters is not replaced, as its log line says (own).
 use Rattle.std.specs.Prelude.{ℕ, List, codes}
 use Rattle.rad_telemetry.specs.declared.counter_file.FileFault.{FileFault}
 use Rattle.rad_telemetry.specs.declared.counter_file.FileFault.TheVariants.{NotRegular, NotWritten, Late, NoText}

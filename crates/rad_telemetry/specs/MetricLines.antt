@@ -22,15 +22,15 @@ labels_text (Reason kind) = reason_label kind
 labels_text (Home lane home) = home_labels lane home.now
 labels_text (HomeReason lane home kind) = home_labels lane home.now ++ codes "," ++ reason_label kind
 
--- A counter.
+-- The line of a counter.
 abbrev pub counter_line : CounterLine → List ℕ
 counter_line line =
     (codes "rad_proxy_" ++ metric_name line.metric ++ codes "{" ++ labels_text line.labels ++ codes "} ") ++ decimal line.count
 
--- What stands before the counters of a metric.
+-- The line that precedes the counters of a metric.
 abbrev pub type_line : Metric → List ℕ
 type_line m = codes "# TYPE rad_proxy_" ++ metric_name m ++ codes " counter"
 
--- What stands before that: what the metric counts.
+-- The line that precedes that one: what the metric counts.
 abbrev pub help_line : Metric → List ℕ
 help_line m = codes "# HELP rad_proxy_" ++ metric_name m ++ codes " " ++ metric_help m

@@ -1,10 +1,10 @@
--- The log line of a home server that went up, without its line feed (own).
+-- The log line of a home server that is marked up, without its line feed (own).
 use Rattle.std.specs.Prelude.{ℕ, List, ◌++◌, codes}
 use Rattle.rad_desk.specs.declared.gate.UpReason.{UpReason}
 use Rattle.rad_desk.specs.declared.gate.UpReason.TheVariants as reason
 use Rattle.rad_telemetry.specs.declared.watch_lines.UpLine.{UpLine}
 
--- By which evidence it went up.
+-- The reason for which it is marked up.
 abbrev pub up_reason : UpReason → List ℕ
 up_reason reason.Answered = codes "answered"
 up_reason reason.ProbeAnswered = codes "probe answered"

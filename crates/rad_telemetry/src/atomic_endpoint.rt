@@ -1,4 +1,4 @@
-//! An endpoint that many threads may read and write.
+//! An endpoint that several threads may read and write.
 
 use rad_realms::Endpoint;
 use std::sync::atomic::{AtomicU64, Ordering};
@@ -10,32 +10,32 @@ pub struct AtomicEndpoint {
 }
 
 impl AtomicEndpoint {
-    /// Address 0.0.0.0 and port 0, which no datagram comes from.
+    /// Makes one with address 0.0.0.0 and port 0, from which no datagram comes.
     pub fn new() -> AtomicEndpoint {
         AtomicEndpoint {
             word: AtomicU64::new(0),
         }
     }
 
-    /// Keeps an endpoint in place of the one before.
+    /// Stores an endpoint in place of the last one.
     pub fn store(&self, endpoint: Endpoint) {
         self.word.store(word_of(endpoint), Ordering::SeqCst);
     }
 
-    /// The endpoint that is kept.
+    /// Returns the endpoint that was stored last.
     pub fn load(&self) -> Endpoint {
         endpoint_of(self.word.load(Ordering::SeqCst))
     }
 }
 
-/// The word of an endpoint: its address, and behind it its port.
+/// Returns the word of an endpoint: its address, followed by its port.
 fn word_of(endpoint: Endpoint) -> u64 {
     let [a, b, c, d] = endpoint.address;
     let [high, low] = endpoint.port.to_be_bytes();
     u64::from_be_bytes([0, 0, a, b, c, d, high, low])
 }
 
-/// The endpoint of a word.
+/// Returns the endpoint of a word.
 fn endpoint_of(word: u64) -> Endpoint {
     let [_, _, a, b, c, d, high, low] = word.to_be_bytes();
     Endpoint {

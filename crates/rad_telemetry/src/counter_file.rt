@@ -8,29 +8,31 @@ use std::fs::{self, Files, OpenOptions};
 use std::io::{ErrorKind, Write};
 use std::random::RandomSource;
 
-/// The variable that names the file for the counters.
+/// The environment variable that names the file of the counters.
 const COUNTERS: &str = "RAD_PROXY_COUNTERS";
 
 /// Why the file of the counters is not replaced.
 #[derive(Clone, Copy, PartialEq, Eq)]
 pub enum FileFault {
-    /// What stands there is a folder, a link, a pipe, a device or else no regular file, and is left alone.
+    /// At the path is a directory, a link, a pipe, a device or something else that is not a regular file. It is left
+    /// alone.
     NotRegular,
-    /// The system refused the new file, or that it takes the other's place.
+    /// The system refused a step of the replacement, or memory was refused.
     NotWritten,
-    /// The file system takes longer than it is from one text to the next.
+    /// The file system takes longer for a text than the time until the next one.
     Late,
-    /// The variable is no text.
+    /// The value of the variable is not UTF-8.
     NoText,
 }
 
 /// Replaces files.
 pub trait ReplaceFile {
-    /// Writes a text to a new file, which then takes the place of the one of this path.
+    /// Writes a text to a new file, which then replaces the file at this path.
     ///
     /// # Errors
     ///
-    /// `NotRegular` where what stands there is no regular file; `NotWritten` where the system refuses something.
+    /// `NotRegular` if something other than a regular file is at the path; `NotWritten` if the system refuses
+    /// something, or memory is refused.
     fn replace(&self, path: &str, text: &[u8]) -> Result<(), FileFault>;
 }
 
@@ -40,7 +42,7 @@ pub struct RuntimeFiles<R> {
     rt: R,
 }
 
-/// The file in which the text of the counters is kept.
+/// The file that holds the text of the counters.
 #[derive(Drop)]
 pub struct CounterFile {
     path: String,
@@ -68,7 +70,7 @@ where
     }
 }
 
-/// Fails where something stands at a path that is no regular file itself. A link is none, wherever it leads.
+/// Fails if something other than a regular file is at a path. A link is not a regular file, wherever it leads.
 fn check_regular<R: Files>(files: &R, path: &str) -> Result<(), FileFault> {
     match fs::symlink_metadata(files, path) {
         Ok(found) if found.is_file() => Ok(()),
@@ -78,7 +80,7 @@ fn check_regular<R: Files>(files: &R, path: &str) -> Result<(), FileFault> {
     }
 }
 
-/// A name beside that of a path, which nobody can know before.
+/// Returns a name in the directory of a path, which nobody can know before.
 fn new_name<R: AllocGlobal + RandomSource>(rt: &R, path: &str) -> Result<String, FileFault> {
     let mut random = [0; 8];
     if rt.fill_bytes(&mut random).is_err() {
@@ -90,7 +92,7 @@ fn new_name<R: AllocGlobal + RandomSource>(rt: &R, path: &str) -> Result<String,
     }
 }
 
-/// A path with a number and `.new` behind it.
+/// Returns a path with a number and `.new` after it.
 fn name_with(alloc: Global, path: &str, number: u64) -> Result<String, AllocError> {
     let mut name = String::from_str(alloc, path)?;
     name.push('.')?;
@@ -102,7 +104,7 @@ fn name_with(alloc: Global, path: &str, number: u64) -> Result<String, AllocErro
     Ok(name)
 }
 
-/// Makes a file of this name, which nothing has yet, and answers whether it has the text then.
+/// Creates a file of this name, which must not exist yet, and returns whether it then has the text.
 fn create<R: Files>(files: &R, name: &str, text: &[u8]) -> Result<bool, FileFault>
 where
     R::File: Drop,
@@ -118,16 +120,16 @@ where
 }
 
 impl CounterFile {
-    /// The file of this path.
+    /// Makes the file of the counters from its path.
     pub fn new(path: String) -> CounterFile {
         CounterFile { path }
     }
 
-    /// Has a text take the place of the file's.
+    /// Replaces the file by one with this text.
     ///
     /// # Errors
     ///
-    /// As [`ReplaceFile::replace`].
+    /// Those of [`ReplaceFile::replace`].
     pub fn replace<F: ReplaceFile>(&self, files: &F, text: &[u8]) -> Result<(), FileFault> {
         files.replace(self.path.as_str(), text)
     }
@@ -149,12 +151,12 @@ impl Display for FileFault {
     }
 }
 
-/// The file that `RAD_PROXY_COUNTERS` names in the environment, if any. Where that is no text, `event=counters-fault` is logged
-/// and there is none.
+/// Returns the file that `RAD_PROXY_COUNTERS` names in the environment, if any. If the value is not UTF-8, it logs
+/// `event=counters-fault` and returns none.
 ///
 /// # Errors
 ///
-/// Where memory is refused.
+/// `AllocError` if memory is refused.
 pub fn find_counter_file<R, L>(rt: &R, log: &L) -> Result<Option<CounterFile>, AllocError>
 where
     R: Env + AllocGlobal,
@@ -171,7 +173,7 @@ where
     }
 }
 
-/// Logs that the counters can't be written, and why.
+/// Logs that the counters are not written, and why.
 pub fn log_fault<L: Log>(log: &L, fault: FileFault) {
     warn!(log; "event=counters-fault reason=\"{fault}\"");
 }

@@ -1,4 +1,4 @@
-//! The text of the counters on its way from the thread that makes it to the one that writes it to their file.
+//! The text of the counters on its way from the thread that makes it to the thread that writes it to the file.
 
 use crate::counter_file::{CounterFile, FileFault, ReplaceFile};
 use crate::writer_state::WriterState;
@@ -8,26 +8,26 @@ use std::sync::{Arc, Mutex, Wait};
 use std::thread::{self, Threads};
 use std::time::{Clock, Duration, Instant};
 
-/// Texts for a file, which a thread of its own replaces, so that nobody else waits for a file system. Where the thread can't
-/// keep up it writes the newest text alone.
+/// Texts for a file that a thread of its own replaces, so that no other thread waits for a file system. If that
+/// thread can't keep up, it writes only the newest text.
 #[derive(Drop)]
 pub struct CounterTexts {
     next: Mutex<NextText>,
     state: WriterState,
 }
 
-/// What is to be written, and what came of what was written last.
+/// The text to be written next, and the result of the last one.
 #[derive(Drop)]
 struct NextText {
     text: Vec<u8>,
     is_new: bool,
     fault: Option<FileFault>,
-    /// Whether that fault was told.
+    /// Whether that fault was returned.
     is_told: bool,
 }
 
 impl CounterTexts {
-    /// There is no text yet.
+    /// Makes a value that has no text yet.
     pub fn new(alloc: Global) -> CounterTexts {
         CounterTexts {
             next: Mutex::new(NextText {
@@ -40,19 +40,19 @@ impl CounterTexts {
         }
     }
 
-    /// Leaves a text to the thread, in place of one that it has not taken, which then is a fault. It takes the memory of an
-    /// earlier text in its place.
+    /// Leaves a text to the thread. If the thread has not taken the last one, this replaces it, which is the fault
+    /// `Late`. `text` gets the memory of an earlier text.
     pub fn leave<R: Wait>(&self, rt: &R, text: &mut Vec<u8>) {
         self.next.lock(rt).set(text);
         self.state.notify();
     }
 
-    /// What speaks against the last text that was written, if anything, where that was not told before.
+    /// Returns why the last text was not written, if it was not and this was not returned before.
     pub fn take_fault<R: Wait>(&self, rt: &R) -> Option<FileFault> {
         self.next.lock(rt).take_fault()
     }
 
-    /// Writes the texts to a file as they come until the last one is written. It is the whole life of the thread.
+    /// Writes the texts to a file as they come, until the last one is written. The thread does nothing else.
     pub fn write_all<R: Wait, F: ReplaceFile>(
         &self,
         rt: &R,
@@ -75,24 +75,25 @@ impl CounterTexts {
         }
     }
 
-    /// Has the thread write the last text and end.
+    /// Makes the thread write the last text and end.
     pub fn end(&self) {
         self.state.end();
     }
 
-    /// Waits until the thread has written the last text, if there is one, until so long after a start at most.
+    /// Waits until the thread, if there is one, has written the last text, at most until `longest` after `start`.
     pub fn wait<R: Clock + Wait>(&self, rt: &R, start: Instant, longest: Duration) {
         self.state.wait(rt, start, longest);
     }
 
-    /// Takes the next text, and answers whether there was one.
+    /// Takes the next text, and returns whether there was one.
     fn take<R: Wait>(&self, rt: &R, text: &mut Vec<u8>) -> bool {
         let mut next = self.next.lock(rt);
         next.take(text)
     }
 }
 
-/// Starts a thread that writes the texts to a file, and answers whether it could. Nobody joins it: it ends with the program.
+/// Starts a thread that writes the texts to a file, and returns whether that succeeded. No thread joins it: it ends
+/// with the program.
 pub fn start_texts<R, F>(
     rt: &R,
     alloc: Global,

@@ -1,4 +1,4 @@
-//! How often each kind of event happened to each worker. Counting takes no lock and no memory.
+//! How many times each kind of event happened to each worker. Counting takes no lock and no memory.
 
 ghost use Rattle.std.specs.Prelude.{◌≡◌, ◌-◌};
 
@@ -11,19 +11,19 @@ use rad_realms::Endpoint;
 use std::alloc::{AllocError, Global};
 use std::sync::atomic::{AtomicU64, Ordering};
 
-/// How often one kind of event happened to one worker.
+/// How many times one kind of event happened to one worker.
 #[derive(Drop)]
 struct Counter {
     count: AtomicU64,
-    /// Of these so many were given as a delta.
+    /// How many of these were returned in deltas.
     given: AtomicU64,
-    /// Whom the last one was about.
+    /// The endpoint that the last one was about.
     last: AtomicEndpoint,
-    /// The most Proxy-States of this proxy's form that one had since the delta before, where those are counted.
+    /// The most Proxy-States of this proxy's form that one request had since the last delta, if those are counted.
     most_marks: AtomicU64,
 }
 
-/// What is counted of all workers.
+/// The counters of all workers.
 #[derive(Drop)]
 pub struct Counters {
     /// Those of the front in the order of the kinds, then those of each lane.
@@ -32,23 +32,23 @@ pub struct Counters {
     realm: LastRealm,
 }
 
-/// What was counted of a kind since the delta before.
+/// What was counted of a kind since the last delta.
 #[derive(Clone, Copy, Debug, PartialEq, Eq)]
 pub struct Delta {
-    /// How many there were.
+    /// The number of events.
     pub count: u64,
-    /// Whom the last one was about.
+    /// The endpoint that the last one was about.
     pub last: Endpoint,
-    /// The most Proxy-States of this proxy's form that one had, and 0 where those are not counted.
+    /// The most Proxy-States of this proxy's form that one request had; 0 if those are not counted.
     pub most_marks: u64,
 }
 
 impl Counters {
-    /// Nothing was counted yet of the front and of so many lanes.
+    /// Makes the counters of the front and of `lanes` lanes. Nothing is counted yet.
     ///
     /// # Errors
     ///
-    /// Where memory is refused.
+    /// `AllocError` if memory is refused.
     pub fn new(alloc: Global, lanes: usize) -> Result<Counters, AllocError> {
         let mut counters = Vec::new(alloc);
         for _ in 0..lanes {
@@ -59,13 +59,14 @@ impl Counters {
         Ok(Counters { counters, realm })
     }
 
-    /// The counter of a worker and a kind.
+    /// Returns the counter of a worker and a kind.
     fn counter(&self, worker: Worker, kind: EventKind) -> Option<&Counter> {
         let row = worker_place(worker).checked_mul(EVENT_KINDS.len())?;
         self.counters.get(row.checked_add(kind.place())?)
     }
 
-    /// Counts a worker's note, where its kind is counted, and keeps whom it is about. Of a cut it counts the requests.
+    /// Counts a worker's note, if its kind is counted, and keeps the endpoint that it is about. For a cut it counts
+    /// the requests.
     pub fn count(&self, worker: Worker, note: Note, peer: Endpoint) {
         if let Some(kind) = EventKind::of(note) {
             let times = match note {
@@ -76,7 +77,7 @@ impl Counters {
         }
     }
 
-    /// Counts a request that leads to a lane and has so many Proxy-States of this proxy's form, and keeps who sent it.
+    /// Counts a request that leads to a lane and has `marks` Proxy-States of this proxy's form, and keeps its sender.
     pub(crate) fn count_marked(&self, lane: u16, from: Endpoint, marks: u64) {
         if let Some(counter) = self.counter(Worker::Lane(lane), EventKind::Marked) {
             counter.most_marks.fetch_max(marks, Ordering::SeqCst);
@@ -89,19 +90,19 @@ impl Counters {
         self.realm.keep(packet);
     }
 
-    /// The realm of the last packet that was dropped for its realm.
+    /// Returns the realm of the last packet that was dropped for its realm.
     pub(crate) fn last_realm(&self) -> &LastRealm {
         &self.realm
     }
 
-    /// Counts what a worker sends, where that goes to a home server.
+    /// Counts a datagram that a worker sends, if its Code is that of a datagram to a home server.
     pub fn count_sent(&self, worker: Worker, to: Endpoint, octets: &[u8]) {
         if let Some(kind) = octets.first().and_then(|code| EventKind::of_code(*code)) {
             self.add(worker, kind, 1, to);
         }
     }
 
-    /// Counts so many more of a kind.
+    /// Adds `times` to the count of a kind, and keeps the endpoint that the last one was about.
     fn add(&self, worker: Worker, kind: EventKind, times: u64, peer: Endpoint) {
         if let Some(counter) = self.counter(worker, kind) {
             counter.last.store(peer);
@@ -109,7 +110,7 @@ impl Counters {
         }
     }
 
-    /// How often a kind of event happened to a worker.
+    /// Returns how many times a kind of event happened to a worker.
     pub fn get(&self, worker: Worker, kind: EventKind) -> u64 {
         match self.counter(worker, kind) {
             Some(counter) => counter.count.load(Ordering::SeqCst),
@@ -117,7 +118,7 @@ impl Counters {
         }
     }
 
-    /// What was counted of a kind since this was called last, where there is anything.
+    /// Returns what was counted of a kind since the last call, if anything.
     pub fn take_delta(&self, worker: Worker, kind: EventKind) -> Option<Delta> {
         let counter = self.counter(worker, kind)?;
         let now = counter.count.load(Ordering::SeqCst);
@@ -133,7 +134,7 @@ impl Counters {
     }
 }
 
-/// Adds a worker's counters.
+/// Adds the counters of one more worker.
 fn push_row(counters: &mut Vec<Counter>) -> Result<(), AllocError> {
     for _ in EVENT_KINDS {
         counters.push(Counter {
@@ -146,7 +147,7 @@ fn push_row(counters: &mut Vec<Counter>) -> Result<(), AllocError> {
     Ok(())
 }
 
-/// How much a count rose.
+/// Returns how much a count rose.
 pub fn since(before: u64, now: u64) -> u64
     ensures { result ≡ now - before }
 {

@@ -1,4 +1,4 @@
-//! The log lines of sums: how often a kind of event happened since the line before.
+//! The log lines of sums: how many events of a kind happened since the last such line.
 
 ghost use Rattle.std.specs.Prelude.{◌≡◌};
 
@@ -8,16 +8,17 @@ use crate::peer_text::ClientText;
 use rad_realms::Endpoint;
 use std::fmt;
 
-/// So many datagrams of clients were dropped, or so many requests refused, for one reason.
+/// The number of datagrams at the clients' socket that were dropped, or of requests that were refused, for one
+/// reason.
 #[derive(Clone, Copy)]
 pub struct ClientDelta {
     pub kind: EventKind,
     pub count: u64,
-    /// Whence the last one came.
+    /// Where the last one came from.
     pub client: Endpoint,
 }
 
-/// So many datagrams at a home server's sockets were dropped, for one reason.
+/// The number of datagrams at a home server's sockets that were dropped, for one reason.
 #[derive(Clone, Copy)]
 pub struct HomeDelta<'a> {
     pub kind: EventKind,
@@ -26,7 +27,7 @@ pub struct HomeDelta<'a> {
     pub count: u64,
 }
 
-/// So many sends of a worker failed, or so many receives.
+/// The number of a worker's sends that failed, or of its receives.
 #[derive(Clone, Copy)]
 pub struct FaultDelta<'a> {
     pub kind: EventKind,
@@ -34,7 +35,7 @@ pub struct FaultDelta<'a> {
     pub count: u64,
 }
 
-/// So many requests left the book of a lane.
+/// The number of requests that were removed from the book of a lane.
 #[derive(Clone, Copy)]
 pub struct CutDelta<'a> {
     /// The home server's name.
@@ -42,24 +43,24 @@ pub struct CutDelta<'a> {
     pub count: u64,
 }
 
-/// So many requests that lead to a lane had Proxy-States as this proxy adds them.
+/// The number of requests that lead to a lane and had Proxy-States of this proxy's own form.
 #[derive(Clone, Copy)]
 pub struct MarkedDelta<'a> {
     /// The home server's name.
     pub home: &'a str,
     pub count: u64,
-    /// How many the request with the most of them had.
+    /// The most such Proxy-States that one request had.
     pub most: u64,
-    /// Whence the last one came.
+    /// Where the last one came from.
     pub client: Endpoint,
 }
 
-/// How many requests had such Proxy-States, and how many the one with the most of them had.
+/// How many requests had such Proxy-States, and the most that one request had.
 #[derive(Clone, Copy)]
 struct MarkedCounts(u64, u64);
 
 impl ClientDelta {
-    /// What was counted of a kind, the last one of this client.
+    /// Makes the sum of a kind from what was counted of it. The endpoint that the last one was about is the client.
     pub fn new(kind: EventKind, delta: Delta) -> ClientDelta
         ensures kind { result.kind ≡ kind }
         ensures count { result.count ≡ delta.count }

@@ -1,4 +1,4 @@
-//! Log lines on standard error, which one thread writes: nobody else waits for it.
+//! Log lines on standard error. One thread writes them, and no other thread waits for standard error.
 
 use crate::levels::read_level;
 use crate::line_queue::LineQueue;
@@ -13,21 +13,21 @@ use std::sync::{Arc, Wait};
 use std::thread::{self, Threads};
 use std::time::{Clock, Duration, Instant};
 
-/// Writes records to standard error, a line each. Once [`ErrorLines::start`] has started a thread for it, whoever logs only
-/// leaves the line in a room of fixed size; before that each line is written where it is logged, if standard error takes it at
-/// once. A line that finds no room, or that standard error does not take, is dropped; how many were is told before the next
-/// one.
+/// Writes records to standard error, one line each. Once [`ErrorLines::start`] has started a thread for that, a
+/// thread that logs only puts the line into a buffer of fixed size. Before that, the thread that logs writes the line
+/// itself, if standard error accepts it at once. A line that finds no room, or that standard error does not accept,
+/// is dropped. The number of dropped lines is written before the next line.
 #[derive(Drop)]
 pub struct ErrorLines {
     queue: Arc<LineQueue<StandardError>>,
 }
 
 impl ErrorLines {
-    /// Writes nothing yet.
+    /// Makes a log that has nothing to write yet.
     ///
     /// # Errors
     ///
-    /// Where memory is refused.
+    /// `AllocError` if memory is refused.
     pub fn new(alloc: Global) -> Result<ErrorLines, AllocError> {
         let queue = LineQueue::new(alloc, StandardError)?;
         Ok(ErrorLines {
@@ -35,7 +35,8 @@ impl ErrorLines {
         })
     }
 
-    /// Starts the thread that writes the lines, and answers whether it could. Nobody joins it: it ends with the program.
+    /// Starts the thread that writes the lines, and returns whether that succeeded. No thread joins it: it ends with
+    /// the program.
     pub fn start<R: Threads + Wait + Copy + Send + 'static>(&self, rt: &R) -> bool {
         let Ok(queue) = Arc::try_clone(&self.queue) else {
             return false;
@@ -48,7 +49,7 @@ impl ErrorLines {
         is_started
     }
 
-    /// Has the thread write what is left, and waits for it until so long after a start at most.
+    /// Makes the thread write what is left, and waits for it at most until `longest` after `start`.
     pub fn end<R: Clock + Wait>(&self, rt: &R, start: Instant, longest: Duration) {
         self.queue.end(rt, start, longest);
     }
@@ -80,7 +81,7 @@ impl Log for ErrorLines {
     }
 }
 
-/// A log line: a level, and what happened.
+/// A log line: its level and its text.
 struct LevelLine<'a, D> {
     level: Level,
     text: &'a D,
@@ -100,12 +101,12 @@ impl<D: Display> Display for LevelLine<'_, D> {
     }
 }
 
-/// The log on standard error, up to the level that `RAD_PROXY_LOG` names in the environment: `info` where it names none. That it
-/// is no level is logged.
+/// Opens the log on standard error, up to the level that `RAD_PROXY_LOG` names in the environment, or `info` if it
+/// names none. If its value is not a level, that is logged.
 ///
 /// # Errors
 ///
-/// Where memory is refused.
+/// `AllocError` if memory is refused.
 pub fn open_log<E: Env>(env: &E, alloc: Global) -> Result<Logged<(), ErrorLines>, AllocError> {
     let level = read_level(env);
     let lines = ErrorLines::new(alloc)?;
@@ -116,7 +117,7 @@ pub fn open_log<E: Env>(env: &E, alloc: Global) -> Result<Logged<(), ErrorLines>
     Ok(log)
 }
 
-/// The name of a level in lower case.
+/// Returns the name of a level in lower case.
 fn level_name(level: Level) -> &'static str {
     match level {
         Level::Error => "error",

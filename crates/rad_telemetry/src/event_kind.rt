@@ -1,4 +1,4 @@
-//! The kinds of what the workers note, as far as they are counted and summed up.
+//! The kinds of events that are counted and summed up.
 
 ghost use Rattle.std.specs.Prelude.{◌≡◌};
 ghost use Rattle.rad_telemetry.specs.EventKinds.{kind_of, code_kind, kind_place, metric_of};
@@ -9,40 +9,41 @@ use rad_lane::{HearFault, Refusal};
 use rad_realms::Dropped;
 use std::fmt;
 
-/// A kind of note that is counted.
+/// A kind of event that is counted.
 #[derive(Clone, Copy, Debug, PartialEq, Eq)]
 pub enum EventKind {
-    /// An Accounting-Request went to the home server, for the first time or again.
+    /// An Accounting-Request was sent to the home server, for the first time or again.
     Sent,
-    /// A Status-Server went to the home server.
+    /// A Status-Server was sent to the home server.
     Probed,
-    /// A client's datagram was dropped, which is no packet.
+    /// A datagram at the clients' socket was dropped, since it is not a packet.
     Unread,
-    /// A client's datagram was dropped for this other reason.
+    /// A datagram at the clients' socket was dropped for this reason. `Unread` is a kind of its own.
     Dropped(Dropped),
     /// A request was refused for this reason.
     Refused(Refusal),
-    /// A datagram at a home server's sockets was dropped, since it came from elsewhere.
+    /// A datagram at a home server's sockets was dropped, since it came from another address or port.
     NotHome,
-    /// A home server's datagram was dropped, which is no packet.
+    /// A home server's datagram was dropped, since it is not a packet.
     ReplyUnread,
-    /// A home server's datagram was dropped for this other reason.
+    /// A home server's datagram was dropped for this reason. `ReplyUnread` is a kind of its own.
     Unheard(DeskFault),
     SendFault,
     ReceiveFault,
     WentDown,
     WentUp,
-    /// Requests left the book of a lane.
+    /// Requests were removed from the book of a lane.
     Cut,
-    /// A request that leads to a lane has Proxy-States as this proxy adds them.
+    /// A request that leads to a lane has Proxy-States of this proxy's own form.
     Marked,
 }
 
-/// The reason of a kind, by which it differs from the others of its metric.
+/// The reason that distinguishes a kind from the others of its metric.
 #[derive(Clone, Copy)]
 pub struct ReasonText(pub EventKind);
 
-/// Each kind, in its place: what is counted most stands first, and the kinds of a metric in the order of their reasons.
+/// All kinds, in the order of their places. `Sent`, which is counted most often, is the first. The kinds of one
+/// metric are in the order of their reasons.
 pub const EVENT_KINDS: [EventKind; 30] = [
     EventKind::Sent,
     EventKind::Probed,
@@ -76,14 +77,14 @@ pub const EVENT_KINDS: [EventKind; 30] = [
     EventKind::Marked,
 ];
 
-/// The place of a client's datagram that is no packet.
+/// The place of a datagram at the clients' socket that is not a packet.
 const UNREAD: usize = 3;
 
-/// The place of a home server's datagram that is no packet.
+/// The place of a home server's datagram that is not a packet.
 const REPLY_UNREAD: usize = 17;
 
 impl EventKind {
-    /// The kind of a note. That a response was taken is of none.
+    /// Returns the kind of a note. The note that a response was taken has none.
     pub fn of(note: Note) -> Option<EventKind>
         ensures { result ≡ kind_of note }
     {
@@ -103,7 +104,7 @@ impl EventKind {
         }
     }
 
-    /// The kind of what a home server is sent, by its Code.
+    /// Returns the kind of a datagram to a home server, by its Code.
     pub fn of_code(code: u8) -> Option<EventKind>
         ensures { result ≡ code_kind code }
     {
@@ -114,7 +115,7 @@ impl EventKind {
         }
     }
 
-    /// The place of the kind in [`EVENT_KINDS`].
+    /// Returns the place of the kind in [`EVENT_KINDS`].
     pub fn place(self) -> usize
         ensures { result ≡ kind_place self }
     {
@@ -136,7 +137,7 @@ impl EventKind {
         }
     }
 
-    /// The metric that the kind is counted in.
+    /// Returns the metric in which the kind is counted.
     pub fn metric(self) -> Metric
         ensures { result ≡ metric_of self }
     {
@@ -181,7 +182,7 @@ impl fmt::Display for ReasonText {
     }
 }
 
-/// The place of what is dropped for a reason.
+/// Returns the place of a datagram that is dropped for a reason.
 fn dropped_place(reason: Dropped) -> usize
     ensures { result ≡ kind_place (EventKind.Dropped reason) }
 {
@@ -196,7 +197,7 @@ fn dropped_place(reason: Dropped) -> usize
     }
 }
 
-/// The place of what is refused for a reason.
+/// Returns the place of a request that is refused for a reason.
 fn refused_place(reason: Refusal) -> usize
     ensures { result ≡ kind_place (EventKind.Refused reason) }
 {
@@ -210,7 +211,7 @@ fn refused_place(reason: Refusal) -> usize
     }
 }
 
-/// The place of what is not heard for a reason.
+/// Returns the place of a home server's datagram that is unheard for a reason.
 fn unheard_place(reason: DeskFault) -> usize
     ensures { result ≡ kind_place (EventKind.Unheard reason) }
 {

@@ -1,4 +1,4 @@
-//! What the workers note and what passes over their wires, as log lines: an event and what belongs to it, as
+//! The log lines of what the workers note, receive and send. Each line has an event and its keys, as in
 //! `event=down home=h1`.
 
 use crate::delta_lines::CutDelta;
@@ -15,22 +15,24 @@ use std::alloc::{AllocError, Global};
 use std::io::Error;
 use std::net::Ipv4Addr;
 
-/// Logs what the workers of a configuration note, and what passes over their wires: at once what happens seldom, and each
-/// drop, refusal, fault and cut where the level is `debug`, each packet where it is `trace`.
+/// Logs at once what the workers of a configuration note, receive and send: rare events at `error`, `warn` or `info`;
+/// each drop, refusal, fault and cut at `debug`; each datagram, accepted request, answer and returned response at
+/// `trace`.
 #[derive(Drop)]
 pub struct EventLog<'a, L> {
     log: &'a L,
     config: &'a Config,
-    /// What the workers received last, where the level is `debug` or lower: what they note of a datagram follows at once.
+    /// The last datagram of each worker, at the levels `debug` and `trace`. A note about a datagram directly follows
+    /// the report of its receipt.
     last: LastDatagram,
 }
 
 impl<'a, L: Log> EventLog<'a, L> {
-    /// Writes its lines to a log.
+    /// Makes an event log that writes its lines to `log`.
     ///
     /// # Errors
     ///
-    /// Where memory is refused.
+    /// `AllocError` if memory is refused.
     pub fn new(
         alloc: Global,
         config: &'a Config,
@@ -44,18 +46,18 @@ impl<'a, L: Log> EventLog<'a, L> {
         Ok(EventLog { log, config, last })
     }
 
-    /// The name of a worker.
+    /// Returns the name of a worker.
     fn name(&self, worker: Worker) -> &str {
         worker_name(self.config, worker)
     }
 
-    /// A worker ended, which it was not told to.
+    /// Logs that a worker ended by itself.
     pub fn ended(&self, worker: Worker) {
         let name = self.name(worker);
         error!(self.log; "event=stopped worker={name} reason=\"ended by itself\"");
     }
 
-    /// A worker's note, of which the peer is the one that it is about. Going down and up have calls of their own.
+    /// Logs a worker's note about `peer`. It does not log `WentDown` and `WentUp`, which have calls of their own.
     pub fn note(&self, worker: Worker, note: Note, peer: Endpoint) {
         match note {
             Note::WentDown | Note::WentUp => {}
@@ -70,55 +72,55 @@ impl<'a, L: Log> EventLog<'a, L> {
         }
     }
 
-    /// A worker received a datagram.
+    /// Logs a datagram that a worker received, and keeps it for the notes that follow.
     pub fn received(&self, worker: Worker, from: Endpoint, octets: &[u8]) {
         self.last.keep(worker, octets);
         self.passed("came", worker, from, octets);
     }
 
-    /// A worker is about to send a datagram.
+    /// Logs a datagram that a worker is about to send.
     pub fn sends(&self, worker: Worker, to: Endpoint, octets: &[u8]) {
         self.passed("went", worker, to, octets);
     }
 
-    /// A lane took the request that the front received last.
+    /// Logs that a lane accepted the request that the front received last.
     pub fn accepted(&self, lane: u16, number: u64) {
         let home = self.name(Worker::Lane(lane));
         let packet = self.last.words(Worker::Front);
         trace!(self.log; "event=accepted home={home} number={number}{packet}");
     }
 
-    /// A request of a lane was answered.
+    /// Logs that a request of a lane was answered.
     pub fn answered(&self, lane: u16, serial: u64) {
         let home = self.name(Worker::Lane(lane));
         trace!(self.log; "event=answered home={home} serial={serial}");
     }
 
-    /// A lane's home server went down, by this request.
+    /// Logs that a lane's home server is marked down, since this request is unanswered.
     pub fn went_down(&self, lane: u16, spent: &Spent) {
         let home = self.name(Worker::Lane(lane));
         let line = DownLine { home, spent };
         warn!(self.log; "{line}");
     }
 
-    /// A lane's home server went up, for this reason.
+    /// Logs that a lane's home server is marked up, for this reason.
     pub fn went_up(&self, lane: u16, reason: UpReason) {
         let home = self.name(Worker::Lane(lane));
         let line = UpLine { home, reason };
         info!(self.log; "{line}");
     }
 
-    /// No socket can be had at this address and port.
+    /// Logs that there can be no socket at this address and port, with the system's error.
     pub fn unbound(&self, at: Endpoint, error: &Error) {
         error!(self.log; "event=unbound socket={at} reason=\"{error}\"");
     }
 
-    /// The addresses of this machine can't be read.
+    /// Logs that the addresses of this machine can't be read.
     pub fn addresses_unread(&self, error: &Error) {
         warn!(self.log; "event=addresses-unread reason=\"{error}\"");
     }
 
-    /// No socket is bound to this address of this machine alone.
+    /// Logs that no socket is bound to this address of this machine alone.
     pub fn address_unbound(&self, address: [u8; 4]) {
         let address = Ipv4Addr::from(address);
         warn!(self.log; "event=address-unbound address={address}");

@@ -1,4 +1,4 @@
-//! What each worker received last, for the lines that tell of a datagram where a note has not the datagram itself.
+//! The datagram that each worker received last, for log lines about a datagram that its note does not contain.
 
 ghost use Rattle.std.specs.Prelude.{◌≡◌, ◌+◌, [], IfOk, length};
 
@@ -10,21 +10,21 @@ use std::alloc::{AllocError, Global};
 use std::fmt;
 use std::sync::Mutex;
 
-/// The datagram that each worker received last: the front's, then those of the lanes in order. It is each worker's own, so
-/// no lock is ever waited for.
+/// The datagram that each worker received last: the front's, then those of the lanes in order. Each worker uses only
+/// its own, so no thread ever waits for a lock.
 #[derive(Drop)]
 pub struct LastDatagram {
     received: Vec<Mutex<Received>>,
 }
 
-/// What was received.
+/// A datagram that was received.
 #[derive(Drop)]
 struct Received {
     octets: [u8; 4096],
     count: usize,
 }
 
-/// What a line tells of the packet that a worker received last: nothing where that was none.
+/// The words of a log line about the packet that a worker received last. They are empty if that was not a packet.
 #[derive(Clone, Copy)]
 pub struct LastWords<'a> {
     last: &'a LastDatagram,
@@ -32,7 +32,7 @@ pub struct LastWords<'a> {
 }
 
 impl LastDatagram {
-    /// Keeps nothing of any worker.
+    /// Makes a value that keeps nothing of any worker.
     pub fn none(alloc: Global) -> LastDatagram
         ensures { result.received.items ≡ [] }
     {
@@ -41,11 +41,11 @@ impl LastDatagram {
         }
     }
 
-    /// Keeps what the front receives, and so many lanes. It takes no more memory for it later.
+    /// Makes a value that keeps what the front and `lanes` lanes receive. It takes no more memory for that later.
     ///
     /// # Errors
     ///
-    /// Where memory is refused.
+    /// `AllocError` if memory is refused.
     pub fn new(alloc: Global, lanes: usize) -> Result<LastDatagram, AllocError>
         ensures { IfOk result (λ last. length last.received.items ≡ lanes + 1) }
     {
@@ -57,7 +57,7 @@ impl LastDatagram {
         Ok(LastDatagram { received })
     }
 
-    /// Keeps what a worker received, in place of what it received before. What stands behind a lock no contract tells.
+    /// Keeps a datagram that a worker received, in place of the last one. No contract says what is behind a lock.
     pub fn keep(&self, worker: Worker, octets: &[u8]) {
         if let Some(received) = self.received.get(worker_place(worker)) {
             if let Some(mut received) = received.try_lock() {
@@ -66,7 +66,7 @@ impl LastDatagram {
         }
     }
 
-    /// The words of the packet that a worker received last.
+    /// Returns the words of the packet that a worker received last.
     pub fn words(&self, worker: Worker) -> LastWords<'_>
         ensures last { result.last.now ≡ self.now }
         ensures worker { result.worker ≡ worker }

@@ -1,4 +1,4 @@
-//! The endpoints between which each worker's last datagrams passed.
+//! The source and the destination of the last datagrams of each worker.
 
 ghost use Rattle.std.specs.Prelude.{◌≡◌, ◌+◌, IfOk, length};
 
@@ -8,8 +8,8 @@ use rad_desk::{Note, Worker};
 use rad_realms::Endpoint;
 use std::alloc::{AllocError, Global};
 
-/// Where each worker's last datagram came from and where its last one goes: the front's, then those of the lanes in order. A
-/// worker's are written and read by itself alone.
+/// Where each worker's last received datagram came from, and where its last sent one goes: those of the front, then
+/// those of the lanes in order. Only the worker itself writes and reads its own.
 #[derive(Drop)]
 pub struct LastPeers {
     peers: Vec<Peers>,
@@ -23,11 +23,11 @@ struct Peers {
 }
 
 impl LastPeers {
-    /// Knows none yet of the front and of so many lanes.
+    /// Makes the peers of the front and of `lanes` lanes. None is known yet.
     ///
     /// # Errors
     ///
-    /// Where memory is refused.
+    /// `AllocError` if memory is refused.
     pub fn new(alloc: Global, lanes: usize) -> Result<LastPeers, AllocError>
         ensures { IfOk result (λ last. length last.peers.items ≡ lanes + 1) }
     {
@@ -39,21 +39,22 @@ impl LastPeers {
         Ok(LastPeers { peers })
     }
 
-    /// A worker received a datagram from there.
+    /// Keeps the source of a datagram that a worker received.
     pub fn received(&self, worker: Worker, from: Endpoint) {
         if let Some(peers) = self.peers.get(worker_place(worker)) {
             peers.from.store(from);
         }
     }
 
-    /// A worker is about to send a datagram to there.
+    /// Keeps the destination of a datagram that a worker is about to send.
     pub fn sends(&self, worker: Worker, to: Endpoint) {
         if let Some(peers) = self.peers.get(worker_place(worker)) {
             peers.to.store(to);
         }
     }
 
-    /// Whom a worker's note is about: where the datagram goes whose send failed, and else where the last one came from.
+    /// Returns the endpoint that a worker's note is about: the destination of the last datagram if its send failed,
+    /// and otherwise the source of the last one received.
     pub fn peer_of(&self, worker: Worker, note: Note) -> Endpoint {
         let Some(peers) = self.peers.get(worker_place(worker)) else {
             return Endpoint {

@@ -7,30 +7,30 @@ use std::fmt;
 use std::hint::spin_loop;
 use std::sync::{Mutex, MutexGuard};
 
-/// The most octets that a User-Name has (RFC 2865 section 5), and so a realm.
+/// The most octets of a User-Name (RFC 2865 section 5), and so of a realm.
 const GREATEST_REALM_LENGTH: usize = 253;
 
-/// How often whoever tells the realm waits for the front, which keeps it within some steps.
+/// How many times a thread that logs the realm tries its lock. The front holds the lock only for some steps.
 const TRIES: u32 = 2000;
 
-/// The realm of the last packet that was dropped since its realm leads to no lane. The front keeps it, and takes no memory for
-/// it; while another thread tells it, the front keeps none rather than wait.
+/// The realm of the last packet that was dropped since its realm leads to no lane. The front keeps it, and takes no
+/// memory for it. While another thread logs it, the front does not wait, and does not keep the realm of its packet.
 #[derive(Drop)]
 pub struct LastRealm {
     realm: Mutex<Realm>,
 }
 
-/// A realm, kept in place.
+/// A realm, stored in place.
 #[derive(Drop)]
 struct Realm {
     octets: [u8; GREATEST_REALM_LENGTH],
     count: usize,
-    /// Whether the packet had one.
+    /// Whether the packet had a realm.
     is_there: bool,
 }
 
 impl LastRealm {
-    /// Of no packet yet.
+    /// Makes a value that keeps no realm yet.
     pub fn new() -> LastRealm {
         LastRealm {
             realm: Mutex::new(Realm {
@@ -51,7 +51,7 @@ impl LastRealm {
         }
     }
 
-    /// Holds the realm, where that is to be had soon.
+    /// Locks the realm, if that succeeds soon.
     fn hold(&self) -> Option<MutexGuard<'_, Realm>> {
         for _ in 0..TRIES {
             let realm = self.realm.try_lock();
@@ -79,7 +79,7 @@ impl Realm {
     }
 }
 
-/// The realm as a log line tells it, behind a space: nothing where the packet had none.
+/// The realm as a log line has it, with a space before it. It is empty if the packet had no realm.
 impl fmt::Display for LastRealm {
     fn fmt<W: fmt::Write>(&self, f: &mut fmt::Formatter<W>) -> fmt::Result {
         let Some(realm) = self.hold() else {

@@ -1,4 +1,4 @@
-//! How much is logged: the word of the environment that says it.
+//! The level of the log, and the environment variable that names it.
 
 ghost use Rattle.std.specs.Prelude.{◌≡◌};
 ghost use Rattle.log.specs.Level.{parse_filter};
@@ -7,13 +7,14 @@ use log::LevelFilter;
 use std::env::{Env, FillError};
 use std::str;
 
-/// The variable that names the level.
+/// The environment variable that names the level.
 const LEVEL: &str = "RAD_PROXY_LOG";
 
-/// How many octets of it are looked at: more than any level has.
+/// How many octets of its value are read: more than the name of any level has.
 const ROOM: usize = 16;
 
-/// The level that a word names: `off`, `error`, `warn`, `info`, `debug` or `trace`, in letters of either case.
+/// Returns the level that a word names: `off`, `error`, `warn`, `info`, `debug` or `trace`, in letters of either
+/// case.
 pub fn level_of(word: &str) -> Option<LevelFilter>
     ensures { result ≡ parse_filter word.now }
 {
@@ -23,14 +24,14 @@ pub fn level_of(word: &str) -> Option<LevelFilter>
     }
 }
 
-/// Whether the environment has the variable that names the level.
+/// Returns whether the environment has the variable that names the level.
 pub fn names_level(env: &impl Env) -> bool {
     let mut room = [0; ROOM];
     !matches!(env.var(LEVEL, &mut room), Err(FillError::NotPresent))
 }
 
-/// The level that the environment names, and `Info` where it names none. It is none where the variable is no level. It
-/// takes no memory.
+/// Returns the level that the environment names, `Info` if the variable is absent, and none if its value is not a
+/// level. It takes no memory.
 pub fn read_level(env: &impl Env) -> Option<LevelFilter> {
     let mut room = [0; ROOM];
     let count = match env.var(LEVEL, &mut room) {

@@ -1,16 +1,18 @@
-//! What is told and counted of the workers that serve: log lines on standard error, counters, and the file that the counters
-//! are written to.
+//! The log and the counters of the workers that serve: log lines on standard error, counters, and the file that the
+//! counters are written to.
 //!
-//! [`Telemetry`] is a gate that lets every worker pass. It hands what it is told to the numbers of `rad_metrics` too. What a
-//! worker notes it counts by its [`EventKind`] and logs; the Accounting-Requests and Status-Servers that a lane's worker sends it
-//! counts too. A [`Reporter`] logs once a second what was counted since, and writes all counters in Prometheus' text format.
+//! [`Telemetry`] is a gate that lets every worker go on. It counts each note of a worker by its [`EventKind`], and
+//! logs it. It also counts the Accounting-Requests and Status-Servers that a lane's worker sends, and passes what is
+//! reported to it to the numbers of `rad_metrics`. A [`Reporter`] logs once a second what was counted since the last
+//! time, and writes all counters in Prometheus' text format.
 //!
-//! The layer above uses one contract: [`EventKind::of`] says as what a note is counted. What stands behind a lock or in an
-//! atomic, such as a count, no contract tells, and tests show it. The definitions stand in specs: `EventKinds` has the kinds and
-//! the metrics, `Workers` the names of the workers, `DeltaLines` and `MetricLines` the texts of sums and of counters, and
-//! `WatchLines` that of a home server that went up.
+//! The contract to read first is that of [`EventKind::of`]: it says as which kind a note is counted. No contract says
+//! what is behind a lock or in an atomic, such as a count; tests check that. The definitions that the contracts cite
+//! are in specs: `EventKinds` has the kinds and the metrics, `Workers` the names of the workers, `DeltaLines` and
+//! `MetricLines` the texts of sums and of counters, `WatchLines` the text of a home server that is marked up, and
+//! `FileFaults` the reasons for which the file of the counters is not replaced.
 //!
-//! It is the one crate that uses `log`, and passes on what the program needs of it.
+//! This is the only crate that uses `log`. It exports the items of `log` that the program needs.
 #![tactic(auto)]
 
 mod atomic_endpoint;

@@ -1,4 +1,4 @@
-//! Log lines on their way from those that log to the one thread that writes them.
+//! Log lines on their way from the threads that log to the one thread that writes them.
 
 use crate::line_room::LineRoom;
 use crate::line_writer::{LineOutput, LineWriter};
@@ -12,27 +12,29 @@ use std::sync::atomic::{AtomicU64, Ordering};
 use std::sync::{Mutex, MutexGuard, Wait};
 use std::time::{Clock, Duration, Instant};
 
-/// How many octets of lines may wait.
+/// The most octets of lines that may wait.
 const ROOM: usize = 65_536;
 
-/// The longest line, in octets, with its line end.
+/// The most octets of a line, with its line end.
 const LONGEST: usize = 4096;
 
-/// How often a line waits for those that hold the room, each for as long as a line is copied.
+/// How many times a thread tries to lock the buffer for a line. Each holder keeps the lock about as long as copying a
+/// line takes.
 const TRIES: u32 = 2000;
 
-/// Lines that wait, in the order in which they came. Until a thread writes them each is written by whoever logs it.
+/// Lines that wait, in the order in which they came. Until there is a thread that writes them, the thread that logs a
+/// line also writes it.
 #[derive(Drop)]
 pub struct LineQueue<O> {
     room: Mutex<LineRoom>,
-    /// How many lines did not come into the room, since others held it for too long.
+    /// How many lines did not get into the buffer, since they were too long or others held the buffer for too long.
     missed: AtomicU64,
     outlet: Mutex<Outlet<O>>,
-    /// That of the thread that writes the lines, once there is one.
+    /// The state of the thread that writes the lines, once there is one.
     state: WriterState,
 }
 
-/// Held by whoever writes.
+/// The output and the lines for it. The thread that writes holds its lock.
 #[derive(Drop)]
 struct Outlet<O> {
     writer: LineWriter<O>,
@@ -41,11 +43,11 @@ struct Outlet<O> {
 }
 
 impl<O: LineOutput + Drop> LineQueue<O> {
-    /// An empty queue. It takes no more memory later.
+    /// Makes an empty queue. It takes no more memory later.
     ///
     /// # Errors
     ///
-    /// Where memory is refused.
+    /// `AllocError` if memory is refused.
     pub fn new(alloc: Global, output: O) -> Result<LineQueue<O>, AllocError> {
         let outlet = Outlet {
             writer: LineWriter::new(output),
@@ -59,7 +61,7 @@ impl<O: LineOutput + Drop> LineQueue<O> {
         })
     }
 
-    /// Adds a line, or counts it as dropped where it finds no room.
+    /// Adds a line, or counts it as dropped if it is too long or finds no room.
     pub fn put<D: Display>(&self, line: &D) {
         let mut octets = [0; LONGEST];
         let mut free = octets.as_mut_slice();
@@ -74,7 +76,7 @@ impl<O: LineOutput + Drop> LineQueue<O> {
         }
     }
 
-    /// Adds a line that is made, if it is whole.
+    /// Adds the text of a line, or counts it as dropped if it is not whole or others hold the buffer for too long.
     fn put_text(&self, text: &[u8], is_whole: bool) {
         match self.hold() {
             Some(mut room) if is_whole => room.put(text),
@@ -84,7 +86,7 @@ impl<O: LineOutput + Drop> LineQueue<O> {
         }
     }
 
-    /// Holds the room, where it is to be had soon.
+    /// Locks the buffer, if that succeeds soon.
     fn hold(&self) -> Option<MutexGuard<'_, LineRoom>> {
         for _ in 0..TRIES {
             let room = self.room.try_lock();
@@ -96,7 +98,7 @@ impl<O: LineOutput + Drop> LineQueue<O> {
         None
     }
 
-    /// Writes what there is, if the output takes it at once.
+    /// Writes the lines that wait, if the output accepts them at once.
     fn write_now(&self) {
         if let Some(mut outlet) = self.outlet.try_lock() {
             if let Some(mut room) = self.hold() {
@@ -109,12 +111,12 @@ impl<O: LineOutput + Drop> LineQueue<O> {
         }
     }
 
-    /// From now on a thread calls `write_all`, and lines wait for it.
+    /// Makes all further lines wait for a thread, which calls `write_all`.
     pub fn leave_to_thread(&self) {
         self.state.start();
     }
 
-    /// Writes the lines as they come until the queue is ended. It is the whole life of a thread.
+    /// Writes the lines as they come until the queue is ended. The thread does nothing else.
     pub fn write_all<R: Wait>(&self, rt: &R) {
         for _ in rt.forever() {
             let is_last = self.state.begin_round();
@@ -137,7 +139,8 @@ impl<O: LineOutput + Drop> LineQueue<O> {
         outlet.write(true);
     }
 
-    /// Has the thread write what waits and end, where there is one, and waits for it until so long after a start at most.
+    /// Makes the thread, if there is one, write what waits and end, and waits for it at most until `longest` after
+    /// `start`.
     pub fn end<R: Clock + Wait>(&self, rt: &R, start: Instant, longest: Duration) {
         self.state.end();
         self.state.wait(rt, start, longest);
@@ -145,7 +148,7 @@ impl<O: LineOutput + Drop> LineQueue<O> {
 }
 
 impl<O: LineOutput> Outlet<O> {
-    /// Takes the lines of a room, which is empty then.
+    /// Takes the lines of a buffer, which is empty then.
     fn take(&mut self, room: &mut LineRoom) {
         self.batch.clear();
         mem::swap(&mut self.batch, room);

@@ -1,26 +1,26 @@
-//! A fixed room for log lines that wait to be written.
+//! A buffer of fixed size for log lines that wait to be written.
 
 ghost use Rattle.std.specs.Prelude.{◌≡◌, ◌+◌, ◌<◌, ◌≤◌, [], ◌++◌, ◌↔◌, IsTrue, IfOk, length, vec_capacity};
 
 use std::alloc::{AllocError, Global};
 
-/// Lines, each with its line end, in a room whose size never changes. A line that finds no room is dropped and counted, and so
-/// is each one after it until the room is cleared.
+/// Lines, each with its line end, in a buffer whose size never changes. A line that finds no room is dropped and
+/// counted, and so is each line after it until the buffer is cleared.
 #[derive(Drop)]
 pub struct LineRoom {
     text: Vec<u8>,
-    /// How many octets of text there may be.
+    /// The most octets of text.
     size: usize,
     dropped: u64,
     ghost has_memory: { size ≤ vec_capacity text },
 }
 
 impl LineRoom {
-    /// An empty room of so many octets. It takes no more memory later.
+    /// Makes an empty buffer for `size` octets. It takes no more memory later.
     ///
     /// # Errors
     ///
-    /// Where memory is refused.
+    /// `AllocError` if memory is refused.
     pub fn new(alloc: Global, size: usize) -> Result<LineRoom, AllocError>
         ensures { IfOk result (λ room. (room.text.items ≡ []) × (room.size ≡ size) × (room.dropped ≡ 0)) }
     {
@@ -46,7 +46,7 @@ impl LineRoom {
         self.drop_more(1);
     }
 
-    /// Counts so many lines more as dropped.
+    /// Counts `count` more lines as dropped.
     pub fn drop_more(&mut self, count: u64)
         ensures text { self.new.text.items ≡ self.old.text.items }
         ensures size { self.new.size ≡ self.old.size }
@@ -56,21 +56,21 @@ impl LineRoom {
         self.dropped = self.dropped.saturating_add(count);
     }
 
-    /// The lines.
+    /// Returns the lines.
     pub fn lines(&self) -> &[u8]
         ensures { result.now ≡ self.now.text.items }
     {
         self.text.as_slice()
     }
 
-    /// How many lines were dropped after these.
+    /// Returns how many lines were dropped after these.
     pub fn dropped(&self) -> u64
         ensures { result ≡ self.now.dropped }
     {
         self.dropped
     }
 
-    /// Makes the room empty.
+    /// Removes all lines, and counts none as dropped.
     pub fn clear(&mut self)
         ensures text { self.new.text.items ≡ [] }
         ensures dropped { self.new.dropped ≡ 0 }
@@ -80,7 +80,7 @@ impl LineRoom {
         self.dropped = 0;
     }
 
-    /// Whether so many octets find room behind the lines, where none was dropped.
+    /// Returns whether `count` octets fit after the lines and no line was dropped.
     fn has_room(&self, count: usize) -> bool
         ensures { IsTrue result ↔ ((self.now.dropped ≡ 0) × (length self.now.text.items + count ≤ self.now.size)) }
     {

@@ -1,4 +1,4 @@
-//! Lines on their way to standard error, also where it takes a part of them or none.
+//! Writing lines to standard error, even if it accepts only a part of them or nothing.
 
 use crate::line_room::LineRoom;
 use libc::STDERR_FILENO;
@@ -6,15 +6,15 @@ use libc::net::{POLLOUT, poll};
 use libc::types::pollfd;
 use std::io::Write;
 
-/// How many octets go out in one write: a pipe that is ready takes so many.
+/// The most octets in one write. A pipe that is ready accepts this many.
 const MOST: usize = 4096;
 
-/// What takes lines.
+/// An output for lines.
 pub trait LineOutput {
-    /// Whether it takes octets. Where it is patient it waits until it does.
+    /// Returns whether the output accepts octets. If `is_patient` is set, it waits until the output does.
     fn is_ready(&mut self, is_patient: bool) -> bool;
 
-    /// Takes the first of these octets, and answers how many; none where that failed.
+    /// Writes the first of these octets, and returns how many; 0 if that failed.
     fn take(&mut self, octets: &[u8]) -> usize;
 }
 
@@ -38,19 +38,19 @@ impl LineOutput for StandardError {
     }
 }
 
-/// Writes lines. Where a write fails, the rest of the lines is lost; then a line end comes before the next one, if a part of
-/// a line stands there, and how many lines were lost.
+/// Writes lines. If a write fails, the rest of the lines is lost. Before the next line it then writes a line end, if
+/// a part of a line was written last, and how many lines were lost.
 #[derive(Drop)]
 pub struct LineWriter<O> {
     output: O,
     /// Whether a part of a line was written last.
     is_inside: bool,
-    /// How many lines were lost since that was told.
+    /// How many lines were lost since their number was last written.
     lost: u64,
 }
 
 impl<O: LineOutput> LineWriter<O> {
-    /// Nothing is written yet.
+    /// Makes a writer that has written nothing yet.
     pub fn new(output: O) -> LineWriter<O> {
         LineWriter {
             output,
@@ -59,15 +59,15 @@ impl<O: LineOutput> LineWriter<O> {
         }
     }
 
-    /// Writes the lines of a room, and how many were dropped after them. Where it is patient it waits while the output takes
-    /// none; else they are lost.
+    /// Writes the lines of a buffer, and then how many were dropped after them. If `is_patient` is set, it waits
+    /// while the output accepts nothing; otherwise the lines are lost.
     pub fn write(&mut self, room: &LineRoom, is_patient: bool) {
         self.write_all(room.lines(), is_patient);
         self.lost = self.lost.saturating_add(room.dropped());
         self.tell_lost(is_patient);
     }
 
-    /// Writes lines, after what is to be told before them.
+    /// Writes lines, after the number of lines that were lost before them.
     fn write_all(&mut self, lines: &[u8], is_patient: bool) {
         if lines.is_empty() {
             return;
@@ -82,7 +82,7 @@ impl<O: LineOutput> LineWriter<O> {
         self.lost = self.lost.saturating_add(lines_in(rest));
     }
 
-    /// Tells how many lines were lost, where that is not told, and answers whether all is told.
+    /// Writes how many lines were lost, if that is not written yet, and returns whether it is written now.
     fn tell_lost(&mut self, is_patient: bool) -> bool {
         if self.lost == 0 {
             return true;
@@ -105,7 +105,7 @@ impl<O: LineOutput> LineWriter<O> {
         is_told
     }
 
-    /// Writes octets as far as they are taken, and answers how many.
+    /// Writes octets as far as the output accepts them, and returns how many.
     fn put(&mut self, octets: &[u8], is_patient: bool) -> usize {
         let mut taken = 0;
         for _ in 0..octets.len() {
@@ -125,7 +125,7 @@ impl<O: LineOutput> LineWriter<O> {
     }
 }
 
-/// How many lines end in these octets.
+/// Returns how many lines end in these octets.
 fn lines_in(octets: &[u8]) -> u64 {
     let mut count = 0u64;
     for octet in octets {

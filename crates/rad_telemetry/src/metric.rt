@@ -1,12 +1,12 @@
-//! The metrics: what is counted under one name, each kind of it by a label of its own.
+//! The metrics of the counters: the kinds of events that are counted under one name, each with a label of its own.
 
 ghost use Rattle.std.specs.Prelude.{◌≡◌};
 ghost use Rattle.rad_telemetry.specs.EventKinds.{event_of, metric_help, metric_name};
 
-/// The kinds of events that differ by their reason alone.
+/// A group of kinds of events that differ only by their reason.
 #[derive(Clone, Copy, Debug, PartialEq, Eq)]
 pub enum Metric {
-    /// A client's datagram was dropped.
+    /// A datagram at the clients' socket was dropped.
     Dropped,
     /// A client's request was refused.
     Refused,
@@ -18,14 +18,14 @@ pub enum Metric {
     WentUp,
     Sent,
     Probed,
-    /// Requests left a book.
+    /// Requests were removed from a book.
     Cut,
-    /// A request has Proxy-States as this proxy adds them.
+    /// A request has Proxy-States of this proxy's own form.
     Marked,
 }
 
-/// The metrics that are written, in their order. What took a home server up is told with its reasons, among the numbers of
-/// `rad_metrics`.
+/// The metrics that are written, in their order. `WentUp` is not among them: `rad_metrics` writes it, with its
+/// reasons.
 pub const METRICS: [Metric; 10] = [
     Metric::Dropped,
     Metric::Refused,
@@ -40,7 +40,7 @@ pub const METRICS: [Metric; 10] = [
 ];
 
 impl Metric {
-    /// The event of a log line.
+    /// Returns the event of a log line.
     pub fn event(self) -> &'static str
         ensures { result.now ≡ event_of self }
     {
@@ -59,7 +59,7 @@ impl Metric {
         }
     }
 
-    /// The name of a counter, behind `rad_proxy_`.
+    /// Returns the name of a counter after `rad_proxy_`.
     pub fn name(self) -> &'static str
         ensures { result.now ≡ metric_name self }
     {
@@ -78,7 +78,7 @@ impl Metric {
         }
     }
 
-    /// What a counter counts, as Prometheus shows it.
+    /// Returns what a counter counts, as Prometheus shows it.
     pub fn help(self) -> &'static str
         ensures { result.now ≡ metric_help self }
     {

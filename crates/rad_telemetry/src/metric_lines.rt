@@ -1,19 +1,19 @@
-//! The lines of the counters' file, as Prometheus reads them.
+//! The lines of the counters in their file, in Prometheus' text format.
 
 use crate::event_kind::{EventKind, ReasonText};
 use crate::metric::Metric;
 use std::fmt;
 
-/// Of whom something is counted, as labels.
+/// The labels that say of whom something is counted.
 #[derive(Clone, Copy)]
 pub enum Labels<'a> {
     /// The clients' side.
     Clients,
-    /// The clients' side, for the reason of this kind.
+    /// The clients' side, with the reason of this kind.
     Reason(EventKind),
-    /// A lane, and its home server's name.
+    /// A lane, with its home server's name.
     Home(usize, &'a str),
-    /// A lane and its home server's name, for the reason of this kind.
+    /// A lane, with its home server's name and the reason of this kind.
     HomeReason(usize, &'a str, EventKind),
 }
 
@@ -25,7 +25,7 @@ pub struct ReasonLabel(pub EventKind);
 #[derive(Clone, Copy)]
 pub struct HomeLabels<'a>(pub usize, pub &'a str);
 
-/// A counter.
+/// The line of a counter.
 #[derive(Clone, Copy)]
 pub struct CounterLine<'a> {
     pub metric: Metric,
@@ -33,11 +33,11 @@ pub struct CounterLine<'a> {
     pub count: u64,
 }
 
-/// What stands before the counters of a metric.
+/// The `# TYPE` line of a metric. It precedes its counters.
 #[derive(Clone, Copy)]
 pub struct TypeLine(pub Metric);
 
-/// What stands before that: what the metric counts.
+/// The `# HELP` line of a metric: what it counts. It precedes the `# TYPE` line.
 #[derive(Clone, Copy)]
 pub struct HelpLine(pub Metric);
 

@@ -1,4 +1,4 @@
-//! What a log line tells of a packet, and of a datagram that is one or is none.
+//! The words of a log line about a packet, and about a datagram that may not be a packet.
 
 ghost use Rattle.std.specs.Prelude.{◌≡◌, option_copied};
 ghost use Rattle.rad_packet.specs.Packet.{identifier_of};
@@ -10,7 +10,8 @@ use rad_packet::{PacketRef, ReadFault, read};
 use rad_realms::realm_of_packet;
 use std::fmt;
 
-/// A packet's Identifier, and its session and its realm where it has them, each behind a space. The user is left out.
+/// The Identifier of a packet, and its session and realm if it has them, each with a space before it. The user is
+/// omitted.
 #[derive(Clone, Copy)]
 pub struct PacketWords<'a> {
     identifier: u8,
@@ -18,25 +19,26 @@ pub struct PacketWords<'a> {
     realm: Option<&'a [u8]>,
 }
 
-/// A datagram's Code, Length and the words of its packet, or where it is none how many octets it has and why.
+/// The Code, Length and packet words of a datagram. If it is not a packet, how many octets it has and why it is not
+/// one.
 #[derive(Clone, Copy)]
 pub struct DatagramWords<'a>(pub &'a [u8]);
 
-/// An Acct-Session-Id, behind a space.
+/// An Acct-Session-Id, with a space before it.
 #[derive(Clone, Copy)]
 pub struct SessionWord<'a>(pub &'a [u8]);
 
-/// A realm, behind a space.
+/// A realm, with a space before it.
 #[derive(Clone, Copy)]
 pub struct RealmWord<'a>(pub &'a [u8]);
 
-/// The octets of a text as a log line has them: those of ASCII text as they are, but for spaces, `%`, `"` and `=`, and all others
-/// by two hexadecimal digits behind a `%`.
+/// The octets of a text as a log line has them. Printable ASCII is unchanged, except for spaces, `%`, `"` and `=`.
+/// These and all other octets are written as `%` and two hexadecimal digits.
 #[derive(Clone, Copy)]
 pub struct Escaped<'a>(pub &'a [u8]);
 
 impl<'a> PacketWords<'a> {
-    /// The words of a packet.
+    /// Returns the words of a packet.
     pub fn of(packet: &PacketRef<'a>) -> PacketWords<'a>
         ensures identifier { result.identifier ≡ identifier_of packet.now }
         ensures session { option_copied result.session ≡ session_id packet.now }
@@ -99,7 +101,7 @@ fn write_packet<W: fmt::Write>(f: &mut fmt::Formatter<W>, packet: &PacketRef<'_>
     write!(f, "code={code} length={length}{words}")
 }
 
-/// Writes the words of a datagram of so many octets that is none.
+/// Writes the words of a datagram of `count` octets that is not a packet.
 fn write_unread<W: fmt::Write>(
     f: &mut fmt::Formatter<W>,
     count: usize,

@@ -1,4 +1,4 @@
-//! The other end of a datagram, as log lines tell it.
+//! The address and port of the other end of a datagram, as log lines have them.
 
 use rad_realms::{AddressText, Endpoint};
 use std::fmt;

@@ -1,4 +1,5 @@
-//! Once a second, by a thread of its own: what was counted since as log lines, and all counters into a file.
+//! The reports of a separate thread, once a second: what was counted since the last one as log lines, and all
+//! counters for a file.
 
 use crate::counter_file::log_fault;
 use crate::counter_texts::CounterTexts;
@@ -19,20 +20,20 @@ use std::io::{self, Write};
 use std::sync::{Wait, WaitMethods};
 use std::time::Clock;
 
-/// How long it is from one report to the next, in milliseconds.
+/// The time from one report to the next, in milliseconds.
 const PERIOD: u64 = 1000;
 
-/// How long the workers are waited for at most to tell how their lanes stand, in milliseconds: each looks for that at least every
-/// 20 milliseconds. They are asked so long before a report.
+/// How long before a report the workers are asked for the standings of their lanes, in milliseconds. The reporter
+/// waits this long for them at most. Each worker checks at least every 20 milliseconds whether it is asked.
 const ASKED: u64 = 40;
 
-/// What a reporter reports, and where to.
+/// What is reported, and where it goes.
 pub struct Reporter<'a, L, R> {
     pub(crate) config: &'a Config,
     pub(crate) counters: &'a Counters,
     pub(crate) numbers: &'a Numbers<'a, R>,
     pub(crate) log: &'a L,
-    /// What takes the texts of the counters, where they go to a file.
+    /// What takes the texts of the counters, if they go to a file.
     pub(crate) texts: Option<&'a CounterTexts>,
 }
 
@@ -44,8 +45,9 @@ impl<L, R> Clone for Reporter<'_, L, R> {
 
 impl<L, R> Copy for Reporter<'_, L, R> {}
 
-/// Reports once a second until the flag is set, and then once more. A text of all numbers is made anew each time, in the
-/// memory of an earlier one; the workers are asked right before how their lanes stand.
+/// Reports once a second until the flag is set, and then once more. A text of all numbers is made anew each time, in
+/// the memory of an earlier one. The workers are asked for the standings of their lanes right before, except for the
+/// last text.
 pub fn report<R, U, L>(
     rt: &R,
     sockets: &U,
@@ -75,14 +77,15 @@ where
 }
 
 impl<L: Log, R> Reporter<'_, L, R> {
-    /// Has the workers tell how their lanes stand, where that is reported.
+    /// Asks the workers for the standings of their lanes, if these are reported.
     fn ask(&self) {
         if self.texts.is_some() {
             self.numbers.ask_each();
         }
     }
 
-    /// Logs what was counted since the last time, a line for each worker and kind of which there was any.
+    /// Logs what was counted since the last call: one line for each worker and each kind of which there was any. What
+    /// is sent, and home servers that are marked down or up, have no such line.
     pub fn log_deltas(&self) {
         self.log_deltas_of(Worker::Front);
         for lane in 0..self.config.homes().len() {
@@ -90,8 +93,8 @@ impl<L: Log, R> Reporter<'_, L, R> {
         }
     }
 
-    /// Logs what was counted of a kind. That a home server went down or up is logged as it happens, and what is sent is not
-    /// logged.
+    /// Logs what was counted of a kind. A home server that is marked down or up is not logged here, since that is
+    /// logged when it happens; nor is what is sent.
     fn log_delta(&self, name: &str, kind: EventKind, delta: Delta) {
         match kind.metric() {
             Metric::Dropped => self.log_dropped(kind, delta),
@@ -104,7 +107,7 @@ impl<L: Log, R> Reporter<'_, L, R> {
         }
     }
 
-    /// Logs drops, and the last one's realm where they were for their realms.
+    /// Logs drops, and the realm of the last one if they were for their realms.
     fn log_dropped(&self, kind: EventKind, delta: Delta) {
         if kind == EventKind::Dropped(Dropped::NoRealm) {
             log_no_realm(self.log, kind, delta, self.counters.last_realm());
@@ -121,14 +124,14 @@ impl<L: Log, R> Reporter<'_, L, R> {
         }
     }
 
-    /// Logs what speaks against the last text that was written, once.
+    /// Logs once why the last text was not written.
     fn log_fault<S: Wait>(&self, rt: &S, texts: &CounterTexts) {
         if let Some(fault) = texts.take_fault(rt) {
             log_fault(self.log, fault);
         }
     }
 
-    /// Writes all counters, a metric after the other.
+    /// Writes all counters, one metric after the other.
     ///
     /// # Errors
     ///
@@ -150,7 +153,7 @@ impl<L: Log, R> Reporter<'_, L, R> {
         Ok(())
     }
 
-    /// Writes the front's counters of a metric, where it has some.
+    /// Writes the front's counters of a metric, if it has any.
     fn write_front<W: Write>(&self, writer: &mut W, metric: Metric) -> io::Result<()> {
         for kind in EVENT_KINDS {
             if kind.metric() == metric {
@@ -160,7 +163,7 @@ impl<L: Log, R> Reporter<'_, L, R> {
         Ok(())
     }
 
-    /// Writes the front's counter of a metric and a kind of it, where it has one.
+    /// Writes the front's counter of one kind of a metric, if it has one.
     fn write_front_kind<W: Write>(
         &self,
         writer: &mut W,
@@ -178,7 +181,7 @@ impl<L: Log, R> Reporter<'_, L, R> {
         }
     }
 
-    /// Writes a lane's counters of a metric, where it has some.
+    /// Writes a lane's counters of a metric, if it has any.
     fn write_lane<W: Write>(
         &self,
         writer: &mut W,
@@ -194,7 +197,7 @@ impl<L: Log, R> Reporter<'_, L, R> {
         Ok(())
     }
 
-    /// Writes a lane's counter of a metric and a kind of it, where it has one.
+    /// Writes a lane's counter of one kind of a metric, if it has one.
     fn write_lane_kind<W: Write>(
         &self,
         writer: &mut W,
@@ -231,8 +234,8 @@ impl<L: Log, R> Reporter<'_, L, R> {
 }
 
 impl<L: Log, R: Clock> Reporter<'_, L, R> {
-    /// Leaves a text of all numbers to whoever writes it to their file, where there is one; and logs what speaks against one
-    /// that was left before, once.
+    /// Leaves a text of all numbers to the thread that writes it to their file, if there is one. It also logs, once,
+    /// why an earlier text was not written.
     pub fn leave_text<S: Wait, U: UdpSockets>(&self, rt: &S, sockets: &U, draft: &mut Draft) {
         let Some(texts) = self.texts else {
             return;
@@ -243,14 +246,14 @@ impl<L: Log, R: Clock> Reporter<'_, L, R> {
         }
     }
 
-    /// Writes all counters, and then all that is told of the clients, the home servers and the sockets.
+    /// Writes all counters, and then all numbers of the clients, the home servers and the sockets.
     fn write_all(&self, draft: &mut Draft) -> io::Result<()> {
         self.write(draft.begin())?;
         draft.finish(self.config, self.numbers)
     }
 }
 
-/// Writes what stands before the counters of a metric.
+/// Writes the lines that precede the counters of a metric.
 fn write_head<W: Write>(writer: &mut W, metric: Metric) -> io::Result<()> {
     let help = HelpLine(metric);
     writeln!(writer, "{help}")?;
@@ -295,8 +298,8 @@ fn log_cut<L: Log>(log: &L, home: &str, delta: Delta) {
     info!(log; "{line}");
 }
 
-/// Logs requests that this proxy or one like it sent before. One such Proxy-State each they have behind another one; more of them
-/// tell of a loop.
+/// Logs requests that this proxy or one like it sent before. Behind one other proxy a request has one Proxy-State of
+/// this form; more of them indicate a loop.
 fn log_marked<L: Log>(log: &L, home: &str, delta: Delta) {
     let line = MarkedDelta {
         home,

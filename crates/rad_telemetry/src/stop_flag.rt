@@ -1,10 +1,10 @@
-//! What has a reporter stop.
+//! The flag that makes a reporter stop.
 
 use std::sync::atomic::{AtomicU64, Ordering};
 use std::sync::{Wait, WaitMethods};
 use std::time::{Clock, Duration, Instant};
 
-/// Whether a reporter is to stop, which it shares with the others.
+/// Whether a reporter is to stop. The reporter shares the flag with other threads.
 #[derive(Drop)]
 pub struct StopFlag {
     is_set: AtomicU64,
@@ -17,7 +17,7 @@ impl StopFlag {
         }
     }
 
-    /// Has the reporter report once more and stop.
+    /// Makes the reporter report once more and stop.
     pub fn set(&self) {
         self.is_set.store(1, Ordering::SeqCst);
         self.is_set.wake_all();
@@ -27,7 +27,7 @@ impl StopFlag {
         self.is_set.load(Ordering::SeqCst) != 0
     }
 
-    /// Waits so many milliseconds, or until the flag is set.
+    /// Waits for `milliseconds`, or until the flag is set.
     pub(crate) fn wait<R: Clock + Wait>(&self, rt: &R, milliseconds: u64) {
         let Ok(start) = Instant::now(rt) else {
             return;

@@ -1,4 +1,4 @@
-//! The gate that is told of all that the workers do, and what it has counted and logged.
+//! The gate to which the workers report everything that they do, and what it counted and logged.
 
 use crate::counter_texts::CounterTexts;
 use crate::counters::Counters;
@@ -15,10 +15,11 @@ use std::alloc::{AllocError, Global};
 use std::io::Error;
 use std::time::Clock;
 
-/// Counts and logs what the workers of a configuration do. As a gate it lets every worker pass, and takes no memory; it waits
-/// for a lock no longer than `LineQueue` says.
+/// Counts and logs what the workers of a configuration do. As a gate it lets every worker go on, and takes no memory.
+/// It waits for a lock no longer than `LineQueue` says.
 ///
-/// That a home server went down or up it counts each time that a worker notes it, and logs each time that it is told how.
+/// It counts each note of a worker that its home server is marked down or up. It logs each report of how that
+/// happened, which is [`Gate::went_down`] or [`Gate::went_up`].
 #[derive(Drop)]
 pub struct Telemetry<'a, L, R> {
     config: &'a Config,
@@ -30,11 +31,12 @@ pub struct Telemetry<'a, L, R> {
 }
 
 impl<'a, L: Log, R: Clock> Telemetry<'a, L, R> {
-    /// Counts nothing yet, and writes its lines to a log. The program starts now.
+    /// Makes a gate that has counted nothing yet, and that writes its lines to `log`. The program counts as started
+    /// now.
     ///
     /// # Errors
     ///
-    /// Where memory is refused.
+    /// `AllocError` if memory is refused.
     pub fn new(
         alloc: Global,
         rt: &'a R,
@@ -52,22 +54,22 @@ impl<'a, L: Log, R: Clock> Telemetry<'a, L, R> {
         })
     }
 
-    /// What was counted so far.
+    /// Returns the counters.
     pub fn counters(&self) -> &Counters {
         &self.counters
     }
 
-    /// What was told of the clients and the home servers.
+    /// Returns the numbers of the clients and the home servers.
     pub fn numbers(&self) -> &Numbers<'a, R> {
         &self.numbers
     }
 
-    /// Logs that a worker ended, which it was not told to.
+    /// Logs that a worker ended by itself.
     pub fn tell_end(&self, worker: Worker) {
         self.events.ended(worker);
     }
 
-    /// A reporter of what is counted, which leaves the texts of the counters to what takes them, if anything.
+    /// Makes a reporter of what is counted. It leaves the texts of the counters to `texts`, if there is one.
     pub fn reporter<'b>(&'b self, texts: Option<&'b CounterTexts>) -> Reporter<'b, L, R> {
         Reporter {
             config: self.config,
@@ -80,7 +82,8 @@ impl<'a, L: Log, R: Clock> Telemetry<'a, L, R> {
 }
 
 impl<L: Log, R> Telemetry<'_, L, R> {
-    /// Counts a worker's note of a client's datagram, or that its home server went down or up.
+    /// Passes a note of the front to the numbers, and a note of a lane's worker that its home server is marked down
+    /// or up.
     fn tell_numbers(&self, worker: Worker, note: Note) {
         match (worker, note) {
             (Worker::Lane(lane), Note::WentDown | Note::WentUp) => self.numbers.turned(lane),

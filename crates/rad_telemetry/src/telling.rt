@@ -18,12 +18,12 @@ pub fn tell_warning<L: Log, D: Display>(log: &L, text: &D) {
     warn!(log; "{text}");
 }
 
-/// The log as [`open_log`] opens it, where standard error is a terminal or the environment has `RAD_PROXY_LOG`; else one that
-/// takes nothing, so that whoever compares what is printed finds the line of a fault alone.
+/// Opens the log as [`open_log`] does, if standard error is a terminal or the environment has `RAD_PROXY_LOG`.
+/// Otherwise the log accepts nothing, so that whoever compares what is printed finds only the line of a fault.
 ///
 /// # Errors
 ///
-/// Where memory is refused.
+/// `AllocError` if memory is refused.
 pub fn open_log_if_asked<E: Env>(
     env: &E,
     alloc: Global,
@@ -34,17 +34,17 @@ pub fn open_log_if_asked<E: Env>(
     Ok(Logged::new((), LevelFilter::Off, ErrorLines::new(alloc)?))
 }
 
-/// Logs an event of this name at `error`, which has nothing but a reason.
+/// Logs at `error` an event of this name, which has only a reason.
 pub fn tell_reason<L: Log, D: Display>(log: &L, event: &str, reason: &D) {
     tell_error(log, &ReasonLine { event, reason });
 }
 
-/// The same at `warn`.
+/// Logs at `warn` an event of this name, which has only a reason.
 pub fn warn_of_reason<L: Log, D: Display>(log: &L, event: &str, reason: &D) {
     tell_warning(log, &ReasonLine { event, reason });
 }
 
-/// A log line of an event that has nothing but a reason.
+/// The log line of an event that has only a reason.
 struct ReasonLine<'a, D> {
     event: &'a str,
     reason: &'a D,

@@ -1,21 +1,21 @@
-//! Streams whose failures are told.
+//! Streams whose failures are logged.
 
 use crate::telling::tell_reason;
 use log::Log;
 use std::io::{self, ErrorKind, Read, Write};
 
-/// A reader or a writer. Its first failure is logged as it comes, but for one that an interrupt made.
+/// A reader or a writer. Its first failed read or write is logged when it happens, unless it was only interrupted.
 #[derive(Drop)]
 pub struct ToldStream<'a, S: Drop, L> {
     stream: S,
-    /// The event that a failure is told as.
+    /// The event under which a failure is logged.
     event: &'a str,
     log: &'a L,
     is_told: bool,
 }
 
 impl<'a, S: Drop, L: Log> ToldStream<'a, S, L> {
-    /// Has the first failure of a stream told as an event of this name.
+    /// Makes a stream whose first failure is logged as an event of this name.
     pub fn new(stream: S, event: &'a str, log: &'a L) -> ToldStream<'a, S, L> {
         ToldStream {
             stream,
@@ -26,7 +26,7 @@ impl<'a, S: Drop, L: Log> ToldStream<'a, S, L> {
     }
 }
 
-/// Tells of a failure, where it is the first.
+/// Logs a failure, if it is the first and not an interrupt.
 fn tell<L: Log>(is_told: &mut bool, event: &str, log: &L, error: &io::Error) {
     if !*is_told && error.kind() != ErrorKind::Interrupted {
         *is_told = true;

@@ -1,4 +1,4 @@
-//! The log lines of a home server that went down or up.
+//! The log lines of a home server that is marked down or up.
 
 ghost use Rattle.std.specs.Prelude.{◌≡◌};
 ghost use Rattle.rad_telemetry.specs.WatchLines.{up_reason};
@@ -8,7 +8,7 @@ use crate::peer_text::ClientText;
 use rad_desk::{Spent, UpReason};
 use std::fmt;
 
-/// A home server went down, by this request.
+/// The log line of a home server that is marked down, since this request is unanswered.
 #[derive(Clone, Copy)]
 pub struct DownLine<'a> {
     /// The home server's name.
@@ -16,7 +16,7 @@ pub struct DownLine<'a> {
     pub spent: &'a Spent,
 }
 
-/// A home server went up, for this reason.
+/// The log line of a home server that is marked up, for this reason.
 #[derive(Clone, Copy)]
 pub struct UpLine<'a> {
     /// The home server's name.
@@ -52,7 +52,7 @@ impl fmt::Display for UpLine<'_> {
     }
 }
 
-/// Why a home server went up.
+/// Returns the text of why a home server is marked up.
 fn up_reason_text(reason: UpReason) -> &'static str
     ensures { result.now ≡ up_reason reason }
 {

@@ -1,4 +1,4 @@
-//! The workers of a configuration: where each stands among them, and its name.
+//! The workers of a configuration: the place of each among them, and its name.
 
 ghost use Rattle.std.specs.Prelude.{◌≡◌, ◌<◌, ◌≤◌, ◌^◌};
 ghost use Rattle.rad_telemetry.specs.Workers.{place_of, worker_text};
@@ -6,7 +6,8 @@ ghost use Rattle.rad_telemetry.specs.Workers.{place_of, worker_text};
 use rad_desk::Worker;
 use rad_realms::Config;
 
-/// The worker of the lane in this place, or of the last one that a worker can name.
+/// Returns the worker of the lane of this number, or from 65,536 on of lane 65,535, the last one that a worker can
+/// name.
 pub fn worker_of_lane(lane: usize) -> Worker
     ensures named { lane < 2 ^ 16 → result ≡ Worker.Lane lane }
     ensures last { 2 ^ 16 ≤ lane → result ≡ Worker.Lane 65535 }
@@ -14,7 +15,7 @@ pub fn worker_of_lane(lane: usize) -> Worker
     Worker::Lane(u16::try_from(lane).unwrap_or(u16::MAX))
 }
 
-/// The place of a worker: the front stands first, then the lanes in order.
+/// Returns the place of a worker: 0 is the front's, then come the lanes in order.
 pub fn worker_place(worker: Worker) -> usize
     ensures { result ≡ place_of worker }
 {
@@ -24,7 +25,8 @@ pub fn worker_place(worker: Worker) -> usize
     }
 }
 
-/// The name of a worker: a lane's is its home server's, or `none` where the configuration has no such lane.
+/// Returns the name of a worker: `front`, or for a lane the name of its home server, or `none` if the configuration
+/// has no such lane.
 pub fn worker_name(config: &Config, worker: Worker) -> &str
     ensures { result.now ≡ worker_text config.now worker }
 {
