@@ -1,11 +1,11 @@
-//! What is told of home servers' addresses.
+//! The faults of home servers' addresses.
 
 use rad_advice::{AddressFault, HomeAdvice, advise_homes};
 use rad_realms::{Config, read_config};
 use std::alloc::{AllocError, Global};
 use std::test::Fail;
 
-/// A configuration that listens at one address and port, and has one home server at another.
+/// Returns a configuration that listens on one address and port, and has one home server at another.
 fn configuration(alloc: Global, listen: &str, home: &str) -> Result<Config, Fail> {
     let text = format!(in alloc;
         "listen = \"{listen}\"\n[[client]]\naddress = \"10.0.0.1\"\nsecret = \"s\"\n[[home]]\nname = \"h1\"\naddress = \"{home}\"\nsecret = \"s\"\n"
@@ -19,9 +19,9 @@ fn configuration(alloc: Global, listen: &str, home: &str) -> Result<Config, Fail
 /// The addresses of the machine.
 const LOCAL: [[u8; 4]; 2] = [[192, 0, 2, 7], [10, 1, 2, 3]];
 
-/// Where the proxy listens, where the home server is, and what speaks against it.
+/// The address and port of `listen`, those of the home server, and the fault.
 static HOMES: [(&str, &str, Option<AddressFault>); 27] = [
-    // what `listen` serves
+    // the address of `listen`, and others
     (
         "127.0.0.1:1813",
         "127.0.0.1:1813",
@@ -41,7 +41,7 @@ static HOMES: [(&str, &str, Option<AddressFault>); 27] = [
     ("127.0.0.1:1813", "127.0.0.2:1813", None),
     ("192.0.2.7:1813", "10.1.2.3:1813", None),
     ("192.0.2.7:1813", "127.0.0.1:1813", None),
-    // every address of the machine
+    // `listen` on every address of the machine
     ("0.0.0.0:1813", "192.0.2.7:1813", Some(AddressFault::Listen)),
     ("0.0.0.0:1813", "10.1.2.3:1813", Some(AddressFault::Listen)),
     ("0.0.0.0:1813", "127.0.0.1:1813", Some(AddressFault::Listen)),
@@ -97,7 +97,7 @@ static HOMES: [(&str, &str, Option<AddressFault>); 27] = [
     ("127.0.0.1:1813", "198.51.100.20:1813", None),
 ];
 
-/// What is told of the one home server of a configuration.
+/// Returns the fault of the one home server of a configuration.
 fn told_of_one(alloc: Global, config: &Config) -> Result<Option<AddressFault>, Fail> {
     let advice = advise_homes(alloc, config, &LOCAL)?;
     match advice.as_slice() {
@@ -107,7 +107,7 @@ fn told_of_one(alloc: Global, config: &Config) -> Result<Option<AddressFault>, F
     }
 }
 
-/// What is told of a home server's address, where the proxy listens at another one.
+/// Returns the fault of a home server's address, for a proxy that listens on another one.
 fn told_of(alloc: Global, listen: &str, home: &str) -> Result<Option<AddressFault>, Fail> {
     let config = configuration(alloc, listen, home)?;
     told_of_one(alloc, &config)
@@ -122,7 +122,7 @@ fn each_address_is_judged(rt: HostRuntime) -> Result<(), Fail> {
     Ok(())
 }
 
-/// Six home servers, of which something is told but of the second.
+/// Six home servers, each with a fault except the second.
 const SIX: &str = r#"
 listen = "0.0.0.0:1813"
 [[client]]
@@ -154,17 +154,17 @@ address = "250.1.2.3:1813"
 secret = "s"
 "#;
 
-/// What is told of them, in lines.
+/// The lines that are printed for them.
 const TOLD: &str =
     "home first.one at 127.0.0.1:1813: listen serves it, so requests would come back\nhome third at 224.0.0.9:1813: it is a multicast address\nhome fourth at 0.0.0.0:2813: no host has this address\nhome fifth at 255.255.255.255:1813: it is the broadcast address\nhome sixth at 250.1.2.3:1813: it is a reserved address\n";
 
-/// Adds a line of what is told of a home server.
+/// Appends the line of a home server.
 fn add_line(alloc: Global, told: &mut String, one: &HomeAdvice<'_>) -> Result<(), AllocError> {
     let line = format!(in alloc; "{one}\n")?;
     told.push_str(line.as_str())
 }
 
-/// Adds a line for each home server of which something is told, where the machine has no address but those of 127.0.0.0/8.
+/// Appends a line for each home server with a fault, for a machine that has no addresses but those of 127.0.0.0/8.
 fn add_lines(alloc: Global, told: &mut String, config: &Config) -> Result<(), AllocError> {
     let advice = advise_homes(alloc, config, &[])?;
     for one in advice.as_slice() {
@@ -173,7 +173,7 @@ fn add_lines(alloc: Global, told: &mut String, config: &Config) -> Result<(), Al
     Ok(())
 }
 
-/// What is told of the home servers of a configuration, in lines.
+/// Returns the lines for the home servers of a configuration.
 fn lines_of(alloc: Global, text: &str) -> Result<String, Fail> {
     let Ok(config) = read_config(alloc, text) else {
         return Err(Fail::from("a configuration"));

@@ -1,10 +1,10 @@
-//! Which keys nobody reads, and where they stand.
+//! The keys that are not read, and their places.
 
 use rad_advice::unread_keys;
 use std::alloc::{AllocError, Global};
 use std::test::Fail;
 
-/// The lines of a text's unread keys, and how many more there are where that is not 0.
+/// Returns the lines of a text's keys that are not read, and the number of the others if it is not 0.
 fn printed(alloc: Global, text: &[u8]) -> Result<String, AllocError> {
     let keys = unread_keys(alloc, text)?;
     let mut lines = String::new(alloc);
@@ -47,11 +47,11 @@ name = "example.org"
 home = "h1"
 "#;
 
-/// Texts, and what is told of them.
+/// Texts, each with the lines that are printed for it.
 static TEXTS: [(&str, &str); 40] = [
     ("", ""),
     (ALL, ""),
-    // no TOML
+    // not TOML
     ("windw = 3\n= 4\n", ""),
     // the top
     ("windw = 3\n", "top windw at line 1, column 1\n"),
@@ -81,7 +81,7 @@ static TEXTS: [(&str, &str); 40] = [
         "[[home]]\n[[realms]]\nwindow = 1\n",
         "top realms at line 2, column 3\n",
     ),
-    // a header's keys are no keys of the top
+    // the keys below a header are not keys of the top
     ("[listen]\nwindw = 1\n", ""),
     // tables of an array
     (
@@ -96,7 +96,7 @@ static TEXTS: [(&str, &str); 40] = [
         "[[realm]]\nhome = 1\nhomes = 2\n[[client]]\nname = 1\n[[home]]\nlisten = 2\n",
         "client 0 name at line 5, column 1\nhome 0 listen at line 7, column 1\nrealm 0 homes at line 3, column 1\n",
     ),
-    // between two tables of one array stand others
+    // other tables between two tables of one array
     (
         "[[home]]\na = 1\n[[client]]\na = 2\n[[home]]\na = 3\n[[client]]\na = 4\n",
         "client 0 a at line 4, column 1\nclient 1 a at line 8, column 1\nhome 0 a at line 2, column 1\nhome 1 a at line 6, column 1\n",
@@ -115,7 +115,7 @@ static TEXTS: [(&str, &str); 40] = [
         "client 0 host at line 2, column 10\n",
     ),
     ("[[home]]\n[home.window]\nx = 1\n", ""),
-    // arrays in one value
+    // arrays that are written as one value
     (
         "home = [ { name = 1, windw = 3 }, { 'x' = [ { windw = 5 } ], windw = { windw = 6 } } ]\n",
         "home 0 windw at line 1, column 22\nhome 1 windw at line 1, column 62\nhome 1 x at line 1, column 37\n",
@@ -128,7 +128,7 @@ static TEXTS: [(&str, &str); 40] = [
         "realm = [ { name = 1, a.b = 2, a.c = 3 } ]\n",
         "realm 0 a at line 1, column 23\n",
     ),
-    // no arrays of tables
+    // values that are not arrays of tables
     ("home = 3\nclient = { windw = 1 }\n[realm]\nwindw = 1\n", ""),
     (
         "home = [ 1, { windw = 2 } ]\n",
@@ -171,7 +171,7 @@ static TEXTS: [(&str, &str); 40] = [
         "a123456789b123456789c123456789d123456789e123456789f123456789g1234 = 1\n",
         "top a123456789b123456789c123456789d123456789e123456789f123456789g123.. at line 1, column 1\n",
     ),
-    // the last line has no end
+    // a last line without a line feed
     ("listen = 1\nx = 2", "top x at line 2, column 1\n"),
     ("[[home]]\n[x]", "top x at line 2, column 2\n"),
     (
@@ -215,7 +215,7 @@ fn twenty_are_listed(rt: HostRuntime) -> Result<(), Fail> {
     Ok(())
 }
 
-/// Each key of many has its place, whichever it is.
+/// A key in the last of 300 tables has its place.
 #[test]
 fn the_last_of_many_is_found(rt: HostRuntime) -> Result<(), Fail> {
     let mut text = String::new(rt.alloc());

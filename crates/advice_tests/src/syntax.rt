@@ -1,10 +1,10 @@
-//! Where texts stop being TOML.
+//! The places where texts stop being TOML.
 
 use rad_advice::{Place, place_of, syntax_error};
 use std::alloc::{AllocError, Global};
 use std::test::Fail;
 
-/// What is printed of a text: why it is no TOML, or `TOML`.
+/// Returns what is printed for a text: why it is not TOML, or `TOML`.
 fn printed(alloc: Global, text: &[u8]) -> Result<String, AllocError> {
     match syntax_error(alloc, text)? {
         Some(fault) => format!(in alloc; "{fault}"),
@@ -19,7 +19,7 @@ const KEY: &str = "invalid key, expected letters, numbers, `-`, `_` or a quoted 
 
 const LINE: &str = "unexpected key or value, expected newline, `#`";
 
-/// Texts, each with the place where it stops being TOML, and what is told there.
+/// Texts, each with the place where it stops being TOML, and the message.
 static FAULTS: [(&[u8], usize, usize, &str); 14] = [
     // a value is missing
     (b"listen = ", 1, 10, VALUE),
@@ -45,7 +45,7 @@ static FAULTS: [(&[u8], usize, usize, &str); 14] = [
         "unclosed array table, expected `]]`",
     ),
     (b"[client\n", 1, 8, "unclosed table, expected `]`"),
-    // two pairs on one line, which characters of several octets stand before
+    // two pairs on one line, after characters of several octets
     (
         b"name = \"\xc3\xa9\xe2\x82\xac\xf0\x9d\x84\x9e\" window = 3\n",
         1,
@@ -54,16 +54,16 @@ static FAULTS: [(&[u8], usize, usize, &str); 14] = [
     ),
     // a string that is not closed
     (b"a = 1\r\nsecret = \"abc\nb = 2\n", 2, 14, "invalid string"),
-    // a key for the second time
+    // a key that is there twice
     (b"listen = 1\nlisten = 2\n", 2, 1, "duplicate key"),
-    // an array that is not closed
+    // an array without a comma between two tables
     (
         b"client = [\n  { address = \"10.0.0.1\" }\n  { address = \"10.0.0.2\" }\n]\n",
         3,
         3,
         "missing comma between array elements, expected `,` or `]`",
     ),
-    // the same at the end, behind a character of two octets
+    // a string that is not closed at the end of the text, after a character of two octets
     (b"a = 1\nb = \"\xc3\xa9", 2, 7, "invalid string"),
 ];
 
@@ -80,17 +80,17 @@ fn each_fault_has_its_place(rt: HostRuntime) -> Result<(), Fail> {
     Ok(())
 }
 
-/// Octets that are not UTF-8, and the place of the first of them.
+/// Octets that are not UTF-8, each with the place of the first octet that is not.
 static OCTETS: [(&[u8], usize, usize); 6] = [
     (b"\xff", 1, 1),
     (b"listen = \"\x80\"\n", 1, 11),
-    // a character of two octets stands before; an overlong form
+    // an overlong form, after a character of two octets
     (b"# \xc3\xa9\n# \xc3\xa9\xc0\xaf\n", 2, 4),
     // a character that is cut short
     (b"a = 1\n\xe2\x82", 2, 1),
     // half of a pair of surrogates
     (b"# \xed\xa0\x80\n", 1, 3),
-    // what follows is no TOML either
+    // the text before these octets is not TOML either
     (b"listen = \n\xff", 2, 1),
 ];
 

@@ -1,5 +1,5 @@
-//! What no contract says of packets that are signed: the octets of another implementation, the digests of the standards,
-//! and that calls succeed.
+//! Tests of what no contract states about signed packets: the octets of another implementation, the digests of the
+//! standards, and that calls succeed.
 
 mod comparing;
 mod digests;

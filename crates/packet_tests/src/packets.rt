@@ -1,4 +1,4 @@
-//! Packets that are read and written, and what is printed of faults.
+//! Reading and writing packets, and the printed faults.
 
 use rad_packet::{
     AttributePlace, Datagram, PacketRef, ReadFault, WriteFault, authenticator_of, read,
@@ -7,28 +7,28 @@ use std::fmt::Debug;
 use std::process::Abort;
 use std::test::Fail;
 
-/// A request with User-Name `bob`, Identifier 7 and an Authenticator of the octets 0 to 15.
+/// A request with the User-Name `bob`, Identifier 7 and an Authenticator of the octets 0 to 15.
 const REQUEST: [u8; 25] = [
     4, 7, 0, 25, 0, 1, 2, 3, 4, 5, 6, 7, 8, 9, 10, 11, 12, 13, 14, 15, 1, 5, 98, 111, 98,
 ];
 
 const AUTHENTICATOR: [u8; 16] = [0, 1, 2, 3, 4, 5, 6, 7, 8, 9, 10, 11, 12, 13, 14, 15];
 
-/// What a datagram is at first: a packet of zeros.
+/// A new datagram: Code, Identifier and Authenticator are zero, and there are no attributes.
 const NOTHING: [u8; 20] = [0, 0, 0, 20, 0, 0, 0, 0, 0, 0, 0, 0, 0, 0, 0, 0, 0, 0, 0, 0];
 
-/// The request with another Identifier and Authenticator, and its attribute twice.
+/// The request with another Identifier and Authenticator, and with its attribute twice.
 const CHANGED: [u8; 30] = [
     4, 8, 0, 30, 9, 9, 9, 9, 9, 9, 9, 9, 9, 9, 9, 9, 9, 9, 9, 9, 1, 5, 98, 111, 98, 1, 5, 98, 111,
     98,
 ];
 
-/// Compares what there is with what is wanted.
+/// Checks that a value is the wanted one.
 fn same<T: PartialEq + Debug + Copy>(rt: &impl Abort, given: T, wanted: T) {
     assert_eq!(rt; given, wanted);
 }
 
-/// That something is as it should be.
+/// Checks that a condition is true.
 fn holds(rt: &impl Abort, is_right: bool) {
     assert!(rt; is_right);
 }
@@ -39,7 +39,7 @@ fn has(rt: &impl Abort, datagram: &Datagram, octets: &[u8]) {
     same(rt, datagram.len(), octets.len());
 }
 
-/// The request, as it is written.
+/// Writes the request.
 fn written(rt: &impl Abort) -> Datagram {
     let mut datagram = Datagram::new();
     has(rt, &datagram, &NOTHING);
@@ -55,7 +55,7 @@ fn a_request_is_written(rt: HostRuntime) {
     holds(&rt, datagram.packet().octets() == REQUEST.as_slice());
 }
 
-/// Checks what is told of the request's attributes.
+/// Checks the places and the number of the request's attributes.
 fn attributes_are_told(rt: &impl Abort, packet: &PacketRef<'_>) {
     let place = AttributePlace {
         place: 20,
@@ -77,7 +77,7 @@ fn a_request_is_read(rt: HostRuntime) -> Result<(), Fail> {
     Ok(())
 }
 
-/// A copy of a packet with another Identifier and Authenticator, and its attributes twice.
+/// Returns a copy of a packet with another Identifier and Authenticator, and with its attributes twice.
 fn changed(rt: &impl Abort, packet: &PacketRef<'_>) -> Datagram {
     let mut loaded = Datagram::new();
     loaded.load(packet);
@@ -96,7 +96,7 @@ fn a_copy_changes_alone(rt: HostRuntime) {
     has(&rt, &request, &REQUEST);
 }
 
-/// Adds a Class of this value, and checks what that gives.
+/// Appends a Class with this Value, and checks the result.
 fn push_gives(rt: &impl Abort, datagram: &mut Datagram, value: &[u8], fault: Option<WriteFault>) {
     assert_eq!(rt;
         datagram.push(25, value).err(),
@@ -124,12 +124,12 @@ fn refuses_what_does_not_fit(rt: HostRuntime) {
     same(&rt, datagram.len(), 4096);
 }
 
-/// Checks with which fault octets are read, if any.
+/// Checks that reading these octets has this fault, or none.
 fn reads(rt: &impl Abort, octets: &[u8], fault: Option<ReadFault>) {
     same(rt, read(octets).err(), fault);
 }
 
-/// Fills a packet of this Length with attributes of no value, and reads 4097 octets of it.
+/// Fills a packet of this Length with attributes without a Value, and reads 4097 octets of it.
 fn reads_length(rt: &impl Abort, length: u16, fault: Option<ReadFault>) {
     let mut octets = [0; 4097];
     for (place, octet) in octets.iter_mut().enumerate() {

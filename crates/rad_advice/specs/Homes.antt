@@ -1,4 +1,4 @@
--- What speaks against the address and port of a home server. Which datagrams come to `listen` is own.
+-- The faults of the address and port of a home server. Which datagrams come to `listen` is own.
 use Rattle.std.specs.Prelude.{ℕ, Bool, ◌&&◌, ◌||◌, ◌==◌, nat_le, if◌then◌else◌, List, [], ◌∷◌, Option, Some, None, option_map, slice_index}
 use Rattle.std.specs.List.{list_any, filter_map}
 use Rattle.std.specs.Str.{bytes_eq}
@@ -8,7 +8,7 @@ use Rattle.rad_advice.specs.declared.homes.AddressFault.{AddressFault}
 use Rattle.rad_advice.specs.declared.homes.AddressFault.TheVariants.{Listen, Unspecified, Broadcast, Multicast, Reserved}
 use Rattle.rad_advice.specs.declared.homes.HomeAdvice.{HomeAdvice}
 
--- What is told of a home server.
+-- What is reported about a home server.
 pub record Advice : Type 0 where
   pub name : List ℕ
   pub endpoint : Endpoint
@@ -24,17 +24,17 @@ unspecified = 0 ∷ 0 ∷ 0 ∷ 0 ∷ []
 abbrev pub broadcast : List ℕ
 broadcast = 255 ∷ 255 ∷ 255 ∷ 255 ∷ []
 
--- An address of this machine: one of 127.0.0.0/8 (RFC 1122 section 3.2.1.3), or one of those that it is said to have.
+-- An address of this machine: one of 127.0.0.0/8 (RFC 1122 section 3.2.1.3), or one of the list `own`.
 abbrev pub is_local : List (List ℕ) → List ℕ → Bool
 is_local own address = slice_index address 0 == 127 || list_any (λ a. bytes_eq a address) own
 
--- Whether a datagram to this address and port comes to a socket that is bound to `listen`.
+-- Whether a socket that is bound to `listen` receives a datagram that is sent to the address and port `to`.
 abbrev pub is_served : Endpoint → List (List ℕ) → Endpoint → Bool
 is_served listen own to =
     listen.port == to.port
     && (bytes_eq listen.address to.address || (bytes_eq listen.address unspecified && is_local own to.address))
 
--- What speaks against an address: RFC 1122 section 3.2.1.3, RFC 919 section 7, RFC 5771 section 3, RFC 1112 section 4.
+-- The fault of an address: RFC 1122 section 3.2.1.3, RFC 919 section 7, RFC 5771 section 3, RFC 1112 section 4.
 abbrev pub address_fault : List ℕ → Option AddressFault
 address_fault address =
     if bytes_eq address unspecified then Some Unspecified
@@ -43,7 +43,7 @@ address_fault address =
     else if nat_le 224 (slice_index address 0) then Some Multicast
     else None
 
--- What speaks against a home server there, where `listen` serves the clients.
+-- The fault of a home server's address and port, for a proxy that listens on `listen`.
 abbrev pub endpoint_fault : Endpoint → List (List ℕ) → Endpoint → Option AddressFault
 endpoint_fault listen own to = if is_served listen own to then Some Listen else address_fault to.address
 
@@ -51,6 +51,6 @@ unfoldable pub advice_of : Endpoint → List (List ℕ) → HomeEntry → Option
 advice_of listen own home =
     option_map (λ f. record { name = home.name; endpoint = home.endpoint; fault = f }) (endpoint_fault listen own home.endpoint)
 
--- What is told of the home servers of a configuration, in their order.
+-- What is reported about the home servers of a configuration that have a fault, in their order.
 abbrev pub advice_of_all : List (List ℕ) → Configuration → List Advice
 advice_of_all own c = filter_map (advice_of c.listen own) c.homes

@@ -1,5 +1,5 @@
--- Where an octet stands in a text (own): its line and, in characters, its column, both from 1. A line ends with a line
--- feed. A character begins with each octet that does not continue one in UTF-8 (RFC 3629 section 3).
+-- The place of an octet in a text (own): its line, and its column in characters, both counted from 1. A line ends with
+-- a line feed. A character begins with each octet that does not continue one in UTF-8 (RFC 3629 section 3).
 use Rattle.std.specs.Prelude.{ℕ, ◌+◌, Bool, not, ◌&&◌, ◌==◌, nat_le, nat_lt, if◌then◌else◌, List, [], ◌∷◌, take, Option, Some, None, unwrap_or}
 use Rattle.std.specs.List.{count_by}
 use Rattle.rad_realms.specs.Realm.{or_else}
@@ -11,7 +11,7 @@ is_line_feed octet = octet == 10
 abbrev pub begins_character : ℕ → Bool
 begins_character octet = not (nat_le 0x80 octet && nat_lt octet 0xC0)
 
--- What follows the last line feed, where there is one.
+-- The octets after the last line feed, if there is one.
 unfoldable pub line_behind : List ℕ → Option (List ℕ)
 line_behind [] = None
 line_behind (o ∷ os) = or_else (line_behind os) (if is_line_feed o then Some os else None)
@@ -20,7 +20,7 @@ line_behind (o ∷ os) = or_else (line_behind os) (if is_line_feed o then Some o
 abbrev pub last_line : List ℕ → List ℕ
 last_line text = unwrap_or (line_behind text) text
 
--- The line and the column of what follows these octets.
+-- The line and the column of the octet after these octets.
 abbrev pub line_after : List ℕ → ℕ
 line_after before = count_by is_line_feed before + 1
 

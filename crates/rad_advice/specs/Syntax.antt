@@ -1,4 +1,4 @@
--- Which octets are TOML, and what is told of others (own).
+-- Which octets are TOML, and the places in a text (own).
 use Rattle.std.specs.Prelude.{◌≡◌, ℕ, ◌≤◌, List, length, IsUtf8, IsSome}
 use Rattle.toml.specs.Parse.{parse_document}
 use Rattle.rad_advice.specs.declared.place.Place.{Place}

@@ -1,4 +1,4 @@
-//! Names that come from a file, as they are printed.
+//! Printing names that come from a file.
 
 ghost use Rattle.std.specs.Prelude.{◌≡◌, ◌≤◌, length, take};
 ghost use Rattle.rad_advice.specs.Printed.{is_plain};
@@ -8,12 +8,12 @@ use std::fmt;
 /// The most octets of a name that are printed.
 const MOST_OCTETS: usize = 64;
 
-/// A name: the octets that are printed as they are, and the others by two hexadecimal digits behind a `%`. A long one is
-/// cut, and `..` follows.
+/// A name. An octet is printed as it is, or as `%` and two hexadecimal digits. A name of more than 64 octets is cut
+/// after 64, and `..` follows.
 #[derive(Clone, Copy, Debug)]
 pub(crate) struct Escaped<'a>(pub &'a str);
 
-/// Octets, each as one of a name.
+/// Octets of a name.
 #[derive(Clone, Copy)]
 struct EscapedOctets<'a>(&'a [u8]);
 
@@ -70,7 +70,7 @@ impl fmt::Display for EscapedOctet {
     }
 }
 
-/// The octets of a long name that are printed.
+/// Returns the octets of a long name that are printed.
 fn front_of(octets: &[u8]) -> &[u8]
     requires { 64 ≤ length octets.now }
     ensures { result.now ≡ take 64 octets.now }
@@ -78,7 +78,7 @@ fn front_of(octets: &[u8]) -> &[u8]
     &octets[..MOST_OCTETS]
 }
 
-/// Whether an octet is printed as it is: a visible one of ASCII, but for `%`, `"` and `=`.
+/// Whether an octet is printed as it is: a visible ASCII character other than `%`, `"` and `=`.
 fn is_printed(octet: u8) -> bool
     ensures { result ≡ is_plain octet }
 {

@@ -1,7 +1,7 @@
-//! Where a key stands in a text that is TOML.
+//! Finding the place of a key in a TOML text.
 //!
-//! A document doesn't tell where its keys stand, so the text is gone over, a header or a pair of a key and a value at a
-//! time. What is found so is read once more as a key and compared before it is answered.
+//! A parsed document does not contain the places of its keys, so the text is searched, one header or one pair of a key
+//! and a value at a time. A key that was found is read again and compared before its place is returned.
 
 ghost use Rattle.std.specs.Prelude.{◌≡◌, ◌≤◌, Some, length, option_copied, option_map, IfOk, IfSome, IsTrue, string_bytes};
 ghost use Rattle.std.specs.List.{slice_get};
@@ -13,41 +13,41 @@ use rad_realms::{Key, Part};
 use std::alloc::{AllocError, Global};
 use toml_parser::text::{byte_at, first, skip, skip_blank, skip_ws};
 
-/// What is looked for: a key of a table.
+/// The key that is looked for, and its table.
 #[derive(Clone, Copy)]
 struct Wanted<'a> {
     /// The part that the table belongs to.
     part: Part,
-    /// The name of the part's array, which the top has not.
+    /// The name of the part's array. It is empty for the top.
     array: &'a str,
-    /// Which table of the array.
+    /// The index of the table in that array, counted from 0.
     index: usize,
     /// The name of the key.
     name: &'a str,
 }
 
-/// The tables that what follows may stand in.
+/// The kind of table that the next pair belongs to.
 #[derive(Clone, Copy, PartialEq, Eq)]
 enum Section {
-    /// The top: no header has come yet.
+    /// The top: no header was passed yet.
     Top,
-    /// The last table of the array that is looked for.
+    /// The last table so far of the array that is looked for.
     Array,
-    /// Any other.
+    /// Any other table.
     Other,
 }
 
-/// How far the text was gone over.
+/// The progress of the search through the text.
 #[derive(Clone, Copy)]
 struct Passed {
-    /// What the last header began.
+    /// The kind of table that the last header began.
     section: Section,
-    /// How many tables of the array have begun.
+    /// The number of tables of the array that have begun.
     tables: usize,
 }
 
-/// Where a key begins in a text, in octets: at its first time in the table of this part and index. It is `None` where it
-/// was not found.
+/// Returns the offset in octets at which a key begins for the first time in the table of this part and index, or
+/// `None` if it was not found.
 pub(crate) fn find_key(
     alloc: Global,
     text: &str,
@@ -68,7 +68,7 @@ pub(crate) fn find_key(
     find(alloc, text, wanted)
 }
 
-/// The name of a part's array of tables. It is empty for the top, which is none.
+/// Returns the name of a part's array of tables, which is empty for the top.
 fn array_name(alloc: Global, part: Part) -> Result<String, AllocError> {
     match part {
         Part::Top => Ok(String::new(alloc)),
@@ -78,7 +78,7 @@ fn array_name(alloc: Global, part: Part) -> Result<String, AllocError> {
     }
 }
 
-/// Goes over a text until the key is found.
+/// Searches a text until the key is found.
 fn find(alloc: Global, text: &str, wanted: Wanted<'_>) -> Result<Option<usize>, AllocError>
     ensures { IfOk result (λ found. IfSome found (λ offset. (offset ≤ length text.now) × BeginsAt wanted.entry.name.now offset text.now)) }
 {
@@ -103,7 +103,7 @@ fn find(alloc: Global, text: &str, wanted: Wanted<'_>) -> Result<Option<usize>, 
     Ok(None)
 }
 
-/// A text without the byte order mark that it may begin with.
+/// Returns a text without the byte order mark that it may begin with.
 fn skip_mark(text: &str) -> &str {
     match text.strip_prefix("\u{feff}") {
         Some(rest) => rest,
@@ -111,7 +111,7 @@ fn skip_mark(text: &str) -> &str {
     }
 }
 
-/// Whether a key of this name begins at an offset of a text.
+/// Whether a key whose first part has this name begins at an offset of a text.
 fn stands_at(alloc: Global, text: &str, offset: usize, name: &str) -> Result<bool, AllocError>
     ensures { IfOk result (λ stands. IsTrue stands → (offset ≤ length text.now) × BeginsAt name.now offset text.now) }
 {
@@ -124,7 +124,7 @@ fn stands_at(alloc: Global, text: &str, offset: usize, name: &str) -> Result<boo
     }
 }
 
-/// Whether a key has this name at this place among its parts.
+/// Whether the part of a key at this index has this name.
 fn is_part(parts: &[String], place: usize, name: &str) -> bool
     ensures { IsTrue result → option_map string_bytes (slice_get parts.now place) ≡ Some name.now }
 {
@@ -134,14 +134,14 @@ fn is_part(parts: &[String], place: usize, name: &str) -> bool
     }
 }
 
-/// The part at this place.
+/// Returns the part at this index.
 fn part_at(parts: &[String], place: usize) -> Option<&String>
     ensures { option_copied result ≡ slice_get parts.now place }
 {
     parts.get(place)
 }
 
-/// Looks for the key in the header or the pair at the front: what begins with the key, where it is there.
+/// Looks for the key in the header or pair at the front, and returns the text from the key on, if it is there.
 fn find_in_expression<'t>(
     alloc: Global,
     wanted: Wanted<'_>,
@@ -192,13 +192,13 @@ fn find_in_header<'t>(
 }
 
 impl Passed {
-    /// Passes the header of a table of the array.
+    /// Records that a table of the array begins.
     fn begin(&mut self) {
         self.section = Section::Array;
         self.tables = self.tables.saturating_add(1);
     }
 
-    /// Whether this is the last table of the array that has begun.
+    /// Whether the last table of the array that has begun has this index.
     fn is_at(&self, index: usize) -> bool {
         self.tables.checked_sub(1) == Some(index)
     }
@@ -222,7 +222,7 @@ fn find_in_pair<'t>(
     Ok(some_if(found, start))
 }
 
-/// A text, where a test says so.
+/// Returns a text if `test` is true.
 fn some_if(test: bool, text: &str) -> Option<&str> {
     if test { Some(text) } else { None }
 }
@@ -232,7 +232,7 @@ fn is_array(wanted: Wanted<'_>, passed: &Passed, parts: &[String]) -> bool {
     wanted.part != Part::Top && passed.section == Section::Top && is_part(parts, 0, wanted.array)
 }
 
-/// Whether what comes next stands in the table that is looked for.
+/// Whether the next pair belongs to the table that is looked for.
 fn is_section(wanted: Wanted<'_>, passed: &Passed) -> bool {
     if wanted.part == Part::Top {
         return passed.section == Section::Top;
@@ -240,18 +240,18 @@ fn is_section(wanted: Wanted<'_>, passed: &Passed) -> bool {
     passed.section == Section::Array && passed.is_at(wanted.index)
 }
 
-/// The brackets that are open in an array that is written as one value.
+/// The open brackets in an array that is written as one value.
 #[derive(Clone, Copy)]
 struct Brackets {
-    /// How many they are.
+    /// How many brackets are open.
     depth: usize,
-    /// Which element of the array this is.
+    /// The index of the current element of the array, counted from 0.
     element: usize,
     /// Whether a key of that element, or its end, comes next.
     key_next: bool,
 }
 
-/// Looks for the key in an array of tables that is written as one value, behind its key.
+/// Looks for the key in an array of tables that is written as one value, given the text after the array's key.
 fn find_in_array<'t>(
     alloc: Global,
     wanted: Wanted<'_>,
@@ -290,7 +290,7 @@ fn begins_with(alloc: Global, text: &str, name: &str) -> Result<bool, AllocError
 }
 
 impl Brackets {
-    /// Passes a token. Whether the array goes on.
+    /// Passes a token, and returns whether the array goes on.
     fn pass(&mut self, token: Token) -> bool {
         match token {
             Token::Open => self.depth = self.depth.saturating_add(1),

@@ -1,4 +1,5 @@
-//! Home servers that can't be sent to, and those that the proxy is itself.
+//! Warnings about home servers whose address cannot be correct: it is not the address of a host, or it is the proxy's
+//! own.
 
 ghost use Rattle.std.specs.Prelude.{◌≡◌, ◌++◌, map, option_map, IfOk, OnOk};
 ghost use Rattle.std.specs.List.{list_any};
@@ -10,29 +11,29 @@ use rad_realms::{Config, Endpoint, Home};
 use std::alloc::{AllocError, Global};
 use std::fmt;
 
-/// What speaks against an address and port of a home server.
+/// Why the address and port of a home server cannot be correct.
 #[derive(Clone, Copy, Debug, PartialEq, Eq)]
 pub enum AddressFault {
-    /// The proxy's own `listen` serves it, so each request would come back as one of a client.
+    /// The proxy itself receives what is sent to it, on `listen`, so each request would come back as one of a client.
     Listen,
-    /// 0.0.0.0, which no host has.
+    /// The address is 0.0.0.0, which no host has.
     Unspecified,
-    /// 255.255.255.255, which is every host of the network (RFC 919 section 7).
+    /// The address is 255.255.255.255, which stands for every host of the network (RFC 919 section 7).
     Broadcast,
-    /// A group of hosts: 224.0.0.0/4 (RFC 5771 section 3).
+    /// The address is that of a group of hosts: 224.0.0.0/4 (RFC 5771 section 3).
     Multicast,
-    /// An address for future use: 240.0.0.0/4 (RFC 1112 section 4).
+    /// The address is reserved for future use: 240.0.0.0/4 (RFC 1112 section 4).
     Reserved,
 }
 
-/// A home server, and what speaks against its address. It is printed as one line.
+/// A home server, and the fault of its address. It is printed as one line.
 #[derive(Clone, Copy, Debug)]
 pub struct HomeAdvice<'c> {
     /// The home server's name in the configuration.
     pub name: &'c str,
-    /// Where requests would be sent to.
+    /// The address and port that requests would be sent to.
     pub endpoint: Endpoint,
-    /// What speaks against it.
+    /// The fault of that address and port.
     pub fault: AddressFault,
 }
 
@@ -67,8 +68,12 @@ impl fmt::Display for HomeAdvice<'_> {
     }
 }
 
-/// What speaks against each home server of a configuration, in their order; one of which nothing speaks is left out.
-/// `local` are the addresses of this machine beside 127.0.0.0/8.
+/// Returns the faults of the home servers' addresses, in the order of the configuration. Home servers without a fault
+/// are omitted. `local` are the addresses of this machine, except those of 127.0.0.0/8.
+///
+/// # Errors
+///
+/// If memory is refused.
 pub fn advise_homes<'c>(
     alloc: Global,
     config: &'c Config,
@@ -85,7 +90,7 @@ pub fn advise_homes<'c>(
     Ok(advice)
 }
 
-/// Adds what is told of a home server, where something is.
+/// Appends the fault of a home server, if there is one.
 fn add_advice<'c>(
     advice: &mut Vec<HomeAdvice<'c>>,
     one: Option<HomeAdvice<'c>>,
@@ -98,8 +103,8 @@ fn add_advice<'c>(
     Ok(())
 }
 
-/// What speaks against a home server, where `listen` serves the clients.
-/// `local` are the addresses of this machine beside 127.0.0.0/8.
+/// Returns the fault of a home server's address, if there is one, for a proxy that listens on `listen`. `local` are
+/// the addresses of this machine, except those of 127.0.0.0/8.
 #[tactic(auto, unfolding(crate::specs::Homes::advice_of))]
 pub fn advise_home<'c>(
     listen: Endpoint,
@@ -124,7 +129,7 @@ pub fn advise_home<'c>(
     })
 }
 
-/// Whether a datagram that is sent to this address and port comes to a socket that is bound to `listen`.
+/// Whether a socket that is bound to `listen` receives a datagram that is sent to this address and port.
 fn is_served(listen: Endpoint, local: &[[u8; 4]], to: Endpoint) -> bool
     ensures { result ≡ comes_to listen local.now to }
 {
@@ -134,28 +139,28 @@ fn is_served(listen: Endpoint, local: &[[u8; 4]], to: Endpoint) -> bool
     listen.address == to.address || (listen.address == [0, 0, 0, 0] && is_local(local, to.address))
 }
 
-/// Whether this machine has an address: one of the loopback, or one of those that it is said to have.
+/// Whether this machine has an address: one of 127.0.0.0/8, or one of `local`.
 fn is_local(local: &[[u8; 4]], address: [u8; 4]) -> bool
     ensures { result ≡ belongs_here local.now address }
 {
     address[0] == 127 || has_address(local, address)
 }
 
-/// Whether one of these is the address.
+/// Whether `address` is one of `local`.
 fn has_address(local: &[[u8; 4]], address: [u8; 4]) -> bool
     ensures { result ≡ list_any (λ own. bytes_eq own address) local.now }
 {
     local.iter().any(|own| is_same(*own, address))
 }
 
-/// Whether two addresses are the same.
+/// Whether two addresses are equal.
 fn is_same(one: [u8; 4], other: [u8; 4]) -> bool
     ensures { result ≡ bytes_eq one other }
 {
     one == other
 }
 
-/// What speaks against an address, whatever the port.
+/// Returns the fault of an address, whatever the port.
 fn address_fault(address: [u8; 4]) -> Option<AddressFault>
     ensures { result ≡ fault_at address }
 {

@@ -1,4 +1,4 @@
-//! The keys that are read of a configuration, by the part that they stand in.
+//! The keys of a configuration that are read, by part.
 
 ghost use Rattle.std.specs.Prelude.{◌≡◌, map, IfOk, string_bytes};
 ghost use Rattle.std.specs.List.{list_any};
@@ -10,7 +10,7 @@ use rad_realms::{Key, Part, Spot};
 use std::alloc::{AllocError, Global};
 use toml_parser::text::skip;
 
-/// The keys that are read in the tables of a part.
+/// Returns the keys that are read in the tables of a part.
 fn keys_of(part: Part) -> &'static [Key]
     ensures { result.now ≡ read_keys part }
 {
@@ -47,7 +47,7 @@ fn keys_of(part: Part) -> &'static [Key]
     }
 }
 
-/// The names of the keys that are read in the tables of a part.
+/// Returns the names of the keys that are read in the tables of a part.
 pub(crate) fn names_of(alloc: Global, part: Part) -> Result<Vec<String>, AllocError>
     ensures { IfOk result (λ names. map string_bytes names.items ≡ read_names part) }
 {
@@ -59,7 +59,7 @@ pub(crate) fn names_of(alloc: Global, part: Part) -> Result<Vec<String>, AllocEr
     Ok(names)
 }
 
-/// A key as it is written in the configuration, which is how it is printed behind `top `.
+/// Returns a key as it is written in the configuration, which is also how it is printed after `top `.
 pub(crate) fn name_of(alloc: Global, key: Key) -> Result<String, AllocError>
     ensures { IfOk result (λ name. string_bytes name ≡ key_name key) }
 {
@@ -72,14 +72,14 @@ pub(crate) fn name_of(alloc: Global, key: Key) -> Result<String, AllocError>
     String::from_str(alloc, skip(text.as_str(), 4))
 }
 
-/// Whether one of these is the name.
+/// Whether `name` is one of these names.
 pub(crate) fn is_among(names: &[String], name: &str) -> bool
     ensures { result ≡ is_one_of (map string_bytes names.now) name.now }
 {
     has_name(names, name)
 }
 
-/// Whether one of these texts is the name.
+/// Whether `name` is one of these texts.
 fn has_name(names: &[String], name: &str) -> bool
     ensures { result ≡ list_any (λ read. bytes_eq (string_bytes read) name.now) names.now }
 {

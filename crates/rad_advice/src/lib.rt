@@ -1,9 +1,10 @@
-//! What an operator is told about a configuration beyond whether it is read: where a text stops being TOML, which of
-//! its keys nobody reads, and which home servers can't be sent to, or would send the proxy its own requests.
+//! Reports on a configuration for its operator, besides the fault for which it is refused: where a text stops being
+//! TOML, which keys are not read, and which home servers have an address that is not the address of a host, or is the
+//! proxy's own.
 //!
-//! Nothing here changes what is read: that is `rad_realms::read_config` alone. `specs/Place.antt` says where an octet
-//! stands in a text, `specs/Keys.antt` which keys of a document are unread, and `specs/Homes.antt` what speaks against a
-//! home server's address. Each answer is printed as one line.
+//! Nothing here changes how a configuration is read: only `rad_realms::read_config` does that. `specs/Place.antt`
+//! defines the place of an octet in a text, `specs/Keys.antt` which keys of a document are not read, and
+//! `specs/Homes.antt` the faults of a home server's address. Each report is printed as one line.
 #![tactic(auto)]
 
 mod escaped;

@@ -1,4 +1,4 @@
-//! Where an octet of a text stands, as an editor counts.
+//! The place of an octet in a text, counted as in an editor.
 
 ghost use Rattle.std.specs.Prelude.{◌≡◌, ◌≤◌, length, option_copied};
 ghost use Rattle.std.specs.List.{count_by};
@@ -28,7 +28,8 @@ impl fmt::Display for Place {
     }
 }
 
-/// The place of the octet at an offset of a text; at the text's end, of what would follow.
+/// Returns the place of the octet at an offset of a text. At the text's end it is the place of an octet that would
+/// follow.
 #[tactic(auto, unfolding(crate::specs::Place::place_at))]
 pub fn place_of(text: &[u8], offset: usize) -> Place
     requires { offset ≤ length text.now }
@@ -40,14 +41,14 @@ pub fn place_of(text: &[u8], offset: usize) -> Place
     Place { line, column }
 }
 
-/// The line of what follows these octets.
+/// Returns the line of the octet after these octets.
 fn line_of(before: &[u8]) -> usize
     ensures { result ≡ line_after before.now }
 {
     count_line_feeds(before) + 1
 }
 
-/// How many of these octets are line feeds.
+/// Returns the number of line feeds among these octets.
 fn count_line_feeds(octets: &[u8]) -> usize
     ensures number { result ≡ count_by is_line_feed octets.now }
     ensures most { result ≤ length octets.now }
@@ -61,7 +62,7 @@ fn count_line_feeds(octets: &[u8]) -> usize
     count
 }
 
-/// The column of what follows these octets.
+/// Returns the column of the octet after these octets.
 fn column_of(before: &[u8]) -> usize
     ensures { result ≡ column_after before.now }
 {
@@ -72,7 +73,7 @@ fn column_of(before: &[u8]) -> usize
     count_characters(line) + 1
 }
 
-/// How many characters begin in these octets.
+/// Returns the number of characters that begin in these octets.
 fn count_characters(octets: &[u8]) -> usize
     ensures number { result ≡ count_by begins_character octets.now }
     ensures most { result ≤ length octets.now }
@@ -86,7 +87,7 @@ fn count_characters(octets: &[u8]) -> usize
     count
 }
 
-/// What follows the last line feed of these octets, where there is one.
+/// Returns the octets after the last line feed, if there is one.
 fn behind_line_feed(octets: &[u8]) -> Option<&[u8]>
     ensures { option_copied result ≡ line_behind octets.now }
 {

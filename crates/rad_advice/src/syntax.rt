@@ -1,4 +1,4 @@
-//! Where a text stops being TOML, and what was expected there.
+//! The place where a text stops being TOML, and the error there.
 
 ghost use Rattle.std.specs.Prelude.{◌≡◌, Some, None, IfOk, IfSome, IsSome, IsNone, IsUtf8, ◌↔◌, string_bytes};
 ghost use Rattle.std.specs.Str.Lossy.{utf8_valid_len};
@@ -10,24 +10,26 @@ use crate::place::{Place, place_of};
 use std::alloc::{AllocError, Global};
 use std::fmt;
 
-/// Why a text is no TOML, and the place where that shows. It is printed as `line 3, column 10: invalid string`.
+/// Why a text is not TOML, and where. It is printed as `line 3, column 10: invalid string`.
 #[derive(Debug, Drop)]
 pub struct SyntaxError {
-    /// Where it shows.
+    /// The place of the error.
     place: Place,
-    /// What is wrong there, or what was expected.
+    /// The error, or what was expected there.
     message: String,
 }
 
 impl SyntaxError {
-    /// Where the text stops being TOML. Where it is no text, the place of the first octet that is not UTF-8.
+    /// Returns the place where the text stops being TOML. If the text is not UTF-8, it is the place of the first octet
+    /// that is not.
     pub fn place(&self) -> Place
         ensures { result ≡ self.now.place }
     {
         self.place
     }
 
-    /// What is wrong there, or what was expected: one line without quotation marks, in the words of TOML's reader.
+    /// Returns the error, or what was expected there: one line without quotation marks. The words are those of the
+    /// TOML reader, or `no UTF-8`.
     pub fn message(&self) -> &str
         ensures { result.now ≡ string_bytes self.now.message }
     {
@@ -48,7 +50,11 @@ impl fmt::Display for SyntaxError {
     }
 }
 
-/// Why a text is no TOML, or `None` where it is TOML. It takes the memory of reading it.
+/// Returns why a text is not TOML, or `None` if it is TOML. It takes the memory that reading the text takes.
+///
+/// # Errors
+///
+/// If memory is refused.
 pub fn syntax_error(alloc: Global, text: &[u8]) -> Result<Option<SyntaxError>, AllocError>
     ensures toml { IfOk result (λ fault. IsNone fault ↔ IsToml text.now) }
     ensures place { IfOk result (λ fault. IfSome fault (λ f. IsPlaceIn text.now f.place)) }
@@ -64,7 +70,7 @@ pub fn syntax_error(alloc: Global, text: &[u8]) -> Result<Option<SyntaxError>, A
     }
 }
 
-/// Why a text is no TOML, where it is none.
+/// Returns why a text is not TOML, or `None` if it is TOML.
 fn toml_error(alloc: Global, text: &str) -> Result<Option<SyntaxError>, AllocError>
     ensures toml { IfOk result (λ fault. IsNone fault ↔ IsSome (parse_document text.now)) }
     ensures place { IfOk result (λ fault. IfSome fault (λ f. IsPlaceIn text.now f.place)) }

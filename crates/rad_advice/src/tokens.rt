@@ -1,4 +1,4 @@
-//! Steps over a text that is TOML, from the front, as far as a key is looked for.
+//! Stepping over a TOML text from the front, as the search for a key needs it.
 
 ghost use Rattle.std.specs.Prelude.{◌≡◌, true, option_map, IfOk, IfSome, string_bytes};
 ghost use Rattle.std.specs.List.{slice_get};
@@ -10,7 +10,7 @@ use toml_parser::bytes::is_bare;
 use toml_parser::text::{first, skip, skip_blank, skip_ws};
 use toml_parser::{ParseError, dotted_key, quoted, starts_string};
 
-/// What a value is written with.
+/// A token of a value.
 #[derive(Clone, Copy, PartialEq, Eq)]
 pub(crate) enum Token {
     /// `[` or `{`.
@@ -23,7 +23,7 @@ pub(crate) enum Token {
     Other,
 }
 
-/// Reads the parts of a key, and what follows it. It is `None` where there is no key.
+/// Reads a key, and returns its parts and the text after it, or `None` if there is no key.
 pub(crate) fn read_key(alloc: Global, text: &str) -> Result<Option<(Vec<String>, &str)>, AllocError>
     ensures { IfOk result (λ read. IfSome read (λ parts. option_map (λ k. first_part k.0) (key_at text.now) ≡ option_map string_bytes (slice_get parts.0.items 0))) }
 {
@@ -38,7 +38,7 @@ pub(crate) fn read_key(alloc: Global, text: &str) -> Result<Option<(Vec<String>,
     }
 }
 
-/// Steps over a part of a key and the dot behind it.
+/// Steps over a part of a key and the dot after it.
 pub(crate) fn skip_part(alloc: Global, key: &str) -> Result<Option<&str>, AllocError> {
     let after = if starts_string(key) {
         skip_string(alloc, key)?
@@ -51,7 +51,7 @@ pub(crate) fn skip_part(alloc: Global, key: &str) -> Result<Option<&str>, AllocE
     }
 }
 
-/// Steps over a dot and the white space behind it.
+/// Steps over a dot and the white space after it.
 fn skip_dot(text: &str) -> Option<&str> {
     if first(text) == b'.' {
         Some(skip_ws(skip(text, 1)))
@@ -83,7 +83,7 @@ fn skip_string(alloc: Global, text: &str) -> Result<Option<&str>, AllocError>
     }
 }
 
-/// Steps over a token of a value. It is `None` where there is none.
+/// Reads a token of a value, and returns it and the text after it, or `None` if there is none.
 pub(crate) fn next_token(alloc: Global, text: &str) -> Result<Option<(Token, &str)>, AllocError> {
     if starts_string(text) {
         return match skip_string(alloc, text)? {
@@ -98,7 +98,7 @@ pub(crate) fn next_token(alloc: Global, text: &str) -> Result<Option<(Token, &st
     Ok(Some((token_of(octet), skip(text, 1))))
 }
 
-/// The token that an octet is.
+/// Returns the token of an octet.
 fn token_of(octet: u8) -> Token {
     match octet {
         b'[' | b'{' => Token::Open,
@@ -108,7 +108,7 @@ fn token_of(octet: u8) -> Token {
     }
 }
 
-/// Steps over a header, or over a pair of a key and a value, to the end of its last line. It is `None` where the text
+/// Steps over a header, or over a pair of a key and a value, to the end of its last line. Returns `None` if the text
 /// ends.
 pub(crate) fn skip_expression(alloc: Global, text: &str) -> Result<Option<&str>, AllocError> {
     let mut depth = 0usize;
@@ -131,7 +131,7 @@ pub(crate) fn skip_expression(alloc: Global, text: &str) -> Result<Option<&str>,
     Ok(None)
 }
 
-/// How many brackets are open behind a token.
+/// Returns how many brackets are open after a token.
 fn depth_behind(depth: usize, token: Token) -> usize {
     match token {
         Token::Open => depth.saturating_add(1),

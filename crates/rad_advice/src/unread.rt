@@ -1,4 +1,4 @@
-//! The keys of a configuration that nobody reads.
+//! The keys of a configuration that are not read.
 
 ghost use Rattle.std.specs.Prelude.{◌≡◌, ◌≤◌, ◌-◌, ◌++◌, [], All, List, length, map, take, option_map, option_and_then, unwrap_or, IfOk, IfSome, OnOk, IsUtf8, string_bytes};
 ghost use Rattle.toml.specs.Data.{no_items, no_members, as_array, as_table, get_member};
@@ -15,46 +15,47 @@ use std::alloc::{AllocError, Global};
 use std::fmt;
 use toml::{Table, Value};
 
-/// How many keys are listed at most.
+/// The most keys that are listed.
 const MOST_LISTED: usize = 20;
 
-/// A key of a configuration that nobody reads. It is printed as `home 0 windw at line 7, column 1`, its name with
-/// escapes and cut where it is long.
+/// A key of a configuration that is not read. It is printed as `home 0 windw at line 7, column 1`. Its name is
+/// escaped, and cut if it is long.
 #[derive(Debug, Drop)]
 pub struct UnreadKey {
-    /// The part whose table it stands in.
+    /// The part whose table contains it.
     part: Part,
-    /// Which table of that part.
+    /// The index of that table in the part, counted from 0.
     index: usize,
     /// Its name.
     name: String,
-    /// Where it stands, where that was found.
+    /// Its place in the text, if it was found.
     place: Option<Place>,
 }
 
 impl UnreadKey {
-    /// The part of the configuration whose table it stands in.
+    /// Returns the part of the configuration whose table contains it.
     pub fn part(&self) -> Part
         ensures { result ≡ self.now.part }
     {
         self.part
     }
 
-    /// Which table of that part it stands in, counted from 0. It is 0 for the top.
+    /// Returns the index of that table in the part, counted from 0. It is 0 for the top.
     pub fn index(&self) -> usize
         ensures { result ≡ self.now.index }
     {
         self.index
     }
 
-    /// Its name, which may have any character.
+    /// Returns its name, which may contain any character.
     pub fn name(&self) -> &str
         ensures { result.now ≡ string_bytes self.now.name }
     {
         self.name.as_str()
     }
 
-    /// Where it stands: where the key begins in the text, at its first time there. It is `None` where it was not found.
+    /// Returns the place in the text where it begins for the first time in that table, or `None` if this was not
+    /// found.
     pub fn place(&self) -> Option<Place>
         ensures { result ≡ self.now.place }
     {
@@ -79,14 +80,14 @@ impl fmt::Display for UnreadKey {
     }
 }
 
-/// Which table a key stands in, and a space.
+/// The table that contains a key, followed by a space.
 #[derive(Clone, Copy)]
 struct TableText {
     part: Part,
     index: usize,
 }
 
-/// Where a key stands, behind ` at `, where that is known.
+/// ` at ` and the place of a key, if it is known.
 #[derive(Clone, Copy)]
 struct AtText(Option<Place>);
 
@@ -121,25 +122,25 @@ impl fmt::Display for AtText {
     }
 }
 
-/// The first keys of a configuration that nobody reads, and how many more there are.
+/// The first keys of a configuration that are not read, and the number of the others.
 #[derive(Debug, Drop)]
 pub struct UnreadKeys {
-    /// The first ones, 20 at most.
+    /// The first ones, at most 20.
     listed: Vec<UnreadKey>,
-    /// How many there are behind them.
+    /// The number of the others.
     more: usize,
 }
 
 impl UnreadKeys {
-    /// The first ones, 20 at most: those of the top, then those of each client, home server and realm, each table's in
-    /// the order of their octets.
+    /// Returns the first ones, at most 20: those of the top, then those of each client, of each home server and of
+    /// each realm. Those of one table are in the order of their octets.
     pub fn listed(&self) -> &[UnreadKey]
         ensures { result.now ≡ self.now.listed.items }
     {
         self.listed.as_slice()
     }
 
-    /// How many there are beside those that are listed.
+    /// Returns the number of those that are not listed.
     pub fn more(&self) -> usize
         ensures { result ≡ self.now.more }
     {
@@ -147,19 +148,23 @@ impl UnreadKeys {
     }
 }
 
-/// A key that nobody reads, as it stands in a document.
+/// A key of a document that is not read.
 #[derive(Clone, Copy)]
 struct Unread<'t> {
-    /// The part whose table it stands in.
+    /// The part whose table contains it.
     part: Part,
-    /// Which table of that part.
+    /// The index of that table in the part, counted from 0.
     index: usize,
     /// Its name.
     name: &'t str,
 }
 
-/// The keys of a configuration's text that nobody reads. There are none where the text is no TOML. It takes the memory
-/// of reading the text.
+/// Returns the keys of a configuration's text that are not read. There are none if the text is not TOML. It takes the
+/// memory that reading the text takes.
+///
+/// # Errors
+///
+/// If memory is refused.
 pub fn unread_keys(alloc: Global, text: &[u8]) -> Result<UnreadKeys, AllocError>
     ensures first { IsUtf8 text.now → IfOk result (λ keys. map entry_listed keys.listed.items ≡ take 20 (unread_in_text text.now)) }
     ensures more { IsUtf8 text.now → IfOk result (λ keys. keys.more ≡ length (unread_in_text text.now) - 20) }
@@ -172,7 +177,7 @@ pub fn unread_keys(alloc: Global, text: &[u8]) -> Result<UnreadKeys, AllocError>
     }
 }
 
-/// None.
+/// Returns the empty list.
 fn no_keys(alloc: Global) -> UnreadKeys
     ensures listed { result.listed.items ≡ [] }
     ensures more { result.more ≡ 0 }
@@ -183,7 +188,7 @@ fn no_keys(alloc: Global) -> UnreadKeys
     }
 }
 
-/// The keys of a text that nobody reads.
+/// Returns the keys of a text that are not read.
 fn keys_of_text(alloc: Global, text: &str) -> Result<UnreadKeys, AllocError>
     ensures first { IfOk result (λ keys. map entry_listed keys.listed.items ≡ take 20 (unread_in_text text.now)) }
     ensures more { IfOk result (λ keys. keys.more ≡ length (unread_in_text text.now) - 20) }
@@ -219,7 +224,7 @@ fn list(alloc: Global, text: &str, unread: &[Unread<'_>]) -> Result<UnreadKeys, 
     Ok(UnreadKeys { listed, more })
 }
 
-/// A key with its place in the text.
+/// Returns a key with its place in the text.
 fn place_key(alloc: Global, text: &str, key: Unread<'_>) -> Result<UnreadKey, AllocError>
     ensures entry { IfOk result (λ listed. entry_listed listed ≡ entry_found key.entry) }
     ensures place { IfOk result (λ listed. StandsIn text.now listed) }
@@ -235,7 +240,7 @@ fn place_key(alloc: Global, text: &str, key: Unread<'_>) -> Result<UnreadKey, Al
     })
 }
 
-/// Where a key stands in the text, where that is found.
+/// Returns the place of a key in the text, if it is found.
 fn find_place(
     alloc: Global,
     text: &str,
@@ -251,7 +256,7 @@ fn find_place(
     }
 }
 
-/// The keys of a document that nobody reads.
+/// Returns the keys of a document that are not read.
 #[tactic(auto, unfolding(crate::specs::Keys::unread_in))]
 fn unread_of_document(alloc: Global, document: &Table) -> Result<Vec<Unread<'_>>, AllocError>
     ensures { IfOk result (λ found. map entry_found found.items ≡ unread_in (table_view document.now)) }
@@ -265,7 +270,7 @@ fn unread_of_document(alloc: Global, document: &Table) -> Result<Vec<Unread<'_>>
     Ok(found)
 }
 
-/// Adds the keys of a part's tables that nobody reads.
+/// Appends the keys of a part's tables that are not read.
 #[tactic(auto, unfolding(crate::specs::Keys::unread_in_part))]
 fn add_of_part<'t>(
     alloc: Global,
@@ -286,7 +291,7 @@ fn add_of_part<'t>(
     )
 }
 
-/// Adds the keys of these values that nobody reads, of each that is a table.
+/// Appends the keys that are not read of each value that is a table.
 fn add_of_values<'t>(
     found: &mut Vec<Unread<'t>>,
     part: Part,
@@ -303,7 +308,7 @@ fn add_of_values<'t>(
     Ok(())
 }
 
-/// The values of the array at a key. There are none where it is absent, or no array.
+/// Returns the values of the array at a key, or none if the key is absent or its value is not an array.
 fn values_at<'t>(name: &str, document: &'t Table) -> &'t [Value]
     ensures { items_view result.now ≡ items_at name.now (table_view document.now) }
 {
@@ -320,7 +325,7 @@ fn member<'t>(name: &str, document: &'t Table) -> Option<&'t Value>
     document.get(name)
 }
 
-/// The values of an array. Any other value has none.
+/// Returns the values of an array, or none for any other value.
 fn values_of(value: &Value) -> &[Value]
     ensures { items_view result.now ≡ unwrap_or (as_array (view value.now)) no_items }
 {
@@ -330,7 +335,7 @@ fn values_of(value: &Value) -> &[Value]
     }
 }
 
-/// Adds the keys of a value that nobody reads, where it is a table.
+/// Appends the keys of a value that are not read, if it is a table.
 fn add_of_value<'t>(
     found: &mut Vec<Unread<'t>>,
     part: Part,
@@ -346,7 +351,7 @@ fn add_of_value<'t>(
     }
 }
 
-/// Adds the keys of a table that are not among these names.
+/// Appends the keys of a table that are not among `names`.
 fn add_of_table<'t>(
     found: &mut Vec<Unread<'t>>,
     part: Part,
@@ -362,7 +367,7 @@ fn add_of_table<'t>(
     Ok(())
 }
 
-/// Adds a key, unless it is one of these names.
+/// Appends a key, unless it is one of `names`.
 fn add_unless_read<'t>(
     found: &mut Vec<Unread<'t>>,
     part: Part,

@@ -9,18 +9,18 @@ use crate::secret::Secret;
 use md5::{Digest, Md5};
 use rad_packet::{Datagram, PacketRef};
 
-/// What stands in place of the Authenticator where none is known (RFC 2866 section 3).
+/// The zeros that are hashed in place of a Request Authenticator (RFC 2866 section 3).
 pub(crate) const NO_AUTHENTICATOR: [u8; 16] = [0; 16];
 
-/// The Request Authenticator of an Accounting-Request (RFC 2866 section 3). Hashes the packet once.
+/// Returns the Request Authenticator of an Accounting-Request (RFC 2866 section 3). Hashes the packet once.
 pub fn request_authenticator(packet: &PacketRef<'_>, secret: &Secret) -> [u8; 16]
     ensures { result ≡ request_authenticator secret.now packet.now }
 {
     digest(packet.octets(), &NO_AUTHENTICATOR, secret)
 }
 
-/// The Response Authenticator of an answer to a packet of this Authenticator (RFC 2866 section 3). Hashes
-/// the packet once.
+/// Returns the Response Authenticator of a response to a request with this Authenticator (RFC 2866 section 3).
+/// Hashes the packet once.
 pub fn response_authenticator(
     packet: &PacketRef<'_>,
     authenticator: &[u8; 16],
@@ -31,7 +31,7 @@ pub fn response_authenticator(
     digest(packet.octets(), authenticator, secret)
 }
 
-/// Whether a packet is right by its Request Authenticator. Hashes the packet once.
+/// Whether a packet's Request Authenticator is valid under a secret. Hashes the packet once.
 #[tactic(auto, unfolding(crate::specs::Authenticator::IsRightRequest))]
 pub fn check_request(packet: &PacketRef<'_>, secret: &Secret) -> bool
     ensures { IsTrue result ↔ IsRightRequest secret.now packet.now }
@@ -39,7 +39,7 @@ pub fn check_request(packet: &PacketRef<'_>, secret: &Secret) -> bool
     packet.authenticator() == request_authenticator(packet, secret)
 }
 
-/// Whether a packet is right by its Response Authenticator, as an answer to a packet of this Authenticator.
+/// Whether a packet's Response Authenticator is valid under a secret, for a request with this Authenticator.
 /// Hashes the packet once.
 #[tactic(auto, unfolding(crate::specs::Authenticator::IsRightResponse))]
 pub fn check_response(packet: &PacketRef<'_>, authenticator: &[u8; 16], secret: &Secret) -> bool
@@ -48,8 +48,8 @@ pub fn check_response(packet: &PacketRef<'_>, authenticator: &[u8; 16], secret: 
     packet.authenticator() == response_authenticator(packet, authenticator, secret)
 }
 
-/// Sets the Identifier and the Request Authenticator of an Accounting-Request, given as its octets without
-/// padding. Hashes the packet once.
+/// Sets the Identifier and the Request Authenticator of an Accounting-Request, given by its octets without padding.
+/// Hashes the packet once.
 pub fn sign(packet: &mut [u8], identifier: u8, secret: &Secret)
     requires packet { IsPacketText packet.old }
     requires request { code_of packet.old ≡ 4 }
@@ -60,8 +60,8 @@ pub fn sign(packet: &mut [u8], identifier: u8, secret: &Secret)
     packet[4..20].copy_from_slice(&authenticator);
 }
 
-/// Signs a packet that is written: its Authenticator becomes its digest with these octets in that place.
-/// Hashes the packet once.
+/// Sets a packet's Authenticator to its digest, computed with these octets in place of the Authenticator. Hashes the
+/// packet once.
 pub(crate) fn sign_datagram(datagram: &mut Datagram, authenticator: &[u8; 16], secret: &Secret)
     ensures { let text = datagram.old in
         datagram.new ≡ packet_text (code_of text) (identifier_of text) (response_authenticator secret.now authenticator.now text) (attribute_octets text) }
@@ -70,7 +70,7 @@ pub(crate) fn sign_datagram(datagram: &mut Datagram, authenticator: &[u8; 16], s
     datagram.set_authenticator(signature);
 }
 
-/// The digest of a packet with these octets in place of its Authenticator, followed by the secret.
+/// Returns the MD5 digest of a packet, with these octets in place of its Authenticator, followed by the secret.
 pub(crate) fn digest(packet: &[u8], authenticator: &[u8; 16], secret: &Secret) -> [u8; 16]
     requires { 20 ≤ length packet.now }
     ensures { result ≡ md5 (take 4 packet.now ++ authenticator.now ++ drop 20 packet.now ++ secret.now) }
@@ -78,8 +78,8 @@ pub(crate) fn digest(packet: &[u8], authenticator: &[u8; 16], secret: &Secret) -
     digest_of_parts(&packet[..4], authenticator, &packet[20..], &[], secret)
 }
 
-/// The same of a packet in parts: the octets before its Authenticator, those in place of that, and the attributes
-/// in two parts.
+/// Returns the same digest for a packet that is given in parts: the octets before its Authenticator, those in place of
+/// the Authenticator, and the attributes in two parts.
 pub(crate) fn digest_of_parts(
     start: &[u8],
     authenticator: &[u8; 16],

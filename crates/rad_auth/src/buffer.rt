@@ -1,13 +1,13 @@
-//! Room for octets that is made before they are there.
+//! A buffer that is allocated before its octets are known.
 
 use crate::octets::Octets;
 use std::alloc::{AllocError, Global};
 use std::marker::Model;
 
-/// A place for octets that is made beforehand, so that filling it takes no memory.
+/// A buffer that is allocated in advance, so that filling it allocates nothing.
 #[derive(Drop)]
 pub struct Buffer {
-    /// The octets, with the room behind them.
+    /// The octets, in a vector with spare capacity.
     octets: Vec<u8>,
 }
 
@@ -23,11 +23,11 @@ impl Model for Buffer {
 impl Buffer {
     ghost use Rattle.std.specs.Prelude.{◌≡◌, ◌≤◌, [], length, IfOk};
 
-    /// An empty buffer with room for this many octets at least.
+    /// Makes an empty buffer with room for at least `room` octets.
     ///
     /// # Errors
     ///
-    /// Where memory is refused.
+    /// If memory is refused.
     pub fn with_room(alloc: Global, room: usize) -> Result<Buffer, AllocError>
         ensures empty { IfOk result (λ buffer. buffer.octets ≡ []) }
         ensures room { IfOk result (λ buffer. room ≤ buffer.room) }
@@ -37,7 +37,7 @@ impl Buffer {
         })
     }
 
-    /// Puts octets in the place of those that it has. It takes no memory.
+    /// Replaces the octets. It allocates nothing.
     pub fn fill(&mut self, octets: &[u8])
         requires { length octets.now ≤ self.old.room }
         ensures filled { self.new.octets ≡ octets.now }
@@ -47,14 +47,14 @@ impl Buffer {
         self.octets.extend_from_slice(octets).unwrap();
     }
 
-    /// The octets.
+    /// Returns the octets.
     pub fn as_slice(&self) -> &[u8]
         ensures { result.now ≡ self.now.octets }
     {
         self.octets.as_slice()
     }
 
-    /// Its octets, to be kept. It takes no memory.
+    /// Turns the buffer into its octets. It allocates nothing.
     pub fn into_octets(self) -> Octets
         ensures { result ≡ self.octets }
     {

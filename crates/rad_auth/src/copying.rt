@@ -1,4 +1,4 @@
-//! Octets that are copied into a buffer.
+//! Copying octets into a buffer.
 
 ghost use Rattle.std.specs.Prelude.{◌≡◌, ◌≤◌, ◌++◌, length, drop};
 

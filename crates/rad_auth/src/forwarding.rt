@@ -1,4 +1,4 @@
-//! What goes to a home server: a request with a mark added.
+//! Forwarding: a request with the proxy's own Proxy-State added.
 
 ghost use Rattle.std.specs.Prelude.{◌≡◌, ◌<◌, ◌≤◌, length, OnOk, IfErr};
 ghost use Rattle.rad_auth.specs.Forwarding.{forwarded};
@@ -9,12 +9,12 @@ use crate::secret::Secret;
 use crate::{ACCOUNTING_REQUEST, PROXY_STATE};
 use rad_packet::{Datagram, GREATEST_LENGTH, HEADER_LENGTH, PacketRef, WriteFault};
 
-/// Writes the forwarded packet (RFC 2866 section 2.1, Proxy): an Accounting-Request of this Identifier with
-/// the request's attributes and the mark after them, signed with this secret. Hashes it once.
+/// Writes the forwarded packet (RFC 2866 section 2.1, Proxy): an Accounting-Request with this Identifier, the
+/// request's attributes and the mark after them, signed with this secret. Hashes it once.
 ///
 /// # Errors
 ///
-/// `PacketTooLong` alone, for a request that leaves no room for the mark: the datagram stays.
+/// `PacketTooLong`, and no other fault, if the request leaves no room for the mark. The datagram stays unchanged.
 pub fn forward(
     request: &PacketRef<'_>,
     mark: Mark,
@@ -31,7 +31,7 @@ pub fn forward(
     if octets.len() > GREATEST_LENGTH - MARK_LENGTH {
         return Err(WriteFault::PacketTooLong);
     }
-    // The mark fits, so nothing is refused from here on, when the datagram changes.
+    // The mark fits: from here on nothing is refused, so the datagram may change.
     datagram.begin(ACCOUNTING_REQUEST, identifier, NO_AUTHENTICATOR);
     datagram.push_all(&octets[HEADER_LENGTH..])?;
     datagram.push(PROXY_STATE, &mark.value())?;

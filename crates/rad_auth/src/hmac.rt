@@ -6,17 +6,17 @@ ghost use Rattle.rad_auth.specs.Hmac.{each_xor, hmac_md5, key_block, short_key};
 use crate::copying::put;
 use md5::{Digest, Md5};
 
-/// The octets of a block of MD5.
+/// The block length of MD5 in octets.
 const BLOCK_LENGTH: usize = 64;
 
-/// HMAC-MD5 of a text under a key of any length (RFC 2104 section 2). Goes over the text once.
+/// Returns the HMAC-MD5 of a text under a key of any length (RFC 2104 section 2). Hashes the text once.
 pub fn hmac_md5(key: &[u8], text: &[u8]) -> [u8; 16]
     ensures { result ≡ hmac_md5 key.now text.now }
 {
     hmac_md5_of_parts(key, text, &[], &[])
 }
 
-/// HMAC-MD5 of three parts, joined.
+/// Returns the HMAC-MD5 of the concatenation of three parts.
 pub(crate) fn hmac_md5_of_parts(key: &[u8], first: &[u8], second: &[u8], third: &[u8]) -> [u8; 16]
     ensures { result ≡ hmac_md5 key.now (first.now ++ second.now ++ third.now) }
 {
@@ -32,7 +32,7 @@ pub(crate) fn hmac_md5_of_parts(key: &[u8], first: &[u8], second: &[u8], third: 
     outer.finalize()
 }
 
-/// The key, or its digest where it is longer than a block, filled with zeros to one block.
+/// Returns the key, or its digest if it is longer than a block, padded with zeros to one block.
 fn filled_key(key: &[u8]) -> [u8; BLOCK_LENGTH]
     ensures { result ≡ key_block key.now }
 {
@@ -45,7 +45,7 @@ fn filled_key(key: &[u8]) -> [u8; BLOCK_LENGTH]
     block
 }
 
-/// Each octet of a block combined with this one by exclusive or.
+/// Combines each octet of a block with `pad` by exclusive or.
 fn padded(mut block: [u8; BLOCK_LENGTH], pad: u8) -> [u8; BLOCK_LENGTH]
     ensures { result ≡ each_xor pad block }
 {

@@ -1,12 +1,11 @@
-//! What makes a RADIUS packet right by a shared secret, and what this proxy does with one: Request and
-//! Response Authenticators (RFC 2866 section 3), Status-Server with its Message-Authenticator (RFC 5997
-//! section 3, RFC 2104), forwarding with a Proxy-State of our own (RFC 2866 section 2.1, RFC 2865 section
-//! 5.33), and the response that answers a request after a home server's reply.
+//! RADIUS packets under a shared secret: Request and Response Authenticators (RFC 2866 section 3), Status-Server
+//! with its Message-Authenticator (RFC 5997 section 3, RFC 2104), forwarding with the proxy's own Proxy-State
+//! (RFC 2866 section 2.1, RFC 2865 section 5.33), and the response to a request after a home server's reply.
 //!
-//! Packets, secrets and authenticators are seen by contracts as lists of octets. `specs/` has one file for
-//! each family of definitions; `specs/Answers.antt` says what a response answers, and `Reply` keeps that in
-//! its type. No call hashes a packet twice. [`respond`], the copies and [`Buffer::with_room`] alone take
-//! memory.
+//! Contracts describe packets, secrets and authenticators as lists of octets. `specs/` has one file for each family
+//! of definitions. `specs/Answers.antt` defines when a response answers a request, and each [`Reply`] satisfies it,
+//! by the invariant of the type. No call hashes a packet twice. Only [`respond`], the copies and
+//! [`Buffer::with_room`] allocate.
 #![tactic(auto)]
 
 mod authenticators;

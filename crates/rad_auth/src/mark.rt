@@ -1,16 +1,16 @@
-//! The mark that a request bears on its way to a home server.
+//! The mark: the Proxy-State that the proxy adds to a forwarded request.
 
 use crate::copying::put;
 
-/// The octets of a mark as an attribute: Type, Length and Value.
+/// The length of the mark's attribute in octets: Type, Length and Value.
 pub const MARK_LENGTH: usize = 12;
 
-/// The Proxy-State (RFC 2865 section 5.33) that this proxy adds to a request, and takes out of the reply.
+/// The Proxy-State (RFC 2865 section 5.33) that the proxy adds to a request and removes from the reply.
 #[derive(Clone, Copy, Debug, PartialEq, Eq)]
 pub struct Mark {
-    /// The number of the lane that the request goes through.
+    /// The number of the request's lane.
     pub lane: u16,
-    /// The number of the request's record in that lane.
+    /// The number of the request in that lane.
     pub number: u64,
 }
 
@@ -18,7 +18,7 @@ impl Mark {
     ghost use Rattle.std.specs.Prelude.{◌≡◌};
     ghost use Rattle.rad_auth.specs.Mark.{mark_value};
 
-    /// The mark's Value: lane and number, each with its most significant octet first.
+    /// Returns the mark's Value: lane and number, each with the most significant octet first.
     pub(crate) fn value(self) -> [u8; 10]
         ensures { result ≡ mark_value self }
     {

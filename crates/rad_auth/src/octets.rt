@@ -1,12 +1,12 @@
-//! Octets that are kept.
+//! Octets on the heap.
 
 use std::alloc::{AllocError, Global};
 use std::marker::Model;
 
-/// Octets that are kept, as a packet's.
+/// Octets on the heap, such as those of a packet.
 #[derive(Drop)]
 pub struct Octets {
-    /// The octets. How much room the vector has, no contract shows.
+    /// The octets. No contract speaks of the vector's capacity.
     octets: Vec<u8>,
 }
 
@@ -21,18 +21,18 @@ impl Model for Octets {
 impl Octets {
     ghost use Rattle.std.specs.Prelude.{◌≡◌, IfOk};
 
-    /// Keeps a vector's octets. It takes no memory.
+    /// Takes the octets of a vector. It allocates nothing.
     pub(crate) fn from_vec(octets: Vec<u8>) -> Octets
         ensures { result ≡ octets.items }
     {
         Octets { octets }
     }
 
-    /// A copy of octets.
+    /// Copies octets.
     ///
     /// # Errors
     ///
-    /// Where memory is refused.
+    /// If memory is refused.
     pub fn copy_of(alloc: Global, octets: &[u8]) -> Result<Octets, AllocError>
         ensures { IfOk result (λ copy. copy ≡ octets.now) }
     {
@@ -41,7 +41,7 @@ impl Octets {
         })
     }
 
-    /// The octets.
+    /// Returns the octets.
     pub fn as_slice(&self) -> &[u8]
         ensures { result.now ≡ self.now }
     {

@@ -1,4 +1,4 @@
-//! A response with all that it rests on.
+//! A response, with the packets and secrets that verify it.
 
 use crate::octets::Octets;
 use crate::secret::Secret;
@@ -6,7 +6,7 @@ use rad_packet::PacketRef;
 use std::alloc::{AllocError, Global};
 use std::marker::Model;
 
-/// What of a request its response depends on (RFC 2866 section 3).
+/// The part of a request that its response depends on (RFC 2866 section 3).
 #[derive(Clone, Copy, Debug, PartialEq, Eq)]
 pub struct RequestHead {
     /// The request's Identifier.
@@ -15,23 +15,23 @@ pub struct RequestHead {
     pub authenticator: [u8; 16],
 }
 
-/// A response that answers a request, with all that it rests on: the head of the request, the packet that
-/// was sent to the home server, the home server's reply to it, and the secrets of the client and of the
-/// home. Made by `respond` and `copy` alone.
+/// A response to a request, with everything that verifies it: the head of the request, the packet that was sent to
+/// the home server, the home server's reply to it, and the secrets of the client and of the home server. Only
+/// `respond` and `copy` make one.
 ///
-/// All but the head stands in one list of octets, so that a reply is one allocation.
+/// Everything except the head is in one list of octets, so a `Reply` is one allocation.
 #[derive(Drop)]
 pub struct Reply {
-    /// One behind the other: the packet that goes to the client, the packet that was sent to the home server, the
-    /// home server's reply to it without padding, the client's secret and the home's.
+    /// In this order: the response to the client, the packet that was sent to the home server, the home server's reply
+    /// without padding, the client's secret, the home server's secret.
     octets: Octets,
-    /// Where the response ends, and the sending begins.
+    /// The offset at which the response ends and the sending begins.
     response_end: u16,
-    /// Where the sending ends, and the reply begins.
+    /// The offset at which the sending ends and the reply begins.
     sending_end: u16,
-    /// Where the reply ends, and the client's secret begins.
+    /// The offset at which the reply ends and the client's secret begins.
     reply_end: u16,
-    /// How many octets the client's secret has. The home's is what is left.
+    /// The length of the client's secret in octets. The rest is the home server's secret.
     client_count: u8,
     /// The head of the request that is answered.
     head: RequestHead,
@@ -54,11 +54,12 @@ impl Reply {
     ghost use Rattle.rad_auth.specs.Answers.{Answers};
     ghost use Rattle.rad_auth.specs.Replied.{IsAnswer};
 
-    /// Keeps a response, with copies of what it rests on behind it. Where there is room for those, it takes no memory.
+    /// Appends copies of the packets and secrets to a response, and keeps all of it. It allocates nothing if the vector
+    /// has room for them.
     ///
     /// # Errors
     ///
-    /// Where memory is needed and refused.
+    /// If memory is needed and refused.
     pub(crate) fn keep(
         head: RequestHead,
         response: Vec<u8>,
@@ -88,11 +89,11 @@ impl Reply {
         })
     }
 
-    /// A copy, of all octets too.
+    /// Copies the reply, with all of its octets.
     ///
     /// # Errors
     ///
-    /// Where memory is refused.
+    /// If memory is refused.
     pub fn copy(&self, alloc: Global) -> Result<Reply, AllocError>
         ensures { IfOk result (λ copy. copy ≡ self.now) }
     {
@@ -106,7 +107,7 @@ impl Reply {
         })
     }
 
-    /// The head of the request that is answered.
+    /// Returns the head of the request that is answered.
     pub fn head(&self) -> RequestHead
         ensures value { result ≡ self.now.head }
         ensures answers { IsAnswer self.now }
@@ -114,21 +115,21 @@ impl Reply {
         self.head
     }
 
-    /// The octets of the packet that was sent to the home server.
+    /// Returns the octets of the packet that was sent to the home server.
     pub fn sending(&self) -> &[u8]
         ensures { result.now ≡ self.now.sending }
     {
         &self.octets.as_slice()[usize::from(self.response_end)..usize::from(self.sending_end)]
     }
 
-    /// The octets of the home server's reply, without padding.
+    /// Returns the octets of the home server's reply, without padding.
     pub fn reply(&self) -> &[u8]
         ensures { result.now ≡ self.now.reply }
     {
         &self.octets.as_slice()[usize::from(self.sending_end)..usize::from(self.reply_end)]
     }
 
-    /// The octets of the response to the client.
+    /// Returns the octets of the response to the client.
     pub fn response(&self) -> &[u8]
         ensures { result.now ≡ self.now.response }
     {

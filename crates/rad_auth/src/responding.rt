@@ -1,4 +1,4 @@
-//! The response to a request, out of a home server's reply.
+//! Making the response to a request from a home server's reply.
 
 ghost use Rattle.std.specs.Prelude.{◌≡◌, ◌≢◌, ◌+◌, ◌≤◌, ◌++◌, [], length, IfOk, IfErr, MatchResult};
 ghost use Rattle.std.specs.Bool.{OnTrue, OnFalse};
@@ -23,14 +23,14 @@ use std::alloc::{AllocError, Global};
 use std::error::Error;
 use std::fmt;
 
-/// Why a home server's reply gives no response. The first fault in this order is told.
+/// Why a home server's reply gives no response. The first fault that applies, in this order, is reported.
 #[derive(Clone, Copy, Debug, PartialEq, Eq)]
 pub enum ReplyFault {
-    /// The reply is not right under the home's secret.
+    /// The reply's Response Authenticator is not valid under the home server's secret.
     BadAuthenticator,
-    /// It has a Message-Authenticator, which would be wrong in the response.
+    /// The reply has a Message-Authenticator, which would not be valid in the response.
     MessageAuthenticatorHere,
-    /// It has no Proxy-State, or its last one is not the sending's mark.
+    /// The reply has no Proxy-State, or its last one is not the mark of the sending.
     NoProxyState,
     /// Memory was refused.
     OutOfMemory,
@@ -65,14 +65,15 @@ impl From<AllocError> for ReplyFault {
     }
 }
 
-/// The response to a request after the home server's reply to its sending (RFC 2866 section 2.1, Proxy): the
-/// reply without its last Proxy-State, under the request's Identifier and the client's secret. Hashes the
-/// reply and the response once each, and looks at each of the reply's attributes once. Writes the response where it is kept, with copies of the two other packets
-/// and of the secrets behind it, in one allocation.
+/// Makes the response to a request from the home server's reply to its sending (RFC 2866 section 2.1, Proxy): the
+/// reply without its last Proxy-State, with the request's Identifier, signed with the client's secret.
+///
+/// Hashes the reply and the response once each, and looks at each attribute of the reply once. Makes one allocation,
+/// for the response and the copies of both packets and secrets behind it.
 ///
 /// # Errors
 ///
-/// Where the reply gives no response, or memory is refused: the first [`ReplyFault`] in their order.
+/// The first [`ReplyFault`] that applies, if the reply gives no response or memory is refused.
 pub fn respond(
     alloc: Global,
     head: RequestHead,
@@ -102,12 +103,11 @@ pub fn respond(
     Ok(Reply::keep(head, response, sending, reply, client, home)?)
 }
 
-/// Where the last Proxy-State stands of a reply that has no Message-Authenticator, if it has a Proxy-State. It looks
-/// at each attribute once at most.
+/// Returns the place of the last Proxy-State of a reply, if it has one. Looks at each attribute once at most.
 ///
 /// # Errors
 ///
-/// Where the reply has a Message-Authenticator.
+/// If the reply has a Message-Authenticator.
 fn last_proxy_state(reply: &PacketRef<'_>) -> Result<Option<AttributePlace>, ReplyFault>
     ensures { MatchResult result
         (λ last. (of_kind 80 (packet_attributes reply.now) ≡ []) × IsLastOrNone reply.now last)
@@ -127,8 +127,8 @@ fn last_proxy_state(reply: &PacketRef<'_>) -> Result<Option<AttributePlace>, Rep
     Ok(last)
 }
 
-/// Whether the reply's last Proxy-State, which stands at this place, is the sending's mark: what `forward` added is
-/// the last attribute of the sending.
+/// Whether the last Proxy-State of the reply, at `last`, is the mark of the sending, which is the last attribute of
+/// the sending.
 fn is_returned_mark(sending: &PacketRef<'_>, reply: &PacketRef<'_>, last: AttributePlace) -> bool
     requires mark { (mark : Mark) × EndsWithMark mark sending.now }
     requires last { IsLastAt reply.now 33 last.place last.length }
@@ -140,7 +140,7 @@ fn is_returned_mark(sending: &PacketRef<'_>, reply: &PacketRef<'_>, last: Attrib
     &reply.octets()[last.place..last.place + last.length] == mark
 }
 
-/// The octets of the attributes before the one at this place, and of those after it.
+/// Returns the octets of the attributes before the one at this place, and of those after it.
 fn attributes_around<'a>(packet: &PacketRef<'a>, at: AttributePlace) -> (&'a [u8], &'a [u8])
     requires { HasAttributeAt packet.now at.place at.length }
     ensures packet { IsPacketText packet.now }
@@ -156,7 +156,7 @@ fn attributes_around<'a>(packet: &PacketRef<'a>, at: AttributePlace) -> (&'a [u8
     )
 }
 
-/// How many octets a reply keeps behind its response.
+/// Returns how many octets a [`Reply`] has after its response.
 fn room_behind(
     sending: &PacketRef<'_>,
     reply: &PacketRef<'_>,
@@ -170,8 +170,8 @@ fn room_behind(
     packets + client.octets().len() + home.octets().len()
 }
 
-/// Writes the response: the reply's attributes but the one at this place, under the request's Identifier. It makes
-/// room for this many octets more.
+/// Writes the response: the attributes of the reply except the one at `mark`, with the request's Identifier. Reserves
+/// `room` more octets behind it.
 fn write_response(
     alloc: Global,
     head: RequestHead,

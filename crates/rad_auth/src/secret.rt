@@ -5,24 +5,24 @@ use std::error::Error;
 use std::fmt;
 use std::marker::Model;
 
-/// The greatest count of octets of a secret. RFC 2865 section 3 has none: this is our own.
+/// The most octets of a secret. RFC 2865 section 3 has no such limit: it is our own.
 pub const GREATEST_SECRET_LENGTH: usize = 128;
 
-/// A shared secret (RFC 2865 section 3): 1 to 128 octets, kept in place.
+/// A shared secret (RFC 2865 section 3) of 1 to 128 octets. It is stored without an allocation.
 #[derive(Clone, Copy)]
 pub struct Secret {
-    /// The secret, and zeros behind it.
+    /// The secret, padded with zeros.
     octets: [u8; GREATEST_SECRET_LENGTH],
-    /// How many octets the secret has.
+    /// The length of the secret in octets.
     count: usize,
 }
 
-/// Why octets are no secret.
+/// Why octets cannot be a secret.
 #[derive(Clone, Copy, Debug, PartialEq, Eq)]
 pub enum SecretFault {
-    /// No octets (RFC 2865 section 3 forbids an empty secret).
+    /// There are no octets (RFC 2865 section 3 forbids an empty secret).
     Empty,
-    /// More than 128 octets.
+    /// There are more than 128 octets.
     TooLong,
 }
 
@@ -51,11 +51,11 @@ impl Secret {
     ghost use Rattle.std.specs.Prelude.{◌≡◌, ◌<◌, ◌≤◌, length, MatchResult};
     ghost use Rattle.rad_auth.specs.Secret.{RefusesSecret};
 
-    /// The secret of these octets.
+    /// Makes a secret of these octets.
     ///
     /// # Errors
     ///
-    /// `Empty` for no octets, `TooLong` for more than 128.
+    /// `Empty` if there are no octets, `TooLong` if there are more than 128.
     pub fn new(octets: &[u8]) -> Result<Secret, SecretFault>
         ensures { MatchResult result (λ secret. secret ≡ octets.now) (λ fault. RefusesSecret octets.now fault) }
     {
@@ -74,7 +74,7 @@ impl Secret {
         })
     }
 
-    /// The octets.
+    /// Returns the octets.
     pub fn octets(&self) -> &[u8]
         ensures value { result.now ≡ self.now }
         ensures least { 0 < length self.now }

@@ -1,4 +1,4 @@
-//! Status-Server: made, checked and answered.
+//! Making, checking and answering a Status-Server.
 
 ghost use Rattle.std.specs.Prelude.{◌≡◌, ◌≢◌, ◌+◌, ◌≤◌, ◌↔◌, [], length, slice_range, IsTrue, MatchOption};
 ghost use Rattle.rad_packet.specs.Attribute.{attribute_text, of_kind};
@@ -18,11 +18,11 @@ use rad_packet::{AttributePlace, Datagram, HEADER_LENGTH, PacketRef};
 /// The Length of a Message-Authenticator (RFC 3579 section 3.2).
 const MESSAGE_AUTHENTICATOR_LENGTH: usize = 18;
 
-/// What stands in place of a Message-Authenticator's Value while that is computed (RFC 3579 section 3.2).
+/// The zeros that are hashed in place of a Message-Authenticator's Value (RFC 3579 section 3.2).
 const NO_VALUE: [u8; 16] = [0; 16];
 
-/// Whether a packet is right as a Status-Server (RFC 5997 section 3): it has one Message-Authenticator, and
-/// that is right. Hashes the packet once at most, and looks at each attribute once at most.
+/// Whether a packet is valid as a Status-Server (RFC 5997 section 3): it has exactly one Message-Authenticator, and that
+/// is valid. Hashes the packet once at most, and looks at each attribute once at most.
 pub fn check_status(packet: &PacketRef<'_>, secret: &Secret) -> bool
     ensures { IsTrue result ↔ IsRightStatus secret.now packet.now }
 {
@@ -35,7 +35,7 @@ pub fn check_status(packet: &PacketRef<'_>, secret: &Secret) -> bool
     }
 }
 
-/// Where the Message-Authenticator of a packet stands that has one alone. It looks at each attribute once at most.
+/// Returns the place of a packet's Message-Authenticator, if it has exactly one. Looks at each attribute once at most.
 fn only_message_authenticator(packet: &PacketRef<'_>) -> Option<AttributePlace>
     ensures { MatchOption result
         (length (of_kind 80 (packet_attributes packet.now)) ≢ 1)
@@ -55,7 +55,7 @@ fn only_message_authenticator(packet: &PacketRef<'_>) -> Option<AttributePlace>
     only
 }
 
-/// Whether the sixteen octets at this place are the HMAC of the packet with zeros in their place.
+/// Whether the sixteen octets at this place are the HMAC-MD5 of the packet with zeros in their place.
 fn is_right_value(packet: &[u8], place: usize, secret: &Secret) -> bool
     requires { place + 16 ≤ length packet.now }
     ensures { IsTrue result ↔ (slice_range packet.now place (place + 16) ≡ hmac_md5 secret.now (zeroed_at place packet.now)) }
@@ -66,8 +66,8 @@ fn is_right_value(packet: &[u8], place: usize, secret: &Secret) -> bool
     value == hmac_md5_of_parts(secret.octets(), before, &NO_VALUE, after).as_slice()
 }
 
-/// Writes a Status-Server (RFC 5997 section 3) of this Identifier and Authenticator, which has one
-/// Message-Authenticator and no other attribute. Hashes it once.
+/// Writes a Status-Server (RFC 5997 section 3) with this Identifier and Authenticator. It has one Message-Authenticator
+/// and no other attribute. Hashes it once.
 pub fn make_status(
     identifier: u8,
     authenticator: [u8; 16],
@@ -91,8 +91,8 @@ fn write_status(identifier: u8, authenticator: [u8; 16], value: &[u8; 16], datag
     datagram.push(MESSAGE_AUTHENTICATOR, value).unwrap();
 }
 
-/// Writes the answer to a Status-Server that is right (RFC 5997 section 4.2): an Accounting-Response with no
-/// attributes. Hashes it once.
+/// Writes the answer to a valid Status-Server (RFC 5997 section 4.2): an Accounting-Response without attributes. Hashes
+/// it once.
 pub fn answer_status(packet: &PacketRef<'_>, secret: &Secret, datagram: &mut Datagram)
     requires status { code_of packet.now ≡ 12 }
     requires right { IsRightStatus secret.now packet.now }

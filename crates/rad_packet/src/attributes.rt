@@ -1,4 +1,4 @@
-//! The attributes of a packet, one after another.
+//! The attributes of a packet.
 
 use std::marker::Model;
 
@@ -14,7 +14,7 @@ pub struct AttributeRef<'a> {
 /// The attributes of a packet, in order.
 #[derive(Drop)]
 pub struct Attributes<'a> {
-    /// The texts of those that are still to come, joined.
+    /// The octets of the attributes that are not yet returned.
     rest: &'a [u8],
 }
 
@@ -33,7 +33,7 @@ impl<'a> Attributes<'a> {
     ghost use Rattle.std.specs.Prelude.{◌≡◌};
     ghost use Rattle.rad_packet.specs.Attribute.{AreAttributes};
 
-    /// The attributes with these texts, joined.
+    /// Iterates over the attributes in these octets.
     pub(crate) fn over(rest: &'a [u8]) -> Self
         requires { AreAttributes rest.now }
         ensures { result ≡ rest.now }

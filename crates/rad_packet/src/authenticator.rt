@@ -1,9 +1,9 @@
-//! The Authenticator of a packet that is given as its octets.
+//! The Authenticator of a packet that is given as octets.
 
 ghost use Rattle.std.specs.Prelude.{◌≡◌, ◌≤◌, length};
 ghost use Rattle.rad_packet.specs.Packet.{authenticator_of};
 
-/// The Authenticator in a packet's octets (RFC 2866 section 3).
+/// Returns the Authenticator of a packet, given its octets (RFC 2866 section 3).
 pub fn authenticator_of(packet: &[u8]) -> [u8; 16]
     requires { 20 ≤ length packet.now }
     ensures { result ≡ authenticator_of packet.now }

@@ -1,4 +1,4 @@
-//! A packet that is written.
+//! A packet that is being written.
 
 ghost use Rattle.std.specs.Prelude.{◌≡◌, ◌+◌, ◌/◌, ◌%◌, ◌<◌, ◌≤◌, ◌++◌, length, take, drop, slice_set};
 ghost use Rattle.rad_packet.specs.Packet.{AreOctets};
@@ -8,13 +8,13 @@ use crate::packet_ref::PacketRef;
 use crate::{GREATEST_LENGTH, HEADER_LENGTH};
 use std::marker::Model;
 
-/// The greatest count of octets of an attribute's Value (RFC 2865 section 5).
+/// The most octets of an attribute's Value (RFC 2865 section 5).
 const GREATEST_VALUE_LENGTH: usize = 253;
 
-/// A packet that is written, in place: always a whole packet, of Length 20 to 4096.
+/// A buffer in which a packet is written. It holds a complete packet at any time, of Length 20 to 4096.
 #[derive(Drop)]
 pub struct Datagram {
-    /// The packet at the front, and whatever stood there before behind it.
+    /// The packet, followed by octets of earlier packets.
     octets: [u8; GREATEST_LENGTH],
     /// The packet's Length.
     length: usize,
@@ -37,7 +37,7 @@ impl Datagram {
     ghost use Rattle.rad_packet.specs.Packet.{IsPacketText, packet_text, with_attributes, code_of, identifier_of, authenticator_of, attribute_octets};
     ghost use Rattle.rad_packet.specs.Writing.{RefusesValue};
 
-    /// A packet of Code 0 and Identifier 0, with an Authenticator of zeros and no attributes.
+    /// Makes a packet of Code 0 and Identifier 0, with an Authenticator of zeros and no attributes.
     pub fn new() -> Self
         ensures { result ≡ packet_text 0 0 (replicate 16 0) [] }
     {
@@ -49,7 +49,7 @@ impl Datagram {
         }
     }
 
-    /// Begins a packet anew, with these parts and no attributes.
+    /// Replaces the packet by one with this header and no attributes.
     pub fn begin(&mut self, code: u8, identifier: u8, authenticator: [u8; 16])
         ensures { self.new ≡ packet_text code identifier authenticator [] }
     {
@@ -62,7 +62,7 @@ impl Datagram {
         self.length = HEADER_LENGTH;
     }
 
-    /// Copies a packet into this one's place. It costs what the copied packet's Length is.
+    /// Replaces the packet by a copy of another one. The cost is linear in that packet's Length.
     pub fn load(&mut self, packet: &PacketRef<'_>)
         ensures { self.new ≡ packet.now }
     {
@@ -71,12 +71,12 @@ impl Datagram {
         self.length = octets.len();
     }
 
-    /// Adds an attribute at the end. It copies the value alone.
+    /// Appends an attribute. Only the Value is copied.
     ///
     /// # Errors
     ///
-    /// `ValueTooLong` for a value of more than 253 octets, else `PacketTooLong` where the packet would be
-    /// longer than 4096 octets.
+    /// `ValueTooLong` if the Value has more than 253 octets; otherwise `PacketTooLong` if the packet would be
+    /// longer than 4096 octets. The packet stays unchanged.
     pub fn push(&mut self, kind: u8, value: &[u8]) -> Result<(), WriteFault>
         ensures added { OnOk result (self.new ≡ with_attributes self.old (attribute_text (record { kind = kind; value = value.now }))) }
         ensures fits { OnOk result ((length value.now ≤ 253) × (length self.old + (length value.now + 2) ≤ 4096)) }
@@ -97,11 +97,11 @@ impl Datagram {
         Ok(())
     }
 
-    /// Adds texts of attributes, joined, at the end. It copies them alone.
+    /// Appends attributes, given as their octets. Only these are copied.
     ///
     /// # Errors
     ///
-    /// `PacketTooLong` where the packet would be longer than 4096 octets.
+    /// `PacketTooLong` if the packet would be longer than 4096 octets. The packet stays unchanged.
     pub fn push_all(&mut self, attributes: &[u8]) -> Result<(), WriteFault>
         requires { AreAttributes attributes.now }
         ensures added { OnOk result (self.new ≡ with_attributes self.old attributes.now) }
@@ -132,7 +132,7 @@ impl Datagram {
         put(&mut self.octets, 4, &authenticator);
     }
 
-    /// A copy, of all 4096 octets that it has room for.
+    /// Returns a copy. It copies all 4096 octets of the buffer.
     pub fn copy(&self) -> Datagram
         ensures { result ≡ self.now }
     {
@@ -142,14 +142,14 @@ impl Datagram {
         }
     }
 
-    /// The packet, without reading it again.
+    /// Returns the packet. It is not checked again, since it is always a valid packet.
     pub fn packet(&self) -> PacketRef<'_>
         ensures { result ≡ self.now }
     {
         PacketRef::over(self.bytes())
     }
 
-    /// The packet's octets.
+    /// Returns the packet's octets.
     pub fn bytes(&self) -> &[u8]
         ensures value { result.now ≡ self.now }
         ensures packet { IsPacketText self.now }
@@ -157,7 +157,7 @@ impl Datagram {
         &self.octets[..self.length]
     }
 
-    /// The packet's Length.
+    /// Returns the packet's Length.
     #[allow(clippy::len_without_is_empty)]
     pub fn len(&self) -> usize
         ensures { result ≡ length self.now }
@@ -166,7 +166,7 @@ impl Datagram {
     }
 }
 
-/// Copies octets into a buffer, from a place on.
+/// Copies octets into a buffer at an offset.
 fn put(buffer: &mut [u8], place: usize, octets: &[u8])
     requires { place + length octets.now ≤ length buffer.old }
     ensures after { buffer.new ≡ take place buffer.old ++ octets.now ++ drop (place + length octets.now) buffer.old }

@@ -1,26 +1,26 @@
-//! Why there is no packet to read, and why one does not grow.
+//! Why a datagram is not a packet, and why an attribute is not appended.
 
 use std::error::Error;
 use std::fmt;
 
-/// Why a datagram is no packet. The first fault in this order is told.
+/// Why a datagram is not a packet. The first fault that applies, in this order, is reported.
 #[derive(Clone, Copy, Debug, PartialEq, Eq)]
 pub enum ReadFault {
-    /// Fewer than 20 octets.
+    /// The datagram has fewer than 20 octets.
     Short,
-    /// A Length below 20 or above 4096.
+    /// Length is below 20 or above 4096.
     BadLength,
-    /// Fewer octets than Length counts.
+    /// The datagram has fewer octets than Length says.
     Truncated,
-    /// The first invalid attribute, by its offset from the packet's start: its Length is below 2 or goes
-    /// past the packet's end, or it is a single last octet.
+    /// An attribute is invalid: its Length is below 2 or exceeds the rest of the packet, or a single octet is left
+    /// for it. The number is the offset of the first such attribute from the packet's start.
     BadAttribute(usize),
 }
 
-/// Why attributes are not added to a packet. The first fault in this order is told.
+/// Why attributes are not appended to a packet. The first fault that applies, in this order, is reported.
 #[derive(Clone, Copy, Debug, PartialEq, Eq)]
 pub enum WriteFault {
-    /// A Value of more than 253 octets.
+    /// The Value has more than 253 octets.
     ValueTooLong,
     /// The packet would be longer than 4096 octets.
     PacketTooLong,

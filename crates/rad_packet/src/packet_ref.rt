@@ -1,14 +1,14 @@
-//! A packet that was read.
+//! A packet that was read from a datagram.
 
 use crate::HEADER_LENGTH;
 use crate::attributes::Attributes;
 use crate::authenticator::authenticator_of;
 use std::marker::Model;
 
-/// A packet, borrowed from the datagram that it was read from: its octets, without padding.
+/// A packet, borrowed from the datagram that it was read from. It has the packet's octets without padding.
 #[derive(Drop)]
 pub struct PacketRef<'a> {
-    /// All octets that Length counts.
+    /// The octets of the packet, as many as Length says.
     octets: &'a [u8],
 }
 
@@ -23,7 +23,7 @@ impl<'a> Model for PacketRef<'a> {
     ghost invariant = { λ p. IsPacketText p.octets.now };
 }
 
-/// Where an attribute stands in its packet.
+/// The place of an attribute in its packet.
 #[derive(Clone, Copy, Debug, PartialEq, Eq)]
 pub struct AttributePlace {
     /// The offset of its Type from the packet's start.
@@ -38,8 +38,8 @@ impl<'a> PacketRef<'a> {
     ghost use Rattle.rad_packet.specs.Attribute.{of_kind};
     ghost use Rattle.rad_packet.specs.Place.{IsFirstAt, IsLastAt};
 
-    /// The packet with these octets, which are known to be one. It looks at none of them: for octets that
-    /// come from outside there is [`read`](crate::read).
+    /// Makes a packet of octets that are known to be one. It does not check them: use [`read`](crate::read) for octets
+    /// that come from outside.
     pub fn over(octets: &'a [u8]) -> Self
         requires { IsPacketText octets.now }
         ensures { result ≡ octets.now }
@@ -47,28 +47,28 @@ impl<'a> PacketRef<'a> {
         PacketRef { octets }
     }
 
-    /// The Code (RFC 2866 section 3).
+    /// Returns the Code (RFC 2866 section 3).
     pub fn code(&self) -> u8
         ensures { result ≡ code_of self.now }
     {
         self.octets[0]
     }
 
-    /// The Identifier.
+    /// Returns the Identifier.
     pub fn identifier(&self) -> u8
         ensures { result ≡ identifier_of self.now }
     {
         self.octets[1]
     }
 
-    /// The Authenticator.
+    /// Returns the Authenticator.
     pub fn authenticator(&self) -> [u8; 16]
         ensures { result ≡ authenticator_of self.now }
     {
         authenticator_of(self.octets)
     }
 
-    /// The octets that Length counts, without padding.
+    /// Returns the packet's octets, without padding.
     pub fn octets(&self) -> &'a [u8]
         ensures value { result.now ≡ self.now }
         ensures packet { IsPacketText self.now }
@@ -77,7 +77,7 @@ impl<'a> PacketRef<'a> {
         octets
     }
 
-    /// The attributes in order. Each costs the same, however long the packet is.
+    /// Iterates over the attributes in order. The cost of each is constant.
     pub fn attributes(&self) -> Attributes<'a>
         ensures attributes { result ≡ attribute_octets self.now }
         ensures packet { IsPacketText self.now }
@@ -85,7 +85,7 @@ impl<'a> PacketRef<'a> {
         Attributes::over(&self.octets[HEADER_LENGTH..])
     }
 
-    /// The first attribute of a Type. Looks at each attribute up to it once.
+    /// Returns the place of the first attribute of a Type. The cost is linear in the number of attributes before it.
     pub fn first_of(&self, kind: u8) -> Option<AttributePlace>
         ensures found { MatchOption result (of_kind kind (packet_attributes self.now) ≡ []) (λ at. IsFirstAt self.now kind at.place at.length) }
         ensures within { IfSome result (λ at. at.place + at.length ≤ length self.now) }
@@ -101,7 +101,7 @@ impl<'a> PacketRef<'a> {
         None
     }
 
-    /// The last attribute of a Type. Looks at each attribute once.
+    /// Returns the place of the last attribute of a Type. The cost is linear in the number of attributes.
     pub fn last_of(&self, kind: u8) -> Option<AttributePlace>
         ensures found { MatchOption result (of_kind kind (packet_attributes self.now) ≡ []) (λ at. IsLastAt self.now kind at.place at.length) }
         ensures within { IfSome result (λ at. at.place + at.length ≤ length self.now) }
@@ -118,7 +118,7 @@ impl<'a> PacketRef<'a> {
         last
     }
 
-    /// How many attributes of a Type there are. Looks at each attribute once.
+    /// Returns the number of attributes of a Type. The cost is linear in the number of attributes.
     pub fn count_of(&self, kind: u8) -> usize
         ensures { result ≡ length (of_kind kind (packet_attributes self.now)) }
     {

@@ -9,15 +9,15 @@ use crate::faults::ReadFault;
 use crate::packet_ref::PacketRef;
 use crate::{GREATEST_LENGTH, HEADER_LENGTH};
 
-/// The least Length of an attribute: it counts Type and Length (RFC 2865 section 5).
+/// The least Length of an attribute, that of Type and Length alone (RFC 2865 section 5).
 const LEAST_ATTRIBUTE_LENGTH: usize = 2;
 
-/// Reads a datagram as a packet (RFC 2866 section 3). Octets past the packet's Length are padding and
-/// ignored. It looks at each attribute once.
+/// Reads a datagram as a packet (RFC 2866 section 3). Octets beyond the packet's Length are padding and are
+/// ignored. The cost is linear in the number of attributes.
 ///
 /// # Errors
 ///
-/// Where the datagram holds no packet: the first [`ReadFault`] in their order.
+/// The first [`ReadFault`] that applies, if the datagram is not a packet.
 pub fn read(datagram: &[u8]) -> Result<PacketRef<'_>, ReadFault>
     ensures { MatchResult result (λ packet. ReadsAs datagram.now packet) (λ fault. Refuses datagram.now fault) }
 {
@@ -38,7 +38,7 @@ pub fn read(datagram: &[u8]) -> Result<PacketRef<'_>, ReadFault>
     }
 }
 
-/// The place of the first invalid attribute in a packet's octets.
+/// Returns the offset of the first invalid attribute in a packet's octets.
 fn first_invalid(octets: &[u8]) -> Option<usize>
     requires { 20 ≤ length octets.now }
     ensures { MatchOption result (AreAttributes (drop 20 octets.now)) (λ place. IsFirstInvalid octets.now place) }
@@ -53,7 +53,7 @@ fn first_invalid(octets: &[u8]) -> Option<usize>
     None
 }
 
-/// The Length of the attribute that octets begin with, where one does.
+/// Returns the Length of the attribute at the front of these octets, if there is a valid one.
 fn first_length(octets: &[u8]) -> Option<usize>
     ensures { MatchOption result (BeginsNoAttribute octets.now) (λ len. BeginsAttribute octets.now len) }
 {

@@ -1,4 +1,4 @@
-//! What is checked of a datagram that comes from a client, and what it is then known to be.
+//! Checking a datagram that comes from a client.
 
 ghost use Rattle.std.specs.Prelude.{◌≡◌, ◌≢◌, [], Some, option_copied, option_and_then, MatchResult};
 ghost use Rattle.rad_packet.specs.Attribute.{of_kind};
@@ -21,7 +21,7 @@ use std::marker::Model;
 /// The Type of a User-Name (RFC 2865 section 5.1).
 const USER_NAME: u8 = 1;
 
-/// What a datagram that is not dropped is taken as.
+/// A datagram that passed the checks.
 #[derive(Drop)]
 pub enum Incoming<'a> {
     /// An Accounting-Request (RFC 2866 section 4.1).
@@ -30,24 +30,23 @@ pub enum Incoming<'a> {
     Status(CheckedStatus<'a>),
 }
 
-/// An Accounting-Request that was checked: it comes from a client, is right under that client's secret, has
-/// no Message-Authenticator, and leads to the lane of a home server. It borrows the datagram and the
-/// configuration.
+/// An Accounting-Request that passed the checks: it comes from a client, is valid under that client's secret, has no
+/// Message-Authenticator, and leads to the lane of a home server. It borrows the datagram and the configuration.
 #[derive(Drop)]
 pub struct Checked<'a> {
     /// The packet, without padding.
     packet: PacketRef<'a>,
-    /// The configuration that it was checked by.
+    /// The configuration that it was checked against.
     config: &'a Config,
-    /// The client of that configuration that sent it.
+    /// The client that sent it.
     client: &'a Client,
     /// The UDP port that it came from.
     port: u16,
-    /// The realm of its User-Name, where it has one.
+    /// The realm of its User-Name, if it has one.
     realm: Option<&'a [u8]>,
     /// The lane that it leads to.
     lane: u16,
-    /// The place of its realm among the realms of that lane, where it has a realm.
+    /// The index of its realm among the realms of that lane, if it has a realm.
     rank: Option<usize>,
 }
 
@@ -68,7 +67,7 @@ impl<'a> Checked<'a> {
     ghost use Rattle.rad_realms.specs.Realm.{realm_of_packet, IsRank};
     ghost use Rattle.rad_realms.specs.Checking.{IsChecked};
 
-    /// The packet, without padding.
+    /// Returns the packet, without padding.
     pub fn packet(&self) -> &PacketRef<'a>
         ensures text { result.now ≡ self.now.text }
         ensures checked { IsChecked self.now }
@@ -76,35 +75,35 @@ impl<'a> Checked<'a> {
         &self.packet
     }
 
-    /// The IPv4 address of the client.
+    /// Returns the IPv4 address of the client.
     pub fn client(&self) -> [u8; 4]
         ensures { result ≡ self.now.client }
     {
         self.client.address()
     }
 
-    /// The UDP port that the datagram came from.
+    /// Returns the UDP port that the datagram came from.
     pub fn port(&self) -> u16
         ensures { result ≡ self.now.port }
     {
         self.port
     }
 
-    /// The client's secret.
+    /// Returns the client's secret.
     pub fn secret(&self) -> &Secret
         ensures { result.now ≡ self.now.secret }
     {
         self.client.secret()
     }
 
-    /// The realm of its User-Name, where it has one.
+    /// Returns the realm of its User-Name, if it has one.
     pub fn realm(&self) -> Option<&[u8]>
         ensures { option_copied result ≡ realm_of_packet self.now.text }
     {
         self.realm
     }
 
-    /// The lane that it leads to: one of the configuration's home servers.
+    /// Returns the number of the lane that it leads to.
     pub fn lane(&self) -> u16
         ensures value { result ≡ self.now.lane }
         ensures within { result < length self.now.config.homes }
@@ -112,8 +111,8 @@ impl<'a> Checked<'a> {
         self.lane
     }
 
-    /// The place of its realm among the realms that lead to its lane, in the order of the configuration, counted
-    /// from 0; none where it has no realm.
+    /// Returns the index of its realm among the realms that lead to its lane, in the order of the configuration,
+    /// counted from 0. Returns `None` if it has no realm.
     pub fn rank(&self) -> Option<usize>
         ensures { IsRank self.now.config.realms self.now.lane (realm_of_packet self.now.text) result }
     {
@@ -121,8 +120,8 @@ impl<'a> Checked<'a> {
     }
 }
 
-/// A Status-Server that was checked: it comes from a client and is right under that client's secret. It
-/// borrows the datagram and the configuration.
+/// A Status-Server that passed the checks: it comes from a client and is valid under that client's secret. It borrows
+/// the datagram.
 #[derive(Drop)]
 pub struct CheckedStatus<'a> {
     /// The packet, without padding.
@@ -145,7 +144,7 @@ impl<'a> CheckedStatus<'a> {
     ghost use Rattle.std.specs.Prelude.{◌≡◌};
     ghost use Rattle.rad_realms.specs.Checking.{IsCheckedStatus};
 
-    /// The packet, without padding.
+    /// Returns the packet, without padding.
     pub fn packet(&self) -> &PacketRef<'a>
         ensures text { result.now ≡ self.now.text }
         ensures checked { IsCheckedStatus self.now }
@@ -153,7 +152,7 @@ impl<'a> CheckedStatus<'a> {
         &self.packet
     }
 
-    /// The client's secret.
+    /// Returns the client's secret.
     pub fn secret(&self) -> &Secret
         ensures { result.now ≡ self.now.secret }
     {
@@ -161,25 +160,25 @@ impl<'a> CheckedStatus<'a> {
     }
 }
 
-/// Why a datagram from the side of the clients is dropped, with no answer to its sender. The first reason in
-/// this order is told. It is printed as its name, with the name of the read fault behind `Unread`.
+/// Why a datagram that came to the clients' socket is dropped. Its sender gets no answer. The first reason that
+/// applies, in this order, is reported. It is printed as its name; `Unread` is followed by the name of the read fault.
 #[derive(Clone, Copy, Debug, PartialEq, Eq)]
 pub enum Dropped {
     /// No client has the sender's address.
     UnknownClient,
-    /// The datagram is no RADIUS packet, for the reason that is told.
+    /// The datagram is not a RADIUS packet, for this reason.
     Unread(ReadFault),
     /// The packet's Code is neither Accounting-Request nor Status-Server.
     WrongCode,
-    /// The Request Authenticator of an Accounting-Request is wrong under the client's secret, as where the two
-    /// do not share one.
+    /// The Request Authenticator of an Accounting-Request is not valid under the client's secret, for example if the
+    /// two do not share a secret.
     BadAuthenticator,
-    /// A Status-Server has none or several Message-Authenticators, or a wrong one.
+    /// A Status-Server has no Message-Authenticator or several, or one that is not valid.
     BadMessageAuthenticator,
     /// An Accounting-Request has a Message-Authenticator, which this proxy does not forward.
     MessageAuthenticatorHere,
-    /// An Accounting-Request leads to no lane: its realm is empty or not in the table, or it has none and there
-    /// is no default.
+    /// An Accounting-Request leads to no lane: its realm is empty or unknown, or it has no realm and there is no
+    /// default home server.
     NoRealm,
 }
 
@@ -202,15 +201,13 @@ impl fmt::Display for Dropped {
     }
 }
 
-/// Checks a datagram from the side of the clients: from which IPv4 address and UDP port it came, and its
-/// octets. It takes no memory, and hashes the packet once at most. Beside that it takes time that is
-/// logarithmic in the numbers of clients and realms, and looks at each attribute of an Accounting-Request twice at
-/// most: as it reads the packet, and as it looks for a Message-Authenticator and the User-Name. Each attribute of a
-/// Status-Server is looked at twice at most: as it reads the packet, and as it looks for the Message-Authenticator.
-///
-/// # Errors
-///
-/// The first reason to drop it, in the order of [`Dropped`].
+/// Checks a datagram that came to the clients' socket, given the IPv4 address and UDP port of its sender. It allocates
+/// nothing, and hashes the packet once at most. Finding the client and the realm takes time logarithmic in their
+/// numbers. Each attribute of an Accounting-Request is looked at twice at most: as the packet is read, and in the
+/// search for a Message-Authenticator and the User-Name. Each attribute of a Status-Server is looked at twice at most:
+/// as the packet is read, and in the search for the Message-Authenticator.
+/// | # Errors
+/// | The first reason to drop it, in the order of [`Dropped`].
 pub fn check_in<'a>(
     config: &'a Config,
     address: [u8; 4],
@@ -228,7 +225,7 @@ pub fn check_in<'a>(
     }
 }
 
-/// Checks a packet of a client.
+/// Checks a packet from a client.
 fn check_packet<'a>(
     config: &'a Config,
     client: &'a Client,
@@ -245,7 +242,7 @@ fn check_packet<'a>(
     }
 }
 
-/// Checks an Accounting-Request of a client.
+/// Checks an Accounting-Request from a client.
 #[tactic(auto, unfolding(crate::specs::Realm::lane_of_packet, crate::specs::Realm::realm_of_packet))]
 fn check_accounting<'a>(
     config: &'a Config,
@@ -276,7 +273,7 @@ fn check_accounting<'a>(
     }
 }
 
-/// Checks a Status-Server of a client.
+/// Checks a Status-Server from a client.
 fn check_status_server<'a>(
     config: &'a Config,
     client: &'a Client,
@@ -294,7 +291,7 @@ fn check_status_server<'a>(
     }
 }
 
-/// The realm of a packet's User-Name, where it has one. It looks at each attribute up to that once.
+/// Returns the realm of a packet's User-Name, if it has one. Looks at each attribute up to the User-Name once.
 #[tactic(auto, unfolding(crate::specs::Realm::realm_of_packet))]
 pub fn realm_of_packet<'a>(packet: &PacketRef<'a>) -> Option<&'a [u8]>
     ensures realm { option_copied result ≡ the_realm packet.now }
@@ -303,19 +300,17 @@ pub fn realm_of_packet<'a>(packet: &PacketRef<'a>) -> Option<&'a [u8]>
     realm_of_name(user_name_of(packet))
 }
 
-/// The realm of a User-Name, where there is a name and it has one. It looks at each octet once at most.
+/// Returns the realm of a User-Name, if there is one. Looks at each octet once at most.
 fn realm_of_name<'a>(name: Option<&'a [u8]>) -> Option<&'a [u8]>
     ensures { option_copied result ≡ option_and_then realm_in (option_copied name.entry) }
 {
     realm_of(name?)
 }
 
-/// The User-Name of a packet that has no Message-Authenticator, where it has a name. It looks at each attribute
-/// once at most.
-///
-/// # Errors
-///
-/// Where the packet has a Message-Authenticator.
+/// Returns the User-Name of a packet without a Message-Authenticator, if it has one. Looks at each attribute once at
+/// most.
+/// | # Errors
+/// | If the packet has a Message-Authenticator.
 fn unsigned_name_of<'a>(packet: &PacketRef<'a>) -> Result<Option<&'a [u8]>, Dropped>
     ensures { MatchResult result
         (λ name. (of_kind 80 (packet_attributes packet.now) ≡ []) × (option_copied name ≡ user_name packet.now))
@@ -332,7 +327,7 @@ fn unsigned_name_of<'a>(packet: &PacketRef<'a>) -> Result<Option<&'a [u8]>, Drop
     Ok(name)
 }
 
-/// The User-Name of a packet, where it has one. It looks at each attribute up to it once.
+/// Returns the User-Name of a packet, if it has one. Looks at each attribute up to it once.
 fn user_name_of<'a>(packet: &PacketRef<'a>) -> Option<&'a [u8]>
     ensures name { option_copied result ≡ user_name packet.now }
     ensures packet { IsPacketText packet.now }

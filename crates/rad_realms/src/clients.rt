@@ -1,4 +1,4 @@
-//! Clients, found by their addresses.
+//! Clients, found by address.
 
 ghost use Rattle.std.specs.Prelude.{◌≡◌, option_copied, slice_get};
 ghost use Rattle.std.specs.Ordering.{nat_cmp};
@@ -10,12 +10,12 @@ use std::alloc::{AllocError, Global};
 use std::collections::BTreeMap;
 use std::marker::Model;
 
-/// A client (RFC 2865 section 1.2, NAS): its address, and the secret that it shares with this proxy.
+/// A client (RFC 2865 section 1.2, NAS): its address, and the secret that it shares with the proxy.
 #[derive(Drop)]
 pub struct Client {
     /// The IPv4 address that its datagrams come from.
     address: [u8; 4],
-    /// What it shares with this proxy.
+    /// The secret that it shares with the proxy.
     secret: Secret,
 }
 
@@ -36,14 +36,14 @@ impl Client {
         Client { address, secret }
     }
 
-    /// The IPv4 address that its datagrams come from.
+    /// Returns the IPv4 address that its datagrams come from.
     pub fn address(&self) -> [u8; 4]
         ensures { result ≡ self.now.address }
     {
         self.address
     }
 
-    /// The secret that its packets are checked and answered with.
+    /// Returns the secret under which packets from it are checked and packets to it are signed.
     pub fn secret(&self) -> &Secret
         ensures { result.now ≡ self.now.secret }
     {
@@ -51,12 +51,12 @@ impl Client {
     }
 }
 
-/// Clients in the order of the configuration, found by their addresses.
+/// The clients in the order of the configuration, found by address.
 #[derive(Drop)]
 pub(crate) struct Clients {
     /// The clients in their order.
     items: Vec<Client>,
-    /// The place of each address's client among them.
+    /// The index of the client with each address.
     places: BTreeMap<[u8; 4], usize>,
 }
 
@@ -91,7 +91,7 @@ impl Clients {
         self.items.as_slice()
     }
 
-    /// The client of an address. Takes logarithmic time.
+    /// Returns the client with an address. It takes logarithmic time.
     pub(crate) fn find(&self, address: [u8; 4]) -> Option<&Client>
         ensures found { option_copied result ≡ find (λ c. bytes_eq c.address address) self.now }
         ensures address { IfSome result (λ client. client.now.address ≡ address) }
@@ -100,7 +100,7 @@ impl Clients {
         client_at(self.items.as_slice(), place)
     }
 
-    /// Adds a client whose address is new.
+    /// Appends a client with a new address.
     pub(crate) fn push(&mut self, client: Client) -> Result<(), AllocError>
         requires { find (λ c. bytes_eq c.address client.address) self.old ≡ None }
         ensures { OnOk result (self.new ≡ self.old ++ client ∷ []) }
@@ -112,14 +112,14 @@ impl Clients {
     }
 }
 
-/// The place that is kept for an address.
+/// Returns the index of the client with an address.
 fn place_in(places: &BTreeMap<[u8; 4], usize>, address: [u8; 4]) -> Option<usize>
     ensures { result ≡ tree.get (slice_cmp nat_cmp) places.now address }
 {
     places.get(&address).copied()
 }
 
-/// The client at a place.
+/// Returns the client at an index.
 fn client_at(items: &[Client], place: usize) -> Option<&Client>
     ensures { option_copied result ≡ slice_get items.now place }
 {

@@ -1,4 +1,4 @@
-//! A configuration, and whom and which lane it finds.
+//! A configuration, and finding a client or a lane in it.
 
 use crate::clients::{Client, Clients};
 use crate::homes::{Home, Homes};
@@ -6,21 +6,21 @@ use crate::reading::Endpoint;
 use crate::realms::{Destination, Realm, Realms, realm_of};
 use std::marker::Model;
 
-/// A configuration: where to listen, the clients, the home servers, one lane each, and the realms that lead
-/// to them.
+/// A configuration: the address to listen on, the clients, the home servers with one lane each, and the realms that
+/// lead to them.
 #[derive(Drop)]
 pub struct Config {
-    /// Where the clients' datagrams are received.
+    /// The address and port on which the clients' datagrams are received.
     listen: Endpoint,
-    /// How long to wait for open requests at the end, in milliseconds.
+    /// How long the program waits for outstanding requests at its end, in milliseconds.
     linger: u32,
-    /// The clients, 1 to 256, by address.
+    /// The clients, 1 to 256, found by address.
     clients: Clients,
-    /// The home servers, 1 to 64, by place: the lanes.
+    /// The home servers, 1 to 64. The index of one is its lane.
     homes: Homes,
-    /// The realms, at most 256, by name.
+    /// The realms, at most 256, found by name.
     realms: Realms,
-    /// The lane of what has no realm, where there is one.
+    /// The lane of requests without a realm, if there is a default home server.
     default_lane: Option<u16>,
 }
 
@@ -61,7 +61,8 @@ impl Config {
         }
     }
 
-    /// The client of an IPv4 address. Takes logarithmic time in the number of clients, and no memory.
+    /// Returns the client with an IPv4 address. It takes time logarithmic in the number of clients, and allocates
+    /// nothing.
     pub fn client_of(&self, address: [u8; 4]) -> Option<&Client>
         ensures found { option_copied result ≡ client_of self.now address }
         ensures address { IfSome result (λ client. client.now.address ≡ address) }
@@ -69,7 +70,7 @@ impl Config {
         self.clients.find(address)
     }
 
-    /// Where a realm of this name leads.
+    /// Returns where a realm with this name leads.
     #[tactic(auto, unfolding(crate::specs::Realm::lane_in))]
     fn destination_of_name(&self, name: &[u8]) -> Option<Destination>
         ensures lane { option_map (λ d. d.lane) result ≡ lane_in self.now.realms name.now }
@@ -81,7 +82,7 @@ impl Config {
         self.realms.find(name)
     }
 
-    /// Where a request of this realm leads, or one of none.
+    /// Returns where a request with this realm leads, or one without a realm.
     pub(crate) fn destination_of(&self, realm: Option<&[u8]>) -> Option<Destination>
         ensures lane { option_map (λ d. d.lane) result ≡ lane_by self.now.realms self.now.default_lane (option_copied realm.entry) }
         ensures rank { IfSome result (λ d. IsRank self.now.realms d.lane (option_copied realm.entry) d.rank) }
@@ -96,8 +97,9 @@ impl Config {
         }
     }
 
-    /// The lane that a User-Name's value leads to; without a User-Name, or without a realm in it, the
-    /// default lane, where there is one. Takes logarithmic time in the number of realms, and no memory.
+    /// Returns the lane that a User-Name's value leads to. Without a User-Name, or without a realm in it, this is the
+    /// lane of the default home server, if there is one. It takes time logarithmic in the number of realms, and
+    /// allocates nothing.
     pub fn lane_of(&self, user_name: Option<&[u8]>) -> Option<u16>
         ensures lane { result ≡ lane_of self.now (option_copied user_name.entry) }
         ensures within { IfSome result (λ lane. lane < length self.now.homes) }
@@ -110,7 +112,7 @@ impl Config {
         Some(destination.lane)
     }
 
-    /// The clients, in the order of the text.
+    /// Returns the clients, in the order of the text.
     pub fn clients(&self) -> &[Client]
         ensures value { result.now ≡ self.now.clients }
         ensures least { 1 ≤ length self.now.clients }
@@ -119,7 +121,7 @@ impl Config {
         self.clients.as_slice()
     }
 
-    /// The home servers, in the order of the text: the place of one is its lane.
+    /// Returns the home servers, in the order of the text. The index of one is its lane.
     pub fn homes(&self) -> &[Home]
         ensures value { result.now ≡ self.now.homes }
         ensures least { 1 ≤ length self.now.homes }
@@ -128,7 +130,7 @@ impl Config {
         self.homes.as_slice()
     }
 
-    /// The realms, in the order of the text.
+    /// Returns the realms, in the order of the text.
     pub fn realms(&self) -> &[Realm]
         ensures value { result.now ≡ self.now.realms }
         ensures most { length self.now.realms ≤ 256 }
@@ -137,14 +139,14 @@ impl Config {
         self.realms.as_slice()
     }
 
-    /// The address and port on which the clients' datagrams are received.
+    /// Returns the address and port on which the clients' datagrams are received.
     pub fn listen(&self) -> Endpoint
         ensures { result ≡ self.now.listen }
     {
         self.listen
     }
 
-    /// How long to wait for open requests at the end, in milliseconds.
+    /// Returns how long the program waits for outstanding requests at its end, in milliseconds.
     pub fn linger(&self) -> u32
         ensures { result ≡ self.now.linger }
     {

@@ -1,4 +1,4 @@
-//! Home servers, each of which is a lane.
+//! Home servers. Each has a lane.
 
 use crate::limits::Limits;
 use crate::name::Name;
@@ -7,14 +7,14 @@ use rad_auth::Secret;
 use std::alloc::{AllocError, Global};
 use std::marker::Model;
 
-/// A home server (RFC 2866 section 2.1, the remote server), which is one lane.
+/// A home server (RFC 2866 section 2.1, the remote server). Each has one lane.
 #[derive(Drop)]
 pub struct Home {
-    /// What the configuration calls it.
+    /// Its name in the configuration.
     name: Name,
-    /// Where requests are sent to.
+    /// The address and port that requests are sent to.
     endpoint: Endpoint,
-    /// What it shares with this proxy.
+    /// The secret that it shares with the proxy.
     secret: Secret,
     /// The limits of its lane.
     limits: Limits,
@@ -42,35 +42,35 @@ impl Home {
         }
     }
 
-    /// Its name in the configuration.
+    /// Returns its name in the configuration.
     pub fn name(&self) -> &str
         ensures { result.now ≡ self.now.name }
     {
         self.name.as_str()
     }
 
-    /// The IPv4 address that requests are sent to.
+    /// Returns the IPv4 address that requests are sent to.
     pub fn address(&self) -> [u8; 4]
         ensures { result ≡ self.now.endpoint.address }
     {
         self.endpoint.address
     }
 
-    /// The UDP port that requests are sent to.
+    /// Returns the UDP port that requests are sent to.
     pub fn port(&self) -> u16
         ensures { result ≡ self.now.endpoint.port }
     {
         self.endpoint.port
     }
 
-    /// The secret that its packets are signed and checked with.
+    /// Returns the secret under which packets to it are signed and packets from it are checked.
     pub fn secret(&self) -> &Secret
         ensures { result.now ≡ self.now.secret }
     {
         &self.secret
     }
 
-    /// The limits of its lane.
+    /// Returns the limits of its lane.
     pub fn limits(&self) -> Limits
         ensures { result ≡ self.now.limits }
     {
@@ -78,10 +78,10 @@ impl Home {
     }
 }
 
-/// Home servers in the order of the configuration: the lanes.
+/// The home servers in the order of the configuration. The index of a home server is the number of its lane.
 #[derive(Drop)]
 pub(crate) struct Homes {
-    /// The home servers in their order, at most 64.
+    /// The home servers, at most 64.
     items: Vec<Home>,
 }
 
@@ -122,7 +122,7 @@ impl Homes {
         Ok(())
     }
 
-    /// The lane of the home server of a name. Looks at each home server.
+    /// Returns the lane of the home server with a name. The cost is linear in the number of home servers.
     pub(crate) fn find(&self, name: &str) -> Option<usize>
         ensures place { result ≡ position (λ h. bytes_eq h.name name.now) self.now }
         ensures small { IfSome result (λ place. place < 64) }

@@ -1,4 +1,4 @@
-//! Laws of the definitions: each function is proved, does nothing, and says in its contract what is true.
+//! Theorems about the definitions. Each function has an empty body; its contract states the theorem.
 
 ghost use Rattle.std.specs.Prelude.{◌≡◌, ◌<◌, ◌≤◌, ◌^◌, true, ◌↔◌, ◌==◌, ◌++◌, ◌∷◌, [], List, ℕ, Some, None, not};
 ghost use Rattle.std.specs.List.{list_all};
@@ -18,42 +18,42 @@ ghost use Rattle.std.specs.Prelude.{Ok};
 ghost use Rattle.rad_realms.specs.Walk.{configuration_in};
 ghost use Rattle.rad_realms.specs.WellFormed.{IsWellFormed};
 
-/// Numbers have no fault just where each of them is in its range.
+/// Numbers have no fault exactly if each of them is in its range.
 pub fn no_fault_in_range()
     ensures { (n : LimitNumbers) → (first_fault (limits_of n) ≡ None) ↔ AreInRange n }
 {}
 
-/// The realm is what follows the last `@`, whatever stands before it, and a name with no `@` has none.
+/// The realm of a User-Name is the part after the last `@`, whatever stands before it. A name without `@` has none.
 pub fn realm_follows_the_last_sign()
     ensures follows { (front realm : List ℕ) → list_all (λ o. not (o == 64)) realm ≡ true → realm_in (front ++ 64 ∷ realm) ≡ Some realm }
     ensures none { (name : List ℕ) → list_all (λ o. not (o == 64)) name ≡ true → realm_in name ≡ None }
 {}
 
-/// A number is read from its own text, and from no other.
+/// Only its own text is read as a number.
 pub fn numbers_have_one_text()
     ensures read { (least most n : ℕ) → n < 2 ^ 64 → least ≤ n → n ≤ most → number_in least most (decimal n) ≡ Some n }
     ensures only { (least most n : ℕ) (text : List ℕ) → number_in least most text ≡ Some n → n < 2 ^ 64 → text ≡ decimal n }
 {}
 
-/// An address is read from its own text, and from no other.
+/// Only its own text is read as an address.
 pub fn addresses_have_one_text()
     ensures read { (address : List ℕ) → IsAddress address → address_in (address_text address) ≡ Some address }
     ensures only { (address text : List ℕ) → address_in text ≡ Some address → (text ≡ address_text address) × IsAddress address }
 {}
 
-/// An address and port is read from its own text, and from no other.
+/// Only its own text is read as an address and port.
 pub fn endpoints_have_one_text()
     ensures read { (e : Endpoint) → IsAddress e.address → 1 ≤ e.port → e.port ≤ 65535 → endpoint_in (endpoint_text e) ≡ Some e }
     ensures only { (e : Endpoint) (text : List ℕ) → endpoint_in text ≡ Some e → (text ≡ endpoint_text e) × IsAddress e.address × (1 ≤ e.port) × (e.port ≤ 65535) }
 {}
 
-/// No datagram is dropped for two reasons, and none that is taken is dropped.
+/// No datagram is dropped for two reasons, and none that passes the checks is dropped.
 pub fn taken_or_dropped_once()
     ensures reason { (config : Configuration) (address datagram : List ℕ) (e f : Dropped) → Drops config address datagram e → Drops config address datagram f → e ≡ f }
     ensures taken { (config : Configuration) (address : List ℕ) (port : ℕ) (datagram : List ℕ) (taken : Incoming) (e : Dropped) → Takes config address port datagram taken → Drops config address datagram e → ⊥ }
 {}
 
-/// Each configuration that a text says is well formed: `specs/WellFormed.antt`.
+/// Each configuration that a text gives is well-formed (`specs/WellFormed.antt`).
 pub fn configurations_are_well_formed()
     ensures { (text : List ℕ) (config : Configuration) → configuration_in text ≡ Ok config → IsWellFormed config }
 {}

@@ -1,9 +1,8 @@
-//! The clients, home servers and realms of a RADIUS accounting proxy (RFC 2866 section 2.1): how they are read
-//! from a configuration, and what is checked of a datagram that comes from a client.
-//!
-//! A configuration is seen by contracts as what it says, `specs/Configuration.antt`. `specs/Walk.antt` says how a
-//! document is read as one, `specs/WellFormed.antt` what holds of each one that is read, `specs/Realm.antt` to
-//! which lane a realm leads, and `specs/Checking.antt` what is known of a datagram that was checked.
+//! The clients, home servers and realms of a RADIUS accounting proxy (RFC 2866 section 2.1): reading them from a
+//! configuration, and checking a datagram that comes from a client.
+//! | Contracts describe a configuration by its content (`specs/Configuration.antt`). `specs/Walk.antt` defines which
+//! configuration a document gives, `specs/WellFormed.antt` the invariant of a configuration, `specs/Realm.antt` the
+//! lane of a realm, and `specs/Checking.antt` the properties of a checked datagram.
 #![tactic(auto)]
 
 mod checking;

@@ -1,11 +1,11 @@
-//! The limits of a lane: its numbers, each of them in a range.
+//! The limits of a lane. Each number has a range.
 
 ghost use Rattle.std.specs.Prelude.{◌≡◌, ◌≤◌, ◌&&◌, nat_le, if◌then◌else◌, Ok, Err, OnOk};
 
 use std::fmt;
 use std::marker::Model;
 
-/// The numbers where the configuration has none.
+/// The defaults.
 pub const DEFAULT_LIMITS: LimitNumbers = LimitNumbers {
     window: 64,
     queue: 4096,
@@ -19,33 +19,32 @@ pub const DEFAULT_LIMITS: LimitNumbers = LimitNumbers {
     ports: 1,
 };
 
-/// The numbers of a lane, as a home server's table in the configuration has them. Times are in
-/// milliseconds.
+/// The numbers of a lane, from a home server's table in the configuration. Times are in milliseconds.
 #[derive(Clone, Copy, Debug, PartialEq, Eq)]
 pub struct LimitNumbers {
-    /// The most requests that are sent and not answered, 1 to `256 * ports - 2`.
+    /// The most requests that may be outstanding, 1 to `256 * ports - 2`.
     pub window: u32,
-    /// The most requests that wait to be sent, 1 to 65,536.
+    /// The most requests that may wait to be sent, 1 to 65,536.
     pub queue: u32,
-    /// The most requests that are kept, 1 to 1,000,000.
+    /// The most requests that the book may hold, 1 to 1,000,000.
     pub book: u32,
-    /// The sendings of one request before its home server counts as down, 1 to 10.
+    /// The most sendings of a request in a round, before its home server is marked down, 1 to 10.
     pub tries: u32,
     /// The wait after the first sending, 100 to 60,000 ms.
     pub first_wait: u32,
-    /// The time between two probes of a home server that is down, 1000 to 600,000 ms.
+    /// The time between two probes of a home server that is marked down, 1000 to 600,000 ms.
     pub probe_every: u32,
-    /// The longest time that a home server counts as down, 1000 to 3,600,000 ms.
+    /// The longest time for which a home server stays marked down, 1000 to 3,600,000 ms.
     pub down_wait: u32,
-    /// The time after an answer in which a repeat is answered again, 0 to 600,000 ms.
+    /// The time after an answer during which a repeat is answered again, 0 to 600,000 ms.
     pub span: u32,
-    /// The most responses that wait to be taken, 1 to 4096.
+    /// The most responses that may wait in the ring, 1 to 4096.
     pub ring: u32,
     /// The source ports that requests are sent from, 1 to 4.
     pub ports: u32,
 }
 
-/// Which number is out of its range. The first one in this order is told, and printed as its name here.
+/// Which number is out of its range. The first one in this order is reported. It is printed as its name here.
 #[derive(Clone, Copy, Debug, PartialEq, Eq)]
 pub enum LimitFault {
     /// `ports`.
@@ -92,7 +91,7 @@ impl fmt::Display for LimitFault {
     }
 }
 
-/// Numbers of a lane, each of them in its range.
+/// The numbers of a lane, each within its range.
 #[derive(Clone, Copy, Debug, PartialEq, Eq)]
 pub struct Limits {
     numbers: LimitNumbers,
@@ -116,11 +115,9 @@ impl Limits {
     ghost use Rattle.std.specs.Result.{result_err};
     ghost use Rattle.rad_realms.specs.Limits.{AreInRange, limits_of, first_fault};
 
-    /// Takes numbers where each of them is in its range.
-    ///
-    /// # Errors
-    ///
-    /// The first number that is out of its range, in the order of [`LimitFault`].
+    /// Makes limits of numbers that are within their ranges.
+    /// | # Errors
+    /// | The first number that is out of its range, in the order of [`LimitFault`].
     pub fn new(numbers: LimitNumbers) -> Result<Limits, LimitFault>
         ensures kept { IfOk result (λ limits. limits ≡ numbers) }
         ensures fault { result_err result ≡ first_fault (limits_of numbers) }
@@ -139,7 +136,7 @@ impl Limits {
         Ok(Limits { numbers })
     }
 
-    /// The numbers.
+    /// Returns the numbers.
     pub fn numbers(&self) -> LimitNumbers
         ensures value { result ≡ self.now }
         ensures in_range { AreInRange self.now }
@@ -148,7 +145,7 @@ impl Limits {
     }
 }
 
-/// Refuses a number that is out of a range.
+/// Refuses a number that is out of its range.
 fn within(number: u32, least: u32, most: u32, fault: LimitFault) -> Result<(), LimitFault>
     ensures value { result ≡ (if nat_le least number && nat_le number most then Ok tt else Err fault) }
     ensures kept { OnOk result ((least ≤ number) × (number ≤ most)) }

@@ -3,7 +3,7 @@
 use std::alloc::{AllocError, Global};
 use std::marker::Model;
 
-/// A name, as the configuration has it.
+/// A name, as it is written in the configuration.
 #[derive(Drop)]
 pub(crate) struct Name {
     text: String,

@@ -1,5 +1,5 @@
-//! How a configuration is read from its text: from the walk over the whole document down to the text of one
-//! key, and the faults that are met on the way.
+//! Reading a configuration from its text, from the walk over the document down to the value of one key, and the faults
+//! of it.
 
 mod address;
 mod arrays;

@@ -1,4 +1,4 @@
-//! Realms, the lanes that they lead to, and the realm of a User-Name.
+//! Realms, their lanes, and the realm of a User-Name.
 
 ghost use Rattle.std.specs.Prelude.{◌≡◌, ◌≤◌, ◌++◌, ◌==◌, length, take, drop, map, filter, IfOk, option_copied};
 ghost use Rattle.std.specs.Char.{to_ascii_lowercase};
@@ -18,7 +18,7 @@ pub(crate) const LONGEST_REALM: usize = 252;
 /// A realm (RFC 7542 section 2.2), and the lane that it leads to.
 #[derive(Drop)]
 pub struct Realm {
-    /// Its name as the configuration has it.
+    /// Its name, as it is written in the configuration.
     name: Name,
     /// The lane that it leads to.
     lane: u16,
@@ -41,14 +41,14 @@ impl Realm {
         Realm { name, lane }
     }
 
-    /// Its name as the configuration has it. ASCII letters are compared without case.
+    /// Returns its name, as it is written in the configuration. ASCII letters are compared without case.
     pub fn name(&self) -> &str
         ensures { result.now ≡ self.now.name }
     {
         self.name.as_str()
     }
 
-    /// The lane that it leads to: the place of its home server in the configuration, counted from 0.
+    /// Returns the number of its lane: the index of its home server in the configuration, counted from 0.
     pub fn lane(&self) -> u16
         ensures { result ≡ self.now.lane }
     {
@@ -56,22 +56,22 @@ impl Realm {
     }
 }
 
-/// Where a request leads.
+/// The lane of a request, and the rank of its realm.
 #[derive(Clone, Copy)]
 pub(crate) struct Destination {
     /// The lane.
     pub(crate) lane: u16,
-    /// The place of the request's realm among the realms that lead to this lane, in their order, counted from 0.
-    /// A request without a realm has none.
+    /// The index of the request's realm among the realms that lead to this lane, in their order, counted from 0. A
+    /// request without a realm has none.
     pub(crate) rank: Option<usize>,
 }
 
-/// Realms in the order of the configuration, found by their names.
+/// The realms in the order of the configuration, found by name.
 #[derive(Drop)]
 pub(crate) struct Realms {
     /// The realms in their order.
     items: Vec<Realm>,
-    /// Where each name leads, which stands there in lower case.
+    /// The destination of each name in lower case.
     by_name: BTreeMap<Vec<u8>, Destination>,
 }
 
@@ -106,7 +106,7 @@ impl Realms {
         self.items.as_slice()
     }
 
-    /// Where the realm of a name leads. Takes logarithmic time.
+    /// Returns the destination of the realm with a name. It takes logarithmic time.
     pub(crate) fn find(&self, name: &[u8]) -> Option<Destination>
         ensures lane { option_map (λ d. d.lane) result ≡ option_map (λ r. r.lane) (find (λ r. same_name r.name name.now) self.now) }
         ensures rank { IfSome result (λ d. IsRank self.now d.lane (Some name.now) d.rank) }
@@ -120,7 +120,7 @@ impl Realms {
         destination_kept(places, front(&buffer, name.len()))
     }
 
-    /// Whether there is a realm of a name. Takes logarithmic time.
+    /// Whether there is a realm with a name. It takes logarithmic time.
     #[tactic(auto, using(crate::proofs::Names::is_some_mapped))]
     pub(crate) fn has(&self, name: &str) -> bool
         ensures { result ≡ is_some (find (λ r. same_name r.name name.now) self.now) }
@@ -128,7 +128,7 @@ impl Realms {
         self.find(name.as_bytes()).is_some()
     }
 
-    /// Adds a realm whose name is new. It looks at each earlier realm once.
+    /// Appends a realm with a new name. Its cost is linear in the number of realms.
     pub(crate) fn push(&mut self, alloc: Global, realm: Realm) -> Result<(), AllocError>
         requires short { length realm.name ≤ 252 }
         requires new { find (λ r. same_name r.name realm.name) self.old ≡ None }
@@ -144,8 +144,8 @@ impl Realms {
     }
 }
 
-/// What follows the last `@` of a User-Name's value (RFC 7542 section 2.2), where it has one. Looks at each
-/// octet behind that `@` once.
+/// Returns the part of a User-Name's value after its last `@` (RFC 7542 section 2.2), if it has one. Looks at each
+/// octet after that `@` once.
 pub(crate) fn realm_of(name: &[u8]) -> Option<&[u8]>
     ensures { option_copied result ≡ realm_in name.now }
 {
@@ -160,21 +160,21 @@ pub(crate) fn realm_of(name: &[u8]) -> Option<&[u8]>
     None
 }
 
-/// How many realms lead to a lane.
+/// Returns the number of realms that lead to a lane.
 fn count_of(realms: &[Realm], lane: u16) -> usize
     ensures { result ≡ length (filter (λ r. r.lane == lane) realms.now) }
 {
     realms.iter().filter(|realm| realm.lane() == lane).count()
 }
 
-/// The destination that is kept for a name in lower case.
+/// Returns the destination of a name in lower case.
 fn destination_kept(places: &BTreeMap<Vec<u8>, Destination>, name: &[u8]) -> Option<Destination>
     ensures { result ≡ tree.get_by (λ k. slice_cmp nat_cmp name.now k.items) places.now }
 {
     places.get(name).copied()
 }
 
-/// The first octets.
+/// Returns the first `count` octets.
 fn front(octets: &[u8], count: usize) -> &[u8]
     requires { count ≤ length octets.now }
     ensures { result.now ≡ take count octets.now }
@@ -182,7 +182,7 @@ fn front(octets: &[u8], count: usize) -> &[u8]
     &octets[..count]
 }
 
-/// A name with its ASCII letters in lower case.
+/// Returns a name with its ASCII letters in lower case.
 fn lower_case(alloc: Global, name: &[u8]) -> Result<Vec<u8>, AllocError>
     ensures { IfOk result (λ v. v.items ≡ map to_ascii_lowercase name.now) }
 {
@@ -191,7 +191,7 @@ fn lower_case(alloc: Global, name: &[u8]) -> Result<Vec<u8>, AllocError>
         .collect(alloc)
 }
 
-/// Writes a name with its ASCII letters in lower case at a buffer's front.
+/// Writes a name, with its ASCII letters in lower case, to the front of a buffer.
 fn put_lower_case(buffer: &mut [u8], name: &[u8])
     requires { length name.now ≤ length buffer.old }
     ensures { buffer.new ≡ map to_ascii_lowercase name.now ++ drop (length name.now) buffer.old }

@@ -1,4 +1,5 @@
-//! Tests of what no contract says: printed text, signed packets from elsewhere, and that calls succeed.
+//! Tests of printed texts, and of what no contract states: the results for packets that another implementation signed,
+//! and that calls succeed.
 
 mod checks;
 mod ends;

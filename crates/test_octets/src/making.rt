@@ -1,4 +1,4 @@
-//! Packets that are made: requests of `bob@example.org` under `nas-secret`, and replies to what was sent, under
+//! Making packets: requests of `bob@example.org` under `nas-secret`, and replies to what was sent, under
 //! `home-secret`.
 
 use crate::signing::{sign_request, sign_response};
@@ -13,14 +13,14 @@ const ACCT_STATUS_TYPE: u8 = 40;
 
 const ACCT_SESSION_ID: u8 = 44;
 
-/// A request that differs from those of other counts; its Identifier goes round with the count.
+/// Returns a request that differs from those of other counts. Its Identifier is `count` modulo 256.
 pub fn request(count: u16) -> Option<Datagram> {
     let mut datagram = begun((count % 256) as u8)?;
     push(&mut datagram, ACCT_SESSION_ID, &count.to_be_bytes())?;
     signed(datagram)
 }
 
-/// A request of this Length, which is 47, or 49 and more.
+/// Returns a request of this Length, which is 47, or 49 and more.
 pub fn request_of_length(length: usize) -> Option<Datagram> {
     let mut datagram = begun(9)?;
     push(&mut datagram, ACCT_STATUS_TYPE, &[0, 0, 0, 1])?;
@@ -30,7 +30,7 @@ pub fn request_of_length(length: usize) -> Option<Datagram> {
     signed(datagram)
 }
 
-/// A request of this Identifier with its User-Name alone.
+/// Returns a request with this Identifier and its User-Name alone.
 fn begun(identifier: u8) -> Option<Datagram> {
     let mut datagram = Datagram::new();
     datagram.begin(ACCOUNTING_REQUEST, identifier, [0; 16]);
@@ -44,8 +44,8 @@ fn signed(mut request: Datagram) -> Option<Datagram> {
     Some(request)
 }
 
-/// The reply to a packet that was sent: under its Identifier, with the mark at its end and so many octets of Class, which
-/// are not 1.
+/// Returns the reply to a packet that was sent: it has the packet's Identifier and mark, and then Class attributes of
+/// `classes` octets in all, which is not 1.
 pub fn reply_to(sent: &[u8], classes: usize) -> Option<Datagram> {
     let sent = read(sent).ok()?;
     let mut reply = Datagram::new();
@@ -57,12 +57,12 @@ pub fn reply_to(sent: &[u8], classes: usize) -> Option<Datagram> {
     Some(reply)
 }
 
-/// The last ten octets of a packet: the value of its mark, where it ends with one.
+/// Returns the last ten octets of a packet: the Value of its mark, if it ends with one.
 fn last_of(packet: &[u8]) -> &[u8] {
     &packet[packet.len().saturating_sub(10)..]
 }
 
-/// The value of a mark: the lane's number and the request's.
+/// Returns the Value of a mark: the lane's number and the record's.
 pub fn mark_value(lane: u16, number: u64) -> [u8; 10] {
     let mut value = [0; 10];
     value[..2].copy_from_slice(&lane.to_be_bytes());
@@ -70,7 +70,7 @@ pub fn mark_value(lane: u16, number: u64) -> [u8; 10] {
     value
 }
 
-/// Adds Class attributes of so many octets in all, which is not 1: each has 128, but for the last.
+/// Appends Class attributes of `octets` octets in all, which is not 1. Each has 128 octets, except the last.
 pub fn push_classes(datagram: &mut Datagram, octets: usize) -> Option<()> {
     for _ in 1..octets / 128 {
         push(datagram, CLASS, &[b'A'; 126])?;
@@ -86,7 +86,7 @@ pub fn push_classes(datagram: &mut Datagram, octets: usize) -> Option<()> {
     push(datagram, CLASS, [b'A'; 253].get(..rest.saturating_sub(2))?)
 }
 
-/// Adds an attribute, where it fits.
+/// Appends an attribute, if it fits.
 fn push(datagram: &mut Datagram, kind: u8, value: &[u8]) -> Option<()> {
     datagram.push(kind, value).ok()
 }

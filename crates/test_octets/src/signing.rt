@@ -1,4 +1,4 @@
-//! Signatures under the secrets of a NAS and of a home server.
+//! Signing packets under the secret of a NAS or of a home server.
 
 use rad_auth::{Secret, request_authenticator, response_authenticator};
 use rad_packet::Datagram;
@@ -9,7 +9,7 @@ pub fn sign_request(datagram: &mut Datagram, secret: &Secret) {
     datagram.set_authenticator(authenticator);
 }
 
-/// Signs an answer to a packet of this Authenticator.
+/// Signs an answer to a packet with this Authenticator.
 pub fn sign_response(datagram: &mut Datagram, asked: &[u8; 16], secret: &Secret) {
     let authenticator = response_authenticator(&datagram.packet(), asked, secret);
     datagram.set_authenticator(authenticator);

@@ -1,4 +1,4 @@
-//! Digests, and the secrets that they are over.
+//! Digests, and the secrets that they are made with.
 
 use super::comparing::{holds, same};
 use super::secret_of;
@@ -24,7 +24,7 @@ fn hmac_is(rt: &impl Abort, key: &[u8], text: &[u8], digest: u128) {
     holds(rt, hmac_md5(key, text) == digest.to_be_bytes());
 }
 
-/// RFC 2202 section 2, all seven.
+/// The test cases of RFC 2202 section 2, all seven.
 #[test]
 fn hmac_md5_of_rfc_2202(rt: HostRuntime) {
     let question: &[u8] = b"what do ya want for nothing?";
@@ -62,7 +62,7 @@ fn md5_is(rt: &impl Abort, text: &[u8], digest: u128) {
     holds(rt, Md5::digest(text) == digest.to_be_bytes());
 }
 
-/// RFC 1321 section A.5.
+/// Test cases of RFC 1321 section A.5.
 #[test]
 fn md5_of_rfc_1321(rt: HostRuntime) {
     md5_is(&rt, b"", 0xd41d8cd98f00b204e9800998ecf8427e);

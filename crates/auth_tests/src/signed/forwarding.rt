@@ -1,4 +1,4 @@
-//! Requests that are checked and forwarded.
+//! Checking and forwarding requests.
 
 use super::comparing::{holds, same};
 use super::vectors::{FORWARDED, LONG_AUTHENTICATOR, REQUEST};
@@ -17,7 +17,7 @@ fn requests_are_checked(rt: HostRuntime) -> Result<(), Fail> {
     Ok(())
 }
 
-/// REQUEST as it is forwarded under an identifier and a secret.
+/// Returns REQUEST as it is forwarded with an Identifier, under a secret.
 fn forwarded(identifier: u8, secret: &[u8]) -> Result<Datagram, Fail> {
     let mut datagram = Datagram::new();
     forward(
@@ -36,7 +36,7 @@ fn requests_are_forwarded(rt: HostRuntime) -> Result<(), Fail> {
     Ok(())
 }
 
-/// Whether a request, signed anew, is FORWARDED.
+/// Whether a request, signed again, is FORWARDED.
 fn is_signed(alloc: Global, request: &[u8], home: &Secret) -> Result<bool, Fail> {
     let packet = read(request)?;
     if packet.code() != ACCOUNTING_REQUEST {
@@ -57,7 +57,7 @@ fn requests_are_signed(rt: HostRuntime) -> Result<(), Fail> {
     Ok(())
 }
 
-/// A request that leaves room for the mark, and 212 octets more.
+/// Returns a request that leaves room for the mark and 212 octets more.
 fn long_request() -> Result<Datagram, Fail> {
     let mut request = Datagram::new();
     request.begin(ACCOUNTING_REQUEST, 7, [0; 16]);
@@ -70,7 +70,7 @@ fn long_request() -> Result<Datagram, Fail> {
     Ok(request)
 }
 
-/// Forwards it with a Class of so many octets more.
+/// Forwards it with one more attribute, a Class with a Value of `room` octets.
 fn forward_with(
     room: usize,
     home: &Secret,

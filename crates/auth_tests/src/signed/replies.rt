@@ -1,4 +1,4 @@
-//! Replies to FORWARDED, and the responses to REQUEST after them.
+//! Replies to FORWARDED, and the responses to REQUEST that they give.
 
 use super::comparing::{holds, same};
 use super::vectors::{FORWARDED, REPLY, REQUEST, RESPONSE};
@@ -13,7 +13,7 @@ use std::process::Abort;
 use std::test::Fail;
 use test_octets::{mark_value, push_classes, sign_response};
 
-/// The response after a reply, given as its octets.
+/// Returns the response that the reply with these octets gives.
 fn response_after(alloc: Global, reply: &[u8]) -> Result<Result<Reply, ReplyFault>, Fail> {
     let (client, home) = (secret_of(CLIENT)?, secret_of(HOME)?);
     let (request, reply) = (read(&REQUEST)?, read(reply)?);
@@ -33,7 +33,7 @@ fn response_after(alloc: Global, reply: &[u8]) -> Result<Result<Reply, ReplyFaul
     Ok(respond(alloc, head, &sending, &reply, &client, &home))
 }
 
-/// A reply and the response after it, which are written side by side.
+/// A reply, and the response that it gives. Both are written at the same time.
 #[derive(Drop)]
 struct Pair {
     reply: Datagram,
@@ -51,21 +51,21 @@ impl Pair {
         pair
     }
 
-    /// Adds an attribute to both.
+    /// Appends an attribute to both.
     fn push(&mut self, kind: u8, value: &[u8]) -> Result<(), Fail> {
         self.reply.push(kind, value)?;
         self.response.push(kind, value)?;
         Ok(())
     }
 
-    /// Adds the mark to the reply.
+    /// Appends the mark to the reply.
     fn push_mark(&mut self) -> Result<(), Fail> {
         let value = mark_value(MARK.lane, MARK.number);
         self.reply.push(PROXY_STATE, &value)?;
         Ok(())
     }
 
-    /// Adds Class attributes of so many octets to both.
+    /// Appends Class attributes of `octets` octets in all to both.
     fn push_classes(&mut self, octets: usize) -> Option<()> {
         push_classes(&mut self.reply, octets)?;
         push_classes(&mut self.response, octets)
@@ -76,7 +76,7 @@ impl Pair {
         sign_response(&mut self.response, &authenticator_of(&REQUEST), client);
     }
 
-    /// Whether the reply, once it is signed, gives this response, once that is signed, kept and copied.
+    /// Signs both, and returns whether a copy of what the reply gives has this reply and a kept copy of this response.
     fn is_right(&mut self, alloc: Global) -> Result<bool, Fail> {
         self.sign(&secret_of(CLIENT)?, &secret_of(HOME)?);
         let copy = response_after(alloc, self.reply.bytes())??.copy(alloc)?;
@@ -86,7 +86,7 @@ impl Pair {
     }
 }
 
-/// Checks a reply to FORWARDED that gave RESPONSE.
+/// Checks the parts of a reply to FORWARDED that gave RESPONSE.
 fn is_kept_whole(rt: &impl Abort, reply: &Reply) {
     same(rt, reply.head().identifier, REQUEST[1]);
     holds(rt, reply.head().authenticator == authenticator_of(&REQUEST));
@@ -112,7 +112,7 @@ fn spoiled_replies_give_none(rt: HostRuntime) -> Result<(), Fail> {
     Ok(())
 }
 
-/// Whether a reply of so many octets of Class has its Length, and gives its response.
+/// Whether a reply with Class attributes of `octets` octets has the right Length, and gives its response.
 fn has_its_response(alloc: Global, octets: usize) -> Result<bool, Fail> {
     let mut pair = Pair::new();
     pair.push_mark()?;
@@ -121,8 +121,8 @@ fn has_its_response(alloc: Global, octets: usize) -> Result<bool, Fail> {
     Ok(length == octets.saturating_add(32) && pair.is_right(alloc)?)
 }
 
-/// The longest reply has 4096 octets, and its response twelve fewer. Steps of 63 leave no length of the last
-/// block of MD5 out.
+/// The longest reply has 4096 octets, and its response twelve fewer. With steps of 63 octets, each length of the last
+/// block of MD5 occurs.
 #[test]
 fn replies_of_many_lengths_give_responses(rt: HostRuntime) -> Result<(), Fail> {
     for step in 0..=65usize {

@@ -22,12 +22,12 @@ fn status_servers_are_made(rt: HostRuntime) -> Result<(), Fail> {
     Ok(())
 }
 
-/// Whether a packet is a right Status-Server under a secret.
+/// Whether a packet is a valid Status-Server under a secret.
 fn is_right(packet: &[u8], secret: &[u8]) -> Result<bool, Fail> {
     Ok(check_status(&read(packet)?, &secret_of(secret)?))
 }
 
-/// Packets, a secret, and whether the packet is a right Status-Server under it.
+/// Packets, each with a secret and whether the packet is a valid Status-Server under it.
 const ROWS: [(&[u8], &[u8], bool); 5] = [
     (&STATUS, CLIENT, true),
     (&STATUS, HOME, false),
@@ -44,7 +44,7 @@ fn status_servers_have_one_message_authenticator(rt: HostRuntime) -> Result<(), 
     Ok(())
 }
 
-/// The answer to a Status-Server, where it is right.
+/// Returns the answer to a Status-Server, if it is valid.
 fn answer_to(status: &PacketRef<'_>, client: &Secret) -> Option<Datagram> {
     if !check_status(status, client) || status.code() != STATUS_SERVER {
         return None;

@@ -1,4 +1,4 @@
-//! IPv4 addresses and UDP ports, how they are read from text, and how they are printed.
+//! IPv4 addresses and UDP ports: reading them from text, and printing them.
 
 ghost use Rattle.std.specs.Prelude.{◌≡◌, ◌<◌, ◌≤◌, ◌^◌, true, option_map, MatchOption};
 ghost use Rattle.std.specs.List.{list_all};
@@ -11,13 +11,13 @@ use std::fmt;
 /// An IPv4 address and a UDP port. It is printed as the address in dotted decimal, a colon, and the port.
 #[derive(Clone, Copy, Debug, PartialEq, Eq)]
 pub struct Endpoint {
-    /// The address, its four octets in the order in which they are written.
+    /// The address: four octets, in the order in which they are written.
     pub address: [u8; 4],
     /// The port.
     pub port: u16,
 }
 
-/// An IPv4 address, its four octets in the order in which they are written. It is printed in dotted decimal.
+/// An IPv4 address: four octets, in the order in which they are written. It is printed in dotted decimal.
 #[derive(Clone, Copy, Debug, PartialEq, Eq)]
 pub struct AddressText(pub [u8; 4]);
 
@@ -46,8 +46,8 @@ impl fmt::Display for Endpoint {
     }
 }
 
-/// Reads an IPv4 address from its text: four decimal numbers from 0 to 255, with no leading zeros, joined by
-/// dots. It is `None` where the text is none.
+/// Reads an IPv4 address from its text: four decimal numbers from 0 to 255 without leading zeros, joined by dots.
+/// Returns `None` for any other text.
 #[tactic(auto, unfolding(crate::specs::Address::address_in))]
 pub fn read_address(text: &str) -> Option<[u8; 4]>
     ensures { result ≡ address_in text.now }
@@ -62,8 +62,8 @@ pub fn read_address(text: &str) -> Option<[u8; 4]>
     Some([first, second, third, fourth])
 }
 
-/// Reads an IPv4 address and a UDP port from their text: an address, a colon, and a decimal number from 1 to
-/// 65535. It is `None` where the text is none.
+/// Reads an IPv4 address and a UDP port from their text: an address, a colon, and a decimal number from 1 to 65535.
+/// Returns `None` for any other text.
 #[tactic(auto, unfolding(crate::specs::Address::endpoint_in))]
 pub(crate) fn read_endpoint(text: &str) -> Option<Endpoint>
     ensures { result ≡ endpoint_in text.now }
@@ -74,7 +74,7 @@ pub(crate) fn read_endpoint(text: &str) -> Option<Endpoint>
     Some(Endpoint { address, port })
 }
 
-/// Splits a text around the first delimiter, an ASCII character.
+/// Splits a text at the first delimiter, an ASCII character.
 #[tactic(auto, unfolding(crate::specs::Address::around_first))]
 fn split_around(text: &str, delimiter: char) -> Option<(&str, &str)>
     requires { delimiter < 128 }
@@ -116,14 +116,14 @@ fn is_number_text(text: &[u8]) -> bool
     are_digits(text)
 }
 
-/// Whether these are digits alone.
+/// Whether all of these octets are digits.
 fn are_digits(text: &[u8]) -> bool
     ensures { result ≡ list_all is_ascii_digit text.now }
 {
     text.iter().all(|octet| octet.is_ascii_digit())
 }
 
-/// Parses digits as a number, where it is below 65536.
+/// Parses digits as a number below 65536.
 fn parse_number(text: &str) -> Option<u16>
     requires { is_number text.now ≡ true }
     ensures { MatchOption result (2 ^ 16 ≤ digits_value 10 text.now) (λ number. number ≡ digits_value 10 text.now) }

@@ -1,4 +1,4 @@
-//! The arrays of tables of a configuration.
+//! Reading the arrays of tables of a configuration.
 
 ghost use Rattle.std.specs.Prelude.{◌≡◌, ◌≤◌, length, All, IfOk, Some, None, IsTrue, MatchBool, ◌↔◌};
 ghost use Rattle.toml.specs.View.{view, items_view, table_view};
@@ -9,7 +9,7 @@ use super::document::{member, needed_value};
 use super::faults::{ConfigFault, Spot};
 use toml::{Table, Value};
 
-/// Reads the tables of a key that needs one at least.
+/// Reads an array that needs at least one table.
 #[tactic(auto, unfolding(crate::specs::Walk::some_tables_at))]
 pub(crate) fn some_tables<'t>(
     most: usize,
@@ -26,7 +26,7 @@ pub(crate) fn some_tables<'t>(
     tables_of_value(most, spot, value)
 }
 
-/// Reads the tables of a key that may have none.
+/// Reads an array that may be absent or empty.
 #[tactic(auto, unfolding(crate::specs::Walk::any_tables_at))]
 pub(crate) fn any_tables<'t>(
     most: usize,
@@ -41,7 +41,7 @@ pub(crate) fn any_tables<'t>(
     }
 }
 
-/// Takes a value as an array of tables, at most so many.
+/// Returns a value that is an array of at most `most` tables.
 #[tactic(auto, using(crate::proofs::ArrayTables::length_tables), unfolding(crate::specs::Walk::tables_of))]
 fn tables_of_value(most: usize, spot: Spot, value: &Value) -> Result<&[Value], ConfigFault>
     ensures tables { ReadsTables result (tables_of most spot (view value.now)) }
@@ -59,7 +59,7 @@ fn tables_of_value(most: usize, spot: Spot, value: &Value) -> Result<&[Value], C
     Ok(values.as_slice())
 }
 
-/// Whether values are the tables of an array.
+/// Whether the elements of an array are tables.
 fn are_tables(values: &[Value]) -> bool
     ensures { MatchBool result
         (All IsTable values.now × (tables_in (items_view values.now) ≡ Some (tables_of_values values.now)))
@@ -75,7 +75,7 @@ fn is_each_table(values: &[Value]) -> bool
     values.iter().all(|value| value.is_table())
 }
 
-/// Whether a value is an array with nothing in it.
+/// Whether a value is an empty array.
 fn is_empty_array_value(value: &Value) -> bool
     ensures { result ≡ is_empty_array (view value.now) }
 {
@@ -85,7 +85,7 @@ fn is_empty_array_value(value: &Value) -> bool
     }
 }
 
-/// Takes a value as the table that it is.
+/// Returns a value that is known to be a table.
 pub(crate) fn table(value: &Value) -> &Table
     requires { IsTable value.now }
     ensures { table_view result.now ≡ table_of value.now }

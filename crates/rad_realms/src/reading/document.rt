@@ -1,4 +1,4 @@
-//! The forms that the keys of a configuration have.
+//! Reading the values of a configuration's keys: texts, addresses, secrets, names and numbers.
 
 ghost use Rattle.std.specs.Prelude.{◌≡◌, ◌≤◌, ◌<◌, ◌&&◌, ℕ, Bool, true, not, ◌==◌, length, nat_le, option_map, if◌then◌else◌, IfOk, Ok, Err};
 ghost use Rattle.std.specs.List.{list_all};
@@ -15,7 +15,7 @@ use crate::realms::LONGEST_REALM;
 use rad_auth::Secret;
 use toml::{Table, Value};
 
-/// Reads a text that is needed.
+/// Reads a required text.
 #[tactic(auto, unfolding(crate::specs::Walk::text_at))]
 pub(crate) fn text<'t>(spot: Spot, doc: &'t Table) -> Result<&'t str, ConfigFault>
     ensures { Reads (λ s. s.now) result (text_at spot (table_view doc.now)) }
@@ -24,7 +24,7 @@ pub(crate) fn text<'t>(spot: Spot, doc: &'t Table) -> Result<&'t str, ConfigFaul
     text_of_value(spot, value)
 }
 
-/// Reads a text, where there is one.
+/// Reads an optional text.
 #[tactic(auto, unfolding(crate::specs::Walk::optional_text_at))]
 pub(crate) fn optional_text<'t>(spot: Spot, doc: &'t Table) -> Result<Option<&'t str>, ConfigFault>
     ensures { Reads (λ o. option_map (λ s. s.now) o) result (optional_text_at spot (table_view doc.now)) }
@@ -38,7 +38,7 @@ pub(crate) fn optional_text<'t>(spot: Spot, doc: &'t Table) -> Result<Option<&'t
     }
 }
 
-/// Takes a value as a text.
+/// Returns a value that is a text.
 #[tactic(auto, unfolding(crate::specs::Walk::text_in))]
 fn text_of_value(spot: Spot, value: &Value) -> Result<&str, ConfigFault>
     ensures { Reads (λ s. s.now) result (text_in spot (view value.now)) }
@@ -49,7 +49,7 @@ fn text_of_value(spot: Spot, value: &Value) -> Result<&str, ConfigFault>
     }
 }
 
-/// Reads an IPv4 address.
+/// Reads a required IPv4 address.
 #[tactic(auto, unfolding(crate::specs::Walk::address_at))]
 pub(crate) fn address(spot: Spot, doc: &Table) -> Result<[u8; 4], ConfigFault>
     ensures { result ≡ address_at spot (table_view doc.now) }
@@ -61,7 +61,7 @@ pub(crate) fn address(spot: Spot, doc: &Table) -> Result<[u8; 4], ConfigFault>
     }
 }
 
-/// Reads an IPv4 address and a port.
+/// Reads a required IPv4 address and UDP port.
 #[tactic(auto, unfolding(crate::specs::Walk::endpoint_at))]
 pub(crate) fn address_and_port(spot: Spot, doc: &Table) -> Result<Endpoint, ConfigFault>
     ensures { result ≡ endpoint_at spot (table_view doc.now) }
@@ -73,7 +73,7 @@ pub(crate) fn address_and_port(spot: Spot, doc: &Table) -> Result<Endpoint, Conf
     }
 }
 
-/// Reads a secret.
+/// Reads a required secret.
 #[tactic(auto, unfolding(crate::specs::Walk::secret_at, crate::specs::Walk::text_that))]
 pub(crate) fn secret(spot: Spot, doc: &Table) -> Result<Secret, ConfigFault>
     ensures { result ≡ secret_at spot (table_view doc.now) }
@@ -82,7 +82,7 @@ pub(crate) fn secret(spot: Spot, doc: &Table) -> Result<Secret, ConfigFault>
     secret_of_text(spot, text)
 }
 
-/// Takes a text of 1 to 128 octets as a secret.
+/// Makes a secret of a text of 1 to 128 octets.
 fn secret_of_text(spot: Spot, text: &str) -> Result<Secret, ConfigFault>
     ensures { result ≡ (if has_length 1 128 text.now then Ok text.now else Err (OutOfRange spot)) }
 {
@@ -92,7 +92,7 @@ fn secret_of_text(spot: Spot, text: &str) -> Result<Secret, ConfigFault>
     }
 }
 
-/// Reads a home server's name.
+/// Reads the required name of a home server.
 #[tactic(auto, unfolding(crate::specs::Walk::home_name_at, crate::specs::Walk::text_that))]
 pub(crate) fn home_name<'t>(spot: Spot, doc: &'t Table) -> Result<&'t str, ConfigFault>
     ensures { Reads (λ s. s.now) result (home_name_at spot (table_view doc.now)) }
@@ -105,7 +105,7 @@ pub(crate) fn home_name<'t>(spot: Spot, doc: &'t Table) -> Result<&'t str, Confi
     }
 }
 
-/// Whether a text is a home server's name.
+/// Whether a text may be a home server's name.
 fn is_home_name(text: &[u8]) -> bool
     ensures { result ≡ names_a_home text.now }
 {
@@ -115,21 +115,21 @@ fn is_home_name(text: &[u8]) -> bool
     are_name_octets(text)
 }
 
-/// Whether these are octets that a home server's name may have.
+/// Whether a home server's name may consist of these octets.
 fn are_name_octets(text: &[u8]) -> bool
     ensures { result ≡ list_all is_octet_of_a_name text.now }
 {
     text.iter().all(|octet| is_name_octet(*octet))
 }
 
-/// Whether a home server's name may have this octet.
+/// Whether a home server's name may contain this octet.
 fn is_name_octet(octet: u8) -> bool
     ensures { result ≡ is_octet_of_a_name octet }
 {
     octet.is_ascii_alphanumeric() || octet == b'-' || octet == b'_' || octet == b'.'
 }
 
-/// Reads a realm's name.
+/// Reads the required name of a realm.
 #[tactic(auto, unfolding(crate::specs::Walk::realm_name_at, crate::specs::Walk::text_that))]
 pub(crate) fn realm_name<'t>(spot: Spot, doc: &'t Table) -> Result<&'t str, ConfigFault>
     ensures name { Reads (λ s. s.now) result (realm_name_at spot (table_view doc.now)) }
@@ -143,7 +143,7 @@ pub(crate) fn realm_name<'t>(spot: Spot, doc: &'t Table) -> Result<&'t str, Conf
     }
 }
 
-/// Whether a text is a realm's name.
+/// Whether a text may be a realm's name.
 fn is_realm_name(text: &[u8]) -> bool
     ensures { result ≡ names_a_realm text.now }
 {
@@ -153,14 +153,14 @@ fn is_realm_name(text: &[u8]) -> bool
     lacks_at_sign(text)
 }
 
-/// Whether no octet is `@`.
+/// Whether none of the octets is `@`.
 fn lacks_at_sign(text: &[u8]) -> bool
     ensures { result ≡ list_all (λ o. not (o == 64)) text.now }
 {
     text.iter().all(|octet| *octet != b'@')
 }
 
-/// Reads a whole number in a range, or takes the usual one where the key is absent.
+/// Reads a whole number in a range, or returns the default if the key is absent.
 #[tactic(auto, unfolding(crate::specs::Walk::number_at))]
 pub(crate) fn number(
     least: u32,
@@ -177,7 +177,7 @@ pub(crate) fn number(
     }
 }
 
-/// Takes a value as a whole number in a range.
+/// Returns a value that is a whole number in a range.
 #[tactic(auto, unfolding(crate::specs::Walk::number_in_value))]
 fn number_of_value(least: u32, most: u32, spot: Spot, value: &Value) -> Result<u32, ConfigFault>
     ensures { result ≡ number_in_value least most spot (view value.now) }
@@ -191,7 +191,7 @@ fn number_of_value(least: u32, most: u32, spot: Spot, value: &Value) -> Result<u
     }
 }
 
-/// Finds the value of a key that is needed.
+/// Finds the value of a required key.
 #[tactic(auto, unfolding(crate::specs::Walk::needed))]
 pub(crate) fn needed_value<'t>(spot: Spot, doc: &'t Table) -> Result<&'t Value, ConfigFault>
     ensures { Reads (λ v. view v.now) result (needed spot (table_view doc.now)) }

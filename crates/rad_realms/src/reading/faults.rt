@@ -1,4 +1,4 @@
-//! Why a configuration is refused, and where in it the fault is.
+//! Why a configuration is refused, and at which key.
 
 ghost use Rattle.std.specs.Prelude.{◌≡◌};
 ghost use Rattle.rad_realms.specs.declared.reading.faults.ConfigFault.TheVariants.{OutOfMemory};
@@ -6,29 +6,27 @@ ghost use Rattle.rad_realms.specs.declared.reading.faults.ConfigFault.TheVariant
 use std::alloc::{AllocError, AllocFailed};
 use std::fmt;
 
-/// Why a configuration is refused: the first fault that is met, from the top of the document down. It is
-/// printed as its name and where it is, as `OutOfRange at home 0 window`.
+/// Why a configuration is refused: the first fault of the walk from the top of the document down. It is printed as its
+/// name and its place, such as `OutOfRange at home 0 window`.
 #[derive(Clone, Copy, Debug, PartialEq, Eq)]
 pub enum ConfigFault {
-    /// The text is no TOML, so nothing of it was looked at.
+    /// The text is not TOML.
     Toml,
-    /// No memory was left to keep the configuration in. It says nothing of the text, and reading it again may
-    /// succeed.
+    /// Memory for the configuration was refused. This says nothing about the text, and reading it again may succeed.
     OutOfMemory,
-    /// A key that is needed is absent, or an array that needs a table has none.
+    /// A required key is absent, or an array that needs at least one table has none.
     Missing(Spot),
-    /// A value is of another type, or some element of an array of tables is no table.
+    /// A value has another type, or an element of an array of tables is not a table.
     WrongType(Spot),
-    /// A number is out of its range, or a text is not of its form: a secret, or the name of a home server or
-    /// of a realm.
+    /// A number is out of its range, or a text has a wrong form: a secret, or the name of a home server or of a realm.
     OutOfRange(Spot),
-    /// An earlier table of that part has the same address or name.
+    /// An earlier table of the same part has the same address or name.
     DoubleName(Spot),
     /// No home server has this name.
     UnknownHome(Spot),
-    /// A text is no address, or no address and port.
+    /// A text is not an address, or not an address and port.
     BadAddress(Spot),
-    /// There are more tables than there may be.
+    /// There are more tables than allowed.
     TooMany(Spot),
 }
 
@@ -69,15 +67,15 @@ impl<T: Drop> From<AllocFailed<T>> for ConfigFault {
     }
 }
 
-/// Where in the configuration a fault is. It is printed as the part, the index behind it, and the key; the
-/// top has no index.
+/// The place of a fault in a configuration. It is printed as the part, the index, and the key. The top of the
+/// configuration has no index.
 #[derive(Clone, Copy, Debug, PartialEq, Eq)]
 pub struct Spot {
-    /// The part of the configuration that the key stands in.
+    /// The part that contains the key.
     pub part: Part,
-    /// Which table of that part, counted from 0. It is 0 for the top.
+    /// The index of the table in that part, counted from 0. It is 0 for the top.
     pub index: usize,
-    /// The key whose value is at fault.
+    /// The key whose value is wrong.
     pub key: Key,
 }
 
@@ -98,10 +96,10 @@ impl fmt::Display for Spot {
     }
 }
 
-/// A part of the configuration, which is printed in lower case.
+/// A part of the configuration. It is printed in lower case.
 #[derive(Clone, Copy, Debug, PartialEq, Eq)]
 pub enum Part {
-    /// The keys before and outside of the tables.
+    /// The keys that are in no table.
     Top,
     /// A table `[[client]]`.
     Client,
@@ -115,7 +113,7 @@ impl Part {
     ghost use Rattle.std.specs.Prelude.{◌≡◌};
     ghost use Rattle.rad_realms.specs.Spot.{part_name};
 
-    /// The part as it is printed.
+    /// Returns the part as it is printed.
     pub(crate) fn name(self) -> &'static str
         ensures { result.now ≡ part_name self }
     {
@@ -128,7 +126,7 @@ impl Part {
     }
 }
 
-/// A key of the configuration, which is printed as it is written there.
+/// A key of the configuration. It is printed as it is written there.
 #[derive(Clone, Copy, Debug, PartialEq, Eq)]
 pub enum Key {
     /// `listen`.
@@ -139,7 +137,7 @@ pub enum Key {
     Linger,
     /// `client`.
     Client,
-    /// `home`: the tables of the home servers, or the name of one in a realm's table.
+    /// `home`: the tables of the home servers, or in a realm's table the name of one.
     Home,
     /// `realm`.
     Realm,
@@ -175,7 +173,7 @@ impl Key {
     ghost use Rattle.std.specs.Prelude.{◌≡◌};
     ghost use Rattle.rad_realms.specs.Spot.{key_name};
 
-    /// The key as it is written in the configuration.
+    /// Returns the key as it is written in the configuration.
     pub(crate) fn name(self) -> &'static str
         ensures { result.now ≡ key_name self }
     {

@@ -1,4 +1,4 @@
-//! The clients, home servers and realms of a configuration, each read behind the earlier ones.
+//! Reading the clients, home servers and realms of a configuration. Each is checked against the earlier ones.
 
 ghost use Rattle.std.specs.Prelude.{◌≡◌, ◌<◌, ◌≤◌, [], All, length};
 ghost use Rattle.toml.specs.View.{table_view};
@@ -17,7 +17,7 @@ use crate::realms::{Realm, Realms};
 use std::alloc::Global;
 use toml::{Table, Value};
 
-/// Reads the clients of these tables.
+/// Reads the clients from their tables.
 pub(crate) fn clients_of(alloc: Global, tables: &[Value]) -> Result<Clients, ConfigFault>
     requires { All IsTable tables.now }
     ensures { Gives result (each client_in [] (tables_of_values tables.now)) }
@@ -29,7 +29,7 @@ pub(crate) fn clients_of(alloc: Global, tables: &[Value]) -> Result<Clients, Con
     Ok(clients)
 }
 
-/// Reads a client's table, and adds the client behind the earlier ones.
+/// Reads a client's table, and appends the client.
 #[tactic(auto, unfolding(crate::specs::Walk::client_in))]
 fn add_client(clients: &mut Clients, value: &Value) -> Result<(), ConfigFault>
     requires { IsTable value.now }
@@ -47,7 +47,7 @@ fn add_client(clients: &mut Clients, value: &Value) -> Result<(), ConfigFault>
     Ok(())
 }
 
-/// Reads the home servers of these tables.
+/// Reads the home servers from their tables.
 pub(crate) fn homes_of(alloc: Global, tables: &[Value]) -> Result<Homes, ConfigFault>
     requires tables { All IsTable tables.now }
     requires most { length tables.now ≤ 64 }
@@ -60,7 +60,7 @@ pub(crate) fn homes_of(alloc: Global, tables: &[Value]) -> Result<Homes, ConfigF
     Ok(homes)
 }
 
-/// Reads a home server's table, and adds the home server behind the earlier ones.
+/// Reads a home server's table, and appends the home server.
 #[tactic(auto, unfolding(crate::specs::Walk::home_in))]
 fn add_home(alloc: Global, homes: &mut Homes, value: &Value) -> Result<(), ConfigFault>
     requires table { IsTable value.now }
@@ -123,14 +123,14 @@ fn lane_numbers(index: usize, doc: &Table) -> Result<LimitNumbers, ConfigFault>
     })
 }
 
-/// Reads a number of a lane, before its own range is looked at.
+/// Reads a number of a lane as far as its type: its range is checked with the others.
 fn lane_number(index: usize, key: Key, usual: u32, doc: &Table) -> Result<u32, ConfigFault>
     ensures { result ≡ lane_number_at index key usual (table_view doc.now) }
 {
     number(0, u32::MAX, usual, spot_of(Part::Home, index, key), doc)
 }
 
-/// The key that a limit has in a home server's table.
+/// Returns the key of a limit in a home server's table.
 fn key_of_limit(fault: LimitFault) -> Key
     ensures { result ≡ limit_key fault }
 {
@@ -148,7 +148,7 @@ fn key_of_limit(fault: LimitFault) -> Key
     }
 }
 
-/// Reads the realms of these tables.
+/// Reads the realms from their tables.
 pub(crate) fn realms_of(
     alloc: Global,
     homes: &Homes,
@@ -164,7 +164,7 @@ pub(crate) fn realms_of(
     Ok(realms)
 }
 
-/// Reads a realm's table, and adds the realm behind the earlier ones.
+/// Reads a realm's table, and appends the realm.
 #[tactic(auto, unfolding(crate::specs::Walk::realm_in_table))]
 fn add_realm(
     alloc: Global,
@@ -190,7 +190,7 @@ fn add_realm(
     Ok(())
 }
 
-/// Finds the lane of the home server of a name.
+/// Finds the lane of the home server with a name.
 #[tactic(auto, unfolding(crate::specs::Walk::lane_named))]
 pub(crate) fn lane_of_home(homes: &Homes, spot: Spot, name: &str) -> Result<u16, ConfigFault>
     ensures { result ≡ lane_named homes.now spot name.now }
@@ -201,7 +201,7 @@ pub(crate) fn lane_of_home(homes: &Homes, spot: Spot, name: &str) -> Result<u16,
     }
 }
 
-/// The spot of a key in a table of a part.
+/// Returns the place of a key in a table.
 pub(crate) fn spot_of(part: Part, index: usize, key: Key) -> Spot
     ensures { result ≡ spot part index key }
 {

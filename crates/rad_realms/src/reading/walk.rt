@@ -1,4 +1,4 @@
-//! The reading of a configuration: the walk over the document that its text denotes.
+//! Reading a configuration: the walk over the TOML document.
 
 ghost use Rattle.std.specs.Prelude.{◌≡◌, Option, option_map};
 ghost use Rattle.toml.specs.View.{table_view};
@@ -17,11 +17,9 @@ use std::alloc::Global;
 use toml::Table;
 
 /// Reads a configuration from its text, which is TOML.
-///
-/// # Errors
-///
-/// [`ConfigFault::Toml`] where the text is no TOML, and else the first fault of the walk over the document,
-/// from the top down. [`ConfigFault::OutOfMemory`] may come at any point.
+/// | # Errors
+/// | [`ConfigFault::Toml`] if the text is not TOML. Otherwise the first fault of the walk over the document, from the
+/// top down. [`ConfigFault::OutOfMemory`] may come at any point of it.
 #[tactic(auto, unfolding(crate::specs::Walk::configuration_in))]
 pub fn read_config(alloc: Global, text: &str) -> Result<Config, ConfigFault>
     ensures { Gives result (configuration_in text.now) }
@@ -36,7 +34,7 @@ pub fn read_config(alloc: Global, text: &str) -> Result<Config, ConfigFault>
     }
 }
 
-/// Reads the configuration of a document.
+/// Reads the configuration from a document.
 #[tactic(auto, unfolding(crate::specs::Walk::walk))]
 fn read_document(alloc: Global, doc: &Table) -> Result<Config, ConfigFault>
     ensures { Gives result (walk (table_view doc.now)) }
@@ -78,7 +76,7 @@ fn read_realms(alloc: Global, homes: &Homes, doc: &Table) -> Result<Realms, Conf
     realms_of(alloc, homes, tables)
 }
 
-/// Finds the lane of the default home server, where one is named.
+/// Finds the lane of the default home server, if one is named.
 fn default_lane(homes: &Homes, name: Option<&str>) -> Result<Option<u16>, ConfigFault>
     ensures { result ≡ default_lane_in homes.now (option_map (λ s. s.now) name.entry) }
 {

@@ -1,4 +1,4 @@
-//! What becomes of datagrams, and what is told of them.
+//! The results of checking datagrams, and the parts of each.
 
 use super::reading::{configuration, counts_of, lane_of};
 use rad_packet::ReadFault;
@@ -12,7 +12,7 @@ use test_octets::faulty::{
 };
 use test_octets::nas::{NAME_ONLY_REQUEST, OTHER_REQUEST, SEVENTH, STATUS};
 
-/// A client, two home servers, three realms and no default.
+/// Two clients, two home servers, three realms and no default home server.
 const TEXT: &str = r#"
 listen = "127.0.0.1:1813"
 linger = 0
@@ -45,7 +45,7 @@ name = "third"
 home = "h1"
 "#;
 
-/// What became of a datagram: the lane of a request, or a word.
+/// The result for a datagram: the lane of a request, a Status-Server, or the reason to drop it.
 #[derive(Clone, Copy, PartialEq, Eq)]
 enum Told {
     Lane(u16),
@@ -55,7 +55,7 @@ enum Told {
 
 const CLIENT: [u8; 4] = [10, 0, 0, 1];
 
-/// What becomes of a datagram from a port of an address.
+/// Checks a datagram that comes from this address and port.
 fn checked<'a>(
     config: &'a Config,
     address: [u8; 4],
@@ -73,7 +73,7 @@ fn answer_of(config: &Config, address: [u8; 4], datagram: &[u8]) -> Told {
     }
 }
 
-/// Checks that each of these datagrams has the answer beside it.
+/// Checks that each of these datagrams has the result beside it.
 fn each_is_told(rt: &impl Abort, config: &Config, rows: &[(&str, [u8; 4], &[u8], Told)]) {
     for (what, address, datagram, wanted) in rows {
         assert!(rt; answer_of(config, *address, datagram) == *wanted, "{what}");
@@ -179,7 +179,7 @@ fn a_default_home_takes_what_has_no_realm(rt: HostRuntime) -> Result<(), Fail> {
     Ok(())
 }
 
-/// A request that was checked.
+/// Returns a request that passed the checks.
 fn request_of<'a>(config: &'a Config, datagram: &'a [u8]) -> Option<Checked<'a>> {
     match checked(config, CLIENT, 40_001, datagram) {
         Ok(Incoming::Request(request)) => Some(request),
@@ -187,7 +187,7 @@ fn request_of<'a>(config: &'a Config, datagram: &'a [u8]) -> Option<Checked<'a>>
     }
 }
 
-/// Its packet's octets, its client, port and secret, and its realm.
+/// Returns the octets of its packet, its client, port and secret, and its realm.
 fn parts_of_request<'a>(
     request: &'a Checked<'_>,
 ) -> (&'a [u8], [u8; 4], u16, &'a [u8], Option<&'a [u8]>) {
@@ -200,7 +200,7 @@ fn parts_of_request<'a>(
     )
 }
 
-/// Checks that a request tells these parts.
+/// Checks that a request has these parts.
 fn request_tells(
     rt: &impl Abort,
     request: &Checked<'_>,
@@ -231,8 +231,8 @@ name = "Example.net"
 home = "h2"
 "#;
 
-/// The place of each request's realm among the realms of its lane. Between the two of the second lane stands one of the
-/// first lane, and before them another one.
+/// Requests, each with the index of its realm among the realms of its lane. In the configuration, one realm of the
+/// first lane is before the two of the second lane, and another one is between these two.
 const RANKS: [(&str, &[u8], Option<usize>); 4] = [
     ("the first realm of the first lane", &OTHER_REQUEST, Some(0)),
     ("the first one of the second lane", &SEVENTH, Some(0)),
@@ -240,7 +240,7 @@ const RANKS: [(&str, &[u8], Option<usize>); 4] = [
     ("no realm", &BARE, None),
 ];
 
-/// The rank that a request tells.
+/// Returns the rank of a request's realm.
 fn rank_of(config: &Config, datagram: &[u8]) -> Option<Option<usize>> {
     let request = request_of(config, datagram)?;
     Some(request.rank())
@@ -256,7 +256,7 @@ fn checked_requests_tell_their_ranks(rt: HostRuntime) -> Result<(), Fail> {
     Ok(())
 }
 
-/// A Status-Server that was checked.
+/// Returns a Status-Server that passed the checks.
 fn status_of<'a>(config: &'a Config, datagram: &'a [u8]) -> Option<CheckedStatus<'a>> {
     match checked(config, CLIENT, 40_001, datagram) {
         Ok(Incoming::Status(status)) => Some(status),
@@ -264,12 +264,12 @@ fn status_of<'a>(config: &'a Config, datagram: &'a [u8]) -> Option<CheckedStatus
     }
 }
 
-/// Its packet's octets and its secret.
+/// Returns the octets of its packet, and its secret.
 fn parts_of_status<'a>(status: &'a CheckedStatus<'_>) -> (&'a [u8], &'a [u8]) {
     (status.packet().octets(), status.secret().octets())
 }
 
-/// Checks that a Status-Server tells these parts.
+/// Checks that a Status-Server has these parts.
 fn status_tells(rt: &impl Abort, status: &CheckedStatus<'_>, octets: &[u8], secret: &[u8]) {
     assert_eq!(rt; parts_of_status(status), (octets, secret));
 }
@@ -284,18 +284,18 @@ fn checked_statuses_tell_their_parts(rt: HostRuntime) -> Result<(), Fail> {
     Ok(())
 }
 
-/// Where it listens, and how long it lingers.
+/// Returns where the configuration listens, and its `linger`.
 fn top_of(config: &Config) -> (Endpoint, u32) {
     (config.listen(), config.linger())
 }
 
-/// The address and secret of the client of an address.
+/// Returns the address and secret of the client with an address.
 fn client_of(config: &Config, address: [u8; 4]) -> Option<([u8; 4], &[u8])> {
     let client = config.client_of(address)?;
     Some((client.address(), client.secret().octets()))
 }
 
-/// The name, address, port and secret of a lane's home server, and its numbers.
+/// Returns the name, address, port and secret of a lane's home server, and the numbers of its limits.
 fn home_of(config: &Config, lane: usize) -> Option<(&str, [u8; 4], u16, &[u8], LimitNumbers)> {
     let home = config.homes().get(lane)?;
     Some((
@@ -307,7 +307,7 @@ fn home_of(config: &Config, lane: usize) -> Option<(&str, [u8; 4], u16, &[u8], L
     ))
 }
 
-/// The name and lane of a realm.
+/// Returns the name and lane of the realm at an index.
 fn realm_at(config: &Config, place: usize) -> Option<(&str, u16)> {
     let realm = config.realms().get(place)?;
     Some((realm.name(), realm.lane()))
@@ -331,12 +331,12 @@ const SECOND_NUMBERS: LimitNumbers = LimitNumbers {
     ports: 4,
 };
 
-/// Checks what the configuration tells of its second client.
+/// Checks the address and secret of the second client of the configuration.
 fn client_tells(rt: &impl Abort, config: &Config, address: [u8; 4], secret: &[u8]) {
     assert_eq!(rt; client_of(config, address), Some((address, secret)));
 }
 
-/// Checks what the configuration tells of its second home server.
+/// Checks the parts of the second home server of the configuration.
 fn home_tells(rt: &impl Abort, config: &Config, name: &str, secret: &[u8]) {
     assert_eq!(rt;
         home_of(config, 1),
@@ -344,7 +344,7 @@ fn home_tells(rt: &impl Abort, config: &Config, name: &str, secret: &[u8]) {
     );
 }
 
-/// Checks what the configuration tells of its second realm.
+/// Checks the name and lane of the second realm of the configuration.
 fn realm_tells(rt: &impl Abort, config: &Config, name: &str) {
     assert_eq!(rt; realm_at(config, 1), Some((name, 1)));
 }

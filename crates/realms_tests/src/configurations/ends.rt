@@ -1,18 +1,18 @@
-//! Texts at both ends of what they may be, and faults behind the first tables.
+//! Texts at both ends of their ranges, and faults after the first tables.
 
 use super::faults::{CLIENT, HOME, TOP, prints};
 use super::reading::{push_each, push_times};
 use std::alloc::{AllocError, Global};
 use std::test::Fail;
 
-/// The text of a configuration with one client and one home server.
+/// Returns the text of a configuration with one client and one home server.
 fn one_of_each(alloc: Global) -> Result<String, AllocError> {
     let mut text = String::new(alloc);
     push_each(&mut text, &[TOP, CLIENT, HOME])?;
     Ok(text)
 }
 
-/// That text and behind it a part: what stands before a unit, the unit so many times, and what stands behind it.
+/// Returns that text, followed by a part: `before`, the unit `count` times, and `behind`.
 fn text_of(
     alloc: Global,
     before: &str,
@@ -47,8 +47,8 @@ const THIRD_HOME: &str =
 const THIRD_REALM: &str =
     "[[realm]]\nname = \"a\"\nhome = \"h1\"\n[[realm]]\nname = \"b\"\nhome = \"h1\"\n[[realm]]\n";
 
-/// What stands before a unit, the unit and how often it stands there, and what is printed of the whole text,
-/// which ends behind the units with a quotation mark.
+/// The text before a unit, the unit, the number of times that it is repeated, and what is printed for the whole text.
+/// The whole text ends with a quotation mark after the units.
 const ENDS: [(&str, &str, u32, &str); 36] = [
     (CLIENT_SECRET, "s", 1, "read"),
     (CLIENT_SECRET, "s", 128, "read"),

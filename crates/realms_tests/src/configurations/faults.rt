@@ -1,4 +1,4 @@
-//! The fault that each faulty text has.
+//! The faults of faulty texts.
 
 use super::reading::{printed, push_each};
 use std::alloc::{AllocError, Global};
@@ -14,7 +14,7 @@ pub const HOME: &str =
 
 const REALM: &str = "[[realm]]\nname = \"example.org\"\nhome = \"h1\"\n";
 
-/// The text of these pieces.
+/// Returns the text that these pieces make.
 fn text_of(
     alloc: Global,
     before: &[&str],
@@ -28,12 +28,12 @@ fn text_of(
     Ok(text)
 }
 
-/// Whether this is printed of a text.
+/// Whether this is printed for a text.
 pub fn prints(alloc: Global, text: &str, wanted: &str) -> Result<bool, AllocError> {
     Ok(printed(alloc, text)?.as_str() == wanted)
 }
 
-/// Checks what is printed of each text that has the first of a row between these pieces.
+/// Checks what is printed for the first text of each row, between `before` and `after`.
 fn each_prints(
     rt: &impl Abort,
     alloc: Global,
@@ -48,7 +48,7 @@ fn each_prints(
     Ok(())
 }
 
-/// A whole configuration whose tables are written inline.
+/// A whole configuration that is written with inline tables.
 const INLINE: &str = r#"listen = "127.0.0.1:1"
 client = [{address = "10.0.0.1", secret = "s"}]
 home = [{name = "h", address = "1.2.3.4:5", secret = "s"}]

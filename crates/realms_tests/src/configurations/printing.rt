@@ -1,4 +1,4 @@
-//! What is printed of the reasons to drop a datagram and of the faults of limits, and which texts are addresses.
+//! The printed reasons to drop a datagram, the printed faults of limits, and which texts are addresses.
 
 use rad_packet::ReadFault;
 use rad_realms::{Dropped, LimitFault, read_address};

@@ -1,10 +1,10 @@
-//! How a test writes a text, and reads a configuration.
+//! Writing texts and reading configurations in tests.
 
 use rad_realms::{Config, read_config};
 use std::alloc::{AllocError, Global};
 use std::test::Fail;
 
-/// Adds these pieces to a text.
+/// Appends these pieces to a text.
 pub fn push_each(text: &mut String, pieces: &[&str]) -> Result<(), AllocError> {
     for piece in pieces {
         text.push_str(piece)?;
@@ -12,7 +12,7 @@ pub fn push_each(text: &mut String, pieces: &[&str]) -> Result<(), AllocError> {
     Ok(())
 }
 
-/// Adds a unit to a text, so many times.
+/// Appends a unit to a text `count` times.
 pub fn push_times(text: &mut String, unit: &str, count: u32) -> Result<(), AllocError> {
     for _ in 0..count {
         text.push_str(unit)?;
@@ -20,7 +20,7 @@ pub fn push_times(text: &mut String, unit: &str, count: u32) -> Result<(), Alloc
     Ok(())
 }
 
-/// The configuration of a text.
+/// Returns the configuration of a text.
 pub fn configuration(alloc: Global, text: &str) -> Result<Config, Fail> {
     match read_config(alloc, text) {
         Ok(config) => Ok(config),
@@ -28,7 +28,7 @@ pub fn configuration(alloc: Global, text: &str) -> Result<Config, Fail> {
     }
 }
 
-/// What is printed of a text: its first fault, or `read`.
+/// Returns what is printed for a text: its first fault, or `read`.
 pub fn printed(alloc: Global, text: &str) -> Result<String, AllocError> {
     match read_config(alloc, text) {
         Ok(_) => String::from_str(alloc, "read"),
@@ -36,7 +36,7 @@ pub fn printed(alloc: Global, text: &str) -> Result<String, AllocError> {
     }
 }
 
-/// How many clients, home servers and realms a configuration has.
+/// Returns the numbers of clients, home servers and realms of a configuration.
 pub fn counts_of(config: &Config) -> (usize, usize, usize) {
     (
         config.clients().len(),
@@ -45,7 +45,7 @@ pub fn counts_of(config: &Config) -> (usize, usize, usize) {
     )
 }
 
-/// The lane that a User-Name leads to.
+/// Returns the lane that a User-Name leads to.
 pub fn lane_of(config: &Config, user_name: Option<&[u8]>) -> Option<u16> {
     config.lane_of(user_name)
 }

@@ -1,4 +1,4 @@
-//! The largest configuration, and one more of each.
+//! The largest configuration, and those that have one table more.
 
 use super::faults::prints;
 use super::reading::{configuration, counts_of, lane_of, push_times};
@@ -7,7 +7,7 @@ use std::alloc::{AllocError, Global};
 use std::process::Abort;
 use std::test::Fail;
 
-/// Adds so many clients to a text.
+/// Appends `count` clients to a text.
 fn add_clients(alloc: Global, text: &mut String, count: u32) -> Result<(), AllocError> {
     for i in 0..count {
         let client = format!(in alloc;
@@ -20,7 +20,7 @@ fn add_clients(alloc: Global, text: &mut String, count: u32) -> Result<(), Alloc
     Ok(())
 }
 
-/// Adds so many home servers to a text.
+/// Appends `count` home servers to a text.
 fn add_homes(alloc: Global, text: &mut String, count: u32) -> Result<(), AllocError> {
     for i in 0..count {
         let home = format!(in alloc;
@@ -31,7 +31,7 @@ fn add_homes(alloc: Global, text: &mut String, count: u32) -> Result<(), AllocEr
     Ok(())
 }
 
-/// Adds so many realms to a text.
+/// Appends `count` realms to a text.
 fn add_realms(alloc: Global, text: &mut String, count: u32) -> Result<(), AllocError> {
     for i in 0..count {
         let realm = format!(in alloc; "[[realm]]\nname = \"R{i}\"\nhome = \"h{}\"\n", i % 64)?;
@@ -40,7 +40,7 @@ fn add_realms(alloc: Global, text: &mut String, count: u32) -> Result<(), AllocE
     Ok(())
 }
 
-/// A configuration of so many clients, home servers and realms.
+/// Returns the text of a configuration with these numbers of clients, home servers and realms.
 fn text_of(alloc: Global, clients: u32, homes: u32, realms: u32) -> Result<String, AllocError> {
     let mut text = String::from_str(alloc, "listen = \"127.0.0.1:1813\"\n")?;
     add_clients(alloc, &mut text, clients)?;
@@ -49,13 +49,13 @@ fn text_of(alloc: Global, clients: u32, homes: u32, realms: u32) -> Result<Strin
     Ok(text)
 }
 
-/// The address of the client of an address.
+/// Returns the address of the client with an address.
 fn found_at(config: &Config, address: [u8; 4]) -> Option<[u8; 4]> {
     let client = config.client_of(address)?;
     Some(client.address())
 }
 
-/// Checks that each of 256 clients is found, and not one more.
+/// Checks that each of 256 clients is found, and that one more is not.
 fn each_client_is_found(rt: &impl Abort, config: &Config) {
     for i in 0..=255u8 {
         let address = [10, 0, 0, i];
@@ -78,13 +78,13 @@ fn each_realm_leads_to_its_lane(
     Ok(())
 }
 
-/// Checks that no realm is found behind the last one, and none that is too long.
+/// Checks that no realm is found after the last one, and none for a User-Name of 255 times `@`.
 fn no_other_is_found(rt: &impl Abort, config: &Config) {
     assert!(rt; lane_of(config, Some(b"someone@r256")).is_none());
     assert!(rt; lane_of(config, Some(&[b'@'; 255])).is_none());
 }
 
-/// The largest configuration.
+/// Returns the largest configuration.
 fn largest(alloc: Global) -> Result<Config, Fail> {
     let text = text_of(alloc, 256, 64, 256)?;
     configuration(alloc, text.as_str())
@@ -99,7 +99,7 @@ fn the_largest_configuration_is_read(rt: HostRuntime) -> Result<(), Fail> {
     Ok(each_realm_leads_to_its_lane(&rt, rt.alloc(), &config)?)
 }
 
-/// How many clients, home servers and realms a text has, what stands behind them, and what is printed.
+/// The numbers of clients, home servers and realms of a text, the text that follows them, and what is printed.
 const SIZES: [(u32, u32, u32, &str, &str); 6] = [
     (257, 64, 256, "", "TooMany at top client"),
     (256, 65, 256, "", "TooMany at top home"),
