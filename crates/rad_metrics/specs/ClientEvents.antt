@@ -68,12 +68,12 @@ family_name family.Refused = codes "client_refused_total"
 family_name family.Dropped = codes "client_dropped_total"
 
 abbrev pub family_help : ClientFamily → List ℕ
-family_help family.Received = codes "Datagrams that came from the client."
-family_help family.Accepted = codes "New requests of the client that were accepted."
-family_help family.Repeats = codes "Requests of the client that came again, while they waited for their answer or within their span after it."
-family_help family.Responses = codes "Responses that were sent to the client, those to repeats and to Status-Server too."
-family_help family.Refused = codes "New requests of the client that were refused."
-family_help family.Dropped = codes "Datagrams of the client that were dropped."
+family_help family.Received = codes "Datagrams received from the client."
+family_help family.Accepted = codes "New requests from the client that were accepted."
+family_help family.Repeats = codes "Retransmitted requests from the client: unanswered, or answered less than a span ago."
+family_help family.Responses = codes "Responses sent to the client, including those to repeats and to Status-Servers."
+family_help family.Refused = codes "New requests from the client that were refused."
+family_help family.Dropped = codes "Datagrams from the client that were dropped."
 
 -- The label that distinguishes a kind from the others of its family. It is empty if the family has one kind.
 abbrev pub reason_label : ClientEvent → List ℕ

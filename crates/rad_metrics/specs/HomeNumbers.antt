@@ -32,10 +32,10 @@ home_kind Resent = Counter
 home_kind number = Gauge
 
 abbrev pub home_help : HomeNumber → List ℕ
-home_help Up = codes "Whether the home server is taken to be up."
-home_help Since = codes "Since when the home server is up or down, in seconds since 1970."
-home_help Told = codes "When the lane told these numbers, in seconds since 1970."
-home_help Draining = codes "Whether the lane takes no new requests."
+home_help Up = codes "Whether the home server is marked up."
+home_help Since = codes "Since when the home server is marked up or down, in seconds since 1970."
+home_help Told = codes "When the lane reported these metrics, in seconds since 1970."
+home_help Draining = codes "Whether the lane accepts no new requests."
 home_help Accepted = codes "Requests accepted since the start."
 home_help Answered = codes "Requests answered by the home server since the start."
 home_help Queued = codes "Requests that wait to be sent."
@@ -43,9 +43,9 @@ home_help Outstanding = codes "Requests sent and not answered."
 home_help Held = codes "Requests that the book holds."
 home_help Resent = codes "Accounting-Requests sent to the home server again."
 home_help OldestQueued = codes "How long the first request of the queue has waited."
-home_help OldestOutstanding = codes "How long ago the first request was sent that is not answered."
-home_help OldestHeld = codes "How long ago the first request was accepted that the book holds."
-home_help LastAnswer = codes "When the home server answered a request last, in seconds since 1970, and 0 before that."
+home_help OldestOutstanding = codes "How long ago the first request that is not answered was sent."
+home_help OldestHeld = codes "How long ago the first request in the book was accepted."
+home_help LastAnswer = codes "When the home server last answered a request, in seconds since 1970, and 0 before that."
 
 -- How long before a moment something was; 0 if there is nothing.
 abbrev pub age_at : Option ℕ → ℕ → ℕ

@@ -16,9 +16,9 @@ limit_name Span = codes "span_seconds"
 abbrev pub limit_help : LimitNumber → List ℕ
 limit_help Book = codes "The most requests that the book may hold."
 limit_help Queue = codes "The most requests that may wait to be sent."
-limit_help Window = codes "The most requests that may be sent and not answered."
-limit_help Ring = codes "The most responses that may wait to go to the clients."
-limit_help Span = codes "How long after its answer a request that comes again is answered again."
+limit_help Window = codes "The most requests that may be outstanding."
+limit_help Ring = codes "The most responses that the ring may hold."
+limit_help Span = codes "How long after its answer a retransmitted request is answered again."
 
 abbrev pub limit_value : LimitNumber → LimitNumbers → Value
 limit_value Book numbers = Count numbers.book

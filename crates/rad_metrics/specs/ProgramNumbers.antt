@@ -16,7 +16,7 @@ program_kind Strangers = Counter
 program_kind number = Gauge
 
 abbrev pub program_help : ProgramNumber → List ℕ
-program_help BuildInfo = codes "The version of the program that runs."
+program_help BuildInfo = codes "The version of the running program."
 program_help Start = codes "When the program started, in seconds since 1970."
-program_help Report = codes "When these numbers were gathered, in seconds since 1970."
-program_help Strangers = codes "Datagrams that came from senders that are no client."
+program_help Report = codes "When these metrics were collected, in seconds since 1970."
+program_help Strangers = codes "Datagrams from senders that are not clients."

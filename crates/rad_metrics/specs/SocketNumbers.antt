@@ -17,8 +17,8 @@ socket_kind Buffer = Gauge
 socket_kind Dropped = Counter
 
 abbrev pub socket_help : SocketNumber → List ℕ
-socket_help Buffer = codes "The receive buffer that the system granted the socket."
-socket_help Dropped = codes "Datagrams that the system dropped since the socket's receive buffer was full."
+socket_help Buffer = codes "The receive buffer that the system granted to the socket."
+socket_help Dropped = codes "Datagrams that the system dropped because the socket's receive buffer was full."
 
 abbrev pub socket_value : SocketNumber → SocketReading → Value
 socket_value Buffer reading = Count reading.buffer

@@ -153,27 +153,27 @@ impl ClientFamily {
         match self {
             ClientFamily::Received => Family::counter(
                 "client_received_total",
-                "Datagrams that came from the client.",
+                "Datagrams received from the client.",
             ),
             ClientFamily::Accepted => Family::counter(
                 "client_accepted_total",
-                "New requests of the client that were accepted.",
+                "New requests from the client that were accepted.",
             ),
             ClientFamily::Repeats => Family::counter(
                 "client_repeats_total",
-                "Requests of the client that came again, while they waited for their answer or within their span after it.",
+                "Retransmitted requests from the client: unanswered, or answered less than a span ago.",
             ),
             ClientFamily::Responses => Family::counter(
                 "client_responses_total",
-                "Responses that were sent to the client, those to repeats and to Status-Server too.",
+                "Responses sent to the client, including those to repeats and to Status-Servers.",
             ),
             ClientFamily::Refused => Family::counter(
                 "client_refused_total",
-                "New requests of the client that were refused.",
+                "New requests from the client that were refused.",
             ),
             ClientFamily::Dropped => Family::counter(
                 "client_dropped_total",
-                "Datagrams of the client that were dropped.",
+                "Datagrams from the client that were dropped.",
             ),
         }
     }

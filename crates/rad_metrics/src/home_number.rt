@@ -64,19 +64,17 @@ impl HomeNumber {
         ensures help { result.help.now ≡ home_help self }
     {
         match self {
-            HomeNumber::Up => {
-                Family::gauge("home_up", "Whether the home server is taken to be up.")
-            }
+            HomeNumber::Up => { Family::gauge("home_up", "Whether the home server is marked up.") }
             HomeNumber::Since => Family::gauge(
                 "home_since_time_seconds",
-                "Since when the home server is up or down, in seconds since 1970.",
+                "Since when the home server is marked up or down, in seconds since 1970.",
             ),
             HomeNumber::Told => Family::gauge(
                 "home_report_time_seconds",
-                "When the lane told these numbers, in seconds since 1970.",
+                "When the lane reported these metrics, in seconds since 1970.",
             ),
             HomeNumber::Draining => {
-                Family::gauge("draining", "Whether the lane takes no new requests.")
+                Family::gauge("draining", "Whether the lane accepts no new requests.")
             }
             HomeNumber::Accepted => Family::counter(
                 "accepted_total",
@@ -101,15 +99,15 @@ impl HomeNumber {
             ),
             HomeNumber::OldestOutstanding => Family::gauge(
                 "oldest_outstanding_age_seconds",
-                "How long ago the first request was sent that is not answered.",
+                "How long ago the first request that is not answered was sent.",
             ),
             HomeNumber::OldestHeld => Family::gauge(
                 "oldest_held_age_seconds",
-                "How long ago the first request was accepted that the book holds.",
+                "How long ago the first request in the book was accepted.",
             ),
             HomeNumber::LastAnswer => Family::gauge(
                 "last_answer_time_seconds",
-                "When the home server answered a request last, in seconds since 1970, and 0 before that.",
+                "When the home server last answered a request, in seconds since 1970, and 0 before that.",
             ),
         }
     }

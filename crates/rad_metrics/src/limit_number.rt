@@ -43,15 +43,15 @@ impl LimitNumber {
             }
             LimitNumber::Window => Family::gauge(
                 "window_limit",
-                "The most requests that may be sent and not answered.",
+                "The most requests that may be outstanding.",
             ),
             LimitNumber::Ring => Family::gauge(
                 "ring_limit",
-                "The most responses that may wait to go to the clients.",
+                "The most responses that the ring may hold.",
             ),
             LimitNumber::Span => Family::gauge(
                 "span_seconds",
-                "How long after its answer a request that comes again is answered again.",
+                "How long after its answer a retransmitted request is answered again.",
             ),
         }
     }

@@ -12,7 +12,7 @@ pub enum ProgramNumber {
     BuildInfo,
     /// When it started.
     Start,
-    /// When the metrics were gathered.
+    /// When the metrics were collected.
     Report,
     /// How many datagrams came from senders that are not clients.
     Strangers,
@@ -27,7 +27,7 @@ impl ProgramNumber {
     {
         match self {
             ProgramNumber::BuildInfo => {
-                Family::gauge("build_info", "The version of the program that runs.")
+                Family::gauge("build_info", "The version of the running program.")
             }
             ProgramNumber::Start => Family::gauge(
                 "start_time_seconds",
@@ -35,11 +35,11 @@ impl ProgramNumber {
             ),
             ProgramNumber::Report => Family::gauge(
                 "report_time_seconds",
-                "When these numbers were gathered, in seconds since 1970.",
+                "When these metrics were collected, in seconds since 1970.",
             ),
             ProgramNumber::Strangers => Family::counter(
                 "strangers_total",
-                "Datagrams that came from senders that are no client.",
+                "Datagrams from senders that are not clients.",
             ),
         }
     }

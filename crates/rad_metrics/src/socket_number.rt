@@ -29,11 +29,11 @@ impl SocketNumber {
         match self {
             SocketNumber::Buffer => Family::gauge(
                 "socket_buffer_bytes",
-                "The receive buffer that the system granted the socket.",
+                "The receive buffer that the system granted to the socket.",
             ),
             SocketNumber::Dropped => Family::counter(
                 "socket_drops_total",
-                "Datagrams that the system dropped since the socket's receive buffer was full.",
+                "Datagrams that the system dropped because the socket's receive buffer was full.",
             ),
         }
     }

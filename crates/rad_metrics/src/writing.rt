@@ -24,7 +24,7 @@ const VERSION: &str = "0.1.0";
 const UPS: &str = "ups_total";
 
 /// The help text of that family.
-const UPS_HELP: &str = "How often the home server went up again.";
+const UPS_HELP: &str = "How often the home server was marked up again.";
 
 /// The name of the family of a histogram, and the names of its samples.
 #[derive(Clone, Copy)]

@@ -83,19 +83,19 @@ impl Metric {
         ensures { result.now ≡ metric_help self }
     {
         match self {
-            Metric::Dropped => "Datagrams of clients that were dropped.",
+            Metric::Dropped => "Datagrams at the clients' sockets that were dropped.",
             Metric::Refused => "Requests that were refused.",
             Metric::Unheard => "Datagrams at a home server's sockets that were dropped.",
             Metric::SendFault => "Sends that failed.",
             Metric::ReceiveFault => "Receives that failed.",
-            Metric::WentDown => "How often the home server went down.",
-            Metric::WentUp => "How often the home server went up again.",
+            Metric::WentDown => "How often the home server was marked down.",
+            Metric::WentUp => "How often the home server was marked up again.",
             Metric::Sent =>
                 "Accounting-Requests sent to the home server, for the first time and again.",
             Metric::Probed => "Status-Servers sent to the home server.",
-            Metric::Cut => "Answered requests that left the book.",
+            Metric::Cut => "Answered requests that were removed from the book.",
             Metric::Marked =>
-                "Requests for the home server that came with Proxy-States of this proxy's own form.",
+                "Requests for the home server that arrived with a Proxy-State of this proxy's form.",
         }
     }
 }

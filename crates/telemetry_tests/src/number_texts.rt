@@ -1,35 +1,35 @@
 //! What is written of the numbers, by the rules of their format.
 
 /// What is told of the program, which is at its start.
-pub const PROGRAM: &str = "# HELP rad_proxy_build_info The version of the program that runs.\n\
+pub const PROGRAM: &str = "# HELP rad_proxy_build_info The version of the running program.\n\
     # TYPE rad_proxy_build_info gauge\n\
     rad_proxy_build_info{version=\"0.1.0\"} 1\n\
     # HELP rad_proxy_start_time_seconds When the program started, in seconds since 1970.\n\
     # TYPE rad_proxy_start_time_seconds gauge\n\
     rad_proxy_start_time_seconds 1234.567\n\
-    # HELP rad_proxy_report_time_seconds When these numbers were gathered, in seconds since 1970.\n\
+    # HELP rad_proxy_report_time_seconds When these metrics were collected, in seconds since 1970.\n\
     # TYPE rad_proxy_report_time_seconds gauge\n\
     rad_proxy_report_time_seconds 1234.567\n\
-    # HELP rad_proxy_strangers_total Datagrams that came from senders that are no client.\n\
+    # HELP rad_proxy_strangers_total Datagrams from senders that are not clients.\n\
     # TYPE rad_proxy_strangers_total counter\n\
     rad_proxy_strangers_total 1\n";
 
 /// What is told of the client, of which one request was accepted.
 pub const CLIENTS: &str =
-    "# HELP rad_proxy_client_received_total Datagrams that came from the client.\n\
+    "# HELP rad_proxy_client_received_total Datagrams received from the client.\n\
     # TYPE rad_proxy_client_received_total counter\n\
     rad_proxy_client_received_total{client=\"10.0.0.1\"} 5\n\
-    # HELP rad_proxy_client_accepted_total New requests of the client that were accepted.\n\
+    # HELP rad_proxy_client_accepted_total New requests from the client that were accepted.\n\
     # TYPE rad_proxy_client_accepted_total counter\n\
     rad_proxy_client_accepted_total{client=\"10.0.0.1\"} 1\n\
-    # HELP rad_proxy_client_repeats_total Requests of the client that came again, while they waited for their answer or within their span after it.\n\
+    # HELP rad_proxy_client_repeats_total Retransmitted requests from the client: unanswered, or answered less than a span ago.\n\
     # TYPE rad_proxy_client_repeats_total counter\n\
     rad_proxy_client_repeats_total{client=\"10.0.0.1\",repeat=\"waiting\"} 1\n\
     rad_proxy_client_repeats_total{client=\"10.0.0.1\",repeat=\"again\"} 1\n\
-    # HELP rad_proxy_client_responses_total Responses that were sent to the client, those to repeats and to Status-Server too.\n\
+    # HELP rad_proxy_client_responses_total Responses sent to the client, including those to repeats and to Status-Servers.\n\
     # TYPE rad_proxy_client_responses_total counter\n\
     rad_proxy_client_responses_total{client=\"10.0.0.1\"} 1\n\
-    # HELP rad_proxy_client_refused_total New requests of the client that were refused.\n\
+    # HELP rad_proxy_client_refused_total New requests from the client that were refused.\n\
     # TYPE rad_proxy_client_refused_total counter\n\
     rad_proxy_client_refused_total{client=\"10.0.0.1\",reason=\"Draining\"} 0\n\
     rad_proxy_client_refused_total{client=\"10.0.0.1\",reason=\"BookFull\"} 1\n\
@@ -37,7 +37,7 @@ pub const CLIENTS: &str =
     rad_proxy_client_refused_total{client=\"10.0.0.1\",reason=\"TooLong\"} 0\n\
     rad_proxy_client_refused_total{client=\"10.0.0.1\",reason=\"OutOfMemory\"} 0\n\
     rad_proxy_client_refused_total{client=\"10.0.0.1\",reason=\"WrongLane\"} 0\n\
-    # HELP rad_proxy_client_dropped_total Datagrams of the client that were dropped.\n\
+    # HELP rad_proxy_client_dropped_total Datagrams from the client that were dropped.\n\
     # TYPE rad_proxy_client_dropped_total counter\n\
     rad_proxy_client_dropped_total{client=\"10.0.0.1\",reason=\"Unread\"} 0\n\
     rad_proxy_client_dropped_total{client=\"10.0.0.1\",reason=\"WrongCode\"} 0\n\
@@ -55,33 +55,33 @@ pub const LIMITS: &str = "# HELP rad_proxy_book_limit The most requests that the
     # TYPE rad_proxy_queue_limit gauge\n\
     rad_proxy_queue_limit{lane=\"0\",home=\"h1\"} 4096\n\
     rad_proxy_queue_limit{lane=\"1\",home=\"h2\"} 4096\n\
-    # HELP rad_proxy_window_limit The most requests that may be sent and not answered.\n\
+    # HELP rad_proxy_window_limit The most requests that may be outstanding.\n\
     # TYPE rad_proxy_window_limit gauge\n\
     rad_proxy_window_limit{lane=\"0\",home=\"h1\"} 64\n\
     rad_proxy_window_limit{lane=\"1\",home=\"h2\"} 64\n\
-    # HELP rad_proxy_ring_limit The most responses that may wait to go to the clients.\n\
+    # HELP rad_proxy_ring_limit The most responses that the ring may hold.\n\
     # TYPE rad_proxy_ring_limit gauge\n\
     rad_proxy_ring_limit{lane=\"0\",home=\"h1\"} 256\n\
     rad_proxy_ring_limit{lane=\"1\",home=\"h2\"} 256\n\
-    # HELP rad_proxy_span_seconds How long after its answer a request that comes again is answered again.\n\
+    # HELP rad_proxy_span_seconds How long after its answer a retransmitted request is answered again.\n\
     # TYPE rad_proxy_span_seconds gauge\n\
     rad_proxy_span_seconds{lane=\"0\",home=\"h1\"} 30.000\n\
     rad_proxy_span_seconds{lane=\"1\",home=\"h2\"} 30.000\n";
 
 /// What is told of the home servers, of which the second is down and drained.
-pub const HOMES: &str = "# HELP rad_proxy_home_up Whether the home server is taken to be up.\n\
+pub const HOMES: &str = "# HELP rad_proxy_home_up Whether the home server is marked up.\n\
     # TYPE rad_proxy_home_up gauge\n\
     rad_proxy_home_up{lane=\"0\",home=\"h1\"} 1\n\
     rad_proxy_home_up{lane=\"1\",home=\"h2\"} 0\n\
-    # HELP rad_proxy_home_since_time_seconds Since when the home server is up or down, in seconds since 1970.\n\
+    # HELP rad_proxy_home_since_time_seconds Since when the home server is marked up or down, in seconds since 1970.\n\
     # TYPE rad_proxy_home_since_time_seconds gauge\n\
     rad_proxy_home_since_time_seconds{lane=\"0\",home=\"h1\"} 1234.567\n\
     rad_proxy_home_since_time_seconds{lane=\"1\",home=\"h2\"} 1234.567\n\
-    # HELP rad_proxy_home_report_time_seconds When the lane told these numbers, in seconds since 1970.\n\
+    # HELP rad_proxy_home_report_time_seconds When the lane reported these metrics, in seconds since 1970.\n\
     # TYPE rad_proxy_home_report_time_seconds gauge\n\
     rad_proxy_home_report_time_seconds{lane=\"0\",home=\"h1\"} 1234.567\n\
     rad_proxy_home_report_time_seconds{lane=\"1\",home=\"h2\"} 1234.567\n\
-    # HELP rad_proxy_draining Whether the lane takes no new requests.\n\
+    # HELP rad_proxy_draining Whether the lane accepts no new requests.\n\
     # TYPE rad_proxy_draining gauge\n\
     rad_proxy_draining{lane=\"0\",home=\"h1\"} 0\n\
     rad_proxy_draining{lane=\"1\",home=\"h2\"} 1\n\
@@ -113,21 +113,21 @@ pub const HOMES: &str = "# HELP rad_proxy_home_up Whether the home server is tak
     # TYPE rad_proxy_oldest_queued_age_seconds gauge\n\
     rad_proxy_oldest_queued_age_seconds{lane=\"0\",home=\"h1\"} 1.007\n\
     rad_proxy_oldest_queued_age_seconds{lane=\"1\",home=\"h2\"} 0.000\n\
-    # HELP rad_proxy_oldest_outstanding_age_seconds How long ago the first request was sent that is not answered.\n\
+    # HELP rad_proxy_oldest_outstanding_age_seconds How long ago the first request that is not answered was sent.\n\
     # TYPE rad_proxy_oldest_outstanding_age_seconds gauge\n\
     rad_proxy_oldest_outstanding_age_seconds{lane=\"0\",home=\"h1\"} 0.000\n\
     rad_proxy_oldest_outstanding_age_seconds{lane=\"1\",home=\"h2\"} 0.000\n\
-    # HELP rad_proxy_oldest_held_age_seconds How long ago the first request was accepted that the book holds.\n\
+    # HELP rad_proxy_oldest_held_age_seconds How long ago the first request in the book was accepted.\n\
     # TYPE rad_proxy_oldest_held_age_seconds gauge\n\
     rad_proxy_oldest_held_age_seconds{lane=\"0\",home=\"h1\"} 4.060\n\
     rad_proxy_oldest_held_age_seconds{lane=\"1\",home=\"h2\"} 0.000\n\
-    # HELP rad_proxy_last_answer_time_seconds When the home server answered a request last, in seconds since 1970, and 0 before that.\n\
+    # HELP rad_proxy_last_answer_time_seconds When the home server last answered a request, in seconds since 1970, and 0 before that.\n\
     # TYPE rad_proxy_last_answer_time_seconds gauge\n\
     rad_proxy_last_answer_time_seconds{lane=\"0\",home=\"h1\"} 1234.567\n\
     rad_proxy_last_answer_time_seconds{lane=\"1\",home=\"h2\"} 0.000\n";
 
 /// What is told of how they went up.
-pub const UPS: &str = "# HELP rad_proxy_ups_total How often the home server went up again.\n\
+pub const UPS: &str = "# HELP rad_proxy_ups_total How often the home server was marked up again.\n\
     # TYPE rad_proxy_ups_total counter\n\
     rad_proxy_ups_total{lane=\"0\",home=\"h1\",reason=\"answered\"} 0\n\
     rad_proxy_ups_total{lane=\"0\",home=\"h1\",reason=\"probe answered\"} 0\n\
@@ -228,11 +228,11 @@ pub const RESPONSES: &str =
 
 /// What is told of two sockets.
 pub const SOCKETS: &str =
-    "# HELP rad_proxy_socket_buffer_bytes The receive buffer that the system granted the socket.\n\
+    "# HELP rad_proxy_socket_buffer_bytes The receive buffer that the system granted to the socket.\n\
     # TYPE rad_proxy_socket_buffer_bytes gauge\n\
     rad_proxy_socket_buffer_bytes{side=\"clients\",socket=\"10.0.0.1:40000\"} 212992\n\
     rad_proxy_socket_buffer_bytes{lane=\"1\",home=\"h2\",port=\"0\"} 1048576\n\
-    # HELP rad_proxy_socket_drops_total Datagrams that the system dropped since the socket's receive buffer was full.\n\
+    # HELP rad_proxy_socket_drops_total Datagrams that the system dropped because the socket's receive buffer was full.\n\
     # TYPE rad_proxy_socket_drops_total counter\n\
     rad_proxy_socket_drops_total{side=\"clients\",socket=\"10.0.0.1:40000\"} 5732\n\
     rad_proxy_socket_drops_total{lane=\"1\",home=\"h2\",port=\"0\"} 0\n";

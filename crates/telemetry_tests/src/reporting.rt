@@ -58,7 +58,8 @@ impl ReplaceFile for Memory {
 }
 
 /// How the counters begin, where one datagram of a client was dropped.
-const HEAD: &str = "# HELP rad_proxy_dropped_total Datagrams of clients that were dropped.\n\
+const HEAD: &str =
+    "# HELP rad_proxy_dropped_total Datagrams at the clients' sockets that were dropped.\n\
     # TYPE rad_proxy_dropped_total counter\n\
     rad_proxy_dropped_total{reason=\"UnknownClient\"} 1\n\
     rad_proxy_dropped_total{reason=\"Unread\"} 0\n";
@@ -74,7 +75,7 @@ const TAIL: &str = "# HELP rad_proxy_send_faults_total Sends that failed.\n\
     rad_proxy_receive_faults_total{side=\"clients\"} 0\n\
     rad_proxy_receive_faults_total{lane=\"0\",home=\"h1\"} 0\n\
     rad_proxy_receive_faults_total{lane=\"1\",home=\"h2\"} 0\n\
-    # HELP rad_proxy_downs_total How often the home server went down.\n\
+    # HELP rad_proxy_downs_total How often the home server was marked down.\n\
     # TYPE rad_proxy_downs_total counter\n\
     rad_proxy_downs_total{lane=\"0\",home=\"h1\"} 0\n\
     rad_proxy_downs_total{lane=\"1\",home=\"h2\"} 1\n\
@@ -86,18 +87,18 @@ const TAIL: &str = "# HELP rad_proxy_send_faults_total Sends that failed.\n\
     # TYPE rad_proxy_probes_total counter\n\
     rad_proxy_probes_total{lane=\"0\",home=\"h1\"} 1\n\
     rad_proxy_probes_total{lane=\"1\",home=\"h2\"} 0\n\
-    # HELP rad_proxy_cut_total Answered requests that left the book.\n\
+    # HELP rad_proxy_cut_total Answered requests that were removed from the book.\n\
     # TYPE rad_proxy_cut_total counter\n\
     rad_proxy_cut_total{lane=\"0\",home=\"h1\"} 0\n\
     rad_proxy_cut_total{lane=\"1\",home=\"h2\"} 5\n\
-    # HELP rad_proxy_marked_total Requests for the home server that came with Proxy-States of this proxy's own form.\n\
+    # HELP rad_proxy_marked_total Requests for the home server that arrived with a Proxy-State of this proxy's form.\n\
     # TYPE rad_proxy_marked_total counter\n\
     rad_proxy_marked_total{lane=\"0\",home=\"h1\"} 1\n\
     rad_proxy_marked_total{lane=\"1\",home=\"h2\"} 0\n";
 
 /// What the counters' file is given, where nothing was counted yet.
 const GIVEN: &str =
-    "some/file # HELP rad_proxy_dropped_total Datagrams of clients that were dropped.\n\
+    "some/file # HELP rad_proxy_dropped_total Datagrams at the clients' sockets that were dropped.\n\
     # TYPE rad_proxy_dropped_total counter\n\
     rad_proxy_dropped_total{reason=\"UnknownClient\"} 0\n";
 
