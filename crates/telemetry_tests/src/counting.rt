@@ -1,4 +1,4 @@
-//! What no clause says of counting: what is counted of whom, and that a delta is given once.
+//! Tests of what no clause says of counting: what is counted of whom, and that a delta is returned once.
 
 use crate::comparing::{holds, same};
 use crate::shared::NAS;
@@ -8,10 +8,10 @@ use rad_telemetry::{Counters, EVENT_KINDS, EventKind};
 use std::result::Result;
 use std::test::Fail;
 
-/// A request that leads to no lane.
+/// The kind of a request that leads to no lane.
 const NO_REALM: EventKind = EventKind::Dropped(Dropped::NoRealm);
 
-/// A response for which the ring has no room.
+/// The kind of a home server's datagram for which the ring is full.
 const RING_FULL: EventKind = EventKind::Unheard(DeskFault::RingFull);
 
 #[test]

@@ -1,11 +1,11 @@
-//! What no clause says of the level: the variable of the environment that names it.
+//! Tests of what no clause says of the level: the environment variable that names it.
 
 use crate::comparing::holds;
 use rad_telemetry::{LevelFilter, level_of, read_level};
 use std::env::{Env, FillError};
 use std::result::Result;
 
-/// An environment in which each variable has this value, or none.
+/// An environment in which each variable has this value, or is absent.
 #[derive(Drop)]
 struct Given<'a>(Option<&'a str>);
 

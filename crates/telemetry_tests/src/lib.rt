@@ -1,5 +1,5 @@
-//! Tests over the public calls of `rad_telemetry`, apart from it so that no proof of its own is made again for a test. It has no
-//! other code.
+//! Tests of the public calls of `rad_telemetry` and `rad_metrics`, in a crate of their own, so that no proof of those
+//! crates is repeated for a test. It has no other code.
 #![tactic(auto)]
 
 #[cfg(test)]

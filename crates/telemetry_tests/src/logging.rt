@@ -1,4 +1,5 @@
-//! What no clause says of the log: the line of each note and its level, and what it tells of the datagram that the note is about.
+//! Tests of what no clause says of the log: the line of each note and its level, and what it has of the datagram that
+//! the note is about.
 
 use crate::comparing::holds;
 use crate::packets::SHORT;
@@ -13,7 +14,8 @@ use std::test::Fail;
 use test_octets::homes::NAME_ONLY_REPLY;
 use test_octets::nas::{NAME_ONLY_REQUEST, SEVENTH};
 
-/// The lines of what a lane's worker received, and of what it noted then; the worker of `h1` received nothing.
+/// The lines of the datagrams that a lane's worker received, and of its notes about them. The worker of `h1` received
+/// nothing.
 const NOTES_OF_LANES: &str =
     "event=came worker=h2 address=127.0.0.1 port=2814 code=5 length=32 identifier=0\n\
     event=unheard home=h2 identifier=0 reason=\"Unknown\"\n\
@@ -21,7 +23,7 @@ const NOTES_OF_LANES: &str =
     event=unheard home=h2 address=10.0.0.1 port=40000 identifier=0 reason=\"NotHome\"\n\
     event=unheard home=h1 reason=\"RingFull\"\n";
 
-/// The lines of what the front received, and of what it noted then.
+/// The lines of the datagrams that the front received, and of its notes about them.
 const NOTES_OF_THE_FRONT: &str =
     "event=came worker=front address=10.0.0.1 port=40000 code=4 length=47 identifier=7 session=S1 realm=example.org\n\
     event=accepted home=h1 number=3 identifier=7 session=S1 realm=example.org\n\
@@ -29,7 +31,7 @@ const NOTES_OF_THE_FRONT: &str =
     event=came worker=front address=10.0.0.1 port=40000 octets=3 reason=\"Unread Short\"\n\
     event=went worker=front address=10.0.0.1 port=40000 code=4 length=37 identifier=9 realm=example.net\n";
 
-/// The lines of the events that are about no datagram that was received.
+/// The lines of the events that are not about a received datagram.
 const EVENTS: &str = "event=stopped worker=h1 reason=\"ended by itself\"\n\
     event=down home=h2 number=3 client=10.0.0.1 client_port=40000 session=S%201 age=14000\n\
     event=up home=h2 reason=\"down_wait over\"\n\
@@ -60,13 +62,13 @@ const DETAILS: &str = "event=stopped worker=h1 reason=\"ended by itself\"\n\
     event=receive-fault worker=front\n\
     event=send-fault worker=h2 address=127.0.0.1 port=2814\n";
 
-/// A packet whose session and whose realm have octets that no value shows as they are.
+/// A packet whose session and realm have octets that are escaped in a log line.
 const ODD: [u8; 39] = [
     4, 1, 0, 39, 0, 0, 0, 0, 0, 0, 0, 0, 0, 0, 0, 0, 0, 0, 0, 0, 1, 12, b'b', b'@', b'e', b'%',
     b'x', b' ', b'=', b'"', 127, b'.', 44, 7, b'S', b' ', b'1', 255, b'@',
 ];
 
-/// A request whose session has an octet that no value shows as it is.
+/// Returns a request whose session has an octet that is escaped in a log line.
 fn spent() -> Spent {
     Spent {
         number: 3,
@@ -76,7 +78,7 @@ fn spent() -> Spent {
     }
 }
 
-/// Tells of each event that is about no datagram that was received.
+/// Reports each event that is not about a received datagram.
 fn tell_events(telemetry: &Telemetry<'_, MemoryLog, Still>) {
     telemetry.tell_end(Worker::Lane(0));
     telemetry.note(Worker::Lane(1), Note::WentDown);
@@ -91,7 +93,7 @@ fn tell_events(telemetry: &Telemetry<'_, MemoryLog, Still>) {
     telemetry.note(Worker::Front, Note::Took(1, 5));
 }
 
-/// Tells of what came to the second lane, and of a full ring of the first.
+/// Reports the datagrams that the second lane received, and a full ring of the first lane.
 fn tell_of_lanes(telemetry: &Telemetry<'_, MemoryLog, Still>) {
     let unknown = DeskFault::Lane(HearFault::Unknown);
     telemetry.received(Worker::Lane(1), HOME, &NAME_ONLY_REPLY);
@@ -101,7 +103,7 @@ fn tell_of_lanes(telemetry: &Telemetry<'_, MemoryLog, Still>) {
     telemetry.note(Worker::Lane(0), Note::Unheard(DeskFault::RingFull));
 }
 
-/// Tells of what came to the front.
+/// Reports the datagrams that the front received, and one that it sends.
 fn tell_of_the_front(telemetry: &Telemetry<'_, MemoryLog, Still>) {
     telemetry.received(Worker::Front, NAS, &SEVENTH);
     telemetry.accepted(0, 3);
@@ -110,7 +112,7 @@ fn tell_of_the_front(telemetry: &Telemetry<'_, MemoryLog, Still>) {
     telemetry.sends(Worker::Front, NAS, &NAME_ONLY_REQUEST);
 }
 
-/// What the tests below tell of.
+/// What the tests report.
 #[derive(Clone, Copy)]
 enum Told {
     Lanes,
@@ -131,7 +133,7 @@ impl Story for Told {
     }
 }
 
-/// Tells of a datagram that the front dropped.
+/// Reports a datagram that the front dropped.
 fn tell_of_a_drop(telemetry: &Telemetry<'_, MemoryLog, Still>) {
     telemetry.received(Worker::Front, NAS, &SEVENTH);
     telemetry.note(Worker::Front, Note::Dropped(Dropped::NoRealm));

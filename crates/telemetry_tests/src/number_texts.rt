@@ -1,6 +1,6 @@
-//! What is written of the numbers, by the rules of their format.
+//! The expected text of the numbers, written out by the rules of the format.
 
-/// What is told of the program, which is at its start.
+/// The lines of the program, at its start.
 pub const PROGRAM: &str = "# HELP rad_proxy_build_info The version of the running program.\n\
     # TYPE rad_proxy_build_info gauge\n\
     rad_proxy_build_info{version=\"0.1.0\"} 1\n\
@@ -14,7 +14,7 @@ pub const PROGRAM: &str = "# HELP rad_proxy_build_info The version of the runnin
     # TYPE rad_proxy_strangers_total counter\n\
     rad_proxy_strangers_total 1\n";
 
-/// What is told of the client, of which one request was accepted.
+/// The lines of the client. One of its requests was accepted.
 pub const CLIENTS: &str =
     "# HELP rad_proxy_client_received_total Datagrams received from the client.\n\
     # TYPE rad_proxy_client_received_total counter\n\
@@ -46,7 +46,7 @@ pub const CLIENTS: &str =
     rad_proxy_client_dropped_total{client=\"10.0.0.1\",reason=\"MessageAuthenticatorHere\"} 0\n\
     rad_proxy_client_dropped_total{client=\"10.0.0.1\",reason=\"NoRealm\"} 1\n";
 
-/// What is told of the limits, which are those of the defaults.
+/// The lines of the limits, which have their defaults.
 pub const LIMITS: &str = "# HELP rad_proxy_book_limit The most requests that the book may hold.\n\
     # TYPE rad_proxy_book_limit gauge\n\
     rad_proxy_book_limit{lane=\"0\",home=\"h1\"} 100000\n\
@@ -68,7 +68,7 @@ pub const LIMITS: &str = "# HELP rad_proxy_book_limit The most requests that the
     rad_proxy_span_seconds{lane=\"0\",home=\"h1\"} 30.000\n\
     rad_proxy_span_seconds{lane=\"1\",home=\"h2\"} 30.000\n";
 
-/// What is told of the home servers, of which the second is down and drained.
+/// The lines of the home servers. The second one is marked down, and its lane is drained.
 pub const HOMES: &str = "# HELP rad_proxy_home_up Whether the home server is marked up.\n\
     # TYPE rad_proxy_home_up gauge\n\
     rad_proxy_home_up{lane=\"0\",home=\"h1\"} 1\n\
@@ -126,7 +126,7 @@ pub const HOMES: &str = "# HELP rad_proxy_home_up Whether the home server is mar
     rad_proxy_last_answer_time_seconds{lane=\"0\",home=\"h1\"} 1234.567\n\
     rad_proxy_last_answer_time_seconds{lane=\"1\",home=\"h2\"} 0.000\n";
 
-/// What is told of how they went up.
+/// The lines of why they were marked up.
 pub const UPS: &str = "# HELP rad_proxy_ups_total How often the home server was marked up again.\n\
     # TYPE rad_proxy_ups_total counter\n\
     rad_proxy_ups_total{lane=\"0\",home=\"h1\",reason=\"answered\"} 0\n\
@@ -136,7 +136,7 @@ pub const UPS: &str = "# HELP rad_proxy_ups_total How often the home server was 
     rad_proxy_ups_total{lane=\"1\",home=\"h2\",reason=\"probe answered\"} 1\n\
     rad_proxy_ups_total{lane=\"1\",home=\"h2\",reason=\"down_wait over\"} 0\n";
 
-/// What is told of how long they took: two replies came at once.
+/// The lines of the times to a reply. Two replies came at once.
 pub const REPLIES: &str =
     "# HELP rad_proxy_reply_seconds From the first sending of a request to the home server's reply.\n\
     # TYPE rad_proxy_reply_seconds histogram\n\
@@ -181,7 +181,7 @@ pub const REPLIES: &str =
     rad_proxy_reply_seconds_sum{lane=\"1\",home=\"h2\"} 0.000000\n\
     rad_proxy_reply_seconds_count{lane=\"1\",home=\"h2\"} 0\n";
 
-/// What is told of how long the clients waited: two responses came at once.
+/// The lines of the times to a response. Two responses came at once.
 pub const RESPONSES: &str =
     "# HELP rad_proxy_response_seconds From the acceptance of a request to the response to the client.\n\
     # TYPE rad_proxy_response_seconds histogram\n\
@@ -226,7 +226,7 @@ pub const RESPONSES: &str =
     rad_proxy_response_seconds_sum{lane=\"1\",home=\"h2\"} 0.000000\n\
     rad_proxy_response_seconds_count{lane=\"1\",home=\"h2\"} 0\n";
 
-/// What is told of two sockets.
+/// The lines of two sockets.
 pub const SOCKETS: &str =
     "# HELP rad_proxy_socket_buffer_bytes The receive buffer that the system granted to the socket.\n\
     # TYPE rad_proxy_socket_buffer_bytes gauge\n\
@@ -237,7 +237,8 @@ pub const SOCKETS: &str =
     rad_proxy_socket_drops_total{side=\"clients\",socket=\"10.0.0.1:40000\"} 5732\n\
     rad_proxy_socket_drops_total{lane=\"1\",home=\"h2\",port=\"0\"} 0\n";
 
-/// A table of Linux's, of a machine of this kind: the first socket has dropped some.
+/// A table of UDP sockets as Linux lists them on a machine of this byte order. Datagrams were dropped at the socket
+/// of the clients' side.
 pub const TABLE: &str = "\
     \u{20}  sl  local_address rem_address   st tx_queue rx_queue tr tm->when retrnsmt   uid  timeout inode ref pointer drops            \n\
     \u{20} 421: 0100007F:0AFF 00000000:0000 07 00000000:00000000 00:00000000 00000000     0        0 17041 2 0000000000000000 3         \n\

@@ -1,4 +1,5 @@
-//! What no clause says of the numbers: of whom each is counted, when each was, and in which order they are written.
+//! Tests of what no clause says of the numbers: of whom each is counted, which times they have, and in which order
+//! they are written.
 
 use crate::comparing::{holds, same};
 use crate::number_texts::{
@@ -16,13 +17,13 @@ use std::result::Result;
 use std::sync::Wait;
 use std::test::Fail;
 
-/// Somebody who is no client.
+/// The endpoint of a sender that is not a client.
 const STRANGER: Endpoint = Endpoint {
     address: [10, 0, 0, 2],
     port: 40_000,
 };
 
-/// A lane of which nothing is told yet.
+/// The counts of a lane that has accepted nothing. It is drained, and its home server is marked down.
 const EMPTY: Counts = Counts {
     opening: 0,
     accepted: 0,
@@ -33,7 +34,7 @@ const EMPTY: Counts = Counts {
     draining: true,
 };
 
-/// How the first lane stands: of nine requests one has left its book, and four wait.
+/// The counts of the first lane: of nine requests one was removed from its book, and four are queued.
 const BUSY: Counts = Counts {
     opening: 1,
     accepted: 9,
@@ -44,17 +45,17 @@ const BUSY: Counts = Counts {
     draining: false,
 };
 
-/// A moment, in milliseconds.
+/// Returns a moment, given in milliseconds.
 fn at(milliseconds: u64) -> Option<Moment> {
     Moment::new(milliseconds)
 }
 
-/// The front receives a datagram of the client.
+/// Reports that the front received a datagram of the client.
 fn come(telemetry: &Telemetry<'_, MemoryLog, Still>) {
     telemetry.received(Worker::Front, NAS, &[]);
 }
 
-/// Tells of what the clients sent.
+/// Reports what the clients sent.
 fn tell_clients(telemetry: &Telemetry<'_, MemoryLog, Still>) {
     telemetry.received(Worker::Front, STRANGER, &[]);
     telemetry.note(Worker::Front, Note::Dropped(Dropped::UnknownClient));
@@ -71,8 +72,8 @@ fn tell_clients(telemetry: &Telemetry<'_, MemoryLog, Still>) {
     telemetry.note(Worker::Front, Note::Dropped(Dropped::NoRealm));
 }
 
-/// A lane stands like this, and the first of those that wait, if any, was accepted at this moment, as the first of the book was at
-/// that one.
+/// Reports the standing of a lane. The first request of its queue and that of its book, if any, were accepted at
+/// these moments.
 fn stand(
     telemetry: &Telemetry<'_, MemoryLog, Still>,
     lane: u16,
@@ -89,7 +90,7 @@ fn stand(
     telemetry.stands(lane, Moment::new(5067).unwrap(), standing);
 }
 
-/// Tells of the home servers.
+/// Reports what happened to the home servers.
 fn tell_homes(telemetry: &Telemetry<'_, MemoryLog, Still>) {
     telemetry.woke(Worker::Lane(0));
     for _ in 0..7 {
@@ -113,7 +114,7 @@ fn tell_homes(telemetry: &Telemetry<'_, MemoryLog, Still>) {
     stand(telemetry, 1, EMPTY, None, None);
 }
 
-/// What stands behind a piece of a text, where it begins with that.
+/// Returns what follows a piece at the start of a text, if the text starts with it.
 fn behind<'a>(text: &'a [u8], piece: &str) -> Option<&'a [u8]> {
     if !text.starts_with(piece.as_bytes()) {
         return None;
@@ -121,7 +122,7 @@ fn behind<'a>(text: &'a [u8], piece: &str) -> Option<&'a [u8]> {
     text.get(piece.len()..)
 }
 
-/// Whether a text is made of these pieces.
+/// Returns whether a text is these pieces, one after the other.
 fn is_of(text: &[u8], pieces: &[&str]) -> bool {
     let mut rest = text;
     for piece in pieces {
@@ -133,7 +134,7 @@ fn is_of(text: &[u8], pieces: &[&str]) -> bool {
     rest.is_empty()
 }
 
-/// The text of all numbers, where the telemetry is told this.
+/// Returns the text of all numbers after these reports.
 fn text_of(rt: &impl Wait, alloc: Global) -> Result<Vec<u8>, Fail> {
     let setup = Setup::new(alloc, TWO_HOMES, LevelFilter::Off)?;
     let telemetry = setup.telemetry(alloc)?;

@@ -1,4 +1,5 @@
-//! What no clause says of a report: the text of the counters, how it comes into its file, and the lines of sums.
+//! Tests of what no clause says of a report: the text of the counters, how it gets into its file, and the lines of
+//! sums.
 
 use crate::comparing::holds;
 use crate::shared::{HOME, MemoryLog, NAS, Setup, Still, Story, TWO_HOMES, logs};
@@ -14,7 +15,7 @@ use std::result::Result;
 use std::sync::{Mutex, Wait};
 use std::test::Fail;
 
-/// Keeps what it was given last, the path and the text, one behind the other; or refuses.
+/// A file in memory. It keeps the last path and text that it was given, one after the other, or refuses them.
 #[derive(Drop)]
 struct Memory {
     given: Mutex<Vec<u8>>,
@@ -57,14 +58,15 @@ impl ReplaceFile for Memory {
     }
 }
 
-/// How the counters begin, where one datagram of a client was dropped.
+/// The start of the counters' text, after one datagram at the clients' socket was dropped.
 const HEAD: &str =
     "# HELP rad_proxy_dropped_total Datagrams at the clients' sockets that were dropped.\n\
     # TYPE rad_proxy_dropped_total counter\n\
     rad_proxy_dropped_total{reason=\"UnknownClient\"} 1\n\
     rad_proxy_dropped_total{reason=\"Unread\"} 0\n";
 
-/// How they end, where the second home server went down and was sent two requests, and the first one was probed.
+/// The end of the counters' text. The second home server was marked down and was sent two requests, and the first one
+/// was probed.
 const TAIL: &str = "# HELP rad_proxy_send_faults_total Sends that failed.\n\
     # TYPE rad_proxy_send_faults_total counter\n\
     rad_proxy_send_faults_total{side=\"clients\"} 0\n\
@@ -96,26 +98,26 @@ const TAIL: &str = "# HELP rad_proxy_send_faults_total Sends that failed.\n\
     rad_proxy_marked_total{lane=\"0\",home=\"h1\"} 1\n\
     rad_proxy_marked_total{lane=\"1\",home=\"h2\"} 0\n";
 
-/// What the counters' file is given, where nothing was counted yet.
+/// What the file of the counters is given if nothing was counted yet.
 const GIVEN: &str =
     "some/file # HELP rad_proxy_dropped_total Datagrams at the clients' sockets that were dropped.\n\
     # TYPE rad_proxy_dropped_total counter\n\
     rad_proxy_dropped_total{reason=\"UnknownClient\"} 0\n";
 
-/// The sums of what each worker had.
+/// The sums of what each worker noted.
 const SUMS: &str = "event=dropped reason=\"NoRealm\" count=2 client=10.0.0.1 client_port=40000\n\
     event=refused reason=\"BookFull\" count=1 client=10.0.0.1 client_port=40000\n\
     event=send-fault worker=front count=1\n\
     event=unheard home=h2 reason=\"NotHome\" count=1\n\
     event=receive-fault worker=h2 count=1\n";
 
-/// A client that is not the last one.
+/// The source of an earlier datagram than the last one.
 const EARLIER: Endpoint = Endpoint {
     address: [10, 0, 0, 1],
     port: 40_001,
 };
 
-/// Tells of what is counted in the texts above.
+/// Reports what is counted in the texts above.
 fn tell_all(telemetry: &Telemetry<'_, MemoryLog, Still>) {
     telemetry.note(Worker::Front, Note::Dropped(Dropped::UnknownClient));
     telemetry.note(Worker::Front, Note::Refused(Refusal::BookFull));
@@ -130,7 +132,7 @@ fn tell_all(telemetry: &Telemetry<'_, MemoryLog, Still>) {
     telemetry.sends(Worker::Front, NAS, &[5]);
 }
 
-/// Tells of what is summed up above.
+/// Reports what is summed up above.
 fn tell_sums(telemetry: &Telemetry<'_, MemoryLog, Still>) {
     for from in [EARLIER, NAS] {
         telemetry.received(Worker::Front, from, &[]);
@@ -143,7 +145,7 @@ fn tell_sums(telemetry: &Telemetry<'_, MemoryLog, Still>) {
     telemetry.sends(Worker::Lane(1), HOME, &[4]);
 }
 
-/// Tells of what is summed up above, and has it logged twice.
+/// Reports what is summed up above, and logs the sums twice.
 #[derive(Clone, Copy)]
 struct Sums;
 
@@ -156,7 +158,7 @@ impl Story for Sums {
     }
 }
 
-/// Whether the text of all counters begins and ends like this.
+/// Returns whether the text of all counters begins and ends like this.
 fn writes(
     alloc: Global,
     telemetry: &Telemetry<'_, MemoryLog, Still>,
@@ -168,7 +170,7 @@ fn writes(
     Ok(text.starts_with(head.as_bytes()) && text.ends_with(tail.as_bytes()))
 }
 
-/// Texts of the counters that are left, and a file in memory for them.
+/// Texts of the counters that are left to a thread, and a file in memory for them.
 #[derive(Drop)]
 struct Texts<'a, R> {
     rt: &'a R,
@@ -182,7 +184,7 @@ struct Texts<'a, R> {
     untaken: u32,
 }
 
-/// A machine that tells of no UDP socket.
+/// A machine that lists no UDP socket.
 struct NoSockets;
 
 impl UdpSockets for NoSockets {
@@ -192,7 +194,7 @@ impl UdpSockets for NoSockets {
 }
 
 impl<R: Wait> Texts<'_, R> {
-    /// Leaves a text, and has it written as the last one.
+    /// Leaves a text, and writes it as the last one.
     fn write_last(&self, reporter: Reporter<'_, MemoryLog, Still>) {
         reporter.leave_text(self.rt, &NoSockets, &mut Draft::new(self.alloc));
         self.texts.end();
@@ -215,8 +217,8 @@ impl<R: Wait> Story for Texts<'_, R> {
     }
 }
 
-/// Whether a file is given a text that begins like this, and these lines are logged, where so many texts are written and then so
-/// many left. The file may have a fault.
+/// Returns whether a file is given a text that begins like this, and exactly these lines are logged, if `written`
+/// texts are written and then `untaken` more are left. If there is a `fault`, each write to the file fails with it.
 fn gives<R: Wait>(
     rt: &R,
     alloc: Global,

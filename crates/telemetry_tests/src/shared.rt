@@ -1,4 +1,4 @@
-//! What the tests share: a configuration, endpoints and a log in memory.
+//! Shared by the tests: a configuration, endpoints and a log in memory.
 
 use rad_realms::{Config, Endpoint, read_config};
 use rad_telemetry::{LevelFilter, Log, Logged, Metadata, Record, Source, Spans, Telemetry};
@@ -10,7 +10,7 @@ use std::sync::Mutex;
 use std::test::Fail;
 use std::time::{Clock, Duration};
 
-/// One client and two home servers.
+/// A configuration with one client and two home servers.
 pub const TWO_HOMES: &str = r#"
 listen = "127.0.0.1:1813"
 [[client]]
@@ -32,13 +32,13 @@ name = "example.net"
 home = "h2"
 "#;
 
-/// The client.
+/// The client's endpoint.
 pub const NAS: Endpoint = Endpoint {
     address: [10, 0, 0, 1],
     port: 40_000,
 };
 
-/// The second home server.
+/// The endpoint of the second home server.
 pub const HOME: Endpoint = Endpoint {
     address: [127, 0, 0, 1],
     port: 2814,
@@ -47,7 +47,7 @@ pub const HOME: Endpoint = Endpoint {
 /// A log in memory, up to a level.
 pub type MemoryLog = Logged<(), Kept>;
 
-/// What a telemetry counts and logs for.
+/// The configuration that a telemetry counts for, its clock and its log.
 #[derive(Drop)]
 pub struct Setup {
     clock: Still,
@@ -69,14 +69,14 @@ impl Clock for Still {
     }
 }
 
-/// Keeps the text of each record, in a line. One thread at a time logs.
+/// Keeps the text of each record as one line. Only one thread at a time logs.
 #[derive(Drop)]
 pub struct Kept {
     text: Mutex<Vec<u8>>,
 }
 
 impl Setup {
-    /// A configuration, and a log in memory up to a level.
+    /// Reads a configuration, and makes a log in memory up to a level.
     pub fn new(alloc: Global, config: &str, level: LevelFilter) -> Result<Setup, Fail> {
         Ok(Setup {
             clock: Still,
@@ -85,28 +85,29 @@ impl Setup {
         })
     }
 
-    /// A telemetry over them.
+    /// Makes a telemetry over them.
     pub fn telemetry(&self, alloc: Global) -> Result<Telemetry<'_, MemoryLog, Still>, AllocError> {
         Telemetry::new(alloc, &self.clock, &self.config, &self.log)
     }
 
-    /// The configuration.
+    /// Returns the configuration.
     pub fn config(&self) -> &Config {
         &self.config
     }
 
-    /// Whether these lines were logged.
+    /// Returns whether exactly these lines were logged.
     pub fn has_logged(&self, expected: &str) -> bool {
         self.log.sink().is(expected)
     }
 }
 
-/// What a telemetry is told.
+/// The reports that a telemetry gets.
 pub trait Story {
     fn tell<'x>(&'x self, telemetry: &'x Telemetry<'_, MemoryLog, Still>);
 }
 
-/// Whether these lines are logged, up to a level, where a telemetry over two home servers is told this.
+/// Returns whether exactly these lines are logged, up to a level, if a telemetry over two home servers gets these
+/// reports.
 pub fn logs<S: Story>(
     alloc: Global,
     level: LevelFilter,
@@ -125,7 +126,7 @@ impl Kept {
         }
     }
 
-    /// Whether these are the lines.
+    /// Returns whether these are the lines.
     fn is(&self, expected: &str) -> bool {
         match self.text.try_lock() {
             Some(text) => text.as_slice() == expected.as_bytes(),

@@ -1,5 +1,5 @@
-//! What no clause says of sums: which realm a sum of drops names, what the sum of cuts counts, and how many Proxy-States a loop
-//! makes.
+//! Tests of what no clause says of sums: which realm a sum of drops names, what the sum of cuts counts, and how many
+//! Proxy-States a loop makes.
 
 use crate::comparing::holds;
 use crate::shared::{MemoryLog, NAS, Still, Story, logs};
@@ -10,7 +10,7 @@ use std::result::Result;
 use std::test::Fail;
 use test_octets::nas::{NAME_ONLY_REQUEST, SEVENTH};
 
-/// A proxy of this form.
+/// The endpoint of another proxy like this one.
 const OTHER_PROXY: Endpoint = Endpoint {
     address: [10, 0, 0, 2],
     port: 1813,
@@ -21,13 +21,13 @@ const BARE: [u8; 25] = [
     4, 1, 0, 25, 0, 0, 0, 0, 0, 0, 0, 0, 0, 0, 0, 0, 0, 0, 0, 0, 1, 5, b'b', b'o', b'b',
 ];
 
-/// A request whose realm has octets that no value shows as they are.
+/// A request whose realm has octets that are escaped in a log line.
 const ODD_REALM: [u8; 28] = [
     4, 1, 0, 28, 0, 0, 0, 0, 0, 0, 0, 0, 0, 0, 0, 0, 0, 0, 0, 0, 1, 8, b'b', b'@', b' ', b'"', 10,
     255,
 ];
 
-/// The sums of drops, each behind what was dropped since the one before.
+/// The sums of drops, one for each call of [`log_deltas`].
 const DROPS: &str =
     "event=dropped reason=\"NoRealm\" count=2 client=10.0.0.1 client_port=40000 realm=example.net\n\
     event=dropped reason=\"NoRealm\" count=1 client=10.0.0.1 client_port=40000 realm=%20%22%0a%ff\n\
@@ -46,19 +46,19 @@ const MARKS: &str = "event=marked home=h1 count=2 proxy_states=1 client=10.0.0.2
 const LOOPS: &str = "event=marked home=h1 count=2 proxy_states=7 client=10.0.0.2 client_port=1813\n\
     event=marked home=h1 count=1 proxy_states=2 client=10.0.0.1 client_port=40000\n";
 
-/// Tells of a packet that was dropped for its realm.
+/// Reports a packet that is dropped for its realm.
 fn drop_for_its_realm(telemetry: &Telemetry<'_, MemoryLog, Still>, packet: &[u8]) {
     telemetry.received(Worker::Front, NAS, packet);
     telemetry.no_realm(packet);
     telemetry.note(Worker::Front, Note::Dropped(Dropped::NoRealm));
 }
 
-/// Logs what is new.
+/// Logs what was counted since the last call.
 fn log_deltas(telemetry: &Telemetry<'_, MemoryLog, Still>) {
     telemetry.reporter(None).log_deltas();
 }
 
-/// Tells of drops, and has them logged one after the other.
+/// Reports drops, and logs their sums one after the other.
 fn tell_drops(telemetry: &Telemetry<'_, MemoryLog, Still>) {
     drop_for_its_realm(telemetry, &SEVENTH);
     drop_for_its_realm(telemetry, &NAME_ONLY_REQUEST);
@@ -71,7 +71,7 @@ fn tell_drops(telemetry: &Telemetry<'_, MemoryLog, Still>) {
     log_deltas(telemetry);
 }
 
-/// Tells of requests with so many Proxy-States of this proxy's form, and has them logged.
+/// Reports requests with different numbers of Proxy-States of this proxy's form, and logs their sums.
 fn tell_marks(telemetry: &Telemetry<'_, MemoryLog, Still>) {
     telemetry.came_marked(0, NAS, 1);
     telemetry.came_marked(0, OTHER_PROXY, 1);
@@ -83,7 +83,7 @@ fn tell_marks(telemetry: &Telemetry<'_, MemoryLog, Still>) {
     log_deltas(telemetry);
 }
 
-/// Tells of two cuts, and has them logged.
+/// Reports two cuts, and logs their sum.
 fn tell_cuts(telemetry: &Telemetry<'_, MemoryLog, Still>) {
     telemetry.note(Worker::Lane(1), Note::Cut(3));
     telemetry.note(Worker::Lane(1), Note::Cut(5));
@@ -91,7 +91,7 @@ fn tell_cuts(telemetry: &Telemetry<'_, MemoryLog, Still>) {
     log_deltas(telemetry);
 }
 
-/// What the tests below tell of.
+/// What the tests report.
 #[derive(Clone, Copy)]
 enum Told {
     Drops,

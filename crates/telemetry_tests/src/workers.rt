@@ -1,4 +1,5 @@
-//! What no clause says of the gate beside the workers: that the lines of a drop tell of its datagram.
+//! Tests of what no clause says of the gate together with the workers: that the line of a drop has the keys of its
+//! datagram.
 
 ghost use Rattle.std.specs.Prelude.{Some};
 
@@ -30,7 +31,7 @@ name = "a.example.org"
 home = "h1"
 "#;
 
-/// The lines of three drops: of a request, of what is no packet, and of a request without a session.
+/// The lines of three drops: of a request, of a datagram that is not a packet, and of a request without a session.
 const DROPS: &str =
     "event=dropped client=10.0.0.1 client_port=40000 identifier=7 session=S1 realm=example.org reason=\"NoRealm\"\n\
     event=dropped client=10.0.0.1 client_port=40000 reason=\"Unread Short\"\n\
@@ -40,7 +41,7 @@ const DROPS: &str =
 #[derive(Drop)]
 struct Scripted<'a> {
     gives: &'a [&'a [u8]],
-    /// The place of the one that it gives next.
+    /// The index of the datagram that it gives next.
     next: usize,
     traffic: Traffic,
 }
@@ -85,7 +86,7 @@ impl Wire for Scripted<'_> {
     }
 }
 
-/// Has the front work for so many turns, over a wire that gives three datagrams.
+/// Lets the front work for `turns` turns, over a wire that gives three datagrams.
 fn work(
     rt: &impl Wait,
     alloc: Global,

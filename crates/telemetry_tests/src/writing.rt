@@ -1,4 +1,5 @@
-//! What no clause says of the log's lines on their way: which find room, and what comes after a write that was cut short.
+//! Tests of what no clause says of the log's lines on their way: which ones find room, and what follows a write that
+//! was cut short.
 
 use crate::comparing::holds;
 use rad_telemetry::{LineOutput, LineRoom, LineWriter};
@@ -7,7 +8,8 @@ use std::result::Result;
 use std::sync::Mutex;
 use std::test::Fail;
 
-/// Takes so many octets in each write, and keeps them; where it takes none the write fails.
+/// An output that accepts in each write as many octets as the next number of `takes` says, or all if there is none
+/// left, and keeps them. A write of which it accepts no octet fails.
 #[derive(Drop)]
 struct Disk<'a> {
     takes: &'a [usize],
@@ -32,7 +34,7 @@ impl LineOutput for Disk<'_> {
     }
 }
 
-/// A room with these lines.
+/// Returns a buffer with these lines.
 fn room_of(alloc: Global, size: usize, lines: &[&str]) -> Result<LineRoom, AllocError> {
     let mut room = LineRoom::new(alloc, size)?;
     for line in lines {
@@ -41,7 +43,8 @@ fn room_of(alloc: Global, size: usize, lines: &[&str]) -> Result<LineRoom, Alloc
     Ok(room)
 }
 
-/// Whether a disk that takes so much in each write has this text, once the lines were written three times.
+/// Returns whether a disk that accepts this many octets in each write has this text, after the lines were written
+/// three times.
 fn has_written(alloc: Global, takes: &[usize], expected: &str) -> Result<bool, AllocError> {
     let text = Mutex::new(Vec::new(alloc));
     let room = room_of(alloc, 100, &["one\n", "two\n"])?;
