@@ -21,13 +21,13 @@ IsRightRequest secret text = authenticator_of text ≡ request_authenticator sec
 unfoldable pub IsRightResponse : List ℕ → List ℕ → List ℕ → Type 0
 IsRightResponse secret authenticator text = authenticator_of text ≡ response_authenticator secret authenticator text
 
--- The Accounting-Request with this Identifier and these attributes, signed with this secret.
+-- The Accounting-Request with this Identifier and these attributes, signed under this secret.
 unfoldable pub accounting_request : ℕ → List ℕ → List ℕ → List ℕ
 accounting_request identifier attributes secret =
     packet_text 4 identifier (request_authenticator secret (packet_text 4 identifier (replicate 16 0) attributes)) attributes
 
--- The Accounting-Response with this Identifier and these attributes to a packet of this Authenticator, signed
--- with this secret.
+-- The Accounting-Response with this Identifier and these attributes, to a packet with this Authenticator, signed under
+-- this secret.
 unfoldable pub accounting_response : ℕ → List ℕ → List ℕ → List ℕ → List ℕ
 accounting_response identifier authenticator attributes secret =
     packet_text 5 identifier (response_authenticator secret authenticator (packet_text 5 identifier authenticator attributes)) attributes

@@ -1,4 +1,4 @@
--- A buffer (own): the octets that it has, and how many it has room for.
+-- A buffer (own): its octets, and the number of octets that it has room for.
 use Rattle.std.specs.Prelude.{ℕ, List}
 
 pub record Filled : Type 0 where

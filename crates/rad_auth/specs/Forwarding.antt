@@ -5,7 +5,7 @@ use Rattle.rad_auth.specs.Authenticator.{accounting_request}
 use Rattle.rad_auth.specs.Mark.{mark_text}
 use Rattle.rad_auth.specs.declared.mark.Mark.{Mark}
 
--- The forwarded packet: an Accounting-Request of this Identifier with the attributes of the request followed
--- by the mark, signed with this secret.
+-- The forwarded packet: an Accounting-Request with this Identifier and with the attributes of the request followed by
+-- the mark, signed under this secret.
 unfoldable pub forwarded : List ℕ → Mark → ℕ → List ℕ → List ℕ
 forwarded text mark identifier secret = accounting_request identifier (attribute_octets text ++ mark_text mark) secret

@@ -3,7 +3,7 @@
 use Rattle.std.specs.Prelude.{ℕ, ◌-◌, nat_lt, List, ◌++◌, length, map, replicate, bit_xor, if◌then◌else◌}
 use Rattle.md5.specs.Md5.{md5}
 
--- The key, or its digest where it is longer than a block.
+-- The key, or its digest if it is longer than a block.
 unfoldable pub short_key : List ℕ → List ℕ
 short_key key = if nat_lt 64 (length key) then md5 key else key
 

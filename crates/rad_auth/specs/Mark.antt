@@ -1,5 +1,5 @@
--- The mark: the Proxy-State (RFC 2865 section 5.33) that this proxy adds. What it holds is our own choice: the
--- number of the lane and the number of the record, each with its most significant octet first.
+-- The mark: the Proxy-State (RFC 2865 section 5.33) that the proxy adds. Its content is own: the number of the lane
+-- and the number of the record, each with its most significant octet first.
 use Rattle.std.specs.Prelude.{◌≡◌, ℕ, List, [], ◌∷◌, ◌++◌}
 use Rattle.std.specs.Int.{w16, w64, to_be_bytes}
 use Rattle.rad_packet.specs.Attribute.{Attribute}

@@ -1,5 +1,5 @@
--- Why a reply gives no response: the first of these faults. A reply that has none of the first three may
--- still find no memory.
+-- Why a reply gives no response: the first of these faults that applies. If none of the first three applies, memory
+-- may still be refused.
 use Rattle.std.specs.Prelude.{◌≡◌, ◌≢◌, ℕ, List, []}
 use Rattle.rad_packet.specs.Attribute.{Attribute, of_kind}
 use Rattle.rad_packet.specs.Packet.{authenticator_of, packet_attributes}
@@ -26,12 +26,12 @@ RefusesReply sending reply home OutOfMemory =
     IsRightResponse home (authenticator_of sending) reply × (of_kind 80 (packet_attributes reply) ≡ [])
     × ReturnsItsMark sending reply
 
--- No two faults refuse one reply.
+-- No reply is refused for two different faults.
 abbrev pub IsRefusedOnce : List ℕ → List ℕ → List ℕ → Type 0
 IsRefusedOnce sending reply home =
     (e f : ReplyFault) → RefusesReply sending reply home e → RefusesReply sending reply home f → e ≡ f
 
--- A reply after which there is a response that answers the request is refused for want of memory alone.
+-- If a response answers a request after this reply, the reply is refused only if memory is refused.
 abbrev pub IsAnsweredOrRefused : List ℕ → List ℕ → List ℕ → Type 0
 IsAnsweredOrRefused sending reply home =
     (head : RequestHead) (client response : List ℕ) (fault : ReplyFault)

@@ -1,10 +1,10 @@
--- What a reply that is kept has (own).
+-- The parts of a reply that is kept (own).
 use Rattle.std.specs.Prelude.{ℕ, List}
 use Rattle.rad_auth.specs.Answers.{Answers}
 use Rattle.rad_auth.specs.declared.reply.RequestHead.{RequestHead}
 
--- The head of a request, the sending and the reply to it, the client's and the home's secret, and the
--- response: packets' texts, and lists of octets.
+-- The head of a request, the sending and the reply to it, the secrets of the client and of the home server, and the
+-- response. The packets are texts, and the secrets are lists of octets.
 pub record Replied : Type 0 where
   pub head : RequestHead
   pub sending : List ℕ

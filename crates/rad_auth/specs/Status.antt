@@ -8,7 +8,7 @@ use Rattle.rad_auth.specs.Hmac.{hmac_md5}
 abbrev pub message_authenticator : List ℕ → Attribute
 message_authenticator value = record { kind = 80; value = value }
 
--- The header of the packet's text, and these attributes.
+-- The header of the packet's text, followed by these attributes.
 unfoldable pub with_header_of : List ℕ → List Attribute → List ℕ
 with_header_of text attributes = take 20 text ++ joined attributes
 
@@ -16,8 +16,8 @@ with_header_of text attributes = take 20 text ++ joined attributes
 unfoldable pub no_value : List ℕ
 no_value = replicate 16 0
 
--- The packet has one Message-Authenticator, of Length 18, and its Value is the HMAC under the secret of the
--- packet with zeros in that place.
+-- The packet has exactly one Message-Authenticator, of Length 18. Its Value is the HMAC, under the secret, of the
+-- packet with zeros in place of that Value.
 pub record IsRightStatus (secret text : List ℕ) : Type 0 where
   pub before : List Attribute
   pub value : List ℕ
@@ -28,7 +28,8 @@ pub record IsRightStatus (secret text : List ℕ) : Type 0 where
   pub counted : length value ≡ 16
   pub right : value ≡ hmac_md5 secret (with_header_of text (before ++ message_authenticator no_value ∷ after))
 
--- The Status-Server of this Identifier and Authenticator that has its Message-Authenticator alone.
+-- The Status-Server with this Identifier and Authenticator, whose only attribute is its Message-Authenticator under
+-- this secret.
 unfoldable pub status_server : ℕ → List ℕ → List ℕ → List ℕ
 status_server identifier authenticator secret =
     let unsigned = packet_text 12 identifier authenticator (attribute_text (message_authenticator no_value)) in

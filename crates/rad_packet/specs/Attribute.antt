@@ -1,5 +1,5 @@
--- Attributes (RFC 2866 section 5, RFC 2865 section 5). An octet is a number below 256, and a text is a
--- list of octets: what a datagram holds.
+-- Attributes (RFC 2866 section 5, RFC 2865 section 5). An octet is a number below 256. A text is a list of octets,
+-- like the content of a datagram.
 use Rattle.std.specs.Prelude.{◌≡◌, ℕ, zero, suc, ◌+◌, ◌-◌, ◌<◌, ◌≤◌, List, [], ◌∷◌, length, take, drop, filter, ◌==◌}
 use Rattle.std.specs.List.{flat_map, AllByRecursion}
 
@@ -8,7 +8,8 @@ pub record Attribute : Type 0 where
   pub kind : ℕ
   pub value : List ℕ
 
--- What an attribute can be: a Type of one octet, and a Value of 0 to 253 octets.
+-- A valid attribute: its Type is one octet, and its Value has at most 253 octets. That the items of its Value are
+-- octets is part of `IsPacketText`.
 pub record IsAttribute (a : Attribute) : Type 0 where
   pub kind : a.kind < 256
   pub value : length a.value ≤ 253
@@ -43,6 +44,6 @@ first_attributes (suc n) (kind ∷ len ∷ rest) =
 unfoldable pub attributes_of : List ℕ → List Attribute
 attributes_of octets = first_attributes (length octets) octets
 
--- Those of one Type.
+-- The attributes of one Type.
 abbrev pub of_kind : ℕ → List Attribute → List Attribute
 of_kind kind attributes = filter (λ a. a.kind == kind) attributes

@@ -1,4 +1,4 @@
--- An attribute that is borrowed from a packet, seen as an attribute.
+-- The Type and Value of an attribute that is borrowed from a packet.
 use Rattle.rad_packet.specs.Attribute.{Attribute}
 use Rattle.rad_packet.specs.declared.attributes.AttributeRef.{AttributeRef}
 

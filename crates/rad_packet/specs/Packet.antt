@@ -24,12 +24,12 @@ attribute_octets text = drop 20 text
 abbrev pub packet_attributes : List ℕ → List Attribute
 packet_attributes text = attributes_of (drop 20 text)
 
--- At each place stands an octet.
+-- Each item of the list is an octet.
 abbrev pub AreOctets : List ℕ → Type 0
 AreOctets text = (place : ℕ) → slice_index text place < 256
 
--- A packet's text: octets, of which Length counts all and which are 20 to 4096; what follows the
--- Authenticator is texts of attributes, joined.
+-- A packet's text: 20 to 4096 octets, all of which Length counts. The octets after the Authenticator are texts of
+-- attributes, joined.
 pub record IsPacketText (text : List ℕ) : Type 0 where
   pub octets : AreOctets text
   pub counted : length_of text ≡ length text
@@ -42,7 +42,7 @@ abbrev pub packet_text : ℕ → ℕ → List ℕ → List ℕ → List ℕ
 packet_text code identifier authenticator attributes =
     code ∷ identifier ∷ ((20 + length attributes) / 256) ∷ ((20 + length attributes) % 256) ∷ (authenticator ++ attributes)
 
--- The packet's text with these attributes' texts added at its end.
+-- The packet's text with the texts of these attributes appended. Its Length counts them too.
 abbrev pub with_attributes : List ℕ → List ℕ → List ℕ
 with_attributes text more =
     packet_text (code_of text) (identifier_of text) (authenticator_of text) (attribute_octets text ++ more)

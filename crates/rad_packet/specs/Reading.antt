@@ -1,22 +1,22 @@
--- What a datagram reads as (RFC 2866 section 3): the packet at its front, where there is one; octets
--- past the packet's Length are padding. Else it is refused, by the first of these faults.
+-- How a datagram is read (RFC 2866 section 3): as the packet at its front, if there is one. Octets after the packet's
+-- Length are padding. Otherwise the datagram is refused, with the first of these faults that applies.
 use Rattle.std.specs.Prelude.{◌≡◌, ◌≢◌, ℕ, ◌<◌, ◌≤◌, ◌⊎◌, List, ◌++◌, ◌+◌, length, drop, slice_range}
 use Rattle.rad_packet.specs.Attribute.{Attribute, IsAttribute, attribute_text, AreAttributes}
 use Rattle.rad_packet.specs.Packet.{IsPacketText, length_of}
 use Rattle.rad_packet.specs.declared.faults.ReadFault.{ReadFault}
 use Rattle.rad_packet.specs.declared.faults.ReadFault.TheVariants.{Short, BadLength, Truncated, BadAttribute}
 
--- The datagram is this packet's text, and then padding.
+-- The datagram is this packet's text, followed by padding.
 pub record ReadsAs (datagram packet : List ℕ) : Type 0 where
   pub is_packet : IsPacketText packet
   pub padding : List ℕ
   pub whole : datagram ≡ packet ++ padding
 
--- No attribute's text begins these octets.
+-- These octets do not begin with the text of an attribute.
 abbrev pub BeginsNoAttribute : List ℕ → Type 0
 BeginsNoAttribute octets = (a : Attribute) (rest : List ℕ) → IsAttribute a → octets ≢ attribute_text a ++ rest
 
--- An attribute's text, of this many octets, begins these octets.
+-- These octets begin with the text of an attribute, and this text has `len` octets.
 pub record BeginsAttribute (octets : List ℕ) (len : ℕ) : Type 0 where
   pub attribute : Attribute
   pub rest : List ℕ
@@ -24,20 +24,21 @@ pub record BeginsAttribute (octets : List ℕ) (len : ℕ) : Type 0 where
   pub whole : octets ≡ attribute_text attribute ++ rest
   pub counted : len ≡ length attribute.value + 2
 
--- Each octet that its Length counts is there, and its Length is in range.
+-- The datagram's Length is 20 to 4096, and the datagram has at least that many octets.
 pub record IsWhole (datagram : List ℕ) : Type 0 where
   pub least : 20 ≤ length_of datagram
   pub most : length_of datagram ≤ 4096
   pub here : length_of datagram ≤ length datagram
 
--- From place 20 up to this place are texts of attributes, joined, and no attribute begins here.
+-- The octets from place 20 up to this place are texts of attributes, joined. Those from this place up to the packet's
+-- Length do not begin with the text of an attribute.
 pub record IsInvalidAt (datagram : List ℕ) (place : ℕ) : Type 0 where
   pub from : 20 ≤ place
   pub within : place < length_of datagram
   pub before : AreAttributes (slice_range datagram 20 place)
   pub none : BeginsNoAttribute (slice_range datagram place (length_of datagram))
 
--- In a packet's octets the first attribute that is invalid begins at this place.
+-- The first invalid attribute in the octets of a packet begins at this place.
 pub record IsFirstInvalid (octets : List ℕ) (place : ℕ) : Type 0 where
   pub from : 20 ≤ place
   pub within : place < length octets

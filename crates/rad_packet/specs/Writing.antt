@@ -1,5 +1,5 @@
--- Why an attribute of this Value is not added to a packet: the Value is longer than 253 octets (RFC 2865
--- section 5), or else the packet would be longer than 4096 (RFC 2865 section 3).
+-- Why an attribute with this Value is not appended to a packet: the Value is longer than 253 octets (RFC 2865 section
+-- 5); otherwise, the packet would be longer than 4096 octets (RFC 2865 section 3).
 use Rattle.std.specs.Prelude.{ℕ, ◌+◌, ◌<◌, ◌≤◌, List, length}
 use Rattle.rad_packet.specs.declared.faults.WriteFault.{WriteFault}
 use Rattle.rad_packet.specs.declared.faults.WriteFault.TheVariants.{ValueTooLong, PacketTooLong}

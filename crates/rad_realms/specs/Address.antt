@@ -9,18 +9,18 @@ infixl 10 ◌>>=◌
 abbrev pub ◌>>=◌ : {A B : Type 0} → Option A → (A → Option B) → Option B
 o >>= f = option_and_then f o
 
--- A decimal number: one digit or more, the first of them no 0 unless it is the only one.
+-- A decimal number: one digit or more, with no leading 0 unless it is the only digit.
 abbrev pub is_number : List ℕ → Bool
 is_number text =
     (nat_lt 0 (length text) && not (nat_lt 1 (length text) && (slice_index text 0 == 48))) && list_all is_ascii_digit text
 
--- The number from least to most that a text is.
+-- The number that a text is, if it is from `least` to `most`.
 unfoldable pub number_in : ℕ → ℕ → List ℕ → Option ℕ
 number_in least most text =
     let number = digits_value 10 text in
     if is_number text && (nat_le least number && nat_le number most) then Some number else None
 
--- What stands before the first such octet, and after it.
+-- The octets before the first octet of this value, and those after it.
 unfoldable pub around_first : ℕ → List ℕ → Option (List ℕ × List ℕ)
 around_first octet text = option_map (λ i. (take i text, drop (i + 1) text)) (position (λ o. o == octet) text)
 

@@ -1,6 +1,7 @@
--- What is checked of a datagram that comes from a client, and what is then known of it: its sender is a
--- client, it is an Accounting-Request (RFC 2866 section 4.1) that is right under that client's secret, has no
--- Message-Authenticator (own) and leads to a lane, or a Status-Server (RFC 5997 section 3) that is right.
+-- The checks of a datagram that comes from a client, and the properties of one that passes: its sender is a client;
+-- and it is either an Accounting-Request (RFC 2866 section 4.1) that is valid under that client's secret, has no
+-- Message-Authenticator (own) and leads to a lane, or a Status-Server (RFC 5997 section 3) that is valid under that
+-- secret.
 use Rattle.std.specs.Prelude.{◌≡◌, ◌≢◌, ◌<◌, ℕ, List, [], length, Some, None}
 use Rattle.rad_packet.specs.Attribute.{of_kind}
 use Rattle.rad_packet.specs.Packet.{IsPacketText, code_of, packet_attributes}
@@ -12,8 +13,8 @@ use Rattle.rad_realms.specs.declared.checking.Dropped.TheVariants.{UnknownClient
 use Rattle.rad_realms.specs.Configuration.{ClientEntry, Configuration}
 use Rattle.rad_realms.specs.Realm.{client_of, lane_of_packet}
 
--- An Accounting-Request that was checked: by which configuration, its text without padding, where it came
--- from, the client's secret, and its lane.
+-- An Accounting-Request that passed the checks: the configuration, the packet's text without padding, the address and
+-- port that it came from, the client's secret, and its lane.
 pub record Request : Type 0 where
   pub config : Configuration
   pub text : List ℕ
@@ -22,21 +23,21 @@ pub record Request : Type 0 where
   pub secret : List ℕ
   pub lane : ℕ
 
--- A packet that is right as an Accounting-Request under a secret, with no Message-Authenticator.
+-- A packet that is a valid Accounting-Request under a secret, without a Message-Authenticator.
 pub record IsRequest (secret text : List ℕ) : Type 0 where
   pub packet : IsPacketText text
   pub code : code_of text ≡ 4
   pub right : IsRightRequest secret text
   pub unsigned : of_kind 80 (packet_attributes text) ≡ []
 
--- What was checked of a request.
+-- The properties of a request that passed the checks.
 pub record IsChecked (r : Request) : Type 0 where
   pub request : IsRequest r.secret r.text
   pub client : client_of r.config r.client ≡ Some (record { address = r.client; secret = r.secret })
   pub lane : lane_of_packet r.config.realms r.config.default_lane r.text ≡ Some r.lane
   pub within : r.lane < length r.config.homes
 
--- A Status-Server that was checked: its text, and the client's secret.
+-- A Status-Server that passed the checks: its text, and the client's secret.
 pub record Status : Type 0 where
   pub text : List ℕ
   pub secret : List ℕ
@@ -46,12 +47,12 @@ pub record IsCheckedStatus (s : Status) : Type 0 where
   pub code : code_of s.text ≡ 12
   pub right : IsRightStatus s.secret s.text
 
--- A datagram from this address is this packet, and the address is this client's.
+-- A datagram from this address is read as this packet, and the address is that of this client.
 pub record Arrives (config : Configuration) (address datagram text : List ℕ) (client : ClientEntry) : Type 0 where
   pub sender : client_of config address ≡ Some client
   pub reads : ReadsAs datagram text
 
--- A packet of a client with this secret is dropped for this reason.
+-- A packet from a client with this secret is dropped for this reason.
 abbrev pub DropsPacket : Configuration → List ℕ → List ℕ → Dropped → Type 0
 DropsPacket config secret text UnknownClient = ⊥
 DropsPacket config secret text (Unread fault) = ⊥
@@ -63,7 +64,7 @@ DropsPacket config secret text MessageAuthenticatorHere =
 DropsPacket config secret text NoRealm =
     IsRequest secret text × (lane_of_packet config.realms config.default_lane text ≡ None)
 
--- What arrives is dropped for this reason.
+-- A datagram from a client is read as a packet that is dropped for this reason.
 abbrev pub DropsArrived : Configuration → List ℕ → List ℕ → Dropped → Type 0
 DropsArrived config address datagram reason =
     (text : List ℕ) × (client : ClientEntry) × Arrives config address datagram text client × DropsPacket config client.secret text reason

@@ -1,5 +1,5 @@
--- What a configuration says (own): the clients, the home servers and the realms in the order of the
--- text. The lane of a home server is its place among them, counted from 0.
+-- The content of a configuration (own): the clients, the home servers and the realms, in the order of the text. The
+-- lane of a home server is its index among them, counted from 0.
 use Rattle.std.specs.Prelude.{ℕ, List, Option}
 use Rattle.rad_realms.specs.declared.reading.address.Endpoint.{Endpoint}
 use Rattle.rad_realms.specs.declared.limits.LimitNumbers.{LimitNumbers}

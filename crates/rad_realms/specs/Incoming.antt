@@ -1,11 +1,11 @@
--- What a datagram is taken as.
+-- How a datagram that passes the checks is taken: as a request, or as a Status-Server.
 use Rattle.std.specs.Prelude.{◌≡◌, ℕ, List}
 use Rattle.rad_realms.specs.declared.checking.Incoming.{Incoming}
 use Rattle.rad_realms.specs.declared.checking.Incoming.TheVariants as incoming
 use Rattle.rad_realms.specs.Configuration.{ClientEntry, Configuration}
 use Rattle.rad_realms.specs.Checking.{Request, IsChecked, Status, IsCheckedStatus, Arrives}
 
--- A packet of this client, from this port, is taken as this request.
+-- A packet from this client and from this port is taken as this request.
 pub record TakesRequest (config : Configuration) (client : ClientEntry) (port : ℕ) (text : List ℕ) (r : Request) : Type 0 where
   pub checked : IsChecked r
   pub same_config : r.config ≡ config
@@ -14,7 +14,7 @@ pub record TakesRequest (config : Configuration) (client : ClientEntry) (port : 
   pub same_port : r.port ≡ port
   pub same_secret : r.secret ≡ client.secret
 
--- A packet of this client is taken as this Status-Server.
+-- A packet from this client is taken as this Status-Server.
 pub record TakesStatus (client : ClientEntry) (text : List ℕ) (s : Status) : Type 0 where
   pub checked : IsCheckedStatus s
   pub same_text : s.text ≡ text

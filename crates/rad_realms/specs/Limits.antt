@@ -4,7 +4,7 @@ use Rattle.rad_realms.specs.declared.limits.LimitNumbers.{LimitNumbers}
 use Rattle.rad_realms.specs.declared.limits.LimitFault.{LimitFault}
 use Rattle.rad_realms.specs.declared.limits.LimitFault.TheVariants.{Ports, Window, Queue, Book, Tries, FirstWait, ProbeEvery, DownWait, Span, Ring}
 
--- A number, the least and the greatest that it may be, and the fault where it is neither there nor between.
+-- A number, the least and the greatest value that it may have, and the fault if it is out of this range.
 pub record Limit : Type 0 where
   pub number : ℕ
   pub least : ℕ
@@ -26,7 +26,7 @@ limits_of n =
     ∷ record { number = n.ring; least = 1; most = 4096; fault = Ring }
     ∷ []
 
--- The fault of the first limit that is not kept.
+-- The fault of the first number that is out of its range.
 abbrev pub first_fault : List Limit → Option LimitFault
 first_fault [] = None
 first_fault (l ∷ ls) = if nat_le l.least l.number && nat_le l.number l.most then first_fault ls else Some l.fault

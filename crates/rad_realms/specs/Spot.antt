@@ -1,4 +1,4 @@
--- The places of the configuration, and its faults as they are printed (own).
+-- The places of faults in a configuration, and its faults as they are printed (own).
 use Rattle.std.specs.Prelude.{ℕ, List, ◌++◌, codes}
 use Rattle.std.specs.Fmt.{decimal}
 use Rattle.rad_realms.specs.declared.reading.faults.Part.{Part}
@@ -36,7 +36,7 @@ key_name Span = codes "span"
 key_name Ring = codes "ring"
 key_name Ports = codes "ports"
 
--- the index behind the part, but for the top, which is one
+-- the text after the part: the index, which the top does not have
 abbrev pub index_text : Part → ℕ → List ℕ
 index_text part.Top index = codes " "
 index_text part.Client index = codes " " ++ decimal index ++ codes " "
@@ -46,7 +46,7 @@ index_text part.Realm index = codes " " ++ decimal index ++ codes " "
 abbrev pub spot_text : Spot → List ℕ
 spot_text s = part_name s.part ++ index_text s.part s.index ++ key_name s.key
 
--- what is printed of a fault, behind `configuration: `
+-- the text of a fault after `configuration: `
 abbrev pub fault_text : ConfigFault → List ℕ
 fault_text Toml = codes "Toml"
 fault_text OutOfMemory = codes "OutOfMemory"

@@ -1,5 +1,5 @@
--- How a document is read as a configuration (own): from the top down, key by key, up to the first fault.
--- For one key a fault is Missing, then WrongType, then that the form is not met.
+-- How a document is read as a configuration (own): from the top down, key by key, up to the first fault. For one key
+-- the first fault is Missing, then WrongType, then that the value does not have the key's form.
 use Rattle.std.specs.Prelude.{ℕ, ℤ, pos, negsuc, List, [], ◌∷◌, ◌++◌, length, Option, Some, None, option_map, ok_or, Result, Ok, Err, Bool, true, false, not, ◌&&◌, ◌||◌, ◌==◌, nat_le, position, find, is_some, if◌then◌else◌}
 use Rattle.std.specs.List.{list_all}
 use Rattle.std.specs.Char.{is_ascii_alphanumeric}
@@ -65,7 +65,7 @@ text_that test s doc = do
   text ← text_at s doc
   if test text then Ok text else Err (OutOfRange s)
 
--- least to most octets
+-- from `least` to `most` octets
 abbrev pub has_length : ℕ → ℕ → List ℕ → Bool
 has_length least most text = nat_le least (length text) && nat_le (length text) most
 
@@ -89,7 +89,7 @@ is_realm_name text = has_length 1 252 text && list_all (λ o. not (o == 64)) tex
 unfoldable pub realm_name_at : Spot → Members → Result (List ℕ) ConfigFault
 realm_name_at s doc = text_that is_realm_name s doc
 
--- the number from least to most that an integer is
+-- the number that an integer is, if it is from `least` to `most`
 abbrev pub whole_in : ℕ → ℕ → ℤ → Option ℕ
 whole_in least most (pos n) = if nat_le least n && nat_le n most then Some n else None
 whole_in least most (negsuc n) = None
@@ -103,7 +103,7 @@ abbrev pub number_or : ℕ → ℕ → ℕ → Spot → Option Data → Result �
 number_or least most usual s None = Ok usual
 number_or least most usual s (Some value) = number_in_value least most s value
 
--- a number from least to most, or the usual one where the key is absent
+-- a number from `least` to `most`, or the usual one if the key is absent
 unfoldable pub number_at : ℕ → ℕ → ℕ → Spot → Members → Result ℕ ConfigFault
 number_at least most usual s doc = number_or least most usual s (get_member (key_name s.key) doc)
 
@@ -111,17 +111,17 @@ abbrev pub text_or_none : Spot → Option Data → Result (Option (List ℕ)) Co
 text_or_none s None = Ok None
 text_or_none s (Some value) = text_in s value >>= λ text. Ok (Some text)
 
--- a text, or none where the key is absent
+-- a text, or none if the key is absent
 unfoldable pub optional_text_at : Spot → Members → Result (Option (List ℕ)) ConfigFault
 optional_text_at s doc = text_or_none s (get_member (key_name s.key) doc)
 
--- the lane of the home server of this name
+-- the lane of the home server with this name
 unfoldable pub lane_named : List HomeEntry → Spot → List ℕ → Result ℕ ConfigFault
 lane_named homes s name = ok_or (position (λ h. bytes_eq h.name name) homes) (UnknownHome s)
 
 -- ---- the tables of an array
 
--- the tables that items are, where each item is one
+-- the tables that the items are, if each item is a table
 abbrev pub tables_in : Items → Option (List Members)
 tables_in no_items = Some []
 tables_in (item (table t) rest) = option_map (λ ts. t ∷ ts) (tables_in rest)
@@ -137,7 +137,7 @@ abbrev pub is_empty_array : Data → Bool
 is_empty_array (array no_items) = true
 is_empty_array _ = false
 
--- one table at least
+-- at least one table
 unfoldable pub some_tables_at : ℕ → Spot → Members → Result (List Members) ConfigFault
 some_tables_at most s doc = do
   value ← needed s doc
@@ -148,11 +148,11 @@ abbrev pub tables_or_none : ℕ → Spot → Option Data → Result (List Member
 tables_or_none most s None = Ok []
 tables_or_none most s (Some value) = tables_of most s value
 
--- no table where the key is absent
+-- no tables if the key is absent
 unfoldable pub any_tables_at : ℕ → Spot → Members → Result (List Members) ConfigFault
 any_tables_at most s doc = tables_or_none most s (get_member (key_name s.key) doc)
 
--- each table in turn, behind the entries of the earlier ones
+-- each table in turn, given the entries of the earlier ones
 unfoldable pub each : {X : Type 0} → (List X → Members → Result X ConfigFault) → List X → List Members → Result (List X) ConfigFault
 each read earlier [] = Ok earlier
 each read earlier (t ∷ ts) = read earlier t >>= λ x. each read (earlier ++ x ∷ []) ts
@@ -166,7 +166,7 @@ client_in earlier doc = do
   secret ← secret_at (spot part.Client (length earlier) Secret) doc
   Ok (record { address = address; secret = secret })
 
--- a number of a lane, before its range is looked at
+-- a number of a lane, before it is tested against its own range
 abbrev pub lane_number_at : ℕ → Key → ℕ → Members → Result ℕ ConfigFault
 lane_number_at index key usual doc = number_at 0 4294967295 usual (spot part.Home index key) doc
 
@@ -248,6 +248,6 @@ walk doc = do
   default_lane ← default_lane_in homes default_home
   Ok (record { listen = listen; linger = linger; clients = clients; homes = homes; realms = realms; default_lane = default_lane })
 
--- The configuration that a text says, or the first fault.
+-- The configuration that a text gives, or the first fault.
 unfoldable pub configuration_in : List ℕ → Result Configuration ConfigFault
 configuration_in text = ok_or (parse_document text) Toml >>= walk

@@ -1,4 +1,4 @@
--- What holds of each configuration that is read (own).
+-- The invariant of each configuration that is read (own).
 use Rattle.std.specs.Prelude.{◌≡◌, ◌≢◌, ℕ, ◌<◌, ◌≤◌, List, length, All, IfSome, false}
 use Rattle.std.specs.List.{AllPairs}
 use Rattle.rad_realms.specs.Limits.{AreInRange}
@@ -11,9 +11,9 @@ pub record IsRealmName (name : List ℕ) : Type 0 where
   pub short : length name ≤ 252
   pub no_sign : All (λ octet. octet ≢ 64) name
 
--- There are 1 to 256 clients of different addresses, 1 to 64 home servers of different names, whose limits are
--- in their ranges, and at most 256 realms, no two of one name. Each realm, and the default, leads to the lane
--- of a home server.
+-- There are 1 to 256 clients with different addresses; 1 to 64 home servers with different names, whose limits are in
+-- their ranges; and at most 256 realms with valid names, no two of which are the same name. The lane of each realm,
+-- and the default lane if there is one, is that of a home server.
 pub record IsWellFormed (c : Configuration) : Type 0 where
   pub clients : (1 ≤ length c.clients) × (length c.clients ≤ 256)
   pub addresses : AllPairs (λ a b. a.address ≢ b.address) c.clients

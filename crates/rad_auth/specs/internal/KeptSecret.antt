@@ -1,5 +1,5 @@
--- A secret as it is kept (own): n octets of it, and zeros up to 128. No public clause cites this module, but the
--- model of a secret does.
+-- A secret as it is kept (own): n octets, followed by zeros up to 128 octets. No public clause cites this module, but
+-- the model of a secret does.
 use Rattle.std.specs.Prelude.{◌≡◌, ℕ, ◌-◌, ◌<◌, ◌≤◌, List, ◌++◌, length, take, replicate}
 
 pub record IsFilled (octets : List ℕ) (n : ℕ) : Type 0 where

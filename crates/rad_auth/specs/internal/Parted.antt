@@ -1,11 +1,11 @@
--- A reply as it is kept (own): its packets and secrets one behind the other, in one list of octets. No public
--- clause cites this module, but the model of a reply does.
+-- A reply as it is kept (own): its packets and secrets, one after another, in one list of octets. No public clause
+-- cites this module, but the model of a reply does.
 use Rattle.std.specs.Prelude.{ℕ, ◌+◌, ◌≤◌, List, length, take, drop, slice_range}
 use Rattle.rad_auth.specs.Replied.{Replied, IsAnswer}
 use Rattle.rad_auth.specs.declared.reply.RequestHead.{RequestHead}
 
--- The response ends at the first of these places, the sending at the second, and the reply at the third; the
--- client's secret has so many octets, and the home's is the rest.
+-- The response ends at the place `response`, the sending at `sending`, and the reply at `reply`. The client's secret
+-- is the next `client` octets, and the home server's secret is the rest.
 abbrev pub parted : RequestHead → List ℕ → ℕ → ℕ → ℕ → ℕ → Replied
 parted head octets response sending reply client = record {
   head = head;
@@ -16,7 +16,7 @@ parted head octets response sending reply client = record {
   response = take response octets;
 }
 
--- The places are in order and among the octets, and the parts are an answer.
+-- The places are in order and within the octets, and the parts are an answer.
 pub record IsParted (head : RequestHead) (octets : List ℕ) (response sending reply client : ℕ) : Type 0 where
   pub first : response ≤ sending
   pub second : sending ≤ reply

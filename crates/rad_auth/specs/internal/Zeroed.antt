@@ -1,5 +1,5 @@
--- What the Value of a Message-Authenticator is computed over, by the place of that Value. No public clause cites
--- this module.
+-- The octets over which the Value of a Message-Authenticator is computed, by the place of that Value. No public clause
+-- cites this module.
 use Rattle.std.specs.Prelude.{ℕ, ◌+◌, List, ◌++◌, take, drop}
 use Rattle.rad_auth.specs.Status.{no_value}
 

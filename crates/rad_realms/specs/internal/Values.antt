@@ -1,4 +1,4 @@
--- The document's values as the readers hand them on (own). No public clause cites this module.
+-- The document's values as the readers return them (own). No public clause cites this module.
 use Rattle.std.specs.Prelude.{◌≡◌, List, All, map, unwrap_or, Result, Ok, Err, IsSome}
 use Rattle.std.specs.Borrow.{Bor}
 use Rattle.toml.specs.Data.{Members, no_members, as_table}
@@ -16,12 +16,12 @@ table_of value = unwrap_or (as_table (view value)) no_members
 abbrev pub tables_of_values : List Value → List Members
 tables_of_values values = map table_of values
 
--- What was answered is what reading gives.
+-- The result is the one that reading gives.
 abbrev pub Reads : {X Y : Type 0} → (X → Y) → Result X ConfigFault → Result Y ConfigFault → Type 0
 Reads view (Ok x) reading = reading ≡ Ok (view x)
 Reads view (Err fault) reading = reading ≡ Err fault
 
--- Tables were answered: those of the values, each of which is a table.
+-- The result is the tables of the values, each of which is a table, or the fault that reading gives.
 abbrev pub ReadsTables : Result (Bor (List Value)) ConfigFault → Result (List Members) ConfigFault → Type 0
 ReadsTables (Ok values) reading = All IsTable values.now × (reading ≡ Ok (tables_of_values values.now))
 ReadsTables (Err fault) reading = reading ≡ Err fault
