@@ -206,8 +206,10 @@ impl fmt::Display for Dropped {
 /// numbers. Each attribute of an Accounting-Request is looked at twice at most: as the packet is read, and in the
 /// search for a Message-Authenticator and the User-Name. Each attribute of a Status-Server is looked at twice at most:
 /// as the packet is read, and in the search for the Message-Authenticator.
-/// | # Errors
-/// | The first reason to drop it, in the order of [`Dropped`].
+///
+/// # Errors
+///
+/// The first reason to drop it, in the order of [`Dropped`].
 pub fn check_in<'a>(
     config: &'a Config,
     address: [u8; 4],
@@ -309,8 +311,10 @@ fn realm_of_name<'a>(name: Option<&'a [u8]>) -> Option<&'a [u8]>
 
 /// Returns the User-Name of a packet without a Message-Authenticator, if it has one. Looks at each attribute once at
 /// most.
-/// | # Errors
-/// | If the packet has a Message-Authenticator.
+///
+/// # Errors
+///
+/// If the packet has a Message-Authenticator.
 fn unsigned_name_of<'a>(packet: &PacketRef<'a>) -> Result<Option<&'a [u8]>, Dropped>
     ensures { MatchResult result
         (λ name. (of_kind 80 (packet_attributes packet.now) ≡ []) × (option_copied name ≡ user_name packet.now))

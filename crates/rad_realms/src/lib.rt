@@ -1,6 +1,7 @@
 //! The clients, home servers and realms of a RADIUS accounting proxy (RFC 2866 section 2.1): reading them from a
 //! configuration, and checking a datagram that comes from a client.
-//! | Contracts describe a configuration by its content (`specs/Configuration.antt`). `specs/Walk.antt` defines which
+//!
+//! Contracts describe a configuration by its content (`specs/Configuration.antt`). `specs/Walk.antt` defines which
 //! configuration a document gives, `specs/WellFormed.antt` the invariant of a configuration, `specs/Realm.antt` the
 //! lane of a realm, and `specs/Checking.antt` the properties of a checked datagram.
 #![tactic(auto)]

@@ -116,8 +116,10 @@ impl Limits {
     ghost use Rattle.rad_realms.specs.Limits.{AreInRange, limits_of, first_fault};
 
     /// Makes limits of numbers that are within their ranges.
-    /// | # Errors
-    /// | The first number that is out of its range, in the order of [`LimitFault`].
+    ///
+    /// # Errors
+    ///
+    /// The first number that is out of its range, in the order of [`LimitFault`].
     pub fn new(numbers: LimitNumbers) -> Result<Limits, LimitFault>
         ensures kept { IfOk result (λ limits. limits ≡ numbers) }
         ensures fault { result_err result ≡ first_fault (limits_of numbers) }

@@ -17,8 +17,10 @@ use std::alloc::Global;
 use toml::Table;
 
 /// Reads a configuration from its text, which is TOML.
-/// | # Errors
-/// | [`ConfigFault::Toml`] if the text is not TOML. Otherwise the first fault of the walk over the document, from the
+///
+/// # Errors
+///
+/// [`ConfigFault::Toml`] if the text is not TOML. Otherwise the first fault of the walk over the document, from the
 /// top down. [`ConfigFault::OutOfMemory`] may come at any point of it.
 #[tactic(auto, unfolding(crate::specs::Walk::configuration_in))]
 pub fn read_config(alloc: Global, text: &str) -> Result<Config, ConfigFault>
