@@ -156,39 +156,44 @@ fn answer_each(rt: &impl Wait, proxy: &mut TestProxy, end: u16) -> Option<Datagr
     Some(first)
 }
 
+/// Number 256 is with the home server, and then it is answered.
+const LAST_OUT: Counts = Counts {
+    accepted: 257,
+    answered: 256,
+    outstanding: 1,
+    ..IDLE
+};
+
+const LAST_ANSWERED: Counts = Counts {
+    accepted: 257,
+    answered: 257,
+    ..IDLE
+};
+
+/// The lane hears this, which tells that, and then it stands like this.
+fn hear<R: Wait + Abort>(
+    rt: &R,
+    proxy: &mut TestProxy,
+    reply: &Datagram,
+    tells: Telling,
+    stands: Counts,
+) {
+    let events = [
+        Event::Turn(LANE, reply.bytes(), [1, 0, 0], Some(tells), &[]),
+        Event::Stands(0, stands),
+    ];
+    proxy.play(rt, &events);
+}
+
 /// The lane hears the reply to number 0 while number 256 is outstanding, and then the reply to that. It says whether all replies
 /// were made.
 fn hear_late<R: Wait + Abort>(rt: &R, proxy: &mut TestProxy) -> bool {
     let (Some(late), Some(reply)) = (answer_each(rt, proxy, 256), send(rt, proxy, 256)) else {
         return false;
     };
-    let out = Counts {
-        accepted: 257,
-        answered: 256,
-        outstanding: 1,
-        ..IDLE
-    };
-    let events = [
-        Event::Stands(0, out),
-        Event::Turn(LANE, late.bytes(), [1, 0, 0], Some(OF_ANOTHER), &[]),
-        Event::Stands(0, out),
-        Event::Turn(
-            LANE,
-            reply.bytes(),
-            [1, 0, 0],
-            Some(Telling::Answered(0, 256)),
-            &[],
-        ),
-        Event::Stands(
-            0,
-            Counts {
-                accepted: 257,
-                answered: 257,
-                ..IDLE
-            },
-        ),
-    ];
-    proxy.play(rt, &events);
+    proxy.play(rt, &[Event::Stands(0, LAST_OUT)]);
+    hear(rt, proxy, &late, OF_ANOTHER, LAST_OUT);
+    hear(rt, proxy, &reply, Telling::Answered(0, 256), LAST_ANSWERED);
     true
 }
 
