@@ -51,7 +51,8 @@ fn are_known(report: &Report) -> Option<(bool, bool)> {
     }
 }
 
-/// Whether the first lane's ring still had the second response alone, which agrees with the second of two answers, and not with the first.
+/// Whether the first lane's ring still had the second response alone. It agrees with the second of two answers, and not with the
+/// first.
 fn has_second_response(end: &LaneEnd) -> bool {
     match (known(end), end.answered.as_slice()) {
         (Some([rest]), [first, second]) => {

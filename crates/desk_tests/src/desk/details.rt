@@ -1,7 +1,7 @@
 //! What a gate is told beside the notes: by which request a home server went down, and why it came up; which packet has a realm
 //! that leads nowhere, and which request bears Proxy-States of this proxy's form.
 
-use super::playing::{CLIENT, Event, FORWARD, FRONT, LANE, play};
+use super::playing::{CLIENT, Event, FORWARD, FRONT, LANE, Story, play};
 use super::test_gate::Telling;
 use rad_desk::{Note, UpReason};
 use rad_realms::{Dropped, Endpoint};
@@ -41,68 +41,88 @@ const DOWN: &[Event<'static>] = &[
     Event::Beside(None),
 ];
 
-const UP_BY_A_PROBE: &[Event<'static>] = &[
-    Event::Turn(
-        LANE,
-        &PROBE_ANSWER,
-        [1, 1, 0],
-        Some(Telling::Note(Note::WentUp)),
-        &FORWARDED,
-    ),
-    Event::Beside(Some(Telling::Up(0, UpReason::ProbeAnswered))),
-];
+const UP_BY_A_PROBE: Story<'static> = Story {
+    more: MORE,
+    scenes: &[
+        FORWARD,
+        DOWN,
+        &[
+            Event::Turn(
+                LANE,
+                &PROBE_ANSWER,
+                [1, 1, 0],
+                Some(Telling::Note(Note::WentUp)),
+                &FORWARDED,
+            ),
+            Event::Beside(Some(Telling::Up(0, UpReason::ProbeAnswered))),
+        ],
+    ],
+};
 
 #[test]
 fn a_probes_answer_is_told_as_the_reason(rt: HostRuntime) -> Result<(), Fail> {
-    play(&rt, rt.alloc(), MORE, &[FORWARD, DOWN, UP_BY_A_PROBE])
+    play(&rt, rt.alloc(), &UP_BY_A_PROBE)
 }
 
-const UP_BY_THE_WAIT: &[Event<'static>] = &[
-    Event::Turns(LANE, 3, 3, [0, 0, 0], None, &[]),
-    Event::Beside(None),
-    Event::Turn(LANE, &[], [0, 0, 0], Some(Telling::Note(Note::WentUp)), &[]),
-    Event::Beside(Some(Telling::Up(0, UpReason::DownWaitOver))),
-];
+const UP_BY_THE_WAIT: Story<'static> = Story {
+    more: MORE,
+    scenes: &[
+        FORWARD,
+        DOWN,
+        &[
+            Event::Turns(LANE, 3, 3, [0, 0, 0], None, &[]),
+            Event::Beside(None),
+            Event::Turn(LANE, &[], [0, 0, 0], Some(Telling::Note(Note::WentUp)), &[]),
+            Event::Beside(Some(Telling::Up(0, UpReason::DownWaitOver))),
+        ],
+    ],
+};
 
 #[test]
 fn the_end_of_the_wait_is_told_as_the_reason(rt: HostRuntime) -> Result<(), Fail> {
-    play(&rt, rt.alloc(), MORE, &[FORWARD, DOWN, UP_BY_THE_WAIT])
+    play(&rt, rt.alloc(), &UP_BY_THE_WAIT)
 }
 
 const NO_REALM: Telling = Telling::Of(CLIENT, Note::Dropped(Dropped::NoRealm));
 
-const OF_NO_REALM: &[Event<'static>] = &[
-    Event::Turn(FRONT, &OTHER_REQUEST, [1, 0, 0], Some(NO_REALM), &[]),
-    Event::Beside(Some(Telling::NoRealm(9))),
-];
+const OF_NO_REALM: Story<'static> = Story {
+    more: MORE,
+    scenes: &[&[
+        Event::Turn(FRONT, &OTHER_REQUEST, [1, 0, 0], Some(NO_REALM), &[]),
+        Event::Beside(Some(Telling::NoRealm(9))),
+    ]],
+};
 
 #[test]
 fn a_packet_whose_realm_leads_nowhere_is_told(rt: HostRuntime) -> Result<(), Fail> {
-    play(&rt, rt.alloc(), MORE, &[OF_NO_REALM])
+    play(&rt, rt.alloc(), &OF_NO_REALM)
 }
 
-const MARKED: &[Event<'static>] = &[
-    Event::From(OTHER_PROXY),
-    Event::Turn(
-        FRONT,
-        &FORWARDED,
-        [1, 0, 0],
-        Some(Telling::Accepted(0, 0)),
-        &[],
-    ),
-    Event::Beside(Some(Telling::Marked(0, OTHER_PROXY, 1))),
-    Event::From(CLIENT),
-    Event::Turn(
-        FRONT,
-        &REQUEST,
-        [1, 0, 0],
-        Some(Telling::Accepted(0, 1)),
-        &[],
-    ),
-    Event::Beside(None),
-];
+const MARKED: Story<'static> = Story {
+    more: MORE,
+    scenes: &[&[
+        Event::From(OTHER_PROXY),
+        Event::Turn(
+            FRONT,
+            &FORWARDED,
+            [1, 0, 0],
+            Some(Telling::Accepted(0, 0)),
+            &[],
+        ),
+        Event::Beside(Some(Telling::Marked(0, OTHER_PROXY, 1))),
+        Event::From(CLIENT),
+        Event::Turn(
+            FRONT,
+            &REQUEST,
+            [1, 0, 0],
+            Some(Telling::Accepted(0, 1)),
+            &[],
+        ),
+        Event::Beside(None),
+    ]],
+};
 
 #[test]
 fn a_request_with_a_proxys_mark_is_told(rt: HostRuntime) -> Result<(), Fail> {
-    play(&rt, rt.alloc(), MORE, &[MARKED])
+    play(&rt, rt.alloc(), &MARKED)
 }

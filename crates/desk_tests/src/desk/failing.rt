@@ -1,11 +1,10 @@
 //! What the workers make of wires of which one receive or send fails.
 
 use super::comparing::same;
-use super::playing::{CLIENT, Event, FORWARD, FRONT, HOME, IDLE, LANE, play};
+use super::playing::{ANSWERED, CLIENT, Event, FORWARD, FRONT, HOME, LANE, OUT, Story, play};
 use super::test_gate::Telling;
 use super::test_proxy::TestProxy;
 use rad_desk::{Note, Worker};
-use rad_lane::Counts;
 use std::alloc::Global;
 use std::process::Abort;
 use std::sync::Wait;
@@ -18,20 +17,6 @@ const TURNS: u32 = 12;
 
 /// The most receives and sends of a run.
 const CALLS: u32 = 9;
-
-/// The request is with the home server.
-const OUT: Counts = Counts {
-    accepted: 1,
-    outstanding: 1,
-    ..IDLE
-};
-
-/// The request is answered.
-const ANSWERED: Counts = Counts {
-    accepted: 1,
-    answered: 1,
-    ..IDLE
-};
 
 /// Whether the request comes to its response: the client sends it in each third turn until then, and the home server
 /// replies to whatever reaches it, which is the request each time.
@@ -98,106 +83,121 @@ fn any_fault_of_the_lanes_wire_is_overcome(rt: HostRuntime) -> Result<(), Fail> 
     Ok(())
 }
 
-const SENT_AGAIN: &[Event<'static>] = &[
-    Event::Fails(LANE, 1),
-    Event::Turn(
-        FRONT,
-        &REQUEST,
-        [1, 0, 0],
-        Some(Telling::Accepted(0, 0)),
-        &[],
-    ),
-    Event::Turn(
-        LANE,
-        &[],
-        [0, 0, 1],
-        Some(Telling::Of(HOME, Note::SendFault)),
-        &FORWARDED,
-    ),
-    Event::Stands(0, OUT),
-    Event::Turn(LANE, &[], [0, 0, 0], None, &[]),
-    Event::Turn(LANE, &[], [0, 1, 0], None, &FORWARDED),
-    Event::Stands(0, OUT),
-];
+const SENT_AGAIN: Story<'static> = Story {
+    more: "",
+    scenes: &[&[
+        Event::Fails(LANE, 1),
+        Event::Turn(
+            FRONT,
+            &REQUEST,
+            [1, 0, 0],
+            Some(Telling::Accepted(0, 0)),
+            &[],
+        ),
+        Event::Turn(
+            LANE,
+            &[],
+            [0, 0, 1],
+            Some(Telling::Of(HOME, Note::SendFault)),
+            &FORWARDED,
+        ),
+        Event::Stands(0, OUT),
+        Event::Turn(LANE, &[], [0, 0, 0], None, &[]),
+        Event::Turn(LANE, &[], [0, 1, 0], None, &FORWARDED),
+        Event::Stands(0, OUT),
+    ]],
+};
 
 #[test]
 fn a_failed_send_is_sent_again(rt: HostRuntime) -> Result<(), Fail> {
-    play(&rt, rt.alloc(), "", &[SENT_AGAIN])
+    play(&rt, rt.alloc(), &SENT_AGAIN)
 }
 
 /// The same in one call of the worker.
-const COUNTED_ONCE: &[Event<'static>] = &[
-    Event::Turn(
-        FRONT,
-        &REQUEST,
-        [1, 0, 0],
-        Some(Telling::Accepted(0, 0)),
-        &[],
-    ),
-    Event::Fails(LANE, 1),
-    Event::Turns(
-        LANE,
-        3,
-        3,
-        [0, 1, 1],
-        Some(Telling::Of(HOME, Note::SendFault)),
-        &FORWARDED,
-    ),
-];
+const COUNTED_ONCE: Story<'static> = Story {
+    more: "",
+    scenes: &[&[
+        Event::Turn(
+            FRONT,
+            &REQUEST,
+            [1, 0, 0],
+            Some(Telling::Accepted(0, 0)),
+            &[],
+        ),
+        Event::Fails(LANE, 1),
+        Event::Turns(
+            LANE,
+            3,
+            3,
+            [0, 1, 1],
+            Some(Telling::Of(HOME, Note::SendFault)),
+            &FORWARDED,
+        ),
+    ]],
+};
 
 #[test]
 fn a_failed_send_counts_once(rt: HostRuntime) -> Result<(), Fail> {
-    play(&rt, rt.alloc(), "", &[COUNTED_ONCE])
+    play(&rt, rt.alloc(), &COUNTED_ONCE)
 }
 
-const RECEIVED_AFTERWARDS: &[Event<'static>] = &[
-    Event::Fails(FRONT, 0),
-    Event::Fails(LANE, 0),
-    Event::Turn(
-        FRONT,
-        &REQUEST,
-        [0, 0, 1],
-        Some(Telling::Note(Note::ReceiveFault)),
-        &[],
-    ),
-    Event::Turn(
-        LANE,
-        &[],
-        [0, 0, 1],
-        Some(Telling::Note(Note::ReceiveFault)),
-        &[],
-    ),
-    Event::Receives(
-        FRONT,
-        &REQUEST,
-        [1, 0, 0],
-        Some(Telling::Accepted(0, 0)),
-        &[],
-    ),
-    Event::Turn(LANE, &[], [0, 1, 0], None, &FORWARDED),
-];
+const RECEIVED_AFTERWARDS: Story<'static> = Story {
+    more: "",
+    scenes: &[&[
+        Event::Fails(FRONT, 0),
+        Event::Fails(LANE, 0),
+        Event::Turn(
+            FRONT,
+            &REQUEST,
+            [0, 0, 1],
+            Some(Telling::Note(Note::ReceiveFault)),
+            &[],
+        ),
+        Event::Turn(
+            LANE,
+            &[],
+            [0, 0, 1],
+            Some(Telling::Note(Note::ReceiveFault)),
+            &[],
+        ),
+        Event::Receives(
+            FRONT,
+            &REQUEST,
+            [1, 0, 0],
+            Some(Telling::Accepted(0, 0)),
+            &[],
+        ),
+        Event::Turn(LANE, &[], [0, 1, 0], None, &FORWARDED),
+    ]],
+};
 
 #[test]
 fn a_failed_receive_ends_nothing(rt: HostRuntime) -> Result<(), Fail> {
-    play(&rt, rt.alloc(), "", &[RECEIVED_AFTERWARDS])
+    play(&rt, rt.alloc(), &RECEIVED_AFTERWARDS)
 }
 
-const LOST_AND_GIVEN_AGAIN: &[Event<'static>] = &[
-    Event::Fails(FRONT, 1),
-    Event::Turn(LANE, &REPLY, [1, 0, 0], Some(Telling::Answered(0, 0)), &[]),
-    Event::Turn(
-        FRONT,
-        &[],
-        [0, 0, 1],
-        Some(Telling::Note(Note::Took(0, 0))),
-        &RESPONSE,
-    ),
-    Event::Turn(FRONT, &[], [0, 0, 0], None, &[]),
-    Event::Turn(FRONT, &REQUEST, [1, 1, 0], None, &RESPONSE),
-    Event::Stands(0, ANSWERED),
-];
+const LOST_AND_GIVEN_AGAIN: Story<'static> = Story {
+    more: "",
+    scenes: &[
+        FORWARD,
+        &[
+            Event::Fails(FRONT, 1),
+            Event::Turn(LANE, &REPLY, [1, 0, 0], Some(Telling::Answered(0, 0)), &[]),
+            Event::Turn(
+                FRONT,
+                &[],
+                [0, 0, 1],
+                Some(Telling::Note(Note::Took(0, 0))),
+                &RESPONSE,
+            ),
+            Event::Turn(FRONT, &[], [0, 0, 0], None, &[]),
+            Event::Turn(FRONT, &REQUEST, [1, 1, 0], None, &RESPONSE),
+            Event::Stands(0, ANSWERED),
+        ],
+    ],
+};
 
 #[test]
 fn a_response_that_is_lost_is_given_again(rt: HostRuntime) -> Result<(), Fail> {
-    play(&rt, rt.alloc(), "", &[FORWARD, LOST_AND_GIVEN_AGAIN])
+    play(&rt, rt.alloc(), &LOST_AND_GIVEN_AGAIN)
 }

@@ -1,7 +1,7 @@
 //! What `open` gives each lane: the secret, the number and the limits of its own home server; and which lane a gate is
 //! told.
 
-use super::playing::{Event, LANE, SECOND_LANE, play};
+use super::playing::{Event, LANE, SECOND_LANE, Story, play};
 use super::test_desk::TWO_HOMES;
 use super::test_gate::Telling;
 use rad_desk::Note;
@@ -17,47 +17,49 @@ const ACCEPTED_BY_BOTH: &[Event<'static>] = &[
 ];
 
 /// Each lane sends its request, at 0, 1000 and 2000 milliseconds, which is longer than the first one's limits have it.
-const SENT_BY_BOTH: &[Event<'static>] = &[
-    Event::Turns(
-        LANE,
-        3,
-        3,
-        [0, 1, 0],
-        Some(Telling::Note(Note::WentDown)),
-        &FORWARDED,
-    ),
-    Event::Start(0),
-    Event::Turns(SECOND_LANE, 3, 3, [0, 2, 0], None, &OTHER_FORWARDED),
-];
+const SENT_BY_BOTH: Story<'static> = Story {
+    more: TWO_HOMES,
+    scenes: &[
+        ACCEPTED_BY_BOTH,
+        &[
+            Event::Turns(
+                LANE,
+                3,
+                3,
+                [0, 1, 0],
+                Some(Telling::Note(Note::WentDown)),
+                &FORWARDED,
+            ),
+            Event::Start(0),
+            Event::Turns(SECOND_LANE, 3, 3, [0, 2, 0], None, &OTHER_FORWARDED),
+        ],
+    ],
+};
 
 #[test]
 fn open_gives_each_lane_its_home(rt: HostRuntime) -> Result<(), Fail> {
-    play(
-        &rt,
-        rt.alloc(),
-        TWO_HOMES,
-        &[ACCEPTED_BY_BOTH, SENT_BY_BOTH],
-    )
+    play(&rt, rt.alloc(), &SENT_BY_BOTH)
 }
 
 /// The second lane sends its request and hears the reply to it.
-const ANSWERED_BY_SECOND: &[Event<'static>] = &[
-    Event::Turn(SECOND_LANE, &[], [0, 1, 0], None, &OTHER_FORWARDED),
-    Event::Turn(
-        SECOND_LANE,
-        &OTHER_REPLY,
-        [1, 0, 0],
-        Some(Telling::Answered(1, 0)),
-        &[],
-    ),
-];
+const ANSWERED_BY_SECOND: Story<'static> = Story {
+    more: TWO_HOMES,
+    scenes: &[
+        ACCEPTED_BY_BOTH,
+        &[
+            Event::Turn(SECOND_LANE, &[], [0, 1, 0], None, &OTHER_FORWARDED),
+            Event::Turn(
+                SECOND_LANE,
+                &OTHER_REPLY,
+                [1, 0, 0],
+                Some(Telling::Answered(1, 0)),
+                &[],
+            ),
+        ],
+    ],
+};
 
 #[test]
 fn a_gate_is_told_whose_response_waits(rt: HostRuntime) -> Result<(), Fail> {
-    play(
-        &rt,
-        rt.alloc(),
-        TWO_HOMES,
-        &[ACCEPTED_BY_BOTH, ANSWERED_BY_SECOND],
-    )
+    play(&rt, rt.alloc(), &ANSWERED_BY_SECOND)
 }

@@ -46,8 +46,30 @@ pub const IDLE: Counts = Counts {
     draining: false,
 };
 
-/// What a worker tells, does and sends is written in one order: how many datagrams come and are handed over, and how many receives
-/// and sends fail; what it tells last; and what it sends last, to its peer. Where no octets are said, nothing comes or is sent.
+/// The request waits to be sent.
+pub const WAITING: Counts = Counts {
+    accepted: 1,
+    queued: 1,
+    ..IDLE
+};
+
+/// It is with the home server.
+pub const OUT: Counts = Counts {
+    accepted: 1,
+    outstanding: 1,
+    ..IDLE
+};
+
+/// It is answered.
+pub const ANSWERED: Counts = Counts {
+    accepted: 1,
+    answered: 1,
+    ..IDLE
+};
+
+/// What a proxy does, and what is wanted of it. Of a worker it says in this order how many datagrams come and are handed over, and
+/// how many receives and sends fail; what it tells last; and what it sends last, to its peer. With no octets, nothing comes or is
+/// sent.
 #[derive(Clone, Copy)]
 pub enum Event<'a> {
     /// A worker takes a turn, for which this comes.
@@ -90,6 +112,12 @@ pub enum Event<'a> {
     Drain(u16, u64),
     /// The next response is taken from its ring; with no octets, there is none.
     Take(u16, &'a [u8]),
+}
+
+/// What a test is: the proxy of the configuration that goes on with these lines meets the events of these scenes in order.
+pub struct Story<'a> {
+    pub more: &'a str,
+    pub scenes: &'a [&'a [Event<'a>]],
 }
 
 /// The first request is taken, and sent to the home server.
@@ -285,17 +313,24 @@ impl TestProxy {
     }
 }
 
-/// Has a proxy over the configuration that goes on with these lines meet the events of these scenes.
-pub fn play<R: Wait + Abort>(
-    rt: &R,
-    alloc: Global,
-    more: &str,
-    scenes: &[&[Event<'_>]],
-) -> Result<(), Fail> {
-    let mut proxy = TestProxy::new(alloc, more)?;
-    for scene in scenes {
+/// Has a proxy meet a story.
+pub fn play<R: Wait + Abort>(rt: &R, alloc: Global, story: &Story<'_>) -> Result<(), Fail> {
+    let mut proxy = TestProxy::new(alloc, story.more)?;
+    for scene in story.scenes {
         proxy.play(rt, scene);
     }
     proxy.end();
+    Ok(())
+}
+
+/// Has a new proxy meet each of these stories.
+pub fn play_each<R: Wait + Abort>(
+    rt: &R,
+    alloc: Global,
+    stories: &[Story<'_>],
+) -> Result<(), Fail> {
+    for story in stories {
+        play(rt, alloc, story)?;
+    }
     Ok(())
 }

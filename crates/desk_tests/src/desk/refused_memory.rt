@@ -2,38 +2,17 @@
 
 use super::closing::known;
 use super::comparing::{holds, same};
-use super::playing::IDLE;
+use super::playing::{ANSWERED, IDLE, OUT, WAITING};
 use super::test_desk::slot;
 use super::test_proxy::{TestProxy, close};
 use rad_desk::{CloseFault, DeskFault, Inlet, LaneEnd, Proxy, Report, Told};
-use rad_lane::{Action, Counts, HearFault, Refusal, Series, Taken, TurnFault};
+use rad_lane::{Action, HearFault, Refusal, Series, Taken, TurnFault};
 use std::alloc::Global;
 use std::process::Abort;
 use std::sync::Wait;
 use std::test::Fail;
 use test_octets::homes::REPLY;
 use test_octets::nas::{REQUEST, RESPONSE};
-
-/// The request waits to be sent.
-const WAITING: Counts = Counts {
-    accepted: 1,
-    queued: 1,
-    ..IDLE
-};
-
-/// It is with the home server.
-const OUT: Counts = Counts {
-    accepted: 1,
-    outstanding: 1,
-    ..IDLE
-};
-
-/// It is answered.
-const ANSWERED: Counts = Counts {
-    accepted: 1,
-    answered: 1,
-    ..IDLE
-};
 
 /// The answer to the request, which is given once more where memory was refused.
 fn accept<R: Wait + Abort>(rt: &R, proxy: &TestProxy) -> Option<Result<Taken, Refusal>> {

@@ -1,7 +1,7 @@
 //! What the workers make of datagrams that are spoiled, come twice or come late.
 
 use super::comparing::holds;
-use super::playing::{CLIENT, Event, FORWARD, FRONT, HOME, IDLE, LANE, play};
+use super::playing::{ANSWERED, CLIENT, Event, FORWARD, FRONT, HOME, IDLE, LANE, OUT};
 use super::test_gate::Telling;
 use super::test_proxy::TestProxy;
 use rad_desk::{DeskFault, Note};
@@ -102,32 +102,35 @@ const OF_ANOTHER: Telling = Telling::Of(
     Note::Unheard(DeskFault::Lane(HearFault::BadAuthenticator)),
 );
 
-/// The request is out, and then it is answered, once.
-const ANSWERED_ONCE: &[Event<'static>] = &[
-    Event::Stands(
-        0,
-        Counts {
-            accepted: 1,
-            outstanding: 1,
-            ..IDLE
-        },
-    ),
-    Event::Turn(LANE, &REPLY, [1, 0, 0], Some(Telling::Answered(0, 0)), &[]),
-    Event::Turn(LANE, &REPLY, [1, 0, 0], Some(UNKNOWN), &[]),
-    Event::Stands(
-        0,
-        Counts {
-            accepted: 1,
-            answered: 1,
-            ..IDLE
-        },
-    ),
-];
+/// The lane hears this, which tells that, and then it stands like this.
+fn hear<R: Wait + Abort>(
+    rt: &R,
+    proxy: &mut TestProxy,
+    reply: &[u8],
+    tells: Telling,
+    stands: Counts,
+) {
+    let events = [
+        Event::Turn(LANE, reply, [1, 0, 0], Some(tells), &[]),
+        Event::Stands(0, stands),
+    ];
+    proxy.play(rt, &events);
+}
+
+/// The lane hears the reply without its last octet, then all of it, and then once more.
+fn hear_cut<R: Wait + Abort>(rt: &R, proxy: &mut TestProxy) {
+    proxy.play(rt, FORWARD);
+    hear(rt, proxy, &REPLY[..41], CUT, OUT);
+    hear(rt, proxy, &REPLY, Telling::Answered(0, 0), ANSWERED);
+    hear(rt, proxy, &REPLY, UNKNOWN, ANSWERED);
+}
 
 #[test]
 fn spoiled_replies_leave_the_sending(rt: HostRuntime) -> Result<(), Fail> {
-    let cut = [Event::Turn(LANE, &REPLY[..41], [1, 0, 0], Some(CUT), &[])];
-    play(&rt, rt.alloc(), "", &[FORWARD, &cut, ANSWERED_ONCE])
+    let mut proxy = TestProxy::new(rt.alloc(), "")?;
+    hear_cut(&rt, &mut proxy);
+    proxy.end();
+    Ok(())
 }
 
 /// Has the request of this count sent to the home server, and gives the reply to it.
@@ -170,21 +173,6 @@ const LAST_ANSWERED: Counts = Counts {
     ..IDLE
 };
 
-/// The lane hears this, which tells that, and then it stands like this.
-fn hear<R: Wait + Abort>(
-    rt: &R,
-    proxy: &mut TestProxy,
-    reply: &Datagram,
-    tells: Telling,
-    stands: Counts,
-) {
-    let events = [
-        Event::Turn(LANE, reply.bytes(), [1, 0, 0], Some(tells), &[]),
-        Event::Stands(0, stands),
-    ];
-    proxy.play(rt, &events);
-}
-
 /// The lane hears the reply to number 0 while number 256 is outstanding, and then the reply to that. It says whether all replies
 /// were made.
 fn hear_late<R: Wait + Abort>(rt: &R, proxy: &mut TestProxy) -> bool {
@@ -192,8 +180,14 @@ fn hear_late<R: Wait + Abort>(rt: &R, proxy: &mut TestProxy) -> bool {
         return false;
     };
     proxy.play(rt, &[Event::Stands(0, LAST_OUT)]);
-    hear(rt, proxy, &late, OF_ANOTHER, LAST_OUT);
-    hear(rt, proxy, &reply, Telling::Answered(0, 256), LAST_ANSWERED);
+    hear(rt, proxy, late.bytes(), OF_ANOTHER, LAST_OUT);
+    hear(
+        rt,
+        proxy,
+        reply.bytes(),
+        Telling::Answered(0, 256),
+        LAST_ANSWERED,
+    );
     true
 }
 

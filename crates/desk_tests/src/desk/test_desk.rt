@@ -32,8 +32,8 @@ secret = "home-secret"
 /// One sending without an answer takes the home server to be down, and the ring has one place.
 const ONE_TRY_AND_PLACE: &str = "tries = 1\nring = 1\n";
 
-/// One sending without an answer takes the home server to be down. There is a second home server, of which that does not hold, and its
-/// realm.
+/// One sending without an answer takes the home server to be down. There is a second home server, of which that does not hold,
+/// and its realm.
 pub const TWO_HOMES: &str = r#"
 tries = 1
 [[home]]

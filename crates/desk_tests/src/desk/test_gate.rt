@@ -16,8 +16,8 @@ pub enum Telling {
     Accepted(u16, u64),
     /// The response of this serial went into a lane's ring.
     Answered(u16, u64),
-    /// The home server of this lane went down, by the request of this number and client, which is so many milliseconds old, and is or
-    /// is not of the session `S1`.
+    /// The home server of this lane went down, by the request of this number and client, which is so many milliseconds old. The
+    /// last is whether it is of the session `S1`.
     Down(u16, u64, Endpoint, u64, bool),
     /// That of this lane came up.
     Up(u16, UpReason),

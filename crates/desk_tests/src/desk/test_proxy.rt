@@ -26,9 +26,9 @@ pub struct TestProxy {
     pub front: MemoryWire,
     pub lane: MemoryWire,
     pub gate: TestGate,
-    /// To which socket something comes, by which socket something leaves, and from where something comes; from its worker's peer, where none
-    /// is said.
+    /// To which socket what comes comes, and by which one what leaves is to leave.
     pub sockets: (u16, u16),
+    /// From where what comes comes. Where that is not said, it is the peer of its worker.
     pub from: Option<Endpoint>,
 }
 

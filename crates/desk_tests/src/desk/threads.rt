@@ -136,10 +136,8 @@ fn is_of(stamp: &Stamp, count: u16) -> bool {
 fn compare_requests(rt: &impl Abort, accepted: &[Stamp], numbers: &[u64]) {
     let lengths = (accepted.len(), numbers.len());
     same(rt, lengths, (usize::from(REQUESTS), usize::from(REQUESTS)));
-    for (count, stamp) in (0..REQUESTS).zip(accepted) {
+    for ((count, stamp), number) in (0..REQUESTS).zip(accepted).zip(numbers) {
         same(rt, (count, is_of(stamp, count)), (count, true));
-    }
-    for (count, number) in (0..REQUESTS).zip(numbers) {
         same(rt, *number, u64::from(count));
     }
 }

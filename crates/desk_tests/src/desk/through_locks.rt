@@ -1,7 +1,7 @@
 //! The calls through the lock of a lane, of which no clause says which lane they reached.
 
 use super::comparing::same;
-use super::playing::{Event, IDLE, play};
+use super::playing::{Event, IDLE, Story, play};
 use super::test_desk::{TWO_HOMES, config};
 use super::test_proxy::{TestProxy, accept};
 use rad_desk::{DeskFault, Told};
@@ -27,46 +27,47 @@ const SERVED_BY_SECOND: &[Event<'static>] = &[
 ];
 
 /// Two lanes are drained, of which the second answered a request, and turned.
-const DRAINED_AND_TURNED: &[Event<'static>] = &[
-    Event::Drain(0, 0),
-    Event::Stands(
-        0,
-        Counts {
-            draining: true,
-            ..IDLE
-        },
-    ),
-    Event::Stands(
-        1,
-        Counts {
-            accepted: 1,
-            answered: 1,
-            ..IDLE
-        },
-    ),
-    Event::Drain(1, 1),
-    Event::Cut(0, Err(TurnFault::NothingToTurn)),
-    Event::Cut(1, Ok(1)),
-    Event::Stands(
-        1,
-        Counts {
-            opening: 1,
-            accepted: 1,
-            answered: 1,
-            draining: true,
-            ..IDLE
-        },
-    ),
-];
+const DRAINED_AND_TURNED: Story<'static> = Story {
+    more: TWO_HOMES,
+    scenes: &[
+        SERVED_BY_SECOND,
+        &[
+            Event::Drain(0, 0),
+            Event::Stands(
+                0,
+                Counts {
+                    draining: true,
+                    ..IDLE
+                },
+            ),
+            Event::Stands(
+                1,
+                Counts {
+                    accepted: 1,
+                    answered: 1,
+                    ..IDLE
+                },
+            ),
+            Event::Drain(1, 1),
+            Event::Cut(0, Err(TurnFault::NothingToTurn)),
+            Event::Cut(1, Ok(1)),
+            Event::Stands(
+                1,
+                Counts {
+                    opening: 1,
+                    accepted: 1,
+                    answered: 1,
+                    draining: true,
+                    ..IDLE
+                },
+            ),
+        ],
+    ],
+};
 
 #[test]
 fn calls_reach_their_own_lane(rt: HostRuntime) -> Result<(), Fail> {
-    play(
-        &rt,
-        rt.alloc(),
-        TWO_HOMES,
-        &[SERVED_BY_SECOND, DRAINED_AND_TURNED],
-    )
+    play(&rt, rt.alloc(), &DRAINED_AND_TURNED)
 }
 
 /// A second realm of the first home server.

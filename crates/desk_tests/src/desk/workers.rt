@@ -1,6 +1,6 @@
 //! What the workers do in a turn, over wires in memory: what each counts and tells, and where what it sends goes.
 
-use super::playing::{CLIENT, Event, FORWARD, FRONT, HOME, LANE, play};
+use super::playing::{CLIENT, Event, FORWARD, FRONT, HOME, LANE, Story, play, play_each};
 use super::test_desk::TWO_HOMES;
 use super::test_gate::Telling;
 use rad_desk::{Call, Note};
@@ -15,72 +15,81 @@ use test_octets::nas::{
 };
 
 /// The request is answered, and its response is given, also to a repeat.
-const EACH_PART: &[Event<'static>] = &[
-    Event::Turn(LANE, &REPLY, [1, 0, 0], Some(Telling::Answered(0, 0)), &[]),
-    Event::Turn(
-        FRONT,
-        &[],
-        [0, 1, 0],
-        Some(Telling::Note(Note::Took(0, 0))),
-        &RESPONSE,
-    ),
-    Event::Turn(FRONT, &REQUEST, [1, 1, 0], None, &RESPONSE),
-    Event::Turn(LANE, &[], [0, 0, 0], None, &[]),
-];
+const EACH_PART: Story<'static> = Story {
+    more: "",
+    scenes: &[
+        FORWARD,
+        &[
+            Event::Turn(LANE, &REPLY, [1, 0, 0], Some(Telling::Answered(0, 0)), &[]),
+            Event::Turn(
+                FRONT,
+                &[],
+                [0, 1, 0],
+                Some(Telling::Note(Note::Took(0, 0))),
+                &RESPONSE,
+            ),
+            Event::Turn(FRONT, &REQUEST, [1, 1, 0], None, &RESPONSE),
+            Event::Turn(LANE, &[], [0, 0, 0], None, &[]),
+        ],
+    ],
+};
 
 #[test]
 fn each_worker_does_its_part(rt: HostRuntime) -> Result<(), Fail> {
-    play(&rt, rt.alloc(), "", &[FORWARD, EACH_PART])
+    play(&rt, rt.alloc(), &EACH_PART)
 }
 
 /// Both requests are taken, and both are answered. Then both responses are in the ring.
-const BOTH_ANSWERED: &[Event<'static>] = &[
-    Event::Tick(1),
-    Event::Turn(
-        FRONT,
-        &REQUEST,
-        [1, 0, 0],
-        Some(Telling::Accepted(0, 0)),
-        &[],
-    ),
-    Event::Turn(LANE, &[], [0, 1, 0], None, &FORWARDED),
-    Event::Turn(
-        FRONT,
-        &SECOND_REQUEST,
-        [1, 0, 0],
-        Some(Telling::Accepted(0, 1)),
-        &[],
-    ),
-    Event::Turn(LANE, &[], [0, 1, 0], None, &SECOND_FORWARDED),
-    Event::Turn(LANE, &REPLY, [1, 0, 0], Some(Telling::Answered(0, 0)), &[]),
-    Event::Turn(
-        LANE,
-        &SECOND_REPLY,
-        [1, 0, 0],
-        Some(Telling::Answered(0, 1)),
-        &[],
-    ),
-    Event::Turns(
-        FRONT,
-        1,
-        1,
-        [0, 1, 0],
-        Some(Telling::Note(Note::Took(0, 0))),
-        &RESPONSE,
-    ),
-    Event::Turns(
-        FRONT,
-        3,
-        3,
-        [0, 1, 0],
-        Some(Telling::Note(Note::Took(0, 1))),
-        &SECOND_RESPONSE,
-    ),
-];
+const BOTH_ANSWERED: Story<'static> = Story {
+    more: "",
+    scenes: &[&[
+        Event::Tick(1),
+        Event::Turn(
+            FRONT,
+            &REQUEST,
+            [1, 0, 0],
+            Some(Telling::Accepted(0, 0)),
+            &[],
+        ),
+        Event::Turn(LANE, &[], [0, 1, 0], None, &FORWARDED),
+        Event::Turn(
+            FRONT,
+            &SECOND_REQUEST,
+            [1, 0, 0],
+            Some(Telling::Accepted(0, 1)),
+            &[],
+        ),
+        Event::Turn(LANE, &[], [0, 1, 0], None, &SECOND_FORWARDED),
+        Event::Turn(LANE, &REPLY, [1, 0, 0], Some(Telling::Answered(0, 0)), &[]),
+        Event::Turn(
+            LANE,
+            &SECOND_REPLY,
+            [1, 0, 0],
+            Some(Telling::Answered(0, 1)),
+            &[],
+        ),
+        Event::Turns(
+            FRONT,
+            1,
+            1,
+            [0, 1, 0],
+            Some(Telling::Note(Note::Took(0, 0))),
+            &RESPONSE,
+        ),
+        Event::Turns(
+            FRONT,
+            3,
+            3,
+            [0, 1, 0],
+            Some(Telling::Note(Note::Took(0, 1))),
+            &SECOND_RESPONSE,
+        ),
+    ]],
+};
 
 #[test]
 fn the_front_holds_no_response_back(rt: HostRuntime) -> Result<(), Fail> {
-    play(&rt, rt.alloc(), "", &[BOTH_ANSWERED])
+    play(&rt, rt.alloc(), &BOTH_ANSWERED)
 }
 
 /// The home server's address with another port.
@@ -95,216 +104,252 @@ const OTHER_ADDRESS: Endpoint = Endpoint {
     port: 2813,
 };
 
-/// The reply comes from there.
-const FROM_OTHER_PORT: &[Event<'static>] = &[
-    Event::From(OTHER_PORT),
-    Event::Turn(
-        LANE,
-        &REPLY,
-        [1, 0, 0],
-        Some(Telling::Of(OTHER_PORT, Note::NotHome)),
-        &[],
-    ),
-    Event::Turn(FRONT, &[], [0, 0, 0], None, &[]),
-];
-
-const FROM_OTHER_ADDRESS: &[Event<'static>] = &[
-    Event::From(OTHER_ADDRESS),
-    Event::Turn(
-        LANE,
-        &REPLY,
-        [1, 0, 0],
-        Some(Telling::Of(OTHER_ADDRESS, Note::NotHome)),
-        &[],
-    ),
-    Event::Turn(FRONT, &[], [0, 0, 0], None, &[]),
+/// The reply comes from each of them.
+const FROM_ELSEWHERE: &[Story<'static>] = &[
+    Story {
+        more: "",
+        scenes: &[
+            FORWARD,
+            &[
+                Event::From(OTHER_PORT),
+                Event::Turn(
+                    LANE,
+                    &REPLY,
+                    [1, 0, 0],
+                    Some(Telling::Of(OTHER_PORT, Note::NotHome)),
+                    &[],
+                ),
+                Event::Turn(FRONT, &[], [0, 0, 0], None, &[]),
+            ],
+        ],
+    },
+    Story {
+        more: "",
+        scenes: &[
+            FORWARD,
+            &[
+                Event::From(OTHER_ADDRESS),
+                Event::Turn(
+                    LANE,
+                    &REPLY,
+                    [1, 0, 0],
+                    Some(Telling::Of(OTHER_ADDRESS, Note::NotHome)),
+                    &[],
+                ),
+                Event::Turn(FRONT, &[], [0, 0, 0], None, &[]),
+            ],
+        ],
+    },
 ];
 
 #[test]
 fn a_reply_from_elsewhere_is_dropped(rt: HostRuntime) -> Result<(), Fail> {
-    play(&rt, rt.alloc(), "", &[FORWARD, FROM_OTHER_PORT])?;
-    play(&rt, rt.alloc(), "", &[FORWARD, FROM_OTHER_ADDRESS])
+    play_each(&rt, rt.alloc(), FROM_ELSEWHERE)
 }
 
 const UNKNOWN_CLIENT: Telling = Telling::Of(HOME, Note::Dropped(Dropped::UnknownClient));
 
-const STATUSES: &[Event<'static>] = &[
-    Event::Turn(FRONT, &STATUS, [1, 1, 0], None, &STATUS_ANSWER),
-    Event::From(HOME),
-    Event::Turn(FRONT, &STATUS, [1, 0, 0], Some(UNKNOWN_CLIENT), &[]),
-];
+const STATUSES: Story<'static> = Story {
+    more: "",
+    scenes: &[&[
+        Event::Turn(FRONT, &STATUS, [1, 1, 0], None, &STATUS_ANSWER),
+        Event::From(HOME),
+        Event::Turn(FRONT, &STATUS, [1, 0, 0], Some(UNKNOWN_CLIENT), &[]),
+    ]],
+};
 
 #[test]
 fn the_front_answers_and_drops(rt: HostRuntime) -> Result<(), Fail> {
-    play(&rt, rt.alloc(), "", &[STATUSES])
+    play(&rt, rt.alloc(), &STATUSES)
 }
 
-const WORK_FOR_EACH: &[Event<'static>] = &[
-    Event::Turn(
-        FRONT,
-        &OTHER_REQUEST,
-        [1, 0, 0],
-        Some(Telling::Accepted(1, 0)),
-        &[],
-    ),
-    Event::Turn(
-        FRONT,
-        &REQUEST,
-        [1, 0, 0],
-        Some(Telling::Accepted(0, 0)),
-        &[],
-    ),
-    Event::Turn(FRONT, &REQUEST, [1, 0, 0], None, &[]),
-];
+const WORK_FOR_EACH: Story<'static> = Story {
+    more: TWO_HOMES,
+    scenes: &[&[
+        Event::Turn(
+            FRONT,
+            &OTHER_REQUEST,
+            [1, 0, 0],
+            Some(Telling::Accepted(1, 0)),
+            &[],
+        ),
+        Event::Turn(
+            FRONT,
+            &REQUEST,
+            [1, 0, 0],
+            Some(Telling::Accepted(0, 0)),
+            &[],
+        ),
+        Event::Turn(FRONT, &REQUEST, [1, 0, 0], None, &[]),
+    ]],
+};
 
 #[test]
 fn a_gate_is_told_whose_lane_has_work(rt: HostRuntime) -> Result<(), Fail> {
-    play(&rt, rt.alloc(), TWO_HOMES, &[WORK_FOR_EACH])
+    play(&rt, rt.alloc(), &WORK_FOR_EACH)
 }
 
 const QUEUE_FULL: Telling = Telling::Of(CLIENT, Note::Refused(Refusal::QueueFull));
 
-const ONE_TOO_MANY: &[Event<'static>] = &[
-    Event::Turn(
-        FRONT,
-        &REQUEST,
-        [1, 0, 0],
-        Some(Telling::Accepted(0, 0)),
-        &[],
-    ),
-    Event::Turn(FRONT, &SECOND_REQUEST, [1, 0, 0], Some(QUEUE_FULL), &[]),
-];
+const ONE_TOO_MANY: Story<'static> = Story {
+    more: "queue = 1\n",
+    scenes: &[&[
+        Event::Turn(
+            FRONT,
+            &REQUEST,
+            [1, 0, 0],
+            Some(Telling::Accepted(0, 0)),
+            &[],
+        ),
+        Event::Turn(FRONT, &SECOND_REQUEST, [1, 0, 0], Some(QUEUE_FULL), &[]),
+    ]],
+};
 
 #[test]
 fn a_refusal_is_of_what_came_last(rt: HostRuntime) -> Result<(), Fail> {
-    play(&rt, rt.alloc(), "queue = 1\n", &[ONE_TOO_MANY])
+    play(&rt, rt.alloc(), &ONE_TOO_MANY)
 }
 
-const STOPPED: &[Event<'static>] = &[
-    Event::Stops(Call::Take),
-    Event::Turns(FRONT, 9, 1, [0, 0, 0], None, &[]),
-    Event::Stops(Call::Step),
-    Event::Turn(
-        FRONT,
-        &REQUEST,
-        [1, 0, 0],
-        Some(Telling::Accepted(0, 0)),
-        &[],
-    ),
-    Event::Turns(LANE, 9, 1, [0, 0, 0], None, &[]),
-];
+const STOPPED: Story<'static> = Story {
+    more: "",
+    scenes: &[&[
+        Event::Stops(Call::Take),
+        Event::Turns(FRONT, 9, 1, [0, 0, 0], None, &[]),
+        Event::Stops(Call::Step),
+        Event::Turn(
+            FRONT,
+            &REQUEST,
+            [1, 0, 0],
+            Some(Telling::Accepted(0, 0)),
+            &[],
+        ),
+        Event::Turns(LANE, 9, 1, [0, 0, 0], None, &[]),
+    ]],
+};
 
 #[test]
 fn a_gate_stops_each_worker(rt: HostRuntime) -> Result<(), Fail> {
-    play(&rt, rt.alloc(), "", &[STOPPED])
+    play(&rt, rt.alloc(), &STOPPED)
 }
 
-const DOWN_AND_UP: &[Event<'static>] = &[
-    Event::Turn(
-        FRONT,
-        &SECOND_REQUEST,
-        [1, 0, 0],
-        Some(Telling::Accepted(0, 1)),
-        &[],
-    ),
-    Event::Turn(LANE, &[], [0, 1, 0], None, &SECOND_FORWARDED),
-    Event::Turn(
-        LANE,
-        &[],
-        [0, 0, 0],
-        Some(Telling::Note(Note::WentDown)),
-        &[],
-    ),
-    Event::Turn(LANE, &[], [0, 1, 0], None, &SECOND_PROBE),
-    Event::Turn(
-        LANE,
-        &SECOND_PROBE_ANSWER,
-        [1, 1, 0],
-        Some(Telling::Note(Note::WentUp)),
-        &FORWARDED,
-    ),
-];
+const DOWN_AND_UP: Story<'static> = Story {
+    more: "tries = 1\n",
+    scenes: &[
+        FORWARD,
+        &[
+            Event::Turn(
+                FRONT,
+                &SECOND_REQUEST,
+                [1, 0, 0],
+                Some(Telling::Accepted(0, 1)),
+                &[],
+            ),
+            Event::Turn(LANE, &[], [0, 1, 0], None, &SECOND_FORWARDED),
+            Event::Turn(
+                LANE,
+                &[],
+                [0, 0, 0],
+                Some(Telling::Note(Note::WentDown)),
+                &[],
+            ),
+            Event::Turn(LANE, &[], [0, 1, 0], None, &SECOND_PROBE),
+            Event::Turn(
+                LANE,
+                &SECOND_PROBE_ANSWER,
+                [1, 1, 0],
+                Some(Telling::Note(Note::WentUp)),
+                &FORWARDED,
+            ),
+        ],
+    ],
+};
 
 #[test]
 fn a_probes_answer_takes_a_lane_up(rt: HostRuntime) -> Result<(), Fail> {
-    play(&rt, rt.alloc(), "tries = 1\n", &[FORWARD, DOWN_AND_UP])
+    play(&rt, rt.alloc(), &DOWN_AND_UP)
 }
 
-const CUT_AT_ONCE: &[Event<'static>] = &[
-    Event::Turn(LANE, &[], [0, 0, 0], None, &[]),
-    Event::Turn(
-        LANE,
-        &REPLY,
-        [1, 0, 0],
-        Some(Telling::Note(Note::Cut(1))),
-        &[],
-    ),
-];
+const CUT_AT_ONCE: Story<'static> = Story {
+    more: "book = 2\nspan = 0\n",
+    scenes: &[
+        FORWARD,
+        &[
+            Event::Turn(LANE, &[], [0, 0, 0], None, &[]),
+            Event::Turn(
+                LANE,
+                &REPLY,
+                [1, 0, 0],
+                Some(Telling::Note(Note::Cut(1))),
+                &[],
+            ),
+        ],
+    ],
+};
 
 #[test]
 fn a_half_full_book_is_cut(rt: HostRuntime) -> Result<(), Fail> {
-    play(
-        &rt,
-        rt.alloc(),
-        "book = 2\nspan = 0\n",
-        &[FORWARD, CUT_AT_ONCE],
-    )
+    play(&rt, rt.alloc(), &CUT_AT_ONCE)
 }
 
 /// The clock stands.
 const STANDING: &[Event<'static>] = &[Event::Tick(0)];
 
 /// The request is answered, and a span later it is cut.
-const CUT_AFTER_SPAN: &[Event<'static>] = &[
-    Event::Turn(LANE, &REPLY, [1, 0, 0], Some(Telling::Answered(0, 0)), &[]),
-    Event::Start(29_999),
-    Event::Tick(1),
-    Event::Turn(LANE, &[], [0, 0, 0], None, &[]),
-    Event::Turn(LANE, &[], [0, 0, 0], Some(Telling::Note(Note::Cut(1))), &[]),
-    Event::Turn(LANE, &[], [0, 0, 0], None, &[]),
-    Event::Turned(3),
-];
+const CUT_AFTER_SPAN: Story<'static> = Story {
+    more: "book = 2\nspan = 30000\n",
+    scenes: &[
+        STANDING,
+        FORWARD,
+        &[
+            Event::Turn(LANE, &REPLY, [1, 0, 0], Some(Telling::Answered(0, 0)), &[]),
+            Event::Start(29_999),
+            Event::Tick(1),
+            Event::Turn(LANE, &[], [0, 0, 0], None, &[]),
+            Event::Turn(LANE, &[], [0, 0, 0], Some(Telling::Note(Note::Cut(1))), &[]),
+            Event::Turn(LANE, &[], [0, 0, 0], None, &[]),
+            Event::Turned(3),
+        ],
+    ],
+};
 
 #[test]
 fn a_request_is_cut_once_its_span_is_over(rt: HostRuntime) -> Result<(), Fail> {
-    let more = "book = 2\nspan = 30000\n";
-    play(&rt, rt.alloc(), more, &[STANDING, FORWARD, CUT_AFTER_SPAN])
+    play(&rt, rt.alloc(), &CUT_AFTER_SPAN)
 }
 
 /// The worker comes by each millisecond.
 const EACH_MILLISECOND: &[Event<'static>] = &[Event::Tick(1)];
 
-/// The lane's worker has nothing else to do while the request is out, and has its lane cut off what is over at no turn.
-const IDLE_AND_NEVER_CUT: &[Event<'static>] = &[
-    Event::Turns(LANE, 31, 31, [0, 0, 0], None, &[]),
-    Event::Turned(0),
-];
+/// The lane's worker has nothing else to do while the request is out.
+const WITHOUT_WORK: &[Event<'static>] = &[Event::Turns(LANE, 31, 31, [0, 0, 0], None, &[])];
 
-/// The same at each turn.
-const IDLE_AND_EACH_CUT: &[Event<'static>] = &[
-    Event::Turns(LANE, 31, 31, [0, 0, 0], None, &[]),
-    Event::Turned(31),
+/// A book of three has its lane cut off what is over at no turn, and one of two or of one at each.
+const HALF_FULL: &[Story<'static>] = &[
+    Story {
+        more: "book = 3\n",
+        scenes: &[EACH_MILLISECOND, FORWARD, WITHOUT_WORK, &[Event::Turned(0)]],
+    },
+    Story {
+        more: "book = 2\n",
+        scenes: &[
+            EACH_MILLISECOND,
+            FORWARD,
+            WITHOUT_WORK,
+            &[Event::Turned(31)],
+        ],
+    },
+    Story {
+        more: "book = 1\n",
+        scenes: &[
+            EACH_MILLISECOND,
+            FORWARD,
+            WITHOUT_WORK,
+            &[Event::Turned(31)],
+        ],
+    },
 ];
 
 #[test]
 fn each_idle_step_turns_a_book_that_is_half_full(rt: HostRuntime) -> Result<(), Fail> {
-    let alloc = rt.alloc();
-    play(
-        &rt,
-        alloc,
-        "book = 3\n",
-        &[EACH_MILLISECOND, FORWARD, IDLE_AND_NEVER_CUT],
-    )?;
-    play(
-        &rt,
-        alloc,
-        "book = 2\n",
-        &[EACH_MILLISECOND, FORWARD, IDLE_AND_EACH_CUT],
-    )?;
-    play(
-        &rt,
-        alloc,
-        "book = 1\n",
-        &[EACH_MILLISECOND, FORWARD, IDLE_AND_EACH_CUT],
-    )
+    play_each(&rt, rt.alloc(), HALF_FULL)
 }
