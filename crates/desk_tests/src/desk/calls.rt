@@ -1,49 +1,43 @@
 //! What each call answers where memory is ample and the ring has a place. A body that always refuses meets its contract.
 
-use super::comparing::{holds, same};
-use super::test_desk::{TestDesk, slot};
+use super::closing::has_no_rest;
+use super::comparing::holds;
+use super::playing::Event;
+use super::test_desk::{DeskEvent, play_desk};
 use super::test_proxy::TestProxy;
-use rad_desk::{Report, Rest, Told};
-use rad_lane::{Action, Taken};
-use std::process::Abort;
-use std::sync::Wait;
+use rad_desk::{Report, Told};
+use rad_lane::Taken;
 use std::test::Fail;
 use test_octets::homes::{FORWARDED, REPLY};
 use test_octets::nas::{REQUEST, RESPONSE};
 
 /// A desk takes a request, sends it, hears its reply, gives the response and cuts the request off.
-fn serve(rt: &impl Abort, desk: &mut TestDesk) {
-    same(rt, desk.accept(0, &REQUEST), Ok(Taken::New(0)));
-    same(rt, desk.step(0), Action::Sent(0, slot(0)));
-    same(rt, desk.hear(0, &REPLY), Ok(Told::Answer(0)));
-    desk.take(rt, 0, &RESPONSE);
-    same(rt, desk.turn(30_000), Ok(1));
-}
+const SERVED: &[DeskEvent<'static>] = &[
+    DeskEvent::Accept(0, &REQUEST, Ok(Taken::New(0))),
+    DeskEvent::Send(0, 0, 0, &FORWARDED),
+    DeskEvent::Hear(0, &REPLY, Ok(Told::Answer(0))),
+    DeskEvent::Take(0, &RESPONSE),
+    DeskEvent::Turn(30_000, Ok(1)),
+];
 
 #[test]
 fn ample_memory_never_refuses(rt: HostRuntime) -> Result<(), Fail> {
-    let mut desk = TestDesk::new(rt.alloc())?;
-    serve(&rt, &mut desk);
-    desk.end();
-    Ok(())
+    play_desk(&rt, rt.alloc(), SERVED)
 }
 
 /// The same through the lock of a lane.
-fn serve_through_lock<R: Wait + Abort>(rt: &R, proxy: &mut TestProxy) {
-    let taken = proxy.accept(rt, &REQUEST);
-    same(rt, taken, Some(Ok(Taken::New(0))));
-    same(rt, proxy.step(rt, 0), Some(Action::Sent(0, slot(0))));
-    holds(rt, proxy.octets() == FORWARDED.as_slice());
-    same(rt, proxy.hear(rt, 0, &REPLY), Some(Ok(Told::Answer(0))));
-    let response = proxy.take(0).expect(rt, "a response");
-    holds(rt, response.reply.response() == RESPONSE.as_slice());
-    same(rt, proxy.turn(rt, 0), Some(Ok(1)));
-}
+const SERVED_THROUGH_LOCK: &[Event<'static>] = &[
+    Event::Accept(&REQUEST, Ok(Taken::New(0))),
+    Event::Send(0, 0, 0, &FORWARDED),
+    Event::Hear(0, &REPLY, Ok(Told::Answer(0))),
+    Event::Take(0, &RESPONSE),
+    Event::Cut(0, Ok(1)),
+];
 
 /// Whether the first ring had nothing left.
 fn has_nothing_left(report: &Report) -> bool {
     match report.ends.as_slice().first() {
-        Some(end) => matches!(&end.rest, Rest::Known(rest) if rest.as_slice().is_empty()),
+        Some(end) => has_no_rest(end),
         None => false,
     }
 }
@@ -51,7 +45,7 @@ fn has_nothing_left(report: &Report) -> bool {
 #[test]
 fn ample_memory_never_refuses_through_a_lock(rt: HostRuntime) -> Result<(), Fail> {
     let mut proxy = TestProxy::new(rt.alloc(), "ring = 1\n")?;
-    serve_through_lock(&rt, &mut proxy);
+    proxy.play(&rt, SERVED_THROUGH_LOCK);
     let report = proxy.report()?;
     holds(&rt, has_nothing_left(&report));
     Ok(())

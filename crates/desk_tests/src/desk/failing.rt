@@ -1,10 +1,9 @@
 //! What the workers make of wires of which one receive or send fails.
 
-use super::comparing::{holds, same};
-use super::home_workers::{
-    CLIENT, HOME, HomeWorkers, accepted, answered, counts, front, lane, note, note_of, tally,
-};
-use super::workers::forward;
+use super::comparing::same;
+use super::playing::{ANSWERED, CLIENT, Event, FORWARD, FRONT, HOME, LANE, OUT, Story, play};
+use super::test_gate::Telling;
+use super::test_proxy::TestProxy;
 use rad_desk::{Note, Worker};
 use std::alloc::Global;
 use std::process::Abort;
@@ -20,18 +19,20 @@ const TURNS: u32 = 12;
 const CALLS: u32 = 9;
 
 /// Whether the request comes to its response: the client sends it in each third turn until then, and the home server
-/// replies to whatever reaches it.
-fn is_answered<R: Wait + Abort>(rt: &R, workers: &mut HomeWorkers) -> bool {
+/// replies to whatever reaches it, which is the request each time.
+fn is_answered(rt: &impl Wait, proxy: &mut TestProxy) -> bool {
     for turn in 0..TURNS {
         if turn % 3 == 0 {
-            workers.front.comes(CLIENT, &REQUEST);
+            proxy.front.comes(0, CLIENT, &REQUEST);
         }
-        if workers.front(rt, 1).sent == 1 {
-            return workers.front.sent(CLIENT, &RESPONSE);
+        if proxy.work(rt, FRONT, 1).sent == 1 {
+            return proxy.front.sent(0, CLIENT, &RESPONSE);
         }
-        if workers.lane(rt, 1).sent == 1 {
-            holds(rt, workers.lane.sent(HOME, &FORWARDED));
-            workers.lane.comes(HOME, &REPLY);
+        if proxy.work(rt, LANE, 1).sent == 1 {
+            if !proxy.lane.sent(0, HOME, &FORWARDED) {
+                return false;
+            }
+            proxy.lane.comes(0, HOME, &REPLY);
         }
     }
     false
@@ -41,26 +42,27 @@ fn is_answered<R: Wait + Abort>(rt: &R, workers: &mut HomeWorkers) -> bool {
 /// pass. It says whether there was one.
 fn meets_fault<R: Wait + Abort>(
     rt: &R,
-    alloc: Global,
+    proxy: &mut TestProxy,
     worker: Worker,
     passing: u32,
-) -> Result<bool, Fail> {
-    let mut workers = HomeWorkers::new(alloc, "")?;
-    match worker {
-        Worker::Front => workers.front.fail_after(passing),
-        Worker::Lane(_) => workers.lane.fail_after(passing),
-    }
-    assert!(rt; is_answered(rt, &mut workers), "after {passing}");
-    assert_eq!(rt; workers.counts(rt), counts(1, 0, 0, 1), "after {passing}");
-    let is_left = workers.front.is_to_fail() || workers.lane.is_to_fail();
-    workers.end();
-    Ok(!is_left)
+) -> bool {
+    proxy.wire(worker).fail_after(passing);
+    same(rt, (passing, is_answered(rt, proxy)), (passing, true));
+    same(
+        rt,
+        (passing, proxy.counts(rt, 0)),
+        (passing, Some(ANSWERED)),
+    );
+    !proxy.wire(worker).is_to_fail()
 }
 
 /// In how many runs each receive and send of a worker's wire fails in turn, until a run meets no fault.
 fn faults_met<R: Wait + Abort>(rt: &R, alloc: Global, worker: Worker) -> Result<u32, Fail> {
     for passing in 0..CALLS {
-        if !meets_fault(rt, alloc, worker, passing)? {
+        let mut proxy = TestProxy::new(alloc, "")?;
+        let is_met = meets_fault(rt, &mut proxy, worker, passing);
+        proxy.end();
+        if !is_met {
             return Ok(passing);
         }
     }
@@ -69,79 +71,133 @@ fn faults_met<R: Wait + Abort>(rt: &R, alloc: Global, worker: Worker) -> Result<
 
 #[test]
 fn any_fault_of_the_fronts_wire_is_overcome(rt: HostRuntime) -> Result<(), Fail> {
-    let met = faults_met(&rt, rt.alloc(), Worker::Front)?;
+    let met = faults_met(&rt, rt.alloc(), FRONT)?;
     same(&rt, met, 4);
     Ok(())
 }
 
 #[test]
 fn any_fault_of_the_lanes_wire_is_overcome(rt: HostRuntime) -> Result<(), Fail> {
-    let met = faults_met(&rt, rt.alloc(), Worker::Lane(0))?;
+    let met = faults_met(&rt, rt.alloc(), LANE)?;
     same(&rt, met, 3);
     Ok(())
 }
 
+const SENT_AGAIN: Story<'static> = Story {
+    more: "",
+    scenes: &[&[
+        Event::Fails(LANE, 1),
+        Event::Turn(
+            FRONT,
+            &REQUEST,
+            [1, 0, 0],
+            Some(Telling::Accepted(0, 0)),
+            &[],
+        ),
+        Event::Turn(
+            LANE,
+            &[],
+            [0, 0, 1],
+            Some(Telling::Of(HOME, Note::SendFault)),
+            &FORWARDED,
+        ),
+        Event::Stands(0, OUT),
+        Event::Turn(LANE, &[], [0, 0, 0], None, &[]),
+        Event::Turn(LANE, &[], [0, 1, 0], None, &FORWARDED),
+        Event::Stands(0, OUT),
+    ]],
+};
+
 #[test]
 fn a_failed_send_is_sent_again(rt: HostRuntime) -> Result<(), Fail> {
-    let mut workers = HomeWorkers::new(rt.alloc(), "")?;
-    workers.lane.fail_after(1);
-    let turns = [
-        front(&REQUEST, [1, 0, 0], accepted(0), &[]),
-        lane(&[], [0, 0, 1], note_of(HOME, Note::SendFault), &FORWARDED),
-    ];
-    workers.play(&rt, &turns);
-    same(&rt, workers.counts(&rt), counts(1, 0, 1, 0));
-    let turns = [
-        lane(&[], [0, 0, 0], None, &[]),
-        lane(&[], [0, 1, 0], None, &FORWARDED),
-    ];
-    workers.play(&rt, &turns);
-    same(&rt, workers.counts(&rt), counts(1, 0, 1, 0));
-    workers.end();
-    Ok(())
+    play(&rt, rt.alloc(), &SENT_AGAIN)
 }
 
 /// The same in one call of the worker.
+const COUNTED_ONCE: Story<'static> = Story {
+    more: "",
+    scenes: &[&[
+        Event::Turn(
+            FRONT,
+            &REQUEST,
+            [1, 0, 0],
+            Some(Telling::Accepted(0, 0)),
+            &[],
+        ),
+        Event::Fails(LANE, 1),
+        Event::Turns(
+            LANE,
+            3,
+            3,
+            [0, 1, 1],
+            Some(Telling::Of(HOME, Note::SendFault)),
+            &FORWARDED,
+        ),
+    ]],
+};
+
 #[test]
 fn a_failed_send_counts_once(rt: HostRuntime) -> Result<(), Fail> {
-    let mut workers = HomeWorkers::new(rt.alloc(), "")?;
-    workers.play(&rt, &[front(&REQUEST, [1, 0, 0], accepted(0), &[])]);
-    workers.lane.fail_after(1);
-    same(&rt, workers.lane(&rt, 3), tally(3, [0, 1, 1]));
-    holds(&rt, workers.lane.sent(HOME, &FORWARDED));
-    workers.end();
-    Ok(())
+    play(&rt, rt.alloc(), &COUNTED_ONCE)
 }
+
+const RECEIVED_AFTERWARDS: Story<'static> = Story {
+    more: "",
+    scenes: &[&[
+        Event::Fails(FRONT, 0),
+        Event::Fails(LANE, 0),
+        Event::Turn(
+            FRONT,
+            &REQUEST,
+            [0, 0, 1],
+            Some(Telling::Note(Note::ReceiveFault)),
+            &[],
+        ),
+        Event::Turn(
+            LANE,
+            &[],
+            [0, 0, 1],
+            Some(Telling::Note(Note::ReceiveFault)),
+            &[],
+        ),
+        Event::Receives(
+            FRONT,
+            &REQUEST,
+            [1, 0, 0],
+            Some(Telling::Accepted(0, 0)),
+            &[],
+        ),
+        Event::Turn(LANE, &[], [0, 1, 0], None, &FORWARDED),
+    ]],
+};
 
 #[test]
 fn a_failed_receive_ends_nothing(rt: HostRuntime) -> Result<(), Fail> {
-    let mut workers = HomeWorkers::new(rt.alloc(), "")?;
-    workers.front.fail_after(0);
-    workers.lane.fail_after(0);
-    let turns = [
-        front(&REQUEST, [0, 0, 1], note(Note::ReceiveFault), &[]),
-        lane(&[], [0, 0, 1], note(Note::ReceiveFault), &[]),
-        front(&[], [1, 0, 0], accepted(0), &[]).receives(&REQUEST),
-        lane(&[], [0, 1, 0], None, &FORWARDED),
-    ];
-    workers.play(&rt, &turns);
-    workers.end();
-    Ok(())
+    play(&rt, rt.alloc(), &RECEIVED_AFTERWARDS)
 }
+
+const LOST_AND_GIVEN_AGAIN: Story<'static> = Story {
+    more: "",
+    scenes: &[
+        FORWARD,
+        &[
+            Event::Fails(FRONT, 1),
+            Event::Turn(LANE, &REPLY, [1, 0, 0], Some(Telling::Answered(0, 0)), &[]),
+            Event::Turn(
+                FRONT,
+                &[],
+                [0, 0, 1],
+                Some(Telling::Note(Note::Took(0, 0))),
+                &RESPONSE,
+            ),
+            Event::Turn(FRONT, &[], [0, 0, 0], None, &[]),
+            Event::Turn(FRONT, &REQUEST, [1, 1, 0], None, &RESPONSE),
+            Event::Stands(0, ANSWERED),
+        ],
+    ],
+};
 
 #[test]
 fn a_response_that_is_lost_is_given_again(rt: HostRuntime) -> Result<(), Fail> {
-    let mut workers = HomeWorkers::new(rt.alloc(), "")?;
-    forward(&rt, &mut workers);
-    workers.front.fail_after(1);
-    let turns = [
-        lane(&REPLY, [1, 0, 0], answered(0), &[]),
-        front(&[], [0, 0, 1], note(Note::Took(0, 0)), &RESPONSE),
-        front(&[], [0, 0, 0], None, &[]),
-        front(&REQUEST, [1, 1, 0], None, &RESPONSE),
-    ];
-    workers.play(&rt, &turns);
-    same(&rt, workers.counts(&rt), counts(1, 0, 0, 1));
-    workers.end();
-    Ok(())
+    play(&rt, rt.alloc(), &LOST_AND_GIVEN_AGAIN)
 }

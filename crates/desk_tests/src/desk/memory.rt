@@ -42,27 +42,17 @@ impl MemoryWire {
         }
     }
 
-    /// Has a datagram come next, to the first socket; none where memory is refused.
-    pub fn comes(&mut self, from: Endpoint, octets: &[u8]) {
-        self.comes_to(0, from, octets);
-    }
-
-    /// The same to any one socket.
-    pub fn comes_to(&mut self, socket: u16, from: Endpoint, octets: &[u8]) {
+    /// Has a datagram come next, to this socket; none where memory is refused.
+    pub fn comes(&mut self, socket: u16, from: Endpoint, octets: &[u8]) {
         self.coming = match octets.to_vec(self.alloc) {
             Ok(octets) => Some((socket, from, octets)),
             Err(_) => None,
         };
     }
 
-    /// Whether these octets went there by the first socket, as the last that was sent; with none, whether nothing was sent. That
-    /// is forgotten then.
-    pub fn sent(&mut self, to: Endpoint, octets: &[u8]) -> bool {
-        self.sent_by(0, to, octets)
-    }
-
-    /// The same by any one socket.
-    pub fn sent_by(&mut self, socket: u16, to: Endpoint, octets: &[u8]) -> bool {
+    /// Whether these octets went there by this socket, as the last that was sent; with none, whether nothing was sent. That is
+    /// forgotten then.
+    pub fn sent(&mut self, socket: u16, to: Endpoint, octets: &[u8]) -> bool {
         match self.gone.take() {
             Some((by, peer, gone)) => by == socket && peer == to && gone.as_slice() == octets,
             None => octets.is_empty(),
@@ -75,11 +65,6 @@ impl MemoryWire {
             Some((_, _, octets)) => Some(octets),
             None => None,
         }
-    }
-
-    /// Has the next receive be at the first moment again.
-    pub fn start_over(&mut self) {
-        self.receives = 0;
     }
 
     /// Has the next receive be at this moment, as the first.

@@ -1,10 +1,11 @@
 //! Calls that are made again where memory was refused: nothing had changed, and they answer as ever.
 
+use super::closing::known;
 use super::comparing::{holds, same};
-use super::home_workers::counts;
+use super::playing::{ANSWERED, IDLE, OUT, WAITING};
 use super::test_desk::slot;
 use super::test_proxy::{TestProxy, close};
-use rad_desk::{CloseFault, DeskFault, Inlet, LaneEnd, Proxy, Report, Rest, Told};
+use rad_desk::{CloseFault, DeskFault, Inlet, LaneEnd, Proxy, Report, Told};
 use rad_lane::{Action, HearFault, Refusal, Series, Taken, TurnFault};
 use std::alloc::Global;
 use std::process::Abort;
@@ -19,7 +20,7 @@ fn accept<R: Wait + Abort>(rt: &R, proxy: &TestProxy) -> Option<Result<Taken, Re
     if taken != Some(Err(Refusal::OutOfMemory)) {
         return taken;
     }
-    same(rt, proxy.counts(rt, 0), counts(0, 0, 0, 0));
+    same(rt, proxy.counts(rt, 0), Some(IDLE));
     proxy.accept(rt, &REQUEST)
 }
 
@@ -29,7 +30,7 @@ fn hear<R: Wait + Abort>(rt: &R, proxy: &TestProxy) -> Option<Result<Told, DeskF
     if told != Some(Err(DeskFault::Lane(HearFault::OutOfMemory))) {
         return told;
     }
-    same(rt, proxy.counts(rt, 0), counts(1, 0, 1, 0));
+    same(rt, proxy.counts(rt, 0), Some(OUT));
     proxy.hear(rt, 0, &REPLY)
 }
 
@@ -39,7 +40,7 @@ fn turn<R: Wait + Abort>(rt: &R, proxy: &TestProxy) -> Option<Result<usize, Turn
     if turned != Some(Err(TurnFault::OutOfMemory)) {
         return turned;
     }
-    same(rt, proxy.counts(rt, 0), counts(1, 0, 0, 1));
+    same(rt, proxy.counts(rt, 0), Some(ANSWERED));
     proxy.turn(rt, 0)
 }
 
@@ -63,14 +64,14 @@ fn closes_again(rt: &impl Abort, alloc: Global, proxy: Proxy, inlets: Series<Inl
 /// Has the request accepted and sent.
 fn send<R: Wait + Abort>(rt: &R, proxy: &mut TestProxy) {
     same(rt, accept(rt, proxy), Some(Ok(Taken::New(0))));
-    same(rt, proxy.counts(rt, 0), counts(1, 1, 0, 0));
+    same(rt, proxy.counts(rt, 0), Some(WAITING));
     same(rt, proxy.step(rt, 0), Some(Action::Sent(0, slot(0))));
 }
 
 /// Has it answered, and cut off.
 fn answer<R: Wait + Abort>(rt: &R, proxy: &TestProxy) {
     same(rt, hear(rt, proxy), Some(Ok(Told::Answer(0))));
-    same(rt, proxy.counts(rt, 0), counts(1, 0, 0, 1));
+    same(rt, proxy.counts(rt, 0), Some(ANSWERED));
     same(rt, turn(rt, proxy), Some(Ok(1)));
 }
 
@@ -84,12 +85,9 @@ fn served<R: Wait + Abort>(rt: &R, alloc: Global) -> Result<TestProxy, Fail> {
 
 /// Whether a lane's end knows the one response, which nobody took.
 fn has_the_response(end: &LaneEnd) -> bool {
-    match &end.rest {
-        Rest::Known(rest) => match rest.as_slice() {
-            [outgoing] => outgoing.reply.response() == RESPONSE.as_slice(),
-            _ => false,
-        },
-        Rest::Unknown => false,
+    match known(end) {
+        Some([outgoing]) => outgoing.reply.response() == RESPONSE.as_slice(),
+        _ => false,
     }
 }
 

@@ -3,7 +3,7 @@
 ghost use Rattle.std.specs.Prelude.{IfOk};
 ghost use Rattle.rad_desk.specs.Inlet.{AreOfOneRing};
 
-use super::comparing::{holds, same};
+use super::comparing::same;
 use rad_desk::laws::Desk;
 use rad_desk::{DeskFault, Inlet, Told};
 use rad_lane::{Action, Counts, Refusal, Setup, Taken, TurnFault, Volume};
@@ -13,8 +13,6 @@ use rad_tables::{Moment, Slot};
 use std::alloc::Global;
 use std::process::Abort;
 use std::test::Fail;
-use test_octets::homes::{FORWARDED, SECOND_FORWARDED};
-use test_octets::nas::{REQUEST, SECOND_REQUEST};
 
 /// A client, a realm and its home server, with the limits that stand where no other is said.
 const TEXT: &str = r#"
@@ -31,14 +29,13 @@ address = "127.0.0.1:2813"
 secret = "home-secret"
 "#;
 
-/// One sending without an answer takes the home server to be down.
-pub const ONE_TRY: &str = "tries = 1\n";
-
-/// The same, and a ring of one place.
+/// One sending without an answer takes the home server to be down, and the ring has one place.
 const ONE_TRY_AND_PLACE: &str = "tries = 1\nring = 1\n";
 
-/// A second home server, and its realm.
-pub const OTHER_HOME: &str = r#"
+/// One sending without an answer takes the home server to be down. There is a second home server, of which that does not hold,
+/// and its realm.
+pub const TWO_HOMES: &str = r#"
+tries = 1
 [[home]]
 name = "h2"
 address = "127.0.0.2:2814"
@@ -54,6 +51,37 @@ pub const CLIENT_PORT: u16 = 40_000;
 /// The Authenticator of each probe.
 pub const RANDOM: [u8; 16] = [0xa5; 16];
 
+/// What a desk does in a test, at so many milliseconds, and what is wanted of it.
+#[derive(Clone, Copy)]
+pub enum DeskEvent<'a> {
+    /// This request is taken or refused.
+    Accept(u32, &'a [u8], Result<Taken, Refusal>),
+    /// The lane sends the request of this number, under this Identifier; and these octets.
+    Send(u32, u64, u8, &'a [u8]),
+    /// It sends a probe, under this Identifier; and these octets.
+    Probe(u32, u8, &'a [u8]),
+    /// It marks the home server down.
+    GoDown(u32),
+    /// It hears this reply.
+    Hear(u32, &'a [u8], Result<Told, DeskFault>),
+    /// It cuts off so many requests.
+    Turn(u32, Result<usize, TurnFault>),
+    /// It is drained, and has so many requests to do.
+    Drain(u64),
+    IsDraining(bool),
+    IsDone(bool),
+    /// It stands like this.
+    Stands(Counts),
+    /// So many responses wait in the ring.
+    Waiting(usize),
+    /// The response of this serial is the next one.
+    Take(u64, &'a [u8]),
+    /// There is no response.
+    TakeNothing,
+    /// The last call put these octets into the datagram.
+    Octets(&'a [u8]),
+}
+
 /// The desk of that home server with its inlet, and the datagram that is handed to its calls.
 #[derive(Drop)]
 pub struct TestDesk {
@@ -66,7 +94,7 @@ pub struct TestDesk {
 }
 
 impl TestDesk {
-    pub fn new(alloc: Global) -> Result<TestDesk, Fail> {
+    fn new(alloc: Global) -> Result<TestDesk, Fail> {
         let config = config(alloc, ONE_TRY_AND_PLACE)?;
         let (desk, inlet) = pair(alloc, &config)?;
         Ok(TestDesk {
@@ -78,18 +106,8 @@ impl TestDesk {
         })
     }
 
-    /// Has both requests accepted and sent, at moment 0.
-    pub fn send_both(&mut self, rt: &impl Abort) {
-        same(rt, self.accept(0, &REQUEST), Ok(Taken::New(0)));
-        same(rt, self.accept(0, &SECOND_REQUEST), Ok(Taken::New(1)));
-        same(rt, self.step(0), Action::Sent(0, slot(0)));
-        holds(rt, self.octets() == FORWARDED.as_slice());
-        same(rt, self.step(0), Action::Sent(1, slot(1)));
-        holds(rt, self.octets() == SECOND_FORWARDED.as_slice());
-    }
-
     /// The desk's answer to a datagram of its client; `WrongLane` where that is no request of the lane.
-    pub fn accept(&mut self, moment: u32, request: &[u8]) -> Result<Taken, Refusal> {
+    fn accept(&mut self, moment: u32, request: &[u8]) -> Result<Taken, Refusal> {
         match check_in(&self.config, [10, 0, 0, 1], CLIENT_PORT, request) {
             Ok(Incoming::Request(request)) if self.desk.takes(&request) => {
                 self.desk
@@ -99,59 +117,118 @@ impl TestDesk {
         }
     }
 
-    pub fn step(&mut self, moment: u32) -> Action {
+    fn step(&mut self, moment: u32) -> Action {
         self.desk.step(at(moment), RANDOM, &mut self.datagram)
     }
 
-    pub fn hear(&mut self, moment: u32, reply: &[u8]) -> Result<Told, DeskFault> {
+    fn hear(&mut self, moment: u32, reply: &[u8]) -> Result<Told, DeskFault> {
         self.desk.hear(self.alloc, at(moment), 0, reply)
     }
 
-    pub fn turn(&mut self, moment: u32) -> Result<usize, TurnFault> {
+    fn turn(&mut self, moment: u32) -> Result<usize, TurnFault> {
         count_of(self.desk.turn(self.alloc, at(moment)))
     }
 
-    pub fn drain(&mut self) -> u64 {
+    fn drain(&mut self) -> u64 {
         self.desk.drain()
     }
 
-    pub fn is_done(&self) -> bool {
+    fn is_done(&self) -> bool {
         self.desk.is_done()
     }
 
-    pub fn is_draining(&self) -> bool {
+    fn is_draining(&self) -> bool {
         self.desk.is_draining()
     }
 
-    pub fn counts(&self) -> Counts {
+    fn counts(&self) -> Counts {
         self.desk.counts()
     }
 
-    /// Takes the next response, and compares it.
-    pub fn take(&mut self, rt: &impl Abort, serial: u64, response: &[u8]) {
-        same(rt, self.inlet.lane(), 0);
-        let outgoing = self.inlet.take().expect(rt, "a response");
-        same(rt, (outgoing.serial, outgoing.port), (serial, CLIENT_PORT));
-        holds(rt, outgoing.reply.response() == response);
+    /// Whether the next response, of the inlet's only lane, is this one for the client.
+    fn takes(&mut self, serial: u64, response: &[u8]) -> bool {
+        match self.inlet.take() {
+            Some(outgoing) => {
+                (outgoing.serial, outgoing.port) == (serial, CLIENT_PORT)
+                    && outgoing.reply.response() == response
+            }
+            None => false,
+        }
     }
 
     /// Whether there is no response to take.
-    pub fn has_no_response(&mut self) -> bool {
+    fn has_no_response(&mut self) -> bool {
         self.inlet.take().is_none()
     }
 
+    /// The number of the inlet's lane.
+    fn lane(&self) -> u16 {
+        self.inlet.lane()
+    }
+
     /// How many responses wait in the ring.
-    pub fn waiting(&mut self) -> usize {
+    fn waiting(&mut self) -> usize {
         self.desk.waiting(&mut self.inlet)
     }
 
     /// What the last call put into the datagram.
-    pub fn octets(&self) -> &[u8] {
+    fn octets(&self) -> &[u8] {
         self.datagram.bytes()
     }
 
+    /// Meets the event of this place.
+    fn meet(&mut self, rt: &impl Abort, place: usize, event: &DeskEvent<'_>) {
+        match *event {
+            DeskEvent::Accept(moment, request, taken) => {
+                same(rt, (place, self.accept(moment, request)), (place, taken));
+            }
+            DeskEvent::Send(moment, number, identifier, octets) => {
+                let sent = Action::Sent(number, slot(identifier));
+                same(rt, (place, self.step(moment)), (place, sent));
+                same(rt, (place, self.octets() == octets), (place, true));
+            }
+            DeskEvent::Probe(moment, identifier, octets) => {
+                let probed = Action::Probed(slot(identifier));
+                same(rt, (place, self.step(moment)), (place, probed));
+                same(rt, (place, self.octets() == octets), (place, true));
+            }
+            DeskEvent::GoDown(moment) => {
+                same(rt, (place, self.step(moment)), (place, Action::WentDown));
+            }
+            DeskEvent::Hear(moment, reply, told) => {
+                same(rt, (place, self.hear(moment, reply)), (place, told));
+            }
+            DeskEvent::Turn(moment, turned) => {
+                same(rt, (place, self.turn(moment)), (place, turned));
+            }
+            DeskEvent::Drain(left) => same(rt, (place, self.drain()), (place, left)),
+            DeskEvent::IsDraining(is) => same(rt, (place, self.is_draining()), (place, is)),
+            DeskEvent::IsDone(is) => same(rt, (place, self.is_done()), (place, is)),
+            DeskEvent::Stands(counts) => same(rt, (place, self.counts()), (place, counts)),
+            DeskEvent::Waiting(count) => same(rt, (place, self.waiting()), (place, count)),
+            DeskEvent::Take(serial, response) => {
+                same(rt, (place, self.takes(serial, response)), (place, true));
+            }
+            DeskEvent::TakeNothing => same(rt, (place, self.has_no_response()), (place, true)),
+            DeskEvent::Octets(octets) => {
+                same(rt, (place, self.octets() == octets), (place, true));
+            }
+        }
+    }
+
     /// Lets it go, so that no test has to show that it may.
-    pub fn end(self) {}
+    fn end(self) {}
+}
+
+/// Has a desk meet these events in order, and compares what is to be compared of each.
+pub fn play_desk(rt: &impl Abort, alloc: Global, events: &[DeskEvent<'_>]) -> Result<(), Fail> {
+    let mut desk = TestDesk::new(alloc)?;
+    same(rt, desk.lane(), 0);
+    for (place, event) in events.iter().enumerate() {
+        desk.meet(rt, place, event);
+    }
+    desk.end();
+    Ok(())
 }
 
 /// The configuration that goes on with these lines.
@@ -179,6 +256,7 @@ pub fn count_of(turned: Result<Volume, TurnFault>) -> Result<usize, TurnFault> {
     }
 }
 
+/// The pair of the one source port and this Identifier.
 pub fn slot(identifier: u8) -> Slot {
     Slot {
         port: 0,

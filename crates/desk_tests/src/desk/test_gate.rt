@@ -1,6 +1,6 @@
 //! A gate for workers that take their turns in a test, and what it is told.
 
-use rad_desk::{Call, Gate, Go, Note, Worker};
+use rad_desk::{Call, Gate, Go, Note, Spent, UpReason, Worker};
 use rad_realms::Endpoint;
 use std::alloc::Global;
 use std::cell::Cell;
@@ -16,6 +16,15 @@ pub enum Telling {
     Accepted(u16, u64),
     /// The response of this serial went into a lane's ring.
     Answered(u16, u64),
+    /// The home server of this lane went down, by the request of this number and client, which is so many milliseconds old. The
+    /// last is whether it is of the session `S1`.
+    Down(u16, u64, Endpoint, u64, bool),
+    /// That of this lane came up.
+    Up(u16, UpReason),
+    /// The realm of a packet of this Identifier leads nowhere.
+    NoRealm(u8),
+    /// A request for this lane, from there, has so many Proxy-States of this proxy's form.
+    Marked(u16, Endpoint, u64),
 }
 
 /// The datagram that a gate was told of last.
@@ -63,7 +72,10 @@ impl LastDatagram {
 /// A gate that keeps what it was told last and counts the cuts, and stops a worker before one call.
 #[derive(Drop)]
 pub struct TestGate {
+    /// What it was told last of a note, a new request or an answer.
     told: Cell<Option<Telling>>,
+    /// What it was told last besides.
+    beside: Cell<Option<Telling>>,
     received: LastDatagram,
     sent: LastDatagram,
     turns: Cell<u64>,
@@ -74,6 +86,7 @@ impl TestGate {
     pub fn new(alloc: Global) -> TestGate {
         TestGate {
             told: Cell::new(None),
+            beside: Cell::new(None),
             received: LastDatagram::new(alloc),
             sent: LastDatagram::new(alloc),
             turns: Cell::new(0),
@@ -81,9 +94,14 @@ impl TestGate {
         }
     }
 
-    /// What it was told last. That is forgotten then.
+    /// What it was told last of a note, a new request or an answer. That is forgotten then.
     pub fn told(&self) -> Option<Telling> {
         self.told.replace(None)
+    }
+
+    /// What it was told last besides. That is forgotten then.
+    pub fn beside(&self) -> Option<Telling> {
+        self.beside.replace(None)
     }
 
     /// Whether this is the datagram that a worker received last; with no octets, whether none came. It is forgotten then.
@@ -99,6 +117,14 @@ impl TestGate {
     /// How many times a lane was to cut off what is over.
     pub fn turns(&self) -> u64 {
         self.turns.get()
+    }
+}
+
+/// Whether a request by which a home server went down is of the session `S1`.
+fn is_of_first_session(spent: &Spent) -> bool {
+    match &spent.session {
+        Some(session) => session.octets() == "S1".as_bytes(),
+        None => false,
     }
 }
 
@@ -143,5 +169,24 @@ impl Gate for TestGate {
 
     fn answered(&self, lane: u16, serial: u64) {
         self.told.set(Some(Telling::Answered(lane, serial)));
+    }
+
+    fn went_down(&self, lane: u16, spent: &Spent) {
+        let is_first = is_of_first_session(spent);
+        let down = Telling::Down(lane, spent.number, spent.client, spent.age, is_first);
+        self.beside.set(Some(down));
+    }
+
+    fn went_up(&self, lane: u16, reason: UpReason) {
+        self.beside.set(Some(Telling::Up(lane, reason)));
+    }
+
+    fn no_realm(&self, packet: &[u8]) {
+        let identifier = packet.get(1).copied().unwrap_or(0);
+        self.beside.set(Some(Telling::NoRealm(identifier)));
+    }
+
+    fn came_marked(&self, lane: u16, from: Endpoint, marks: u64) {
+        self.beside.set(Some(Telling::Marked(lane, from, marks)));
     }
 }

@@ -1,16 +1,21 @@
-//! The lanes behind their locks with their inlets, and the calls that the tests make of them.
+//! The lanes behind their locks with their inlets, their workers over wires in memory, and the calls that the tests make of them.
 
+use super::memory::MemoryWire;
 use super::test_desk::{CLIENT_PORT, RANDOM, at, config, count_of};
-use rad_desk::{CloseFault, DeskFault, Inlet, Proxy, Report, Told, open};
+use super::test_gate::TestGate;
+use rad_desk::{
+    CloseFault, DeskFault, Inlet, Proxy, Report, Tally, Told, Worker, front_worker, lane_worker,
+    open,
+};
 use rad_lane::{Action, Counts, Outgoing, Refusal, Taken, TurnFault};
 use rad_packet::Datagram;
-use rad_realms::{Config, Incoming, check_in};
+use rad_realms::{Config, Endpoint, Incoming, check_in};
 use std::alloc::Global;
 use std::sync::Wait;
 use std::test::Fail;
 
-/// The proxy of a configuration with its inlets, and the datagram that is handed to its calls. A call by the number of a
-/// lane that is not there answers nothing.
+/// The proxy of a configuration with its inlets, the datagram that is handed to its calls, and the wires and the gate of its
+/// workers: the workers of all lanes have one wire. A call by the number of a lane that is not there answers nothing.
 #[derive(Drop)]
 pub struct TestProxy {
     pub alloc: Global,
@@ -18,6 +23,13 @@ pub struct TestProxy {
     pub proxy: Proxy,
     pub inlets: Vec<Inlet>,
     datagram: Datagram,
+    pub front: MemoryWire,
+    pub lane: MemoryWire,
+    pub gate: TestGate,
+    /// To which socket what comes comes, and by which one what leaves is to leave.
+    pub sockets: (u16, u16),
+    /// From where what comes comes. Where that is not said, it is the peer of its worker.
+    pub from: Option<Endpoint>,
 }
 
 impl TestProxy {
@@ -31,7 +43,53 @@ impl TestProxy {
             proxy,
             inlets,
             datagram: Datagram::new(),
+            front: MemoryWire::new(alloc),
+            lane: MemoryWire::new(alloc),
+            gate: TestGate::new(alloc),
+            sockets: (0, 0),
+            from: None,
         })
+    }
+
+    /// Has a worker take so many turns; none where there is no such lane.
+    pub fn work(&mut self, rt: &impl Wait, worker: Worker, turns: u64) -> Tally {
+        match worker {
+            Worker::Front => front_worker(
+                rt,
+                self.alloc,
+                &self.proxy,
+                &self.config,
+                self.inlets.as_mut_slice(),
+                &mut self.front,
+                &self.gate,
+                turns,
+            ),
+            Worker::Lane(lane) => self.work_lane(rt, lane, turns),
+        }
+    }
+
+    fn work_lane(&mut self, rt: &impl Wait, lane: u16, turns: u64) -> Tally {
+        match self.config.homes().get(usize::from(lane)) {
+            Some(home) if lane < self.proxy.lanes() => lane_worker(
+                rt,
+                self.alloc,
+                &self.proxy,
+                lane,
+                home,
+                &mut self.lane,
+                &self.gate,
+                turns,
+            ),
+            _ => tally(0, [0, 0, 0]),
+        }
+    }
+
+    /// The wire of a worker.
+    pub fn wire(&mut self, worker: Worker) -> &mut MemoryWire {
+        match worker {
+            Worker::Front => &mut self.front,
+            Worker::Lane(_) => &mut self.lane,
+        }
     }
 
     /// The answer to a request at moment 0; nothing where it is none.
@@ -78,8 +136,11 @@ impl TestProxy {
     }
 
     /// The next response of a lane.
-    pub fn take(&mut self, lane: usize) -> Option<Outgoing> {
-        self.inlets.as_mut_slice().get_mut(lane)?.take()
+    pub fn take(&mut self, lane: u16) -> Option<Outgoing> {
+        self.inlets
+            .as_mut_slice()
+            .get_mut(usize::from(lane))?
+            .take()
     }
 
     pub fn close(self) -> Result<Report, CloseFault> {
@@ -96,6 +157,16 @@ impl TestProxy {
 
     /// Lets it go, so that no test has to show that it may.
     pub fn end(self) {}
+}
+
+/// What a worker did: its turns, what came, what was handed over and what failed.
+pub fn tally(turns: u64, did: [u64; 3]) -> Tally {
+    Tally {
+        turns,
+        received: did[0],
+        sent: did[1],
+        faults: did[2],
+    }
 }
 
 /// A proxy's answer to a request that was checked against a configuration, at moment 0; nothing where it is none.

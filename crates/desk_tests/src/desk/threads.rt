@@ -1,9 +1,10 @@
 //! A lane and the front in threads of their own.
 
+use super::closing::known;
 use super::comparing::{holds, same};
 use super::test_proxy::{TestProxy, accept, hear, step};
 use rad_desk::laws::agrees;
-use rad_desk::{DeskFault, Inlet, LaneEnd, Proxy, Report, Rest, Told};
+use rad_desk::{DeskFault, Inlet, LaneEnd, Proxy, Report, Told};
 use rad_lane::{Action, Answered, Outgoing, Stamp, Taken};
 use rad_packet::Datagram;
 use rad_realms::Config;
@@ -24,6 +25,9 @@ const REQUESTS: u16 = 300;
 
 /// How many of the responses are taken before the end.
 const TAKEN: usize = 298;
+
+/// How many of them are left.
+const LEFT: usize = 2;
 
 /// How often a thread looks again, a millisecond apart.
 const LOOKS: u32 = 10_000;
@@ -113,10 +117,8 @@ fn compare_responses(
     same(rt, answered.len(), usize::from(REQUESTS));
     for (serial, answer) in (0..REQUESTS).zip(answered) {
         let response = response_at(taken, rest, usize::from(serial));
-        assert!(rt;
-            is_given(answer, u64::from(serial), response),
-            "serial {serial}"
-        );
+        let is_given = is_given(answer, u64::from(serial), response);
+        same(rt, (serial, is_given), (serial, true));
     }
 }
 
@@ -134,11 +136,9 @@ fn is_of(stamp: &Stamp, count: u16) -> bool {
 fn compare_requests(rt: &impl Abort, accepted: &[Stamp], numbers: &[u64]) {
     let lengths = (accepted.len(), numbers.len());
     same(rt, lengths, (usize::from(REQUESTS), usize::from(REQUESTS)));
-    for (count, stamp) in (0..REQUESTS).zip(accepted) {
-        assert!(rt; is_of(stamp, count), "request {count}");
-    }
-    for (count, number) in (0..REQUESTS).zip(numbers) {
-        assert!(rt; *number == u64::from(count), "request {count}");
+    for ((count, stamp), number) in (0..REQUESTS).zip(accepted).zip(numbers) {
+        same(rt, (count, is_of(stamp, count)), (count, true));
+        same(rt, *number, u64::from(count));
     }
 }
 
@@ -162,14 +162,12 @@ fn in_threads<R: Clock + Threads + Wait + Sync>(
 
 /// Compares what was taken, and what was left, with what the only lane kept.
 fn compare(rt: &impl Abort, taken: &[Outgoing], end: &LaneEnd, numbers: &[u64]) {
-    match &end.rest {
-        Rest::Known(rest) => {
-            let rest = rest.as_slice();
-            same(rt, taken.len(), TAKEN);
-            same(rt, rest.len(), usize::from(REQUESTS) - TAKEN);
+    match known(end) {
+        Some(rest) => {
+            same(rt, (taken.len(), rest.len()), (TAKEN, LEFT));
             compare_responses(rt, taken, rest, end.answered.as_slice());
         }
-        Rest::Unknown => assert!(rt; false, "the rest is known"),
+        None => holds(rt, false),
     }
     compare_requests(rt, end.accepted.as_slice(), numbers);
 }
@@ -183,7 +181,7 @@ fn give_back(proxy: &mut TestProxy, inlet: Inlet) -> bool {
 fn compare_end(rt: &impl Abort, report: &Report, taken: &[Outgoing], numbers: &[u64]) {
     match report.ends.as_slice() {
         [end] => compare(rt, taken, end, numbers),
-        _ => assert!(rt; false, "an end"),
+        _ => holds(rt, false),
     }
 }
 

@@ -1,72 +1,73 @@
 //! The calls through the lock of a lane, of which no clause says which lane they reached.
 
-use super::comparing::{holds, same};
-use super::test_desk::{OTHER_HOME, config, slot};
+use super::comparing::same;
+use super::playing::{Event, IDLE, Story, play};
+use super::test_desk::{TWO_HOMES, config};
 use super::test_proxy::{TestProxy, accept};
 use rad_desk::{DeskFault, Told};
-use rad_lane::{Action, HearFault, Refusal, Taken, TurnFault};
+use rad_lane::{Counts, HearFault, Refusal, Taken, TurnFault};
 use std::process::Abort;
 use std::sync::Wait;
 use std::test::Fail;
 use test_octets::homes::{OTHER_FORWARDED, OTHER_REPLY};
 use test_octets::nas::{OTHER_REQUEST, OTHER_RESPONSE, REQUEST};
 
+const UNKNOWN: DeskFault = DeskFault::Lane(HearFault::Unknown);
+
+/// The second of two lanes sends a request, and answers it.
+const SERVED_BY_SECOND: &[Event<'static>] = &[
+    Event::Lanes(2, 2),
+    Event::Accept(&OTHER_REQUEST, Ok(Taken::New(0))),
+    Event::Idle(0),
+    Event::Send(1, 0, 0, &OTHER_FORWARDED),
+    Event::Hear(0, &OTHER_REPLY, Err(UNKNOWN)),
+    Event::Hear(1, &OTHER_REPLY, Ok(Told::Answer(0))),
+    Event::Take(0, &[]),
+    Event::Take(1, &OTHER_RESPONSE),
+];
+
+/// Two lanes are drained, of which the second answered a request, and turned.
+const DRAINED_AND_TURNED: Story<'static> = Story {
+    more: TWO_HOMES,
+    scenes: &[
+        SERVED_BY_SECOND,
+        &[
+            Event::Drain(0, 0),
+            Event::Stands(
+                0,
+                Counts {
+                    draining: true,
+                    ..IDLE
+                },
+            ),
+            Event::Stands(
+                1,
+                Counts {
+                    accepted: 1,
+                    answered: 1,
+                    ..IDLE
+                },
+            ),
+            Event::Drain(1, 1),
+            Event::Cut(0, Err(TurnFault::NothingToTurn)),
+            Event::Cut(1, Ok(1)),
+            Event::Stands(
+                1,
+                Counts {
+                    opening: 1,
+                    accepted: 1,
+                    answered: 1,
+                    draining: true,
+                    ..IDLE
+                },
+            ),
+        ],
+    ],
+};
+
 #[test]
 fn calls_reach_their_own_lane(rt: HostRuntime) -> Result<(), Fail> {
-    let mut proxy = TestProxy::new(rt.alloc(), OTHER_HOME)?;
-    send_second(&rt, &mut proxy);
-    answer_second(&rt, &mut proxy);
-    drain_each(&rt, &proxy);
-    turn_each(&rt, &proxy);
-    proxy.end();
-    Ok(())
-}
-
-/// Has the second of two lanes send a request.
-fn send_second<R: Wait + Abort>(rt: &R, proxy: &mut TestProxy) {
-    same(rt, (proxy.proxy.lanes(), proxy.inlets.len()), (2, 2));
-    let taken = proxy.accept(rt, &OTHER_REQUEST);
-    same(rt, taken, Some(Ok(Taken::New(0))));
-    same(rt, proxy.step(rt, 0), Some(Action::Idle(None)));
-    same(rt, proxy.step(rt, 1), Some(Action::Sent(0, slot(0))));
-    holds(rt, proxy.octets() == OTHER_FORWARDED.as_slice());
-}
-
-/// Has the second lane answer it.
-fn answer_second<R: Wait + Abort>(rt: &R, proxy: &mut TestProxy) {
-    let unknown = DeskFault::Lane(HearFault::Unknown);
-    same(rt, proxy.hear(rt, 0, &OTHER_REPLY), Some(Err(unknown)));
-    same(
-        rt,
-        proxy.hear(rt, 1, &OTHER_REPLY),
-        Some(Ok(Told::Answer(0))),
-    );
-    holds(rt, proxy.take(0).is_none());
-    let response = proxy.take(1).expect(rt, "a response");
-    holds(rt, response.reply.response() == OTHER_RESPONSE.as_slice());
-}
-
-/// Drains two lanes, of which the second answered a request.
-fn drain_each<R: Wait + Abort>(rt: &R, proxy: &TestProxy) {
-    same(rt, proxy.drain(rt, 0), Some(0));
-    let (first, second) = (state(rt, proxy, 0), state(rt, proxy, 1));
-    same(rt, first, Some((true, 0, 0)));
-    same(rt, second, Some((false, 1, 0)));
-    same(rt, proxy.drain(rt, 1), Some(1));
-}
-
-/// Turns them.
-fn turn_each<R: Wait + Abort>(rt: &R, proxy: &TestProxy) {
-    let nothing = Err(TurnFault::NothingToTurn);
-    same(rt, proxy.turn(rt, 0), Some(nothing));
-    same(rt, proxy.turn(rt, 1), Some(Ok(1)));
-    same(rt, state(rt, proxy, 1), Some((true, 1, 1)));
-}
-
-/// Whether a lane is drained, how many requests it answered, and the first that its book still holds.
-fn state(rt: &impl Wait, proxy: &TestProxy, lane: u16) -> Option<(bool, u64, u64)> {
-    let counts = proxy.counts(rt, lane)?;
-    Some((counts.draining, counts.answered, counts.opening))
+    play(&rt, rt.alloc(), &DRAINED_AND_TURNED)
 }
 
 /// A second realm of the first home server.
@@ -76,15 +77,19 @@ name = "other.org"
 home = "h1"
 "#;
 
+/// Refuses a request that was checked against another configuration, which goes on with these lines.
+fn refuse_other<R: Wait + Abort>(rt: &R, proxy: &TestProxy, more: &str) -> Result<(), Fail> {
+    let other = config(proxy.alloc, more)?;
+    let taken = accept(rt, proxy.alloc, &proxy.proxy, &other, &OTHER_REQUEST);
+    same(rt, taken, Some(Err(Refusal::WrongLane)));
+    Ok(())
+}
+
 /// Has requests accepted that were checked against other configurations, and then one of its own.
 fn accept_each<R: Wait + Abort>(rt: &R, proxy: &TestProxy) -> Result<(), Fail> {
-    for more in [OTHER_HOME, OTHER_REALM] {
-        let other = config(proxy.alloc, more)?;
-        let taken = accept(rt, proxy.alloc, &proxy.proxy, &other, &OTHER_REQUEST);
-        same(rt, taken, Some(Err(Refusal::WrongLane)));
-    }
-    let taken = proxy.accept(rt, &REQUEST);
-    same(rt, taken, Some(Ok(Taken::New(0))));
+    refuse_other(rt, proxy, TWO_HOMES)?;
+    refuse_other(rt, proxy, OTHER_REALM)?;
+    same(rt, proxy.accept(rt, &REQUEST), Some(Ok(Taken::New(0))));
     Ok(())
 }
 

@@ -1,17 +1,11 @@
 //! What the workers do in a turn, over wires in memory: what each counts and tells, and where what it sends goes.
 
-use super::comparing::{holds, same};
-use super::home_workers::{
-    CLIENT, HOME, HomeWorkers, accepted, answered, front, lane, note, note_of, play, tally,
-};
-use super::test_desk::OTHER_HOME;
+use super::playing::{CLIENT, Event, FORWARD, FRONT, HOME, LANE, Story, play, play_each};
+use super::test_desk::TWO_HOMES;
 use super::test_gate::Telling;
 use rad_desk::{Call, Note};
 use rad_lane::Refusal;
 use rad_realms::{Dropped, Endpoint};
-use std::alloc::Global;
-use std::process::Abort;
-use std::sync::Wait;
 use std::test::Fail;
 use test_octets::homes::{
     FORWARDED, REPLY, SECOND_FORWARDED, SECOND_PROBE, SECOND_PROBE_ANSWER, SECOND_REPLY,
@@ -20,191 +14,342 @@ use test_octets::nas::{
     OTHER_REQUEST, REQUEST, RESPONSE, SECOND_REQUEST, SECOND_RESPONSE, STATUS, STATUS_ANSWER,
 };
 
+/// The request is answered, and its response is given, also to a repeat.
+const EACH_PART: Story<'static> = Story {
+    more: "",
+    scenes: &[
+        FORWARD,
+        &[
+            Event::Turn(LANE, &REPLY, [1, 0, 0], Some(Telling::Answered(0, 0)), &[]),
+            Event::Turn(
+                FRONT,
+                &[],
+                [0, 1, 0],
+                Some(Telling::Note(Note::Took(0, 0))),
+                &RESPONSE,
+            ),
+            Event::Turn(FRONT, &REQUEST, [1, 1, 0], None, &RESPONSE),
+            Event::Turn(LANE, &[], [0, 0, 0], None, &[]),
+        ],
+    ],
+};
+
 #[test]
 fn each_worker_does_its_part(rt: HostRuntime) -> Result<(), Fail> {
-    let turns = [
-        front(&REQUEST, [1, 0, 0], accepted(0), &[]),
-        lane(&[], [0, 1, 0], None, &FORWARDED),
-        lane(&REPLY, [1, 0, 0], answered(0), &[]),
-        front(&[], [0, 1, 0], note(Note::Took(0, 0)), &RESPONSE),
-        front(&REQUEST, [1, 1, 0], None, &RESPONSE),
-        lane(&[], [0, 0, 0], None, &[]),
-    ];
-    play(&rt, rt.alloc(), "", &turns)
+    play(&rt, rt.alloc(), &EACH_PART)
 }
+
+/// Both requests are taken, and both are answered. Then both responses are in the ring.
+const BOTH_ANSWERED: Story<'static> = Story {
+    more: "",
+    scenes: &[&[
+        Event::Tick(1),
+        Event::Turn(
+            FRONT,
+            &REQUEST,
+            [1, 0, 0],
+            Some(Telling::Accepted(0, 0)),
+            &[],
+        ),
+        Event::Turn(LANE, &[], [0, 1, 0], None, &FORWARDED),
+        Event::Turn(
+            FRONT,
+            &SECOND_REQUEST,
+            [1, 0, 0],
+            Some(Telling::Accepted(0, 1)),
+            &[],
+        ),
+        Event::Turn(LANE, &[], [0, 1, 0], None, &SECOND_FORWARDED),
+        Event::Turn(LANE, &REPLY, [1, 0, 0], Some(Telling::Answered(0, 0)), &[]),
+        Event::Turn(
+            LANE,
+            &SECOND_REPLY,
+            [1, 0, 0],
+            Some(Telling::Answered(0, 1)),
+            &[],
+        ),
+        Event::Turns(
+            FRONT,
+            1,
+            1,
+            [0, 1, 0],
+            Some(Telling::Note(Note::Took(0, 0))),
+            &RESPONSE,
+        ),
+        Event::Turns(
+            FRONT,
+            3,
+            3,
+            [0, 1, 0],
+            Some(Telling::Note(Note::Took(0, 1))),
+            &SECOND_RESPONSE,
+        ),
+    ]],
+};
 
 #[test]
 fn the_front_holds_no_response_back(rt: HostRuntime) -> Result<(), Fail> {
-    let mut workers = HomeWorkers::new(rt.alloc(), "")?;
-    workers.lane.tick = 1;
-    answer_both(&rt, &mut workers);
-    assert_eq!(rt; workers.front(&rt, 1), tally(1, [0, 1, 0]));
-    assert!(rt; workers.front.sent(CLIENT, &RESPONSE));
-    assert_eq!(rt; workers.front(&rt, 3), tally(3, [0, 1, 0]));
-    assert!(rt; workers.front.sent(CLIENT, &SECOND_RESPONSE));
-    workers.end();
-    Ok(())
+    play(&rt, rt.alloc(), &BOTH_ANSWERED)
 }
 
-/// Both requests are taken, and both are answered.
-fn answer_both<R: Wait + Abort>(rt: &R, workers: &mut HomeWorkers) {
-    let turns = [
-        front(&REQUEST, [1, 0, 0], accepted(0), &[]),
-        lane(&[], [0, 1, 0], None, &FORWARDED),
-        front(&SECOND_REQUEST, [1, 0, 0], accepted(1), &[]),
-        lane(&[], [0, 1, 0], None, &SECOND_FORWARDED),
-        lane(&REPLY, [1, 0, 0], answered(0), &[]),
-        lane(&SECOND_REPLY, [1, 0, 0], answered(1), &[]),
-    ];
-    workers.play(rt, &turns);
-}
+/// The home server's address with another port.
+const OTHER_PORT: Endpoint = Endpoint {
+    address: [127, 0, 0, 1],
+    port: 2814,
+};
+
+/// Another address with the home server's port.
+const OTHER_ADDRESS: Endpoint = Endpoint {
+    address: [127, 0, 0, 2],
+    port: 2813,
+};
+
+/// The reply comes from each of them.
+const FROM_ELSEWHERE: &[Story<'static>] = &[
+    Story {
+        more: "",
+        scenes: &[
+            FORWARD,
+            &[
+                Event::From(OTHER_PORT),
+                Event::Turn(
+                    LANE,
+                    &REPLY,
+                    [1, 0, 0],
+                    Some(Telling::Of(OTHER_PORT, Note::NotHome)),
+                    &[],
+                ),
+                Event::Turn(FRONT, &[], [0, 0, 0], None, &[]),
+            ],
+        ],
+    },
+    Story {
+        more: "",
+        scenes: &[
+            FORWARD,
+            &[
+                Event::From(OTHER_ADDRESS),
+                Event::Turn(
+                    LANE,
+                    &REPLY,
+                    [1, 0, 0],
+                    Some(Telling::Of(OTHER_ADDRESS, Note::NotHome)),
+                    &[],
+                ),
+                Event::Turn(FRONT, &[], [0, 0, 0], None, &[]),
+            ],
+        ],
+    },
+];
 
 #[test]
 fn a_reply_from_elsewhere_is_dropped(rt: HostRuntime) -> Result<(), Fail> {
-    for (address, port) in [([127, 0, 0, 1], 2814), ([127, 0, 0, 2], 2813)] {
-        drop_from(&rt, rt.alloc(), Endpoint { address, port })?;
-    }
-    Ok(())
+    play_each(&rt, rt.alloc(), FROM_ELSEWHERE)
 }
 
-/// Has the reply come from there, which is not the home server.
-fn drop_from<R: Wait + Abort>(rt: &R, alloc: Global, elsewhere: Endpoint) -> Result<(), Fail> {
-    let mut workers = HomeWorkers::new(alloc, "")?;
-    forward(rt, &mut workers);
-    let dropped = note_of(elsewhere, Note::NotHome);
-    let turns = [
-        lane(&REPLY, [1, 0, 0], dropped, &[]).from(elsewhere),
-        front(&[], [0, 0, 0], None, &[]),
-    ];
-    workers.play(rt, &turns);
-    workers.end();
-    Ok(())
-}
+const UNKNOWN_CLIENT: Telling = Telling::Of(HOME, Note::Dropped(Dropped::UnknownClient));
 
-/// A turn of each worker, after which the request is with its home server.
-pub fn forward<R: Wait + Abort>(rt: &R, workers: &mut HomeWorkers) {
-    let turns = [
-        front(&REQUEST, [1, 0, 0], accepted(0), &[]),
-        lane(&[], [0, 1, 0], None, &FORWARDED),
-    ];
-    workers.play(rt, &turns);
-}
+const STATUSES: Story<'static> = Story {
+    more: "",
+    scenes: &[&[
+        Event::Turn(FRONT, &STATUS, [1, 1, 0], None, &STATUS_ANSWER),
+        Event::From(HOME),
+        Event::Turn(FRONT, &STATUS, [1, 0, 0], Some(UNKNOWN_CLIENT), &[]),
+    ]],
+};
 
 #[test]
 fn the_front_answers_and_drops(rt: HostRuntime) -> Result<(), Fail> {
-    let mut workers = HomeWorkers::new(rt.alloc(), "")?;
-    workers.play(&rt, &[front(&STATUS, [1, 1, 0], None, &STATUS_ANSWER)]);
-    let dropped = note_of(HOME, Note::Dropped(Dropped::UnknownClient));
-    workers.play(&rt, &[front(&STATUS, [1, 0, 0], dropped, &[]).from(HOME)]);
-    workers.end();
-    Ok(())
+    play(&rt, rt.alloc(), &STATUSES)
 }
+
+const WORK_FOR_EACH: Story<'static> = Story {
+    more: TWO_HOMES,
+    scenes: &[&[
+        Event::Turn(
+            FRONT,
+            &OTHER_REQUEST,
+            [1, 0, 0],
+            Some(Telling::Accepted(1, 0)),
+            &[],
+        ),
+        Event::Turn(
+            FRONT,
+            &REQUEST,
+            [1, 0, 0],
+            Some(Telling::Accepted(0, 0)),
+            &[],
+        ),
+        Event::Turn(FRONT, &REQUEST, [1, 0, 0], None, &[]),
+    ]],
+};
 
 #[test]
 fn a_gate_is_told_whose_lane_has_work(rt: HostRuntime) -> Result<(), Fail> {
-    let other = Some(Telling::Accepted(1, 0));
-    let turns = [
-        front(&OTHER_REQUEST, [1, 0, 0], other, &[]),
-        front(&REQUEST, [1, 0, 0], accepted(0), &[]),
-        front(&REQUEST, [1, 0, 0], None, &[]),
-    ];
-    play(&rt, rt.alloc(), OTHER_HOME, &turns)
+    play(&rt, rt.alloc(), &WORK_FOR_EACH)
 }
+
+const QUEUE_FULL: Telling = Telling::Of(CLIENT, Note::Refused(Refusal::QueueFull));
+
+const ONE_TOO_MANY: Story<'static> = Story {
+    more: "queue = 1\n",
+    scenes: &[&[
+        Event::Turn(
+            FRONT,
+            &REQUEST,
+            [1, 0, 0],
+            Some(Telling::Accepted(0, 0)),
+            &[],
+        ),
+        Event::Turn(FRONT, &SECOND_REQUEST, [1, 0, 0], Some(QUEUE_FULL), &[]),
+    ]],
+};
 
 #[test]
 fn a_refusal_is_of_what_came_last(rt: HostRuntime) -> Result<(), Fail> {
-    let refused = note_of(CLIENT, Note::Refused(Refusal::QueueFull));
-    let turns = [
-        front(&REQUEST, [1, 0, 0], accepted(0), &[]),
-        front(&SECOND_REQUEST, [1, 0, 0], refused, &[]),
-    ];
-    play(&rt, rt.alloc(), "queue = 1\n", &turns)
+    play(&rt, rt.alloc(), &ONE_TOO_MANY)
 }
+
+const STOPPED: Story<'static> = Story {
+    more: "",
+    scenes: &[&[
+        Event::Stops(Call::Take),
+        Event::Turns(FRONT, 9, 1, [0, 0, 0], None, &[]),
+        Event::Stops(Call::Step),
+        Event::Turn(
+            FRONT,
+            &REQUEST,
+            [1, 0, 0],
+            Some(Telling::Accepted(0, 0)),
+            &[],
+        ),
+        Event::Turns(LANE, 9, 1, [0, 0, 0], None, &[]),
+    ]],
+};
 
 #[test]
 fn a_gate_stops_each_worker(rt: HostRuntime) -> Result<(), Fail> {
-    let mut workers = HomeWorkers::new(rt.alloc(), "")?;
-    workers.gate.stops = Some(Call::Take);
-    same(&rt, workers.front(&rt, 9), tally(1, [0, 0, 0]));
-    workers.gate.stops = Some(Call::Step);
-    workers.play(&rt, &[front(&REQUEST, [1, 0, 0], accepted(0), &[])]);
-    same(&rt, workers.lane(&rt, 9), tally(1, [0, 0, 0]));
-    holds(&rt, workers.lane.sent(HOME, &[]));
-    workers.end();
-    Ok(())
+    play(&rt, rt.alloc(), &STOPPED)
 }
+
+const DOWN_AND_UP: Story<'static> = Story {
+    more: "tries = 1\n",
+    scenes: &[
+        FORWARD,
+        &[
+            Event::Turn(
+                FRONT,
+                &SECOND_REQUEST,
+                [1, 0, 0],
+                Some(Telling::Accepted(0, 1)),
+                &[],
+            ),
+            Event::Turn(LANE, &[], [0, 1, 0], None, &SECOND_FORWARDED),
+            Event::Turn(
+                LANE,
+                &[],
+                [0, 0, 0],
+                Some(Telling::Note(Note::WentDown)),
+                &[],
+            ),
+            Event::Turn(LANE, &[], [0, 1, 0], None, &SECOND_PROBE),
+            Event::Turn(
+                LANE,
+                &SECOND_PROBE_ANSWER,
+                [1, 1, 0],
+                Some(Telling::Note(Note::WentUp)),
+                &FORWARDED,
+            ),
+        ],
+    ],
+};
 
 #[test]
 fn a_probes_answer_takes_a_lane_up(rt: HostRuntime) -> Result<(), Fail> {
-    let turns = [
-        front(&REQUEST, [1, 0, 0], accepted(0), &[]),
-        lane(&[], [0, 1, 0], None, &FORWARDED),
-        front(&SECOND_REQUEST, [1, 0, 0], accepted(1), &[]),
-        lane(&[], [0, 1, 0], None, &SECOND_FORWARDED),
-        lane(&[], [0, 0, 0], note(Note::WentDown), &[]),
-        lane(&[], [0, 1, 0], None, &SECOND_PROBE),
-        lane(
-            &SECOND_PROBE_ANSWER,
-            [1, 1, 0],
-            note(Note::WentUp),
-            &FORWARDED,
-        ),
-    ];
-    play(&rt, rt.alloc(), "tries = 1\n", &turns)
+    play(&rt, rt.alloc(), &DOWN_AND_UP)
 }
+
+const CUT_AT_ONCE: Story<'static> = Story {
+    more: "book = 2\nspan = 0\n",
+    scenes: &[
+        FORWARD,
+        &[
+            Event::Turn(LANE, &[], [0, 0, 0], None, &[]),
+            Event::Turn(
+                LANE,
+                &REPLY,
+                [1, 0, 0],
+                Some(Telling::Note(Note::Cut(1))),
+                &[],
+            ),
+        ],
+    ],
+};
 
 #[test]
 fn a_half_full_book_is_cut(rt: HostRuntime) -> Result<(), Fail> {
-    let turns = [
-        front(&REQUEST, [1, 0, 0], accepted(0), &[]),
-        lane(&[], [0, 1, 0], None, &FORWARDED),
-        lane(&[], [0, 0, 0], None, &[]),
-        lane(&REPLY, [1, 0, 0], note(Note::Cut(1)), &[]),
-    ];
-    play(&rt, rt.alloc(), "book = 2\nspan = 0\n", &turns)
+    play(&rt, rt.alloc(), &CUT_AT_ONCE)
 }
+
+/// The clock stands.
+const STANDING: &[Event<'static>] = &[Event::Tick(0)];
+
+/// The request is answered, and a span later it is cut.
+const CUT_AFTER_SPAN: Story<'static> = Story {
+    more: "book = 2\nspan = 30000\n",
+    scenes: &[
+        STANDING,
+        FORWARD,
+        &[
+            Event::Turn(LANE, &REPLY, [1, 0, 0], Some(Telling::Answered(0, 0)), &[]),
+            Event::Start(29_999),
+            Event::Tick(1),
+            Event::Turn(LANE, &[], [0, 0, 0], None, &[]),
+            Event::Turn(LANE, &[], [0, 0, 0], Some(Telling::Note(Note::Cut(1))), &[]),
+            Event::Turn(LANE, &[], [0, 0, 0], None, &[]),
+            Event::Turned(3),
+        ],
+    ],
+};
 
 #[test]
 fn a_request_is_cut_once_its_span_is_over(rt: HostRuntime) -> Result<(), Fail> {
-    let mut workers = HomeWorkers::new(rt.alloc(), "book = 2\nspan = 30000\n")?;
-    workers.lane.tick = 0;
-    answer(&rt, &mut workers);
-    workers.lane.start_at(29_999);
-    workers.lane.tick = 1;
-    let turns = [
-        lane(&[], [0, 0, 0], None, &[]),
-        lane(&[], [0, 0, 0], note(Note::Cut(1)), &[]),
-        lane(&[], [0, 0, 0], None, &[]),
-    ];
-    workers.play(&rt, &turns);
-    same(&rt, workers.gate.turns(), 3);
-    workers.end();
-    Ok(())
+    play(&rt, rt.alloc(), &CUT_AFTER_SPAN)
 }
 
-/// The request is taken and answered.
-fn answer<R: Wait + Abort>(rt: &R, workers: &mut HomeWorkers) {
-    forward(rt, workers);
-    workers.play(rt, &[lane(&REPLY, [1, 0, 0], answered(0), &[])]);
-}
+/// The worker comes by each millisecond.
+const EACH_MILLISECOND: &[Event<'static>] = &[Event::Tick(1)];
+
+/// The lane's worker has nothing else to do while the request is out.
+const WITHOUT_WORK: &[Event<'static>] = &[Event::Turns(LANE, 31, 31, [0, 0, 0], None, &[])];
+
+/// A book of three has its lane cut off what is over at no turn, and one of two or of one at each.
+const HALF_FULL: &[Story<'static>] = &[
+    Story {
+        more: "book = 3\n",
+        scenes: &[EACH_MILLISECOND, FORWARD, WITHOUT_WORK, &[Event::Turned(0)]],
+    },
+    Story {
+        more: "book = 2\n",
+        scenes: &[
+            EACH_MILLISECOND,
+            FORWARD,
+            WITHOUT_WORK,
+            &[Event::Turned(31)],
+        ],
+    },
+    Story {
+        more: "book = 1\n",
+        scenes: &[
+            EACH_MILLISECOND,
+            FORWARD,
+            WITHOUT_WORK,
+            &[Event::Turned(31)],
+        ],
+    },
+];
 
 #[test]
 fn each_idle_step_turns_a_book_that_is_half_full(rt: HostRuntime) -> Result<(), Fail> {
-    for (more, turns) in [("book = 3\n", 0), ("book = 2\n", 31), ("book = 1\n", 31)] {
-        let turned = turns_in_31_idle_steps(&rt, rt.alloc(), more)?;
-        same(&rt, turned, turns);
-    }
-    Ok(())
-}
-
-/// How many times a worker that has nothing else to do, and comes by each millisecond, has its lane cut off what is over, where
-/// the book holds one request that is out.
-fn turns_in_31_idle_steps<R: Wait + Abort>(rt: &R, alloc: Global, more: &str) -> Result<u64, Fail> {
-    let mut workers = HomeWorkers::new(alloc, more)?;
-    workers.lane.tick = 1;
-    forward(rt, &mut workers);
-    same(rt, workers.lane(rt, 31), tally(31, [0, 0, 0]));
-    let turns = workers.gate.turns();
-    workers.end();
-    Ok(turns)
+    play_each(&rt, rt.alloc(), HALF_FULL)
 }
