@@ -17,7 +17,6 @@ use rad_desk::{Inlet, Proxy, Tally, Worker, front_worker, lane_worker, open};
 use rad_realms::{Config, read_config};
 use std::alloc::Global;
 use std::cell::Cell;
-use std::mem::forget;
 use std::sync::Wait;
 
 /// What a run came to.
@@ -124,18 +123,11 @@ fn books_of(alloc: Global, setting: &Setting) -> Result<Books, Rule> {
     Ok(Books { books, default })
 }
 
-/// Closes a proxy, and compares what is left. It is not dropped, since its drop would be proved once more for each type in it.
+/// Closes a proxy, and compares what is left.
 fn close(alloc: Global, proxy: Proxy, inlets: Vec<Inlet>, books: &[Book]) -> Result<(), Rule> {
     match proxy.close(alloc, inlets) {
-        Ok(mut report) => {
-            let compared = compare_end(&mut report, books);
-            forget(report);
-            compared
-        }
-        Err(fault) => {
-            forget(fault);
-            Err(Rule::MEMORY)
-        }
+        Ok(mut report) => compare_end(&mut report, books),
+        Err(_) => Err(Rule::MEMORY),
     }
 }
 
