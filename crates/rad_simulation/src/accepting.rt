@@ -22,13 +22,16 @@ impl Book {
     /// The last request with this key.
     fn last_of(&self, from: Endpoint, packet: &PacketRef<'_>) -> Option<u64> {
         let (identifier, authenticator) = (packet.identifier(), packet.authenticator());
-        let asked = self.asked.as_slice();
-        let last = asked.iter().rposition(|asked| {
-            asked.authenticator == authenticator
+        let mut last = None;
+        for (place, asked) in self.asked.as_slice().iter().enumerate() {
+            if asked.authenticator == authenticator
                 && asked.identifier == identifier
                 && asked.from == from
-        })?;
-        Some(last as u64)
+            {
+                last = Some(place as u64);
+            }
+        }
+        last
     }
 
     /// Takes a request of the lane.

@@ -118,8 +118,13 @@ impl Book {
 
     /// How many requests are out; a probe is none.
     pub fn outstanding(&self) -> usize {
-        let out = self.out.as_slice();
-        out.iter().filter(|out| out.number.is_some()).count()
+        let mut count: usize = 0;
+        for out in self.out.as_slice() {
+            if out.number.is_some() {
+                count = count.saturating_add(1);
+            }
+        }
+        count
     }
 
     /// How many responses wait to be taken.

@@ -20,21 +20,29 @@ pub fn compare_end(report: &mut Report, books: &[Book]) -> Result<(), Rule> {
 
 /// Compares what is left of a lane.
 fn compare_lane(end: &LaneEnd, book: &Book) -> Result<(), Rule> {
-    Rule::CLOSE_COUNTS.unless(end.lane == book.lane && end.counts == book.counts())?;
-    Rule::CLOSE_ACCEPTED.unless(are_accepted(end.accepted.as_slice(), book))?;
-    Rule::CLOSE_ANSWERED.unless(are_answered(end.answered.as_slice(), book))?;
-    Rule::CLOSE_OUTSTANDING.unless(are_outstanding(end, book))?;
+    if end.lane != book.lane || end.counts != book.counts() {
+        return Err(Rule::CLOSE_COUNTS);
+    }
+    if !are_accepted(end.accepted.as_slice(), book) {
+        return Err(Rule::CLOSE_ACCEPTED);
+    }
+    if !are_answered(end.answered.as_slice(), book) {
+        return Err(Rule::CLOSE_ANSWERED);
+    }
+    if !are_outstanding(end, book) {
+        return Err(Rule::CLOSE_OUTSTANDING);
+    }
     Rule::CLOSE_REST.unless(are_untaken(&end.rest, book))
 }
 
 /// Whether these are the requests that the book holds, in order of accepting.
 fn are_accepted(stamps: &[Stamp], book: &Book) -> bool {
-    let numbers = book.opening..book.accepted();
+    for (place, stamp) in stamps.iter().enumerate() {
+        if !is_stamp(stamp, book.opening.saturating_add(place as u64), book) {
+            return false;
+        }
+    }
     stamps.len() as u64 == book.held()
-        && stamps
-            .iter()
-            .zip(numbers)
-            .all(|(stamp, number)| is_stamp(stamp, number, book))
 }
 
 /// Whether a stamp is that of the request of a number.
@@ -79,8 +87,12 @@ fn is_answer(answer: &Answered, serial: u64, number: u64, book: &Book) -> bool {
 
 /// Whether what is outstanding is what is out in the book, each under its pair.
 fn are_outstanding(end: &LaneEnd, book: &Book) -> bool {
-    let out = book.out.as_slice();
-    end.outstanding.used() == book.outstanding() && out.iter().all(|out| is_outstanding(end, out))
+    for out in book.out.as_slice() {
+        if !is_outstanding(end, out) {
+            return false;
+        }
+    }
+    end.outstanding.used() == book.outstanding()
 }
 
 fn is_outstanding(end: &LaneEnd, out: &Out) -> bool {
@@ -105,13 +117,12 @@ fn are_untaken(rest: &Rest, book: &Book) -> bool {
     let Rest::Known(rest) = rest else {
         return false;
     };
-    let rest = rest.as_slice();
-    let serials = book.taken..book.answers.len();
-    rest.len() == book.untaken()
-        && rest
-            .iter()
-            .zip(serials)
-            .all(|(outgoing, serial)| is_outgoing(outgoing, serial, book))
+    for (place, outgoing) in rest.as_slice().iter().enumerate() {
+        if !is_outgoing(outgoing, book.taken.saturating_add(place), book) {
+            return false;
+        }
+    }
+    rest.as_slice().len() == book.untaken()
 }
 
 fn is_outgoing(outgoing: &Outgoing, serial: usize, book: &Book) -> bool {

@@ -47,26 +47,32 @@ pub struct Gone {
     pub is_handed_over: bool,
 }
 
-/// What a gate is told of a lane, by its number.
+/// What a gate is asked or told without octets.
 #[derive(Clone, Copy)]
-pub enum Telling {
+pub enum Sign {
+    /// The gate is asked before a call.
+    Before(Call, Go),
+    /// The gate is told that a call was made.
+    After(Call),
+    Noted(Note),
     Accepted(u16, u64),
     Answered(u16, u64),
     WentUp(u16, UpReason),
     Marked(u16, Endpoint, u64),
+    /// The gate is asked or told in the name of another worker.
+    OfAnother,
 }
 
-impl Telling {
-    /// Whether it is this one.
-    pub fn is(self, other: Telling) -> bool {
+impl Sign {
+    /// Whether it is this one, which tells something.
+    pub fn is(self, other: Sign) -> bool {
         match (self, other) {
-            (Telling::Accepted(lane, number), Telling::Accepted(of, its)) => lane == of
-                && number == its,
-            (Telling::Answered(lane, serial), Telling::Answered(of, its)) => lane == of
-                && serial == its,
-            (Telling::WentUp(lane, reason), Telling::WentUp(of, its)) => lane == of
-                && reason == its,
-            (Telling::Marked(lane, from, marks), Telling::Marked(of, its, count)) => {
+            (Sign::After(call), Sign::After(of)) => call == of,
+            (Sign::Noted(note), Sign::Noted(of)) => note == of,
+            (Sign::Accepted(lane, number), Sign::Accepted(of, its)) => lane == of && number == its,
+            (Sign::Answered(lane, serial), Sign::Answered(of, its)) => lane == of && serial == its,
+            (Sign::WentUp(lane, reason), Sign::WentUp(of, its)) => lane == of && reason == its,
+            (Sign::Marked(lane, from, marks), Sign::Marked(of, its, count)) => {
                 lane == of && from == its && marks == count
             }
             _ => false,
@@ -93,14 +99,7 @@ pub enum Event {
     Drew([u8; 16]),
     /// The wire sent this.
     Went(Gone),
-    /// The gate is asked before a call.
-    Before(Call, Go),
-    /// The gate is told that a call was made.
-    After(Call),
-    Noted(Note),
-    Told(Telling),
-    /// The gate is asked or told in the name of another worker.
-    OfAnother,
+    Signed(Sign),
     /// The gate is told of a datagram that came from there.
     ToldReceived(Endpoint, Vec<u8>),
     /// The gate is told of a datagram that is to go there.

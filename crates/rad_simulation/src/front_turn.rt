@@ -2,7 +2,7 @@
 
 use crate::accepting::Taking;
 use crate::book::Book;
-use crate::events::{Mail, Telling};
+use crate::events::{Mail, Sign};
 use crate::making::{USER_NAME, first_value, plain_answer};
 use crate::rules::Rule;
 use crate::setting::{client_secret, realm_of_home};
@@ -37,36 +37,29 @@ pub struct Books {
 
 impl Books {
     /// Compares a turn. It gives whether the front goes on.
-    pub fn front_turn(&mut self, walk: &mut Walk<'_>) -> Result<bool, Rule> {
-        let (moment, coming) = walk.begins()?;
+    pub fn front_turn(&mut self, walk: &mut Walk<'_>) -> bool {
+        let (moment, coming) = walk.begins();
         let goes_on = match coming {
-            Some(mail) => self.take_in(moment, mail, walk)?,
+            Some(mail) => self.take_in(moment, mail, walk),
             None => true,
         };
-        if !goes_on {
-            return Ok(false);
-        }
-        self.hand_out(walk)
+        goes_on && self.hand_out(walk)
     }
 
     /// What came is dropped, answered, or led to its lane.
-    fn take_in(&mut self, moment: u64, mail: &Mail, walk: &mut Walk<'_>) -> Result<bool, Rule> {
+    fn take_in(&mut self, moment: u64, mail: &Mail, walk: &mut Walk<'_>) -> bool {
         match self.kind_of(mail) {
-            Ok(Kind::Request(place, packet)) => {
-                return self.accept(place, moment, mail, &packet, walk);
-            }
+            Ok(Kind::Request(place, packet)) => self.accept(place, moment, mail, &packet, walk),
             Ok(Kind::Status(packet, secret)) => {
                 let made = plain_answer(packet.identifier(), &packet.authenticator(), &secret);
-                answer(mail.socket, mail.from, made.bytes(), Rule::STATUS, walk)?;
+                answer(mail.socket, mail.from, made.bytes(), Rule::STATUS, walk);
+                true
             }
             Err(reason) => {
-                if reason == Dropped::NoRealm {
-                    walk.told_no_realm(mail.octets.as_slice())?;
-                }
-                walk.notes(Note::Dropped(reason), Rule::DROPPED)?;
+                dropped(mail, reason, walk);
+                true
             }
         }
-        Ok(true)
     }
 
     /// What came, or why it is dropped.
@@ -104,10 +97,12 @@ impl Books {
         let Some(realm) = realm_of(first_value(packet, USER_NAME).unwrap_or(&[])) else {
             return self.default;
         };
-        let books = self.books.as_slice();
-        books.iter().position(|book| realm.eq_ignore_ascii_case(realm_of_home(
-            book.lane,
-        ).as_bytes()))
+        for (place, book) in self.books.as_slice().iter().enumerate() {
+            if realm.eq_ignore_ascii_case(realm_of_home(book.lane).as_bytes()) {
+                return Some(place);
+            }
+        }
+        None
     }
 
     /// A request comes to its lane.
@@ -118,76 +113,117 @@ impl Books {
         mail: &Mail,
         packet: &PacketRef<'_>,
         walk: &mut Walk<'_>,
-    ) -> Result<bool, Rule> {
-        let Some(book) = self.books.as_mut_slice().get_mut(place) else {
-            return Err(Rule::ACCEPT);
-        };
-        if !walk.asks(Call::Accept, Rule::ACCEPT)? {
-            return Ok(false);
-        }
-        let marks = marks_of(packet);
-        if marks > 0 {
-            walk.tells(Telling::Marked(book.lane, mail.from, marks), Rule::MARKED)?;
-        }
-        walk.made(Call::Accept, Rule::ACCEPT)?;
-        match book.accept(mail.from, packet, moment)? {
-            Taking::New(number) => {
-                walk.tells(Telling::Accepted(book.lane, number), Rule::ACCEPTED)?;
+    ) -> bool {
+        match self.books.as_mut_slice().get_mut(place) {
+            Some(book) => accept(book, moment, mail, packet, walk),
+            None => {
+                walk.breaks(Rule::ACCEPT);
+                false
             }
-            Taking::Waiting => {}
-            Taking::Again(number) => {
-                let octets = book.response_of(number);
-                answer(mail.socket, mail.from, octets, Rule::AGAIN, walk)?;
-            }
-            Taking::Refused(refusal) => walk.notes(Note::Refused(refusal), Rule::REFUSED)?,
         }
-        Ok(true)
     }
 
     /// The front takes from each inlet once, and sends what it took.
-    fn hand_out(&mut self, walk: &mut Walk<'_>) -> Result<bool, Rule> {
+    fn hand_out(&mut self, walk: &mut Walk<'_>) -> bool {
         for book in self.books.as_mut_slice().iter_mut() {
-            if !walk.asks(Call::Take, Rule::TAKE)? {
-                return Ok(false);
+            if !walk.asks(Call::Take, Rule::TAKE) {
+                return false;
             }
-            walk.made(Call::Take, Rule::TAKE)?;
-            take(book, walk)?;
+            walk.meets(Sign::After(Call::Take), Rule::TAKE);
+            take(book, walk);
         }
-        Ok(true)
+        true
+    }
+}
+
+/// What came is dropped.
+fn dropped(mail: &Mail, reason: Dropped, walk: &mut Walk<'_>) {
+    if reason == Dropped::NoRealm {
+        walk.told_no_realm(mail.octets.as_slice());
+    }
+    walk.meets(Sign::Noted(Note::Dropped(reason)), Rule::DROPPED);
+}
+
+/// A lane takes a request, or not.
+fn accept(
+    book: &mut Book,
+    moment: u64,
+    mail: &Mail,
+    packet: &PacketRef<'_>,
+    walk: &mut Walk<'_>,
+) -> bool {
+    if !walk.asks(Call::Accept, Rule::ACCEPT) {
+        return false;
+    }
+    let marks = marks_of(packet);
+    if marks > 0 {
+        walk.meets(Sign::Marked(book.lane, mail.from, marks), Rule::MARKED);
+    }
+    walk.meets(Sign::After(Call::Accept), Rule::ACCEPT);
+    match book.accept(mail.from, packet, moment) {
+        Ok(taking) => taken(book, taking, mail, walk),
+        Err(rule) => walk.breaks(rule),
+    }
+    true
+}
+
+/// How a lane takes a request is told, or answered.
+fn taken(book: &Book, taking: Taking, mail: &Mail, walk: &mut Walk<'_>) {
+    match taking {
+        Taking::New(number) => walk.meets(Sign::Accepted(book.lane, number), Rule::ACCEPTED),
+        Taking::Waiting => {}
+        Taking::Again(number) => {
+            answer(
+                mail.socket,
+                mail.from,
+                book.response_of(number),
+                Rule::AGAIN,
+                walk,
+            );
+        }
+        Taking::Refused(refusal) => {
+            walk.meets(Sign::Noted(Note::Refused(refusal)), Rule::REFUSED);
+        }
     }
 }
 
 /// The next response of a lane, where there is one, goes to its client.
-fn take(book: &mut Book, walk: &mut Walk<'_>) -> Result<(), Rule> {
+fn take(book: &mut Book, walk: &mut Walk<'_>) {
     let Some((serial, number)) = book.take() else {
-        return Ok(());
+        return;
     };
     let Some(asked) = book.at(number) else {
-        return Err(Rule::CLIENT);
+        walk.breaks(Rule::CLIENT);
+        return;
     };
-    let response = asked.response.as_slice();
-    answer(0, asked.from, response, Rule::RESPONSE, walk)?;
-    walk.notes(Note::Took(book.lane, serial), Rule::TOOK)
+    answer(
+        0,
+        asked.from,
+        asked.response.as_slice(),
+        Rule::RESPONSE,
+        walk,
+    );
+    walk.meets(Sign::Noted(Note::Took(book.lane, serial)), Rule::TOOK);
 }
 
 /// These octets answer a client, from a socket.
-fn answer(
-    socket: u16,
-    client: Endpoint,
-    octets: &[u8],
-    rule: Rule,
-    walk: &mut Walk<'_>,
-) -> Result<(), Rule> {
-    let gone = walk.sends(octets, rule)?;
-    Rule::CLIENT.unless(gone.to == client)?;
-    Rule::LISTEN_SOCKET.unless(gone.socket == socket)?;
-    walk.counts(gone)
+fn answer(socket: u16, client: Endpoint, octets: &[u8], rule: Rule, walk: &mut Walk<'_>) {
+    if let Some(gone) = walk.sends(octets, rule) {
+        walk.keeps(Rule::CLIENT, gone.to == client);
+        walk.keeps(Rule::LISTEN_SOCKET, gone.socket == socket);
+        walk.counts(gone);
+    }
 }
 
 /// What follows the last `@` of a name.
 fn realm_of(name: &[u8]) -> Option<&[u8]> {
-    let place = name.iter().rposition(|octet| *octet == b'@')?;
-    name.get(place.saturating_add(1)..)
+    let mut behind = None;
+    for (place, octet) in name.iter().enumerate() {
+        if *octet == b'@' {
+            behind = Some(place.saturating_add(1));
+        }
+    }
+    name.get(behind?..)
 }
 
 /// How many Proxy-States of a mark's form a packet has.

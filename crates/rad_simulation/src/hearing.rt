@@ -66,8 +66,12 @@ impl Book {
 
     /// What is out under a pair, and its place.
     pub fn find_out(&self, pair: u32) -> Option<(usize, &Out)> {
-        let out = self.out.as_slice();
-        out.iter().enumerate().find(|(_, out)| out.pair == pair)
+        for (place, out) in self.out.as_slice().iter().enumerate() {
+            if out.pair == pair {
+                return Some((place, out));
+            }
+        }
+        None
     }
 
     /// Keeps the reply to what is out at a place.

@@ -1,7 +1,7 @@
 //! The turns of a lane's worker, as the rules have them.
 
 use crate::book::{Asked, Book};
-use crate::events::{DownBy, Mail, Telling};
+use crate::events::{DownBy, Mail, Sign};
 use crate::hearing::Hearing;
 use crate::rules::Rule;
 use crate::stepping::Doing;
@@ -9,84 +9,99 @@ use crate::walk::Walk;
 use rad_desk::{Call, Note, UpReason};
 
 /// Compares a turn. It gives whether the worker goes on.
-pub fn lane_turn(book: &mut Book, walk: &mut Walk<'_>) -> Result<bool, Rule> {
-    let (moment, coming) = walk.begins()?;
+pub fn lane_turn(book: &mut Book, walk: &mut Walk<'_>) -> bool {
+    let (moment, coming) = walk.begins();
     let goes_on = match coming {
-        Some(mail) => hear(book, moment, mail, walk)?,
+        Some(mail) => hear(book, moment, mail, walk),
         None => true,
     };
-    if !goes_on {
-        return Ok(false);
-    }
-    step(book, moment, walk)
+    goes_on && step(book, moment, walk)
 }
 
 /// The lane hears what came from its home server.
-fn hear(book: &mut Book, moment: u64, mail: &Mail, walk: &mut Walk<'_>) -> Result<bool, Rule> {
+fn hear(book: &mut Book, moment: u64, mail: &Mail, walk: &mut Walk<'_>) -> bool {
     if mail.from != book.endpoint {
-        walk.notes(Note::NotHome, Rule::NOT_HOME)?;
-        return Ok(true);
+        walk.meets(Sign::Noted(Note::NotHome), Rule::NOT_HOME);
+        return true;
     }
-    if !walk.asks(Call::Hear, Rule::HEAR)? {
-        return Ok(false);
+    if !walk.asks(Call::Hear, Rule::HEAR) {
+        return false;
     }
-    walk.made(Call::Hear, Rule::HEAR)?;
-    match book.hear(moment, mail.socket, mail.octets.as_slice())? {
-        Hearing::Answer(serial) => {
-            walk.tells(Telling::Answered(book.lane, serial), Rule::ANSWERED)?;
-        }
+    walk.meets(Sign::After(Call::Hear), Rule::HEAR);
+    match book.hear(moment, mail.socket, mail.octets.as_slice()) {
+        Ok(hearing) => heard(book.lane, hearing, walk),
+        Err(rule) => walk.breaks(rule),
+    }
+    true
+}
+
+/// It is told what a lane heard.
+fn heard(lane: u16, hearing: Hearing, walk: &mut Walk<'_>) {
+    match hearing {
+        Hearing::Answer(serial) => walk.meets(Sign::Answered(lane, serial), Rule::ANSWERED),
         Hearing::ProbeAnswered => {
-            went_up(book, UpReason::ProbeAnswered, Rule::PROBE_ANSWERED, walk)?;
+            went_up(lane, UpReason::ProbeAnswered, Rule::PROBE_ANSWERED, walk);
         }
-        Hearing::Fault(fault) => walk.notes(Note::Unheard(fault), Rule::UNHEARD)?,
+        Hearing::Fault(fault) => walk.meets(Sign::Noted(Note::Unheard(fault)), Rule::UNHEARD),
     }
-    Ok(true)
 }
 
 /// The lane does what is next.
-fn step(book: &mut Book, moment: u64, walk: &mut Walk<'_>) -> Result<bool, Rule> {
-    if !walk.asks(Call::Step, Rule::STEP)? {
-        return Ok(false);
+fn step(book: &mut Book, moment: u64, walk: &mut Walk<'_>) -> bool {
+    if !walk.asks(Call::Step, Rule::STEP) {
+        return false;
     }
-    let drawn = walk.draws(Rule::STEP)?;
-    walk.made(Call::Step, Rule::STEP)?;
-    match book.step(moment, drawn)? {
-        Doing::Send(place) => send(book, place, Rule::FIRST_SENDING, walk)?,
-        Doing::SendAgain(place) => send(book, place, Rule::RESENDING, walk)?,
-        Doing::Probe(place) => send(book, place, Rule::PROBE, walk)?,
-        Doing::GoDown(number) => went_down(book, number, moment, walk)?,
-        Doing::GoUp => went_up(book, UpReason::DownWaitOver, Rule::WENT_UP, walk)?,
-        Doing::Idle => return turn(book, moment, walk),
+    let drawn = walk.draws(Rule::STEP);
+    walk.meets(Sign::After(Call::Step), Rule::STEP);
+    match book.step(moment, drawn) {
+        Ok(Doing::Idle) => return turn(book, moment, walk),
+        Ok(doing) => does(book, doing, moment, walk),
+        Err(rule) => walk.breaks(rule),
     }
-    Ok(true)
+    true
+}
+
+/// The lane does this.
+fn does(book: &Book, doing: Doing, moment: u64, walk: &mut Walk<'_>) {
+    match doing {
+        Doing::Send(place) => send(book, place, Rule::FIRST_SENDING, walk),
+        Doing::SendAgain(place) => send(book, place, Rule::RESENDING, walk),
+        Doing::Probe(place) => send(book, place, Rule::PROBE, walk),
+        Doing::GoDown(number) => went_down(book, number, moment, walk),
+        Doing::GoUp => went_up(book.lane, UpReason::DownWaitOver, Rule::WENT_UP, walk),
+        Doing::Idle => {}
+    }
 }
 
 /// What is out at a place goes to the home server, from the socket of its pair's source port.
-fn send(book: &Book, place: usize, rule: Rule, walk: &mut Walk<'_>) -> Result<(), Rule> {
+fn send(book: &Book, place: usize, rule: Rule, walk: &mut Walk<'_>) {
     let Some(out) = book.out.as_slice().get(place) else {
-        return Err(rule);
+        walk.breaks(rule);
+        return;
     };
-    let gone = walk.sends(out.octets.as_slice(), rule)?;
-    Rule::HOME.unless(gone.to == book.endpoint)?;
-    Rule::SOURCE_PORT.unless(u32::from(gone.socket) == out.pair / 256)?;
-    walk.counts(gone)
+    if let Some(gone) = walk.sends(out.octets.as_slice(), rule) {
+        walk.keeps(Rule::HOME, gone.to == book.endpoint);
+        walk.keeps(Rule::SOURCE_PORT, u32::from(gone.socket) == out.pair / 256);
+        walk.counts(gone);
+    }
 }
 
 /// It is told that the lane went up, and why.
-fn went_up(book: &Book, reason: UpReason, rule: Rule, walk: &mut Walk<'_>) -> Result<(), Rule> {
-    walk.notes(Note::WentUp, rule)?;
-    walk.tells(Telling::WentUp(book.lane, reason), rule)
+fn went_up(lane: u16, reason: UpReason, rule: Rule, walk: &mut Walk<'_>) {
+    walk.meets(Sign::Noted(Note::WentUp), rule);
+    walk.meets(Sign::WentUp(lane, reason), rule);
 }
 
 /// It is told that the lane went down, and by which request.
-fn went_down(book: &Book, number: u64, moment: u64, walk: &mut Walk<'_>) -> Result<(), Rule> {
-    walk.notes(Note::WentDown, Rule::WENT_DOWN)?;
-    let down = walk.told_down()?;
-    let Some(asked) = book.at(number) else {
-        return Err(Rule::DOWN_BY);
+fn went_down(book: &Book, number: u64, moment: u64, walk: &mut Walk<'_>) {
+    walk.meets(Sign::Noted(Note::WentDown), Rule::WENT_DOWN);
+    let is_told = match (walk.told_down(), book.at(number)) {
+        (Some(down), Some(asked)) => {
+            down.lane == book.lane && down.number == number && is_down_by(down, asked, moment)
+        }
+        _ => false,
     };
-    let is_right = down.lane == book.lane && down.number == number;
-    Rule::DOWN_BY.unless(is_right && is_down_by(down, asked, moment))
+    walk.keeps(Rule::DOWN_BY, is_told);
 }
 
 /// Whether a lane went down at this moment by a request, as it is told.
@@ -101,20 +116,18 @@ fn is_down_by(down: &DownBy, asked: &Asked, moment: u64) -> bool {
 }
 
 /// After an idle step the book is turned where it is half full.
-fn turn(book: &mut Book, moment: u64, walk: &mut Walk<'_>) -> Result<bool, Rule> {
-    let is_half_full = book.held().saturating_mul(2) >= u64::from(book.limits.book);
-    if !is_half_full {
-        Rule::TURN.unless(!walk.is_asked(Call::Turn))?;
-        Rule::IDLE.unless(walk.is_between_turns())?;
-        return Ok(true);
+fn turn(book: &mut Book, moment: u64, walk: &mut Walk<'_>) -> bool {
+    if book.held().saturating_mul(2) < u64::from(book.limits.book) {
+        walk.idles();
+        return true;
     }
-    if !walk.asks(Call::Turn, Rule::MUST_TURN)? {
-        return Ok(false);
+    if !walk.asks(Call::Turn, Rule::MUST_TURN) {
+        return false;
     }
-    walk.made(Call::Turn, Rule::TURN)?;
+    walk.meets(Sign::After(Call::Turn), Rule::TURN);
     let count = book.cut(moment);
     if count > 0 {
-        walk.notes(Note::Cut(count), Rule::CUT)?;
+        walk.meets(Sign::Noted(Note::Cut(count)), Rule::CUT);
     }
-    Ok(true)
+    true
 }

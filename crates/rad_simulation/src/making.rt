@@ -85,12 +85,21 @@ pub fn status_server(identifier: u8, authenticator: [u8; 16], secret: &Secret) -
 
 /// The value of the last attribute of a kind.
 pub fn last_value<'a>(packet: &PacketRef<'a>, kind: u8) -> Option<&'a [u8]> {
-    let last = packet.attributes().filter(|it| it.kind == kind).last()?;
-    Some(last.value)
+    let mut value = None;
+    for attribute in packet.attributes() {
+        if attribute.kind == kind {
+            value = Some(attribute.value);
+        }
+    }
+    value
 }
 
 /// The value of the first attribute of a kind.
 pub fn first_value<'a>(packet: &PacketRef<'a>, kind: u8) -> Option<&'a [u8]> {
-    let first = packet.attributes().find(|it| it.kind == kind)?;
-    Some(first.value)
+    for attribute in packet.attributes() {
+        if attribute.kind == kind {
+            return Some(attribute.value);
+        }
+    }
+    None
 }

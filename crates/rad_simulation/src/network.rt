@@ -85,8 +85,12 @@ impl Network {
     }
 
     fn find(&self, now: u64, lane: Option<u16>) -> Option<usize> {
-        let flying = self.flying.as_slice();
-        flying.iter().position(|it| it.at <= now && it.lane == lane)
+        for (place, flying) in self.flying.as_slice().iter().enumerate() {
+            if flying.at <= now && flying.lane == lane {
+                return Some(place);
+            }
+        }
+        None
     }
 
     /// What a worker did not receive flies on.

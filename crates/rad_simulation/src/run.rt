@@ -11,7 +11,7 @@ use crate::network::Network;
 use crate::planning::Plan;
 use crate::rules::Rule;
 use crate::setting::Setting;
-use crate::trace::{Arrival, Trace, TraceGate, TraceWire};
+use crate::trace::{Trace, TraceGate, TraceWire};
 use crate::walk::Walk;
 use rad_desk::{Inlet, Proxy, Tally, Worker, front_worker, lane_worker, open};
 use rad_realms::{Config, read_config};
@@ -29,44 +29,54 @@ pub struct Outcome {
 }
 
 /// The proxy that is run.
-#[derive(Drop)]
-struct Served {
-    config: Config,
-    proxy: Proxy,
-    inlets: Vec<Inlet>,
+#[derive(Clone, Copy)]
+struct Served<'a> {
+    config: &'a Config,
+    proxy: &'a Proxy,
 }
 
-impl Served {
-    /// Has a worker take its turns; none where there is no such worker.
-    fn work(
-        &mut self,
-        rt: &impl Wait,
-        alloc: Global,
-        lane: Option<u16>,
-        wire: &mut TraceWire<'_>,
-        gate: &TraceGate<'_>,
-        turns: u64,
-    ) -> Option<Tally> {
-        let (proxy, config) = (&self.proxy, &self.config);
-        let Some(lane) = lane else {
-            let inlets = self.inlets.as_mut_slice();
-            return Some(front_worker(rt, alloc, proxy, config, inlets, wire, gate, turns));
-        };
-        let home = config.homes().get(usize::from(lane))?;
-        if lane >= proxy.lanes() {
-            return None;
-        }
-        Some(lane_worker(rt, alloc, proxy, lane, home, wire, gate, turns))
+/// Has a worker take its turns; none where there is no such worker.
+fn work(
+    rt: &impl Wait,
+    alloc: Global,
+    served: Served<'_>,
+    inlets: &mut [Inlet],
+    lane: Option<u16>,
+    wire: &mut TraceWire<'_>,
+    gate: &TraceGate<'_>,
+    turns: u64,
+) -> Option<Tally> {
+    let Served { config, proxy } = served;
+    match lane {
+        Some(lane) => work_lane(rt, alloc, served, lane, wire, gate, turns),
+        None => Some(front_worker(rt, alloc, proxy, config, inlets, wire, gate, turns)),
     }
 }
 
-/// A run that goes on.
+/// Has the worker of a lane take its turns; none where there is no such lane.
+fn work_lane(
+    rt: &impl Wait,
+    alloc: Global,
+    served: Served<'_>,
+    lane: u16,
+    wire: &mut TraceWire<'_>,
+    gate: &TraceGate<'_>,
+    turns: u64,
+) -> Option<Tally> {
+    let Served { config, proxy } = served;
+    let home = config.homes().get(usize::from(lane))?;
+    if lane >= proxy.lanes() {
+        return None;
+    }
+    Some(lane_worker(rt, alloc, proxy, lane, home, wire, gate, turns))
+}
+
+/// A run that goes on, but for its proxy.
 #[derive(Drop)]
 pub struct Run {
     pub alloc: Global,
     pub chance: Chance,
     pub setting: Setting,
-    served: Served,
     pub books: Books,
     nases: Nases,
     pub network: Network,
@@ -78,7 +88,7 @@ pub struct Run {
 /// Runs a seed.
 pub fn run_seed(rt: &impl Wait, alloc: Global, seed: u64) -> Outcome {
     match begin(alloc, seed) {
-        Ok(run) => run.outcome(rt),
+        Ok(mut run) => run.outcome(rt),
         Err(rule) => Outcome {
             turns: 0,
             broken: Some(rule),
@@ -90,12 +100,10 @@ fn begin(alloc: Global, seed: u64) -> Result<Run, Rule> {
     let mut chance = Chance::new(seed);
     let setting = Setting::draw(alloc, &mut chance)?;
     let books = books_of(alloc, &setting)?;
-    let served = open_proxy(alloc, &setting)?;
     Ok(Run {
         alloc,
         chance,
         setting,
-        served,
         books,
         nases: Nases::new(alloc),
         network: Network::new(alloc),
@@ -103,22 +111,6 @@ fn begin(alloc: Global, seed: u64) -> Result<Run, Rule> {
         clock: 0,
         turns: 0,
     })
-}
-
-/// Opens a proxy by its configuration's text.
-fn open_proxy(alloc: Global, setting: &Setting) -> Result<Served, Rule> {
-    let text = setting.text(alloc)?;
-    let Ok(config) = read_config(alloc, text.as_str()) else {
-        return Err(Rule::CONFIGURATION);
-    };
-    match open(alloc, &config) {
-        Ok((proxy, inlets)) => Ok(Served {
-            config,
-            proxy,
-            inlets,
-        }),
-        Err(_) => Err(Rule::MEMORY),
-    }
 }
 
 /// Empty books for all lanes.
@@ -131,31 +123,83 @@ fn books_of(alloc: Global, setting: &Setting) -> Result<Books, Rule> {
     Ok(Books { books, default })
 }
 
+/// Closes a proxy, and compares what is left.
+fn close(alloc: Global, proxy: Proxy, inlets: Vec<Inlet>, books: &[Book]) -> Result<(), Rule> {
+    match proxy.close(alloc, inlets) {
+        Ok(mut report) => compare_end(&mut report, books),
+        Err(_) => Err(Rule::MEMORY),
+    }
+}
+
 impl Run {
-    /// Has the workers take their turns, and closes the proxy.
-    fn outcome(self, rt: &impl Wait) -> Outcome {
-        let mut run = self;
-        let went = run.go(rt);
-        let turns = run.turns;
-        let broken = match went {
-            Ok(()) => run.end().err(),
-            Err(rule) => {
-                run.discard();
-                Some(rule)
-            }
-        };
-        Outcome { turns, broken }
+    fn outcome(&mut self, rt: &impl Wait) -> Outcome {
+        let broken = self.serve_text(rt).err();
+        Outcome {
+            turns: self.turns,
+            broken,
+        }
     }
 
-    fn go(&mut self, rt: &impl Wait) -> Result<(), Rule> {
+    /// Runs a proxy of the configuration's text.
+    fn serve_text(&mut self, rt: &impl Wait) -> Result<(), Rule> {
+        let text = self.setting.text(self.alloc)?;
+        match read_config(self.alloc, text.as_str()) {
+            Ok(config) => self.serve(rt, &config),
+            Err(_) => Err(Rule::CONFIGURATION),
+        }
+    }
+
+    /// Runs a proxy of a configuration.
+    fn serve(&mut self, rt: &impl Wait, config: &Config) -> Result<(), Rule> {
+        match open(self.alloc, config) {
+            Ok((proxy, inlets)) => self.run_proxy(rt, config, proxy, inlets),
+            Err(_) => Err(Rule::MEMORY),
+        }
+    }
+
+    /// Has the workers take their turns, and closes the proxy.
+    fn run_proxy(
+        &mut self,
+        rt: &impl Wait,
+        config: &Config,
+        proxy: Proxy,
+        inlets: Vec<Inlet>,
+    ) -> Result<(), Rule> {
+        let mut inlets = inlets;
+        let served = Served {
+            config,
+            proxy: &proxy,
+        };
+        let went = self.go(rt, served, inlets.as_mut_slice());
+        let closed = close(self.alloc, proxy, inlets, self.books.books.as_slice());
+        went?;
+        closed
+    }
+
+    fn go(&mut self, rt: &impl Wait, served: Served<'_>, inlets: &mut [Inlet]) -> Result<(), Rule> {
         for _ in 0..self.setting.calls {
-            self.step(rt)?;
+            self.step(rt, served, inlets)?;
         }
         Ok(())
     }
 
     /// Something may happen outside, and then one worker is called.
-    fn step(&mut self, rt: &impl Wait) -> Result<(), Rule> {
+    fn step(
+        &mut self,
+        rt: &impl Wait,
+        served: Served<'_>,
+        inlets: &mut [Inlet],
+    ) -> Result<(), Rule> {
+        self.happen()?;
+        if self.chance.strikes(self.setting.drains) {
+            self.drain(rt, served.proxy)?;
+        }
+        self.call(rt, served, inlets)?;
+        compare_counts(rt, served.proxy, self.books.books.as_slice())
+    }
+
+    /// A NAS may send, and a home server may die or come back.
+    fn happen(&mut self) -> Result<(), Rule> {
         let sends = if self.setting.is_hurried { 1 } else { 3 };
         if self.chance.is_one_in(sends) {
             self.have_nas_send()?;
@@ -163,12 +207,7 @@ impl Run {
         if self.chance.is_one_in(40) {
             self.network.turn_over(&mut self.chance);
         }
-        if self.chance.strikes(self.setting.drains) {
-            self.drain(rt)?;
-        }
-        let plan = self.plan();
-        self.call(rt, plan)?;
-        self.compare_counts(rt)
+        Ok(())
     }
 
     fn have_nas_send(&mut self) -> Result<(), Rule> {
@@ -179,9 +218,8 @@ impl Run {
     }
 
     /// A lane is drained.
-    fn drain(&mut self, rt: &impl Wait) -> Result<(), Rule> {
+    fn drain(&mut self, rt: &impl Wait, proxy: &Proxy) -> Result<(), Rule> {
         let place = self.chance.below(self.books.books.len() as u64) as usize;
-        let proxy = &self.served.proxy;
         match self.books.books.as_mut_slice().get_mut(place) {
             Some(book) if book.lane < proxy.lanes() => {
                 Rule::DRAIN.unless(proxy.drain(rt, book.lane) == book.drain())
@@ -191,19 +229,43 @@ impl Run {
     }
 
     /// Calls a worker, and compares what it did.
-    fn call(&mut self, rt: &impl Wait, plan: Plan) -> Result<(), Rule> {
+    fn call(
+        &mut self,
+        rt: &impl Wait,
+        served: Served<'_>,
+        inlets: &mut [Inlet],
+    ) -> Result<(), Rule> {
+        let plan = self.plan();
         let (lane, turns) = (plan.lane, plan.turns);
-        let (tally, left) = self.work(rt, plan);
-        self.network.give_back(left, self.clock, lane)?;
-        let (Some(events), Some(tally)) = (self.trace.take(), tally) else {
+        let Some(tally) = self.work(rt, served, inlets, plan)? else {
             return Err(Rule::MEMORY);
         };
-        self.compare(lane, turns, events.as_slice(), tally)?;
-        self.react(lane, events.as_slice())
+        match self.trace.take() {
+            Some(events) => self.follow(lane, turns, events.as_slice(), tally),
+            None => Err(Rule::MEMORY),
+        }
     }
 
-    /// Has a worker take its turns. It gives its tally, where there is such a worker, and what was to come and did not.
-    fn work(&mut self, rt: &impl Wait, plan: Plan) -> (Option<Tally>, Vec<Arrival>) {
+    /// Compares what a worker did, and has the home servers get what it sent.
+    fn follow(
+        &mut self,
+        lane: Option<u16>,
+        turns: u64,
+        events: &[Event],
+        tally: Tally,
+    ) -> Result<(), Rule> {
+        self.compare(lane, turns, events, tally)?;
+        self.react(lane, events)
+    }
+
+    /// Has a worker take its turns. It gives its tally, where there is such a worker.
+    fn work(
+        &mut self,
+        rt: &impl Wait,
+        served: Served<'_>,
+        inlets: &mut [Inlet],
+        plan: Plan,
+    ) -> Result<Option<Tally>, Rule> {
         let Plan {
             lane,
             turns,
@@ -224,12 +286,13 @@ impl Run {
             worker: worker_of(lane),
             calls: Cell::new(calls),
         };
-        let tally = self
-            .served
-            .work(rt, self.alloc, lane, &mut wire, &gate, turns);
+        let tally = work(
+            rt, self.alloc, served, inlets, lane, &mut wire, &gate, turns,
+        );
         self.clock = wire.clock;
         let TraceWire { arrivals, .. } = wire;
-        (tally, arrivals)
+        self.network.give_back(arrivals, self.clock, lane)?;
+        Ok(tally)
     }
 
     /// Compares what a worker did with what the rules say.
@@ -241,34 +304,28 @@ impl Run {
         tally: Tally,
     ) -> Result<(), Rule> {
         let mut walk = Walk::new(events, tally.turns == turns);
-        let compared = self.compare_turns(lane, turns, &mut walk);
+        self.compare_turns(lane, turns, &mut walk);
         self.turns = self.turns.saturating_add(walk.tally.turns);
-        compared?;
-        Rule::TALLY.unless(walk.tally == tally)
+        walk.outcome(tally)
     }
 
-    fn compare_turns(
-        &mut self,
-        lane: Option<u16>,
-        turns: u64,
-        walk: &mut Walk<'_>,
-    ) -> Result<(), Rule> {
+    fn compare_turns(&mut self, lane: Option<u16>, turns: u64, walk: &mut Walk<'_>) {
         for _ in 0..turns {
-            if !self.compare_turn(lane, walk)? {
-                return Ok(());
+            if !self.compare_turn(lane, walk) || walk.is_broken() {
+                return;
             }
         }
-        walk.ends(Rule::ENDS)
+        walk.ends(Rule::ENDS);
     }
 
     /// Compares a turn. It gives whether the worker goes on.
-    fn compare_turn(&mut self, lane: Option<u16>, walk: &mut Walk<'_>) -> Result<bool, Rule> {
+    fn compare_turn(&mut self, lane: Option<u16>, walk: &mut Walk<'_>) -> bool {
         let Some(lane) = lane else {
             return self.books.front_turn(walk);
         };
         match self.books.books.as_mut_slice().get_mut(usize::from(lane)) {
             Some(book) => lane_turn(book, walk),
-            None => Ok(false),
+            None => false,
         }
     }
 
@@ -287,35 +344,15 @@ impl Run {
         }
         Ok(())
     }
+}
 
-    /// Compares the counts of all lanes.
-    fn compare_counts(&self, rt: &impl Wait) -> Result<(), Rule> {
-        let proxy = &self.served.proxy;
-        for book in self.books.books.as_slice() {
-            let is_right = book.lane < proxy.lanes()
-                && proxy.counts(rt, book.lane) == book.counts();
-            Rule::COUNTS.unless(is_right)?;
-        }
-        Ok(())
+/// Compares the counts of all lanes.
+fn compare_counts(rt: &impl Wait, proxy: &Proxy, books: &[Book]) -> Result<(), Rule> {
+    for book in books {
+        let is_right = book.lane < proxy.lanes() && proxy.counts(rt, book.lane) == book.counts();
+        Rule::COUNTS.unless(is_right)?;
     }
-
-    /// Closes the proxy, and compares what is left.
-    fn end(self) -> Result<(), Rule> {
-        let Run {
-            alloc,
-            served,
-            books,
-            ..
-        } = self;
-        let Served { proxy, inlets, .. } = served;
-        match proxy.close(alloc, inlets) {
-            Ok(mut report) => compare_end(&mut report, books.books.as_slice()),
-            Err(_) => Err(Rule::MEMORY),
-        }
-    }
-
-    /// Lets it go.
-    fn discard(self) {}
+    Ok(())
 }
 
 fn worker_of(lane: Option<u16>) -> Worker {

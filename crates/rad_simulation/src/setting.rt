@@ -6,6 +6,37 @@ use rad_auth::Secret;
 use rad_realms::{Endpoint, LimitNumbers};
 use std::alloc::Global;
 
+/// The tables of each home server and of its realm, but for its limits.
+const FIRST_HOME: &str = r#"
+[[realm]]
+name = "example.org"
+home = "h0"
+[[home]]
+name = "h0"
+address = "127.0.0.1:2813"
+secret = "home-secret"
+"#;
+
+const SECOND_HOME: &str = r#"
+[[realm]]
+name = "other.org"
+home = "h1"
+[[home]]
+name = "h1"
+address = "127.0.0.2:2813"
+secret = "other-secret"
+"#;
+
+const THIRD_HOME: &str = r#"
+[[realm]]
+name = "third.net"
+home = "h2"
+[[home]]
+name = "h2"
+address = "127.0.0.1:2814"
+secret = "third-secret"
+"#;
+
 /// Both clients.
 const CLIENTS: &str = r#"
 [[client]]
@@ -140,22 +171,20 @@ fn one_of(chance: &mut Chance, numbers: &[u32]) -> u32 {
 
 /// The tables of a home server and of its realm.
 fn push_home(alloc: Global, text: &mut String, place: u16, home: &Home) -> Result<(), Rule> {
-    let (realm, address, secret) = (
-        realm_of_home(place),
-        home_address(place),
-        home_secret(place),
-    );
-    let table = format!(in alloc; "[[realm]]\nname = \"{realm}\"\nhome = \"h{place}\"\n")?;
-    text.push_str(table.as_str())?;
-    let table = format!(in alloc; "[[home]]\nname = \"h{place}\"\naddress = \"{address}\"\n")?;
-    text.push_str(table.as_str())?;
-    let line = format!(in alloc; "secret = \"{secret}\"\n")?;
-    text.push_str(line.as_str())?;
+    text.push_str(tables(place))?;
     for (key, number) in keys(&home.limits) {
         let line = format!(in alloc; "{key} = {number}\n")?;
         text.push_str(line.as_str())?;
     }
     Ok(())
+}
+
+fn tables(place: u16) -> &'static str {
+    match place {
+        0 => FIRST_HOME,
+        1 => SECOND_HOME,
+        _ => THIRD_HOME,
+    }
 }
 
 /// The keys of a home server's limits, and their numbers.
@@ -184,14 +213,6 @@ pub fn realm_of_home(place: u16) -> &'static str {
 }
 
 /// Two home servers have one port, and two one address.
-fn home_address(place: u16) -> &'static str {
-    match place {
-        0 => "127.0.0.1:2813",
-        1 => "127.0.0.2:2813",
-        _ => "127.0.0.1:2814",
-    }
-}
-
 fn home_endpoint(place: u16) -> Endpoint {
     Endpoint {
         address: [127, 0, 0, if place == 1 { 2 } else { 1 }],

@@ -1,7 +1,7 @@
 //! The gate and the wire of a worker in the simulation: both put down what they are asked and told, in one list.
 
 use crate::chance::Chance;
-use crate::events::{Came, DownBy, Event, Gone, Mail, Telling};
+use crate::events::{Came, DownBy, Event, Gone, Mail, Sign};
 use rad_desk::{Call, Delivery, Gate, Go, Note, Received, Spent, UpReason, Wire, Worker};
 use rad_realms::Endpoint;
 use rad_tables::Moment;
@@ -62,16 +62,13 @@ pub struct TraceGate<'a> {
 
 impl<'a> TraceGate<'a> {
     /// What it is asked or told, in whose name.
-    fn add(&self, worker: Worker, event: Event) {
-        if worker == self.worker {
-            self.trace.add(event);
-        } else {
-            self.trace.add(Event::OfAnother);
-        }
+    fn add(&self, worker: Worker, sign: Sign) {
+        let is_own = worker == self.worker;
+        self.tell(if is_own { sign } else { Sign::OfAnother });
     }
 
-    fn tell(&self, telling: Telling) {
-        self.trace.add(Event::Told(telling));
+    fn tell(&self, sign: Sign) {
+        self.trace.add(Event::Signed(sign));
     }
 
     /// Whether one call more is let.
@@ -90,16 +87,16 @@ impl<'a> TraceGate<'a> {
 impl<'a> Gate for TraceGate<'a> {
     fn before(&self, worker: Worker, call: Call) -> Go {
         let go = self.lets();
-        self.add(worker, Event::Before(call, go));
+        self.add(worker, Sign::Before(call, go));
         go
     }
 
     fn after(&self, worker: Worker, call: Call) {
-        self.add(worker, Event::After(call));
+        self.add(worker, Sign::After(call));
     }
 
     fn note(&self, worker: Worker, note: Note) {
-        self.add(worker, Event::Noted(note));
+        self.add(worker, Sign::Noted(note));
     }
 
     fn received(&self, _worker: Worker, from: Endpoint, octets: &[u8]) {
@@ -115,11 +112,11 @@ impl<'a> Gate for TraceGate<'a> {
     }
 
     fn accepted(&self, lane: u16, number: u64) {
-        self.tell(Telling::Accepted(lane, number));
+        self.tell(Sign::Accepted(lane, number));
     }
 
     fn answered(&self, lane: u16, serial: u64) {
-        self.tell(Telling::Answered(lane, serial));
+        self.tell(Sign::Answered(lane, serial));
     }
 
     fn went_down(&self, lane: u16, spent: &Spent) {
@@ -137,7 +134,7 @@ impl<'a> Gate for TraceGate<'a> {
     }
 
     fn went_up(&self, lane: u16, reason: UpReason) {
-        self.tell(Telling::WentUp(lane, reason));
+        self.tell(Sign::WentUp(lane, reason));
     }
 
     fn no_realm(&self, packet: &[u8]) {
@@ -147,7 +144,7 @@ impl<'a> Gate for TraceGate<'a> {
     }
 
     fn came_marked(&self, lane: u16, from: Endpoint, marks: u64) {
-        self.tell(Telling::Marked(lane, from, marks));
+        self.tell(Sign::Marked(lane, from, marks));
     }
 }
 
