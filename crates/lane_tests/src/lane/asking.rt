@@ -13,8 +13,7 @@ impl TestLane {
             Question::HasAccepted(wanted) => are_stamps(self.lane.accepted(), wanted),
             Question::HasSent(wanted) => are_stamps(self.lane.sent(), wanted),
             Question::Keeps(wanted) => are_kept(self.lane.answered(), wanted),
-            Question::IsSpent(number, session) => is_spent(self.lane.spent(), number, session),
-            Question::IsUnspent => self.lane.spent().is_none(),
+            Question::IsSpentBy(wanted) => is_spent(self.lane.spent(), wanted),
         }
     }
 }
@@ -51,24 +50,31 @@ fn are_kept(answers: &[Answered], wanted: &[Kept<'_>]) -> bool {
 }
 
 fn is_kept(answer: &Answered, (stamp, milliseconds, serial, octets): &Kept<'_>) -> bool {
-    let reply = answer.reply();
     answer.stamp() == stamp_of(*stamp)
         && answer.moment() == moment(*milliseconds)
         && answer.serial() == *serial
-        && [reply.sending(), reply.reply(), reply.response()] == *octets
+        && octets_of(answer) == *octets
 }
 
-/// Whether a lane goes down by the client's request of this number and session.
-fn is_spent(spent: Option<&Sending>, number: u64, session: &[u8]) -> bool {
-    match spent {
-        Some(sending) => {
-            let request = sending.request();
-            let stamp = request.stamp();
-            stamp.number == number
-                && stamp.client == CLIENT
-                && stamp.port == CLIENT_PORT
-                && request.session() == Some(session)
+/// The octets of the sending, the reply and the response.
+pub fn octets_of(answer: &Answered) -> [&[u8]; 3] {
+    let reply = answer.reply();
+    [reply.sending(), reply.reply(), reply.response()]
+}
+
+/// Whether a lane goes down by the client's request of this number and session, or by none.
+fn is_spent(spent: Option<&Sending>, wanted: Option<(u64, &[u8])>) -> bool {
+    match (spent, wanted) {
+        (Some(sending), Some((number, session))) => {
+            is_of(&sending.request().stamp(), number)
+                && sending.request().session() == Some(session)
         }
-        None => false,
+        (None, None) => true,
+        _ => false,
     }
+}
+
+/// Whether a stamp is of the client's request of this number.
+fn is_of(stamp: &Stamp, number: u64) -> bool {
+    stamp.number == number && stamp.client == CLIENT && stamp.port == CLIENT_PORT
 }

@@ -35,16 +35,23 @@ struct Two {
 
 impl Two {
     fn new(alloc: Global) -> Result<Two, Fail> {
-        Ok(Two {
-            cut: TestLane::new(alloc, (0, LIMITS))?,
-            whole: TestLane::new(alloc, (0, LIMITS))?,
-            replies: Vec::new(alloc),
-            late: None,
-            volumes: 0,
-            refused: 0,
-            stamps: Vec::new(alloc),
-            answers: 0,
-        })
+        let cut = TestLane::new(alloc, (0, LIMITS))?;
+        match TestLane::new(alloc, (0, LIMITS)) {
+            Ok(whole) => Ok(Two {
+                cut,
+                whole,
+                replies: Vec::new(alloc),
+                late: None,
+                volumes: 0,
+                refused: 0,
+                stamps: Vec::new(alloc),
+                answers: 0,
+            }),
+            Err(fault) => {
+                cut.end();
+                Err(fault)
+            }
+        }
     }
 
     /// Makes a call of both lanes, which give the same.
@@ -152,7 +159,10 @@ impl Two {
         Ok(())
     }
 
-    fn end(self) {}
+    fn end(self) {
+        self.cut.end();
+        self.whole.end();
+    }
 }
 
 /// The count of the request of this place in a round: 16 new ones, one that was answered in the round before, and one that

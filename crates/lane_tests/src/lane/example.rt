@@ -1,33 +1,16 @@
 //! How a caller uses a lane, from its configuration to its end: one request of a NAS is taken, forwarded and answered.
+//! `TestLane::new` makes the lane of a configuration.
 
 use super::comparing::holds;
 use super::script::moment;
-use block_queue::BlockQueue;
-use rad_lane::{Action, Heard, Lane, Record, Setup, Taken};
-use rad_packet::Datagram;
-use rad_realms::{Config, Incoming, check_in, read_config};
+use super::test_lane::{CLIENT, CLIENT_PORT, TestLane};
+use rad_lane::{Action, Heard, Taken};
+use rad_realms::{Incoming, check_in};
 use rad_tables::Slot;
-use std::alloc::Global;
+use std::process::Abort;
 use std::test::Fail;
 use test_octets::homes::{FORWARDED, REPLY};
 use test_octets::nas::{REQUEST, RESPONSE};
-
-const CONFIGURATION: &str = r#"
-listen = "127.0.0.1:1813"
-[[client]]
-address = "10.0.0.1"
-secret = "nas-secret"
-[[realm]]
-name = "example.org"
-home = "h1"
-[[home]]
-name = "h1"
-address = "127.0.0.1:2813"
-secret = "home-secret"
-"#;
-
-/// The client's address and port, from which the request comes.
-const NAS: ([u8; 4], u16) = ([10, 0, 0, 1], 40_000);
 
 /// The first pair of source port and Identifier.
 const FIRST: Slot = Slot {
@@ -35,34 +18,14 @@ const FIRST: Slot = Slot {
     identifier: 0,
 };
 
-/// A lane with the configuration that it is of, and the datagram that its calls write.
-#[derive(Drop)]
-struct Example {
-    config: Config,
-    lane: Lane<BlockQueue<Record>>,
-    datagram: Datagram,
-}
-
-impl Example {
-    /// The lane of the first home server, which is empty and up.
-    fn new(alloc: Global) -> Result<Example, Fail> {
-        let config = read_config(alloc, CONFIGURATION)?;
-        let setup = Setup::of(alloc, &config, 0)?;
-        Ok(Example {
-            config,
-            lane: Lane::new(alloc, setup)?,
-            datagram: Datagram::new(),
-        })
-    }
-
+impl TestLane {
     /// What a NAS sent is checked first: from which client it came, that it is right, and to which lane it leads.
-    fn takes_a_request(&mut self, alloc: Global) -> Result<bool, Fail> {
-        let (address, port) = NAS;
-        match check_in(&self.config, address, port, &REQUEST) {
+    fn takes_a_request(&mut self) -> Result<bool, Fail> {
+        match check_in(&self.config, CLIENT, CLIENT_PORT, &REQUEST) {
             Ok(Incoming::Request(request)) if self.lane.takes(&request) => {
                 let taken = self
                     .lane
-                    .accept(alloc, &request, moment(0), &mut self.datagram)?;
+                    .accept(self.alloc, &request, moment(0), &mut self.datagram)?;
                 Ok(taken == Taken::New(0))
             }
             _ => Ok(false),
@@ -76,10 +39,10 @@ impl Example {
     }
 
     /// The home server's reply, which came to that source port, gives the response to the NAS.
-    fn answers_it(&mut self, alloc: Global) -> Result<bool, Fail> {
-        match self.lane.hear(alloc, moment(5), FIRST.port, &REPLY)? {
+    fn answers_it(&mut self) -> Result<bool, Fail> {
+        match self.lane.hear(self.alloc, moment(5), FIRST.port, &REPLY)? {
             Heard::Answer(outgoing) => Ok(
-                (outgoing.client, outgoing.port) == NAS
+                (outgoing.client, outgoing.port) == (CLIENT, CLIENT_PORT)
                     && outgoing.reply.response() == RESPONSE.as_slice(),
             ),
             Heard::ProbeAnswered => Ok(false),
@@ -88,16 +51,21 @@ impl Example {
 
     /// A lane that is closed leaves all that it kept.
     fn leaves_an_answer(self) -> bool {
-        self.lane.close().answered().len() == 1
+        self.close().answered().len() == 1
     }
+}
+
+fn forward_and_answer(rt: &impl Abort, lane: &mut TestLane) -> Result<(), Fail> {
+    holds(rt, lane.takes_a_request()?);
+    holds(rt, lane.forwards_it());
+    holds(rt, lane.answers_it()?);
+    Ok(())
 }
 
 #[test]
 fn a_request_is_taken_forwarded_and_answered(rt: HostRuntime) -> Result<(), Fail> {
-    let mut example = Example::new(rt.alloc())?;
-    let is_answered = example.takes_a_request(rt.alloc())?
-        && example.forwards_it()
-        && example.answers_it(rt.alloc())?;
-    holds(&rt, is_answered && example.leaves_an_answer());
-    Ok(())
+    let mut lane = TestLane::new(rt.alloc(), (0, ""))?;
+    let answered = forward_and_answer(&rt, &mut lane);
+    holds(&rt, lane.leaves_an_answer());
+    answered
 }

@@ -1,13 +1,16 @@
 //! What a closed lane leaves, and whether two left the same.
 
+use super::asking::octets_of;
 use super::comparing::same;
 use super::script::Call::{Made, Step};
 use super::script::Gives::Until;
 use super::script::Made::{AcceptEach, Hear, SendEach};
-use super::script::{ANSWERED_0, NOTHING, PROBED_AS_2, Row, WENT_DOWN, leave, pair};
+use super::script::{ANSWERED_0, Home, NOTHING, PROBED_AS_2, Row, WENT_DOWN, leave, pair};
 use block_queue::{BlockQueue, Fifo};
 use rad_lane::{Answered, Entry, Leftover, Record, Stamp};
 use rad_tables::Slots;
+use std::alloc::Global;
+use std::process::Abort;
 use std::test::Fail;
 use test_octets::homes::SECOND_PROBE;
 
@@ -57,9 +60,7 @@ pub fn is_same_answer(one: &Answered, other: &Answered) -> bool {
         && one.moment() == other.moment()
         && one.serial() == other.serial()
         && one.reply().head() == other.reply().head()
-        && one.reply().sending() == other.reply().sending()
-        && one.reply().reply() == other.reply().reply()
-        && one.reply().response() == other.reply().response()
+        && octets_of(one) == octets_of(other)
 }
 
 fn is_same_entry(one: Option<&Entry>, other: Option<&Entry>) -> bool {
@@ -99,13 +100,31 @@ const ONE_OF_EACH: [Row<'static>; 6] = [
     (2000, Step, PROBED_AS_2, &SECOND_PROBE),
 ];
 
+/// How many stamps there are, how many of them were sent, how many are queued and outstanding, and how many answers.
+fn lengths(left: &Leftover<BlockQueue<Record>>) -> [usize; 5] {
+    [
+        left.accepted().len(),
+        left.sent().len(),
+        left.queued().len(),
+        left.outstanding().used(),
+        left.answered().len(),
+    ]
+}
+
+/// The lengths of what a new lane leaves after a script.
+fn left_lengths(
+    rt: &impl Abort,
+    alloc: Global,
+    home: Home<'_>,
+    script: &[Row<'_>],
+) -> Result<[usize; 5], Fail> {
+    Ok(lengths(&leave(rt, alloc, home, script)?))
+}
+
 #[test]
 fn a_closed_lane_leaves_no_probe(rt: HostRuntime) -> Result<(), Fail> {
     let home = (0, "window = 1\ntries = 1\n");
-    let left = leave(&rt, rt.alloc(), home, &ONE_OF_EACH)?;
-    let stamps = [left.accepted().len(), left.sent().len()];
-    let others = [left.queued().len(), left.outstanding().used()];
-    let answered = left.answered().len();
-    same(&rt, (stamps, others, answered), ([3, 2], [1, 1], 1));
+    let lengths = left_lengths(&rt, rt.alloc(), home, &ONE_OF_EACH)?;
+    same(&rt, lengths, [3, 2, 1, 1, 1]);
     Ok(())
 }

@@ -25,7 +25,7 @@ const TWO_PORTS: [Row<'static>; 4] = [
 
 #[test]
 fn sendings_go_on_to_the_second_port(rt: HostRuntime) -> Result<(), Fail> {
-    play(
+    play_once(
         &rt,
         rt.alloc(),
         (0, "ports = 2\nwindow = 300\n"),
@@ -61,7 +61,7 @@ const FOUR_PORTS: [Row<'static>; 9] = [
 
 #[test]
 fn a_reply_is_heard_on_its_own_port(rt: HostRuntime) -> Result<(), Fail> {
-    play(
+    play_once(
         &rt,
         rt.alloc(),
         (0, "ports = 4\nwindow = 1022\n"),

@@ -119,6 +119,6 @@ fn run_each(rt: &impl Abort, lane: &mut TestLane) -> Result<(), Fail> {
 fn each_event_has_its_answer(rt: HostRuntime) -> Result<(), Fail> {
     let mut lane = TestLane::new(rt.alloc(), (0, ""))?;
     let ran = run_each(&rt, &mut lane);
-    lane.close();
+    lane.end();
     ran
 }

@@ -48,17 +48,12 @@ pub struct TestLane {
 impl TestLane {
     /// An empty lane of a home server.
     pub fn new(alloc: Global, (number, more): Home<'_>) -> Result<TestLane, Fail> {
-        let mut text = String::from_str(alloc, TEXT)?;
-        text.push_str(more)?;
-        let config = read_config(alloc, text.as_str())?;
-        if usize::from(number) >= config.homes().len() {
-            return Err(Fail::from("a home server"));
-        }
-        let setup = Setup::of(alloc, &config, number)?;
+        let config = config_of(alloc, more)?;
+        let lane = lane_of(alloc, &config, number)?;
         Ok(TestLane {
             alloc,
             config,
-            lane: Lane::new(alloc, setup)?,
+            lane,
             datagram: Datagram::new(),
             replies: Vec::new(alloc),
             forwarded: NO_OCTETS,
@@ -145,6 +140,27 @@ impl TestLane {
     pub fn close(self) -> Leftover<BlockQueue<Record>> {
         self.lane.close()
     }
+
+    /// Lets it go, which is proved sooner of what it leaves.
+    pub fn end(self) {
+        self.close();
+    }
+}
+
+/// The configuration that goes on with these lines.
+fn config_of(alloc: Global, more: &str) -> Result<Config, Fail> {
+    let mut text = String::from_str(alloc, TEXT)?;
+    text.push_str(more)?;
+    Ok(read_config(alloc, text.as_str())?)
+}
+
+/// The lane of the home server of this number, which is empty.
+fn lane_of(alloc: Global, config: &Config, number: u16) -> Result<Lane<BlockQueue<Record>>, Fail> {
+    if usize::from(number) >= config.homes().len() {
+        return Err(Fail::from("a home server"));
+    }
+    let setup = Setup::of(alloc, config, number)?;
+    Ok(Lane::new(alloc, setup)?)
 }
 
 /// The octets of a datagram that has a packet of its own, or none.
