@@ -39,11 +39,13 @@ pub fn are_equal(one: &[Stamp], other: &[Stamp]) -> bool {
 }
 
 fn are_same_entries(one: &Slots<Entry>, other: &Slots<Entry>) -> bool {
+    for count in 0..1024 {
+        let pair = pair(count);
+        if !is_same_entry(one.get(pair), other.get(pair)) {
+            return false;
+        }
+    }
     one.used() == other.used()
-        && (0..1024).all(|count| {
-            let pair = pair(count);
-            is_same_entry(one.get(pair), other.get(pair))
-        })
 }
 
 fn are_same_queues(one: &BlockQueue<Record>, other: &BlockQueue<Record>) -> bool {
@@ -51,7 +53,12 @@ fn are_same_queues(one: &BlockQueue<Record>, other: &BlockQueue<Record>) -> bool
 }
 
 fn are_same_answers(one: &[Answered], other: &[Answered]) -> bool {
-    one.len() == other.len() && one.iter().zip(other).all(|(a, b)| is_same_answer(a, b))
+    for (one, other) in one.iter().zip(other) {
+        if !is_same_answer(one, other) {
+            return false;
+        }
+    }
+    one.len() == other.len()
 }
 
 /// Whether two answers are the same, with their octets.

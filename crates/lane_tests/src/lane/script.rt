@@ -4,7 +4,7 @@ use super::comparing::holds;
 use super::leaving::is_same;
 use super::test_lane::{CLIENT, CLIENT_PORT, TestLane};
 use block_queue::BlockQueue;
-use rad_lane::{Action, Counts, HearFault, Leftover, Record, Refusal, Stamp, Taken};
+use rad_lane::{Action, Counts, HearFault, Leftover, Record, Refusal, Taken};
 use rad_tables::{Moment, Slot};
 use std::alloc::Global;
 use std::process::Abort;

@@ -9,7 +9,7 @@ use rad_tables::{Moment, Slot};
 use test_octets::{reply_to, request, request_of_length};
 
 /// What a sum of octets in order begins with (Fowler, Noll and Vo's of 64 bits, as FNV-1a).
-pub const NO_OCTETS: u64 = 0xcbf2_9ce4_8422_2325;
+pub const NO_OCTETS: u64 = 0xcbf2_9ce4_8422_2325_u64;
 
 /// The sum with these octets behind.
 fn sum_with(mut sum: u64, octets: &[u8]) -> u64 {
