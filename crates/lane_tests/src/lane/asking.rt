@@ -2,6 +2,7 @@
 
 use super::script::{Kept, Question, Stamped, moment};
 use super::test_lane::{CLIENT, CLIENT_PORT, TestLane};
+use rad_auth::Reply;
 use rad_lane::{Answered, Sending, Stamp};
 
 impl TestLane {
@@ -53,13 +54,12 @@ fn is_kept(answer: &Answered, (stamp, milliseconds, serial, octets): &Kept<'_>) 
     answer.stamp() == stamp_of(*stamp)
         && answer.moment() == moment(*milliseconds)
         && answer.serial() == *serial
-        && octets_of(answer) == *octets
+        && has_octets(answer.reply(), octets)
 }
 
-/// The octets of the sending, the reply and the response.
-pub fn octets_of(answer: &Answered) -> [&[u8]; 3] {
-    let reply = answer.reply();
-    [reply.sending(), reply.reply(), reply.response()]
+/// Whether these are the octets of the sending, the reply and the response.
+fn has_octets(reply: &Reply, octets: &[&[u8]; 3]) -> bool {
+    reply.sending() == octets[0] && reply.reply() == octets[1] && reply.response() == octets[2]
 }
 
 /// Whether a lane goes down by the client's request of this number and session, or by none.

@@ -1,6 +1,5 @@
 //! What a closed lane leaves, and whether two left the same.
 
-use super::asking::octets_of;
 use super::comparing::same;
 use super::script::Call::{Made, Step};
 use super::script::Gives::Until;
@@ -67,7 +66,9 @@ pub fn is_same_answer(one: &Answered, other: &Answered) -> bool {
         && one.moment() == other.moment()
         && one.serial() == other.serial()
         && one.reply().head() == other.reply().head()
-        && octets_of(one) == octets_of(other)
+        && one.reply().sending() == other.reply().sending()
+        && one.reply().reply() == other.reply().reply()
+        && one.reply().response() == other.reply().response()
 }
 
 fn is_same_entry(one: Option<&Entry>, other: Option<&Entry>) -> bool {
