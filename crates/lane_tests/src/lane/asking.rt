@@ -2,7 +2,6 @@
 
 use super::script::{Kept, Question, Stamped, moment};
 use super::test_lane::{CLIENT, CLIENT_PORT, TestLane};
-use rad_auth::Reply;
 use rad_lane::{Answered, Sending, Stamp};
 
 impl TestLane {
@@ -14,7 +13,8 @@ impl TestLane {
             Question::HasAccepted(wanted) => are_stamps(self.lane.accepted(), wanted),
             Question::HasSent(wanted) => are_stamps(self.lane.sent(), wanted),
             Question::Keeps(wanted) => are_kept(self.lane.answered(), wanted),
-            Question::IsSpentBy(wanted) => is_spent(self.lane.spent(), wanted),
+            Question::IsSpent(number, session) => is_spent(self.lane.spent(), number, session),
+            Question::IsUnspent => self.lane.spent().is_none(),
         }
     }
 }
@@ -51,30 +51,24 @@ fn are_kept(answers: &[Answered], wanted: &[Kept<'_>]) -> bool {
 }
 
 fn is_kept(answer: &Answered, (stamp, milliseconds, serial, octets): &Kept<'_>) -> bool {
+    let reply = answer.reply();
     answer.stamp() == stamp_of(*stamp)
         && answer.moment() == moment(*milliseconds)
         && answer.serial() == *serial
-        && has_octets(answer.reply(), octets)
+        && [reply.sending(), reply.reply(), reply.response()] == *octets
 }
 
-/// Whether these are the octets of the sending, the reply and the response.
-fn has_octets(reply: &Reply, octets: &[&[u8]; 3]) -> bool {
-    reply.sending() == octets[0] && reply.reply() == octets[1] && reply.response() == octets[2]
-}
-
-/// Whether a lane goes down by the client's request of this number and session, or by none.
-fn is_spent(spent: Option<&Sending>, wanted: Option<(u64, &[u8])>) -> bool {
-    match (spent, wanted) {
-        (Some(sending), Some((number, session))) => {
-            is_of(&sending.request().stamp(), number)
-                && sending.request().session() == Some(session)
+/// Whether a lane goes down by the client's request of this number and session.
+fn is_spent(spent: Option<&Sending>, number: u64, session: &[u8]) -> bool {
+    match spent {
+        Some(sending) => {
+            let request = sending.request();
+            let stamp = request.stamp();
+            stamp.number == number
+                && stamp.client == CLIENT
+                && stamp.port == CLIENT_PORT
+                && request.session() == Some(session)
         }
-        (None, None) => true,
-        _ => false,
+        None => false,
     }
-}
-
-/// Whether a stamp is of the client's request of this number.
-fn is_of(stamp: &Stamp, number: u64) -> bool {
-    stamp.number == number && stamp.client == CLIENT && stamp.port == CLIENT_PORT
 }

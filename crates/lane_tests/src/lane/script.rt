@@ -55,8 +55,10 @@ pub enum Question<'a> {
     HasSent(&'a [Stamped]),
     /// Whether these answers are all that it keeps.
     Keeps(&'a [Kept<'a>]),
-    /// Whether it goes down by the request of this number, which is the client's and has this session, or by none.
-    IsSpentBy(Option<(u64, &'a [u8])>),
+    /// Whether it goes down by the request of this number, which is the client's and has this session.
+    IsSpent(u64, &'a [u8]),
+    /// Whether it goes down by none.
+    IsUnspent,
 }
 
 /// A stamp of a request of the client: its number, its Identifier, its Authenticator and the milliseconds.

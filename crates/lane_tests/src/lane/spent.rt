@@ -1,7 +1,7 @@
 //! By which request a lane goes down.
 
 use super::script::Call::{Accept, Is, Step};
-use super::script::Question::IsSpentBy;
+use super::script::Question::{IsSpent, IsUnspent};
 use super::script::{NOTHING, Row, SENT_0, SENT_1, TAKEN_0, TAKEN_1, WENT_DOWN, YES, play};
 use std::test::Fail;
 use test_octets::homes::{FORWARDED, SECOND_FORWARDED};
@@ -9,14 +9,14 @@ use test_octets::nas::{REQUEST, SECOND_REQUEST};
 
 /// Two requests are sent as often as a round allows, at two moments.
 const SPENT: [Row<'static>; 8] = [
-    (0, Is(IsSpentBy(None)), YES, NOTHING),
+    (0, Is(IsUnspent), YES, NOTHING),
     (0, Accept(&REQUEST), TAKEN_0, NOTHING),
     (0, Step, SENT_0, &FORWARDED),
     (1000, Accept(&SECOND_REQUEST), TAKEN_1, NOTHING),
     (1000, Step, SENT_1, &SECOND_FORWARDED),
-    (1000, Is(IsSpentBy(Some((0, b"S1")))), YES, NOTHING),
+    (1000, Is(IsSpent(0, b"S1")), YES, NOTHING),
     (2000, Step, WENT_DOWN, NOTHING),
-    (2000, Is(IsSpentBy(Some((0, b"S1")))), YES, NOTHING),
+    (2000, Is(IsSpent(0, b"S1")), YES, NOTHING),
 ];
 
 #[test]
@@ -30,7 +30,7 @@ const UNSPENT: [Row<'static>; 5] = [
     (0, Step, SENT_0, &FORWARDED),
     (1000, Accept(&SECOND_REQUEST), TAKEN_1, NOTHING),
     (1000, Step, SENT_1, &SECOND_FORWARDED),
-    (1000, Is(IsSpentBy(None)), YES, NOTHING),
+    (1000, Is(IsUnspent), YES, NOTHING),
 ];
 
 #[test]
