@@ -48,7 +48,8 @@ pub struct TestLane {
 impl TestLane {
     /// An empty lane of a home server.
     pub fn new(alloc: Global, (number, more): Home<'_>) -> Result<TestLane, Fail> {
-        let config = config_of(alloc, more)?;
+        let text = text_of(alloc, more)?;
+        let config = config_of(alloc, text.as_str())?;
         let lane = lane_of(alloc, &config, number)?;
         Ok(TestLane {
             alloc,
@@ -147,11 +148,16 @@ impl TestLane {
     }
 }
 
-/// The configuration that goes on with these lines.
-fn config_of(alloc: Global, more: &str) -> Result<Config, Fail> {
+/// The text of the configuration that goes on with these lines.
+fn text_of(alloc: Global, more: &str) -> Result<String, Fail> {
     let mut text = String::from_str(alloc, TEXT)?;
     text.push_str(more)?;
-    Ok(read_config(alloc, text.as_str())?)
+    Ok(text)
+}
+
+/// The configuration of a text. It stands apart from that text, which no proof has to read.
+fn config_of(alloc: Global, text: &str) -> Result<Config, Fail> {
+    Ok(read_config(alloc, text)?)
 }
 
 /// The lane of the home server of this number, which is empty.
