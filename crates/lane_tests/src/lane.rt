@@ -3,15 +3,16 @@
 //! implementation.
 
 mod accepting;
+mod asking;
 mod comparing;
 mod cutting;
 mod example;
 mod hearing;
 mod leaving;
 mod ports;
-mod requests;
 mod running;
 mod script;
+mod serving;
 mod spent;
 mod test_lane;
 mod thousands;

@@ -1,14 +1,14 @@
 //! Requests that are taken, and those that are not.
 
 use super::comparing::holds;
-use super::leaving::are_equal;
-use super::requests::request_of_length;
-use super::script::Call::{Accept, Counts as Count, Drain, IsDone, IsDraining};
-use super::script::Gives::{self, Drain as Drained, Is};
-use super::script::{NOTHING, Row, TAKEN_0, TAKEN_1, play, stamp};
-use super::test_lane::{CLIENT, CLIENT_PORT, TestLane};
+use super::script::Call::{Accept, Counts as Count, Drain, Is, Made};
+use super::script::Gives::{self, Drain as Drained};
+use super::script::Made::AcceptOfLength;
+use super::script::Question::{HasAccepted, HasSent, IsDone, IsDraining, Keeps};
+use super::script::{NO, NOTHING, Row, Stamped, TAKEN_0, TAKEN_1, YES, play};
+use super::test_lane::{CLIENT, CLIENT_PORT, TestLane, config_of};
 use rad_lane::{Counts, Refusal, Taken};
-use rad_realms::{Config, Incoming, check_in, read_config};
+use rad_realms::{Config, Incoming, check_in};
 use std::test::Fail;
 use test_octets::nas::{EIGHTH, OTHER_REQUEST, SEVENTH};
 
@@ -25,30 +25,24 @@ const TWO_QUEUED: Gives = Gives::Counts(Counts {
 
 const WAITING_0: Gives = Gives::Accept(Ok(Taken::Waiting(0)));
 
-const TWO: [Row<'static>; 4] = [
+const STAMPS: [Stamped; 2] = [
+    (0, 7, 0xabd474eaa4dc7ff139b7618502f5bcc4, 100),
+    (1, 8, 0x91412bcb0370001fd09977f480beb620, 250),
+];
+
+const TWO: [Row<'static>; 7] = [
     (100, Accept(&SEVENTH), TAKEN_0, NOTHING),
     (250, Accept(&EIGHTH), TAKEN_1, NOTHING),
     (300, Accept(&SEVENTH), WAITING_0, NOTHING),
     (300, Count, TWO_QUEUED, NOTHING),
+    (300, Is(HasAccepted(&STAMPS)), YES, NOTHING),
+    (300, Is(HasSent(&[])), YES, NOTHING),
+    (300, Is(Keeps(&[])), YES, NOTHING),
 ];
-
-/// Whether a lane has these two requests accepted, and nothing sent.
-fn has_two(lane: &TestLane) -> bool {
-    let first = stamp(0, 7, 0xabd474eaa4dc7ff139b7618502f5bcc4, 100);
-    let second = stamp(1, 8, 0x91412bcb0370001fd09977f480beb620, 250);
-    are_equal(lane.lane.accepted(), &[first, second])
-        && lane.lane.sent().is_empty()
-        && lane.lane.answered().is_empty()
-}
 
 #[test]
 fn new_requests_are_numbered(rt: HostRuntime) -> Result<(), Fail> {
-    let mut lane = TestLane::new(rt.alloc(), "")?;
-    lane.play(&rt, &TWO);
-    let is_right = has_two(&lane);
-    lane.end();
-    holds(&rt, is_right);
-    Ok(())
+    play(&rt, rt.alloc(), (0, ""), &TWO)
 }
 
 const DRAINING: Gives = Gives::Accept(Err(Refusal::Draining));
@@ -79,24 +73,20 @@ const FULL_QUEUE: [Row<'static>; 4] = [
 
 #[test]
 fn refusals_change_nothing(rt: HostRuntime) -> Result<(), Fail> {
-    play(&rt, rt.alloc(), "book = 1\n", &FULL_BOOK)?;
-    play(&rt, rt.alloc(), "queue = 1\n", &FULL_QUEUE)
+    play(&rt, rt.alloc(), (0, "book = 1\n"), &FULL_BOOK)?;
+    play(&rt, rt.alloc(), (0, "queue = 1\n"), &FULL_QUEUE)
 }
 
-/// Lengths of a request, and what becomes of it.
-const LENGTHS: [(usize, Gives); 2] = [
-    (4084, TAKEN_0),
-    (4085, Gives::Accept(Err(Refusal::TooLong))),
+const TOO_LONG: Gives = Gives::Accept(Err(Refusal::TooLong));
+
+const LENGTHS: [Row<'static>; 2] = [
+    (100, Made(AcceptOfLength(4085)), TOO_LONG, NOTHING),
+    (100, Made(AcceptOfLength(4084)), TAKEN_0, NOTHING),
 ];
 
 #[test]
 fn the_mark_has_to_fit(rt: HostRuntime) -> Result<(), Fail> {
-    for (length, gives) in LENGTHS {
-        let request = request_of_length(length)?;
-        let script = [(100, Accept(request.bytes()), gives, NOTHING)];
-        play(&rt, rt.alloc(), "", &script)?;
-    }
-    Ok(())
+    play(&rt, rt.alloc(), (0, ""), &LENGTHS)
 }
 
 /// A second home server, and its realm.
@@ -110,17 +100,16 @@ name = "other.org"
 home = "h2"
 "#;
 
-/// The numbers of home servers, and what becomes of a request at the lane of each.
-const LANES: [(u16, Gives); 2] = [(0, TAKEN_0), (1, Gives::Accept(Err(Refusal::WrongLane)))];
+const OWN: [Row<'static>; 1] = [(100, Accept(&SEVENTH), TAKEN_0, NOTHING)];
+
+const WRONG_LANE: Gives = Gives::Accept(Err(Refusal::WrongLane));
+
+const ANOTHERS: [Row<'static>; 1] = [(100, Accept(&SEVENTH), WRONG_LANE, NOTHING)];
 
 #[test]
 fn takes_requests_of_its_own_realms(rt: HostRuntime) -> Result<(), Fail> {
-    for (number, gives) in LANES {
-        let mut lane = TestLane::of_home(rt.alloc(), OTHER_HOME, number)?;
-        holds(&rt, lane.call(100, Accept(&SEVENTH)) == gives);
-        lane.end();
-    }
-    Ok(())
+    play(&rt, rt.alloc(), (0, OTHER_HOME), &OWN)?;
+    play(&rt, rt.alloc(), (1, OTHER_HOME), &ANOTHERS)
 }
 
 /// A second realm of the home server.
@@ -171,9 +160,9 @@ fn takes_checked(lane: &TestLane, config: &Config, request: &[u8]) -> bool {
 
 #[test]
 fn takes_requests_that_were_checked_elsewhere(rt: HostRuntime) -> Result<(), Fail> {
-    let turned = read_config(rt.alloc(), TURNED)?;
+    let turned = config_of(rt.alloc(), TURNED)?;
     for (more, request, wanted) in CHECKED_ELSEWHERE {
-        let lane = TestLane::new(rt.alloc(), more)?;
+        let lane = TestLane::new(rt.alloc(), (0, more))?;
         holds(&rt, takes_checked(&lane, &turned, request) == wanted);
         lane.end();
     }
@@ -193,26 +182,26 @@ const ONE_DRAINING: Gives = Gives::Counts(Counts {
 
 const DRAINS_ONCE: [Row<'static>; 7] = [
     (100, Accept(&SEVENTH), TAKEN_0, NOTHING),
-    (100, IsDraining, Is(false), NOTHING),
+    (100, Is(IsDraining), NO, NOTHING),
     (100, Drain, Drained(1), NOTHING),
     (100, Drain, Drained(1), NOTHING),
     (100, Count, ONE_DRAINING, NOTHING),
-    (100, IsDraining, Is(true), NOTHING),
-    (100, IsDone, Is(false), NOTHING),
+    (100, Is(IsDraining), YES, NOTHING),
+    (100, Is(IsDone), NO, NOTHING),
 ];
 
 #[test]
 fn drains_once(rt: HostRuntime) -> Result<(), Fail> {
-    play(&rt, rt.alloc(), "", &DRAINS_ONCE)
+    play(&rt, rt.alloc(), (0, ""), &DRAINS_ONCE)
 }
 
 const DONE_AT_ONCE: [Row<'static>; 3] = [
-    (0, IsDone, Is(false), NOTHING),
+    (0, Is(IsDone), NO, NOTHING),
     (0, Drain, Drained(0), NOTHING),
-    (0, IsDone, Is(true), NOTHING),
+    (0, Is(IsDone), YES, NOTHING),
 ];
 
 #[test]
 fn is_done_with_nothing_queued(rt: HostRuntime) -> Result<(), Fail> {
-    play(&rt, rt.alloc(), "", &DONE_AT_ONCE)
+    play(&rt, rt.alloc(), (0, ""), &DONE_AT_ONCE)
 }

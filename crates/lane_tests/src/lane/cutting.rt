@@ -1,20 +1,16 @@
 //! Thousands of events on two lanes, of which one is cut again and again and the other is not.
 
-ghost use Rattle.std.specs.Prelude.{◌<◌};
-ghost use Rattle.rad_lane.specs.Runs.{TakesEach};
-
 use super::comparing::{holds, same};
 use super::leaving::{are_equal, is_same_answer};
-use super::requests::{reply_to, request};
-use super::running::{checked, run_on};
-use super::script::moment;
-use super::test_lane::{RANDOM, TestLane};
-use rad_lane::{Action, Answered, Event, Given, GivenAnswer, Heard, Stamp, TurnFault, Volume};
+use super::script::Call::{Accept, Hear, Step};
+use super::script::{Call, Gives, moment};
+use super::test_lane::TestLane;
+use rad_lane::{Action, Answered, Stamp, TurnFault, Volume};
 use rad_packet::Datagram;
-use rad_realms::Config;
 use std::alloc::Global;
 use std::process::Abort;
 use std::test::Fail;
+use test_octets::{reply_to, request};
 
 /// How many milliseconds a round comes after the one before.
 const APART: u32 = 400;
@@ -22,13 +18,15 @@ const APART: u32 = 400;
 /// A request is over in the third round after its answer.
 const LIMITS: &str = "span = 1000\n";
 
-/// Two lanes that are given the same events, but that the first is turned as well, and what its volumes have: how many
-/// there are, how often there was nothing to turn, and their stamps in order with how many answers.
+/// Two lanes that are given the same calls, but that the first is turned as well, with the replies to what they sent in a
+/// round and the one that comes a round later; and what the volumes of the first have: how many there are, how often
+/// there was nothing to turn, and their stamps in order with how many answers.
 #[derive(Drop)]
 struct Two {
-    alloc: Global,
     cut: TestLane,
     whole: TestLane,
+    replies: Vec<Datagram>,
+    late: Option<Datagram>,
     volumes: usize,
     refused: usize,
     stamps: Vec<Stamp>,
@@ -37,65 +35,66 @@ struct Two {
 
 impl Two {
     fn new(alloc: Global) -> Result<Two, Fail> {
-        Ok(Two {
-            alloc,
-            cut: TestLane::new(alloc, LIMITS)?,
-            whole: TestLane::new(alloc, LIMITS)?,
-            volumes: 0,
-            refused: 0,
-            stamps: Vec::new(alloc),
-            answers: 0,
-        })
-    }
-
-    /// Runs these events on both lanes, which give the same.
-    fn run(&mut self, rt: &impl Abort, events: &[Event<'_, '_>]) -> Result<Vec<Given>, Fail>
-        requires cut { TakesEach self.old.cut.lane events.now }
-        requires whole { TakesEach self.old.whole.lane events.now }
-    {
-        let gives = run_on(self.alloc, &mut self.cut.lane, events)?;
-        let others = run_on(self.alloc, &mut self.whole.lane, events)?;
-        holds(rt, are_same(gives.as_slice(), others.as_slice()));
-        Ok(gives)
-    }
-
-    /// Has a request accepted, and steps. Gives the reply, where the request was sent.
-    fn send(
-        &mut self,
-        rt: &impl Abort,
-        config: &Config,
-        request: &Datagram,
-        milliseconds: u32,
-    ) -> Result<Option<Datagram>, Fail> {
-        let request = checked(config, request.bytes())?;
-        if !self.cut.lane.takes(&request) || !self.whole.lane.takes(&request) {
-            return Err(Fail::from("another lane's"));
+        let cut = TestLane::new(alloc, (0, LIMITS))?;
+        match TestLane::new(alloc, (0, LIMITS)) {
+            Ok(whole) => Ok(Two {
+                cut,
+                whole,
+                replies: Vec::new(alloc),
+                late: None,
+                volumes: 0,
+                refused: 0,
+                stamps: Vec::new(alloc),
+                answers: 0,
+            }),
+            Err(fault) => {
+                cut.end();
+                Err(fault)
+            }
         }
-        let events = [
-            Event::Accept(&request, moment(milliseconds)),
-            Event::Step(moment(milliseconds), RANDOM),
-        ];
-        reply_of(self.run(rt, &events)?.as_slice())
     }
 
-    /// Has a reply heard.
-    fn hear(&mut self, rt: &impl Abort, reply: &Datagram, milliseconds: u32) -> Result<(), Fail> {
-        let events = [Event::Hear(moment(milliseconds), 0, reply.bytes())];
-        self.run(rt, &events)?;
+    /// Makes a call of both lanes, which give the same.
+    fn call(&mut self, rt: &impl Abort, milliseconds: u32, call: Call<'_>) -> Gives {
+        let gives = self.cut.call(milliseconds, call);
+        let is_same = gives == self.whole.call(milliseconds, call);
+        holds(rt, is_same && self.cut.octets() == self.whole.octets());
+        gives
+    }
+
+    /// Has the request of this count accepted, and steps. The reply is kept, where the request was sent.
+    fn send(&mut self, rt: &impl Abort, milliseconds: u32, count: u16) -> Result<(), Fail> {
+        let request = request(count).ok_or("a request")?;
+        self.call(rt, milliseconds, Accept(request.bytes()));
+        if let Gives::Step(Action::Sent(_, _)) = self.call(rt, milliseconds, Step) {
+            let reply = reply_to(self.cut.octets(), 0).ok_or("a reply")?;
+            self.replies.push(reply)?;
+        }
         Ok(())
+    }
+
+    /// Has the replies heard, the last one first. The reply to the first one comes a round later, as the last one there.
+    fn hear(&mut self, rt: &impl Abort, milliseconds: u32) {
+        for _ in 1..self.replies.len() {
+            if let Some(reply) = self.replies.pop() {
+                self.call(rt, milliseconds, Hear(0, reply.bytes()));
+            }
+        }
+        if let Some(reply) = self.late.take() {
+            self.call(rt, milliseconds, Hear(0, reply.bytes()));
+        }
+        self.late = self.replies.pop();
     }
 
     /// Turns the first lane.
     fn turn(&mut self, milliseconds: u32) -> Result<(), Fail> {
-        let events = [Event::Turn(moment(milliseconds))];
-        let gives = run_on(self.alloc, &mut self.cut.lane, &events)?;
-        match gives.first().map(|given| &given.answer) {
-            Some(GivenAnswer::Turn(Ok(volume))) => self.add(volume),
-            Some(GivenAnswer::Turn(Err(TurnFault::NothingToTurn))) => {
+        match self.cut.lane.turn(self.cut.alloc, moment(milliseconds)) {
+            Ok(volume) => self.add(&volume),
+            Err(TurnFault::NothingToTurn) => {
                 self.refused = self.refused.saturating_add(1);
                 Ok(())
             }
-            _ => Err(Fail::from("no answer of a turn")),
+            Err(TurnFault::OutOfMemory) => Err(Fail::from("memory")),
         }
     }
 
@@ -115,42 +114,23 @@ impl Two {
         Ok(())
     }
 
-    /// A round: requests, each with a step, a turn, and then the replies to them, the last one first. The reply to the
-    /// first one comes a round later, as the last one there.
-    fn round(
-        &mut self,
-        rt: &impl Abort,
-        config: &Config,
-        round: u16,
-        late: Option<Datagram>,
-    ) -> Result<Option<Datagram>, Fail>
-        requires { round < 80 }
-    {
+    /// A round: requests, each with a step, a turn, and then the replies to them, and another turn.
+    fn round(&mut self, rt: &impl Abort, round: u16) -> Result<(), Fail> {
         let milliseconds = u32::from(round) * APART;
-        let mut replies = Vec::new(self.alloc);
-        for request in requests_of(self.alloc, round)?.iter() {
-            if let Some(reply) = self.send(rt, config, request, milliseconds)? {
-                replies.push(reply)?;
+        for place in 0..18 {
+            if let Some(count) = count_of(round, place) {
+                self.send(rt, milliseconds, count)?;
             }
         }
         self.turn(milliseconds)?;
-        replies.reverse();
-        let held = replies.pop();
-        if let Some(reply) = late {
-            replies.push(reply)?;
-        }
-        for reply in replies.iter() {
-            self.hear(rt, reply, milliseconds)?;
-        }
-        self.turn(milliseconds)?;
-        Ok(held)
+        self.hear(rt, milliseconds);
+        self.turn(milliseconds)
     }
 
     /// Has 80 rounds, and compares what the lanes have then.
-    fn play(&mut self, rt: &impl Abort, config: &Config) -> Result<(), Fail> {
-        let mut late = None;
-        for round in 0..80_u16 {
-            late = self.round(rt, config, round, late)?;
+    fn play(&mut self, rt: &impl Abort) -> Result<(), Fail> {
+        for round in 0..80 {
+            self.round(rt, round)?;
         }
         self.compare(rt)
     }
@@ -159,96 +139,58 @@ impl Two {
     /// is answered last, in the next round; so the first turn of a round cuts the fourth round before, and the second
     /// nothing.
     fn compare(&mut self, rt: &impl Abort) -> Result<(), Fail> {
-        same(rt, (self.volumes, self.refused), (76, 84));
-        same(rt, (self.stamps.len(), self.answers), (1287, 1287));
-        let openings = (
+        let turns = [self.volumes, self.refused];
+        let parts = [self.stamps.len(), self.answers];
+        let (kept, all) = (self.cut.lane.answered(), self.whole.lane.answered());
+        let rest = all.len().saturating_sub(kept.len());
+        holds(rt, are_among(kept, all));
+        let openings = [
             self.cut.lane.counts().opening,
             self.whole.lane.counts().opening,
-        );
-        same(rt, openings, (1287, 0));
+        ];
         self.stamps.extend_from_slice(self.cut.lane.accepted())?;
-        holds(
+        let accepted = self.whole.lane.accepted();
+        holds(rt, are_equal(self.stamps.as_slice(), accepted));
+        same(
             rt,
-            are_equal(self.stamps.as_slice(), self.whole.lane.accepted()),
+            (turns, parts, openings, rest),
+            ([76, 84], [1287, 1287], [1287, 0], 1287),
         );
-        let (kept, all) = (self.cut.lane.answered(), self.whole.lane.answered());
-        holds(rt, are_among(kept, all));
-        same(rt, kept.len().saturating_add(1287), all.len());
         Ok(())
     }
 
-    fn end(self) {}
-}
-
-/// The requests of a round: 16 new ones, one that was answered in the round before, and one that was answered so long ago
-/// that it is new again.
-fn requests_of(alloc: Global, round: u16) -> Result<Vec<Datagram>, Fail>
-    requires { round < 80 }
-{
-    let mut requests = Vec::new(alloc);
-    for count in 0..16_u16 {
-        requests.push(request(16 * round + count)?)?;
-    }
-    if round >= 1 {
-        requests.push(request(16 * (round - 1) + 3)?)?;
-    }
-    if round >= 5 {
-        requests.push(request(16 * (round - 5) + 5)?)?;
-    }
-    Ok(requests)
-}
-
-/// The reply to what a step sent, if it did, after a request.
-fn reply_of(gives: &[Given]) -> Result<Option<Datagram>, Fail> {
-    match gives {
-        [_, step] if matches!(step.answer, GivenAnswer::Step(Action::Sent(_, _))) => {
-            Ok(Some(reply_to(step.datagram.bytes(), 0)?))
-        }
-        _ => Ok(None),
+    fn end(self) {
+        self.cut.end();
+        self.whole.end();
     }
 }
 
-/// Whether two lanes gave the same.
-fn are_same(gives: &[Given], others: &[Given]) -> bool {
-    gives.len() == others.len() && gives.iter().zip(others).all(|(a, b)| is_same(a, b))
-}
-
-fn is_same(one: &Given, other: &Given) -> bool {
-    one.datagram.bytes() == other.datagram.bytes()
-        && match (&one.answer, &other.answer) {
-            (GivenAnswer::Accept(one), GivenAnswer::Accept(other)) => one == other,
-            (GivenAnswer::Step(one), GivenAnswer::Step(other)) => one == other,
-            (GivenAnswer::Hear(Ok(one)), GivenAnswer::Hear(Ok(other))) => is_same_heard(one, other),
-            _ => false,
-        }
-}
-
-fn is_same_heard(one: &Heard, other: &Heard) -> bool {
-    match (one, other) {
-        (Heard::Answer(one), Heard::Answer(other)) => {
-            one.serial == other.serial
-                && one.client == other.client
-                && one.port == other.port
-                && one.reply.response() == other.reply.response()
-        }
-        _ => false,
-    }
+/// The count of the request of this place in a round: 16 new ones, one that was answered in the round before, and one that
+/// was answered so long ago that it is new again.
+fn count_of(round: u16, place: u16) -> Option<u16> {
+    let (back, first) = match place {
+        16 => (1, 3),
+        17 => (5, 5),
+        _ => (0, place),
+    };
+    round.checked_sub(back)?.checked_mul(16)?.checked_add(first)
 }
 
 /// Whether each of these is the answer of its serial in a book that was never cut.
 fn are_among(answers: &[Answered], all: &[Answered]) -> bool {
-    answers.iter().all(|answer| {
-        all.get(answer.serial() as usize)
-            .is_some_and(|one| is_same_answer(answer, one))
-    })
+    for answer in answers {
+        match all.get(answer.serial() as usize) {
+            Some(one) if is_same_answer(answer, one) => {}
+            _ => return false,
+        }
+    }
+    true
 }
 
 #[test]
 fn volumes_lose_nothing(rt: HostRuntime) -> Result<(), Fail> {
-    let configured = TestLane::new(rt.alloc(), LIMITS)?;
     let mut two = Two::new(rt.alloc())?;
-    let played = two.play(&rt, &configured.config);
+    let played = two.play(&rt);
     two.end();
-    configured.end();
     played
 }

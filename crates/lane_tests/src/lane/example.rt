@@ -1,4 +1,4 @@
-//! How a caller uses a lane, from its configuration to its end: one request of a NAS is taken, forwarded and answered.
+//! An example of a lane's use, from its configuration to its end: one request of a NAS is accepted, forwarded and answered.
 
 use super::comparing::holds;
 use super::script::moment;
@@ -35,7 +35,7 @@ const FIRST: Slot = Slot {
     identifier: 0,
 };
 
-/// A lane with the configuration that it is of, and the datagram that its calls write.
+/// A lane, its configuration, and the datagram that its calls write.
 #[derive(Drop)]
 struct Example {
     config: Config,
@@ -44,9 +44,9 @@ struct Example {
 }
 
 impl Example {
-    /// The lane of the first home server, which is empty and up.
-    fn new(alloc: Global) -> Result<Example, Fail> {
-        let config = read_config(alloc, CONFIGURATION)?;
+    /// The lane of the first home server of a configuration. It is empty, and the home server is marked up.
+    fn new(alloc: Global, configuration: &str) -> Result<Example, Fail> {
+        let config = read_config(alloc, configuration)?;
         let setup = Setup::of(alloc, &config, 0)?;
         Ok(Example {
             config,
@@ -55,7 +55,7 @@ impl Example {
         })
     }
 
-    /// What a NAS sent is checked first: from which client it came, that it is right, and to which lane it leads.
+    /// Checks a NAS's datagram (its client, its authenticator, its lane), and passes the request to the lane.
     fn takes_a_request(&mut self, alloc: Global) -> Result<bool, Fail> {
         let (address, port) = NAS;
         match check_in(&self.config, address, port, &REQUEST) {
@@ -69,13 +69,13 @@ impl Example {
         }
     }
 
-    /// The next step writes what goes to the home server, and tells its source port and Identifier.
+    /// Does a step, which writes the packet for the home server and returns its source port and Identifier.
     fn forwards_it(&mut self) -> bool {
         let action = self.lane.step(moment(0), [0; 16], &mut self.datagram);
         action == Action::Sent(0, FIRST) && self.datagram.bytes() == FORWARDED.as_slice()
     }
 
-    /// The home server's reply, which came to that source port, gives the response to the NAS.
+    /// Passes the home server's reply, received at that source port, to the lane, which returns the response to the NAS.
     fn answers_it(&mut self, alloc: Global) -> Result<bool, Fail> {
         match self.lane.hear(alloc, moment(5), FIRST.port, &REPLY)? {
             Heard::Answer(outgoing) => Ok(
@@ -86,7 +86,7 @@ impl Example {
         }
     }
 
-    /// A lane that is closed leaves all that it kept.
+    /// Closes the lane, which returns everything that it kept.
     fn leaves_an_answer(self) -> bool {
         self.lane.close().answered().len() == 1
     }
@@ -94,7 +94,7 @@ impl Example {
 
 #[test]
 fn a_request_is_taken_forwarded_and_answered(rt: HostRuntime) -> Result<(), Fail> {
-    let mut example = Example::new(rt.alloc())?;
+    let mut example = Example::new(rt.alloc(), CONFIGURATION)?;
     let is_answered = example.takes_a_request(rt.alloc())?
         && example.forwards_it()
         && example.answers_it(rt.alloc())?;

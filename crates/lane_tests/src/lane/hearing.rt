@@ -1,19 +1,17 @@
 //! What is heard from the home server, and what is not.
 
-use super::comparing::holds;
-use super::leaving::are_equal;
-use super::requests::{reply_to, request};
-use super::script::Call::{Accept, Counts as Count, Hear, Step};
+use super::script::Call::{Accept, Counts as Count, Hear, Is, Made, Step};
+use super::script::Gives::{self, Until};
+use super::script::Made::Serve;
+use super::script::Question::{HasSent, Keeps};
 use super::script::{
-    ANSWERED_0, FIRST, Gives, NOTHING, PROBE_ANSWERED, PROBED_AS_2, RESENT_0, Row, SENT_0, TAKEN_0,
-    TAKEN_1, Told, UNKNOWN, WENT_DOWN, WRONG, answer, moment, play, sent, stamp, taken,
+    ANSWERED_0, FIRST, Kept, NOTHING, PROBE_ANSWERED, PROBED_AS_1, PROBED_AS_2, RESENT_0, Row,
+    SENT_0, Stamped, TAKEN_0, TAKEN_1, Told, UNKNOWN, WENT_DOWN, WRONG, YES, play, play_once,
 };
-use super::test_lane::{CLIENT, CLIENT_PORT, TestLane};
+use super::test_lane::{CLIENT, CLIENT_PORT};
 use rad_lane::HearFault::{MessageAuthenticatorHere, NoProxyState, Unread, WrongCode};
 use rad_lane::{Action, Counts, Taken};
 use rad_packet::ReadFault;
-use rad_tables::Slot;
-use std::process::Abort;
 use std::test::Fail;
 use test_octets::homes::{
     FORWARDED, MARK_NOT_LAST, PROBE, PROBE_ANSWER, REPLY, REPLY_OF_3, SECOND_PROBE,
@@ -69,7 +67,7 @@ const ONE_ANSWER: [Row<'static>; 7] = [
 
 #[test]
 fn a_request_is_answered(rt: HostRuntime) -> Result<(), Fail> {
-    play(&rt, rt.alloc(), "", &ONE_ANSWER)
+    play(&rt, rt.alloc(), (0, ""), &ONE_ANSWER)
 }
 
 const SHORT: Gives = Gives::Hear(Err(Unread(ReadFault::Short)));
@@ -98,47 +96,27 @@ const UNHEARD: [Row<'static>; 13] = [
 
 #[test]
 fn what_is_not_heard_changes_nothing(rt: HostRuntime) -> Result<(), Fail> {
-    play(&rt, rt.alloc(), "", &UNHEARD)
+    play(&rt, rt.alloc(), (0, ""), &UNHEARD)
 }
 
-const KEPT: [Row<'static>; 4] = [
+const FIRST_STAMP: Stamped = (0, 7, 0x59746c12d56942a4d434f016a0112511, 100);
+
+/// The answer to REQUEST, accepted at 100 and answered at 1700.
+const FIRST_KEPT: Kept<'static> = (FIRST_STAMP, 1700, 0, [&FORWARDED, &REPLY, &RESPONSE]);
+
+const KEPT: [Row<'static>; 6] = [
     (100, Accept(&REQUEST), TAKEN_0, NOTHING),
     (1000, Step, SENT_0, &FORWARDED),
     (1800, Hear(0, &SPOILED_REPLY), WRONG, NOTHING),
     (1700, Hear(0, &REPLY), ANSWERED_0, &RESPONSE),
+    (1700, Is(HasSent(&[FIRST_STAMP])), YES, NOTHING),
+    (1700, Is(Keeps(&[FIRST_KEPT])), YES, NOTHING),
 ];
 
 #[test]
 fn answers_are_kept(rt: HostRuntime) -> Result<(), Fail> {
-    let mut lane = TestLane::new(rt.alloc(), "")?;
-    lane.play(&rt, &KEPT);
-    let is_right = keeps_the_answer(&lane);
-    lane.end();
-    holds(&rt, is_right);
-    Ok(())
+    play(&rt, rt.alloc(), (0, ""), &KEPT)
 }
-
-/// Whether it keeps the answer to REQUEST, accepted at 100 and answered at 1700, and no other.
-fn keeps_the_answer(lane: &TestLane) -> bool {
-    let first = stamp(0, 7, 0x59746c12d56942a4d434f016a0112511, 100);
-    let answered = lane.lane.answered();
-    are_equal(lane.lane.sent(), &[first])
-        && answered.len() == 1
-        && answered.iter().all(|kept| {
-            kept.stamp() == first && kept.moment() == moment(1700) && kept.serial() == 0
-        })
-        && answered.iter().all(|kept| {
-            kept.reply().sending() == FORWARDED.as_slice()
-                && kept.reply().reply() == REPLY.as_slice()
-                && kept.reply().response() == RESPONSE.as_slice()
-        })
-}
-
-const FIRST_ANSWER: [Row<'static>; 3] = [
-    (0, Accept(&REQUEST), TAKEN_0, NOTHING),
-    (0, Step, SENT_0, &FORWARDED),
-    (0, Hear(0, &REPLY), ANSWERED_0, &RESPONSE),
-];
 
 const TAKEN_256: Gives = Gives::Accept(Ok(Taken::New(256)));
 
@@ -146,8 +124,13 @@ const SENT_256: Gives = Gives::Step(Action::Sent(256, FIRST));
 
 const ANSWERED_256: Gives = Gives::Hear(Ok(Told::Answer(256, CLIENT, CLIENT_PORT)));
 
-/// What follows once each identifier was answered.
-const LATE_REPLY: [Row<'static>; 4] = [
+/// The first request is answered under Identifier 0, and 255 made ones under the Identifiers 1 to 255, each before the
+/// next. Then comes Identifier 0 again.
+const LATE_REPLY: [Row<'static>; 8] = [
+    (0, Accept(&REQUEST), TAKEN_0, NOTHING),
+    (0, Step, SENT_0, &FORWARDED),
+    (0, Hear(0, &REPLY), ANSWERED_0, &RESPONSE),
+    (0, Made(Serve(255, 1, 1, 256)), Until(256), NOTHING),
     (0, Accept(&WRAPPED), TAKEN_256, NOTHING),
     (0, Step, SENT_256, &WRAPPED_FORWARDED),
     (0, Hear(0, &REPLY), WRONG, NOTHING),
@@ -156,31 +139,8 @@ const LATE_REPLY: [Row<'static>; 4] = [
 
 #[test]
 fn a_late_reply_answers_no_other_sending(rt: HostRuntime) -> Result<(), Fail> {
-    let mut lane = TestLane::new(rt.alloc(), "")?;
-    lane.play(&rt, &FIRST_ANSWER);
-    let answered = answer_each_identifier(&rt, &mut lane);
-    lane.play(&rt, &LATE_REPLY);
-    lane.end();
-    answered
+    play_once(&rt, rt.alloc(), (0, ""), &LATE_REPLY)
 }
-
-/// Has the requests of number 1 to 255 sent under the identifiers 1 to 255, each answered before the next.
-fn answer_each_identifier(rt: &impl Abort, lane: &mut TestLane) -> Result<(), Fail> {
-    for count in 1..256 {
-        let number = u64::from(count);
-        let request = request(count)?;
-        holds(rt, lane.call(0, Accept(request.bytes())) == taken(number));
-        holds(rt, lane.call(0, Step) == sent(count));
-        let reply = reply_to(lane.octets(), 0)?;
-        holds(rt, lane.call(0, Hear(0, reply.bytes())) == answer(number));
-    }
-    Ok(())
-}
-
-const PROBED_AS_1: Gives = Gives::Step(Action::Probed(Slot {
-    port: 0,
-    identifier: 1,
-}));
 
 const ANSWERS_TAKE_UP: [Row<'static>; 17] = [
     (0, Accept(&REQUEST), TAKEN_0, NOTHING),
@@ -204,5 +164,5 @@ const ANSWERS_TAKE_UP: [Row<'static>; 17] = [
 
 #[test]
 fn a_right_answer_takes_a_lane_up(rt: HostRuntime) -> Result<(), Fail> {
-    play(&rt, rt.alloc(), "tries = 1\n", &ANSWERS_TAKE_UP)
+    play(&rt, rt.alloc(), (0, "tries = 1\n"), &ANSWERS_TAKE_UP)
 }

@@ -1,14 +1,14 @@
 //! What a closed lane leaves, and whether two left the same.
 
-use super::comparing::{holds, same};
-use super::requests::reply_to;
-use super::script::Call::{Hear, Step};
-use super::script::{ANSWERED_0, NOTHING, PROBED_AS_2, Row, SENT_0, WENT_DOWN, pair, sent};
-use super::test_lane::TestLane;
-use super::waiting::accept_each;
+use super::comparing::same;
+use super::script::Call::{Made, Step};
+use super::script::Gives::Until;
+use super::script::Made::{AcceptEach, Hear, SendEach};
+use super::script::{ANSWERED_0, Home, NOTHING, PROBED_AS_2, Row, WENT_DOWN, leave, pair};
 use block_queue::{BlockQueue, Fifo};
 use rad_lane::{Answered, Entry, Leftover, Record, Stamp};
 use rad_tables::Slots;
+use std::alloc::Global;
 use std::process::Abort;
 use std::test::Fail;
 use test_octets::homes::SECOND_PROBE;
@@ -38,11 +38,13 @@ pub fn are_equal(one: &[Stamp], other: &[Stamp]) -> bool {
 }
 
 fn are_same_entries(one: &Slots<Entry>, other: &Slots<Entry>) -> bool {
+    for count in 0..1024 {
+        let pair = pair(count);
+        if !is_same_entry(one.get(pair), other.get(pair)) {
+            return false;
+        }
+    }
     one.used() == other.used()
-        && (0..1024).all(|count| {
-            let pair = pair(count);
-            is_same_entry(one.get(pair), other.get(pair))
-        })
 }
 
 fn are_same_queues(one: &BlockQueue<Record>, other: &BlockQueue<Record>) -> bool {
@@ -50,7 +52,12 @@ fn are_same_queues(one: &BlockQueue<Record>, other: &BlockQueue<Record>) -> bool
 }
 
 fn are_same_answers(one: &[Answered], other: &[Answered]) -> bool {
-    one.len() == other.len() && one.iter().zip(other).all(|(a, b)| is_same_answer(a, b))
+    for (one, other) in one.iter().zip(other) {
+        if !is_same_answer(one, other) {
+            return false;
+        }
+    }
+    one.len() == other.len()
 }
 
 /// Whether two answers are the same, with their octets.
@@ -91,31 +98,41 @@ fn is_same_record(one: &Record, other: &Record) -> bool {
         && one.client_secret().octets() == other.client_secret().octets()
 }
 
-const PROBED: [Row<'static>; 2] = [
+/// One request is answered, one sent, with the home server down and a probe out, and one queued.
+const ONE_OF_EACH: [Row<'static>; 6] = [
+    (0, Made(AcceptEach(0, 3)), Until(3), NOTHING),
+    (0, Made(SendEach(0, 1)), Until(1), NOTHING),
+    (0, Made(Hear(0, 0)), ANSWERED_0, NOTHING),
+    (0, Made(SendEach(1, 2)), Until(2), NOTHING),
     (2000, Step, WENT_DOWN, NOTHING),
     (2000, Step, PROBED_AS_2, &SECOND_PROBE),
 ];
 
-/// One request is answered, one sent, with the home server down and a probe out, and one queued.
-fn have_one_of_each(rt: &impl Abort, lane: &mut TestLane) -> Result<(), Fail> {
-    accept_each(rt, lane, 0, 3)?;
-    holds(rt, lane.call(0, Step) == SENT_0);
-    let reply = reply_to(lane.octets(), 0)?;
-    holds(rt, lane.call(0, Hear(0, reply.bytes())) == ANSWERED_0);
-    holds(rt, lane.call(0, Step) == sent(1));
-    lane.play(rt, &PROBED);
-    Ok(())
+/// How many stamps there are, how many of them were sent, how many are queued and outstanding, and how many answers.
+fn lengths(left: &Leftover<BlockQueue<Record>>) -> [usize; 5] {
+    [
+        left.accepted().len(),
+        left.sent().len(),
+        left.queued().len(),
+        left.outstanding().used(),
+        left.answered().len(),
+    ]
+}
+
+/// The lengths of what a new lane leaves after a script.
+fn left_lengths(
+    rt: &impl Abort,
+    alloc: Global,
+    home: Home<'_>,
+    script: &[Row<'_>],
+) -> Result<[usize; 5], Fail> {
+    Ok(lengths(&leave(rt, alloc, home, script)?))
 }
 
 #[test]
 fn a_closed_lane_leaves_no_probe(rt: HostRuntime) -> Result<(), Fail> {
-    let mut lane = TestLane::new(rt.alloc(), "window = 1\ntries = 1\n")?;
-    let had = have_one_of_each(&rt, &mut lane);
-    let left = lane.close();
-    let stamps = [left.accepted().len(), left.sent().len()];
-    let others = [left.queued().len(), left.outstanding().used()];
-    let answered = left.answered().len();
-    had?;
-    same(&rt, (stamps, others, answered), ([3, 2], [1, 1], 1));
+    let home = (0, "window = 1\ntries = 1\n");
+    let lengths = left_lengths(&rt, rt.alloc(), home, &ONE_OF_EACH)?;
+    same(&rt, lengths, [3, 2, 1, 1, 1]);
     Ok(())
 }

@@ -3,11 +3,11 @@
 ghost use Rattle.rad_lane.specs.Runs.{TakesEach};
 
 use super::comparing::holds;
-use super::script::{moment, slot};
-use super::test_lane::{CLIENT, CLIENT_PORT, RANDOM, TestLane};
+use super::script::Gives::{self, Drain, Idle, Turned};
+use super::script::{ANSWERED_0, NOTHING, SENT_0, TAKEN_0, moment};
+use super::test_lane::{CLIENT, CLIENT_PORT, RANDOM, TestLane, done, octets_in, response_in, told};
 use block_queue::BlockQueue;
-use rad_lane::{Action, Event, Given, GivenAnswer, Heard, Lane, Record, Taken, run};
-use rad_packet::Datagram;
+use rad_lane::{Event, Given, GivenAnswer, Lane, Record, run};
 use rad_realms::{Checked, Config, Incoming, check_in};
 use std::alloc::Global;
 use std::process::Abort;
@@ -16,7 +16,7 @@ use test_octets::homes::{FORWARDED, REPLY};
 use test_octets::nas::{REQUEST, RESPONSE};
 
 /// Runs these events on a lane.
-pub fn run_on(
+fn run_on(
     alloc: Global,
     lane: &mut Lane<BlockQueue<Record>>,
     events: &[Event<'_, '_>],
@@ -45,81 +45,79 @@ impl TestLane {
         run_on(self.alloc, &mut self.lane, &events)
     }
 
-    /// Runs a step, the hearing of REPLY, and the drain.
+    /// Runs a step, the hearing of REPLY, the drain, and a turn a span later.
     fn run_others(&mut self) -> Result<Vec<Given>, Fail> {
         let events = [
             Event::Step(moment(0), RANDOM),
             Event::Hear(moment(0), 0, &REPLY),
             Event::Drain,
+            Event::Turn(moment(30_000)),
         ];
         run_on(self.alloc, &mut self.lane, &events)
     }
 }
 
 /// A request that its client sent and that was checked.
-pub fn checked<'a>(config: &'a Config, request: &'a [u8]) -> Result<Checked<'a>, Fail> {
+fn checked<'a>(config: &'a Config, request: &'a [u8]) -> Result<Checked<'a>, Fail> {
     match check_in(config, CLIENT, CLIENT_PORT, request) {
         Ok(Incoming::Request(checked)) => Ok(checked),
         _ => Err(Fail::from("no request")),
     }
 }
 
-/// Whether a request is taken as the first, and then sent.
-fn are_accepted_and_sent(gives: &[Given]) -> bool {
-    match gives {
-        [accepted, sent] => {
-            matches!(accepted.answer, GivenAnswer::Accept(Ok(Taken::New(0))))
-                && accepted.datagram.bytes() == Datagram::new().bytes()
-                && did(&sent.answer, Action::Sent(0, slot(0)))
-                && sent.datagram.bytes() == FORWARDED.as_slice()
+/// Whether a run gave these answers, with these octets.
+fn gave(gives: &[Given], wanted: &[(Gives, &[u8])]) -> bool {
+    for (given, (answer, octets)) in gives.iter().zip(wanted) {
+        if answer_of(&given.answer) != *answer || octets_of(given) != *octets {
+            return false;
         }
-        _ => false,
     }
+    gives.len() == wanted.len()
 }
 
-/// Whether nothing is to be done until the request is due, the reply answers it, and the lane has had one request. The
-/// datagram stays as a run's is at first.
-fn are_idle_answered_and_drained(gives: &[Given]) -> bool {
-    match gives {
-        [idle, heard, drained] => {
-            did(&idle.answer, Action::Idle(Some(moment(2000))))
-                && is_response(&heard.answer)
-                && matches!(drained.answer, GivenAnswer::Drain(1))
-                && drained.datagram.bytes() == Datagram::new().bytes()
-        }
-        _ => false,
-    }
-}
-
-/// Whether this was a step that did this.
-pub fn did(answer: &GivenAnswer, wanted: Action) -> bool {
+/// An answer of a run, without its packets.
+fn answer_of(answer: &GivenAnswer) -> Gives {
     match answer {
-        GivenAnswer::Step(action) => *action == wanted,
-        _ => false,
+        GivenAnswer::Accept(taken) => Gives::Accept(*taken),
+        GivenAnswer::Step(action) => done(*action),
+        GivenAnswer::Hear(Ok(heard)) => Gives::Hear(Ok(told(heard))),
+        GivenAnswer::Hear(Err(fault)) => Gives::Hear(Err(*fault)),
+        GivenAnswer::Drain(count) => Drain(*count),
+        GivenAnswer::Turn(Ok(volume)) => Turned(volume.opening, volume.stamps.as_slice().len()),
+        GivenAnswer::Turn(Err(_)) => Gives::Is(false),
     }
 }
 
-fn is_response(answer: &GivenAnswer) -> bool {
-    match answer {
-        GivenAnswer::Hear(Ok(Heard::Answer(outgoing))) => {
-            outgoing.serial == 0 && outgoing.reply.response() == RESPONSE.as_slice()
-        }
-        _ => false,
+/// The response to the client, or else what the datagram has.
+fn octets_of(given: &Given) -> &[u8] {
+    match &given.answer {
+        GivenAnswer::Hear(Ok(heard)) => response_in(heard),
+        _ => octets_in(&given.datagram),
     }
 }
+
+/// A request is taken as the first, and then sent.
+const TWO: [(Gives, &[u8]); 2] = [(TAKEN_0, NOTHING), (SENT_0, &FORWARDED)];
+
+/// Nothing is to be done until the request is due, the reply answers it, the lane has had one request, and a volume has it.
+/// The datagram stays as a run's is at first.
+const FOUR: [(Gives, &[u8]); 4] = [
+    (Idle(Some(2000)), NOTHING),
+    (ANSWERED_0, &RESPONSE),
+    (Drain(1), NOTHING),
+    (Turned(0, 1), NOTHING),
+];
 
 fn run_each(rt: &impl Abort, lane: &mut TestLane) -> Result<(), Fail> {
-    holds(rt, lane.run_nothing()?.is_empty());
-    let two = lane.run_accept_and_step()?;
-    holds(rt, are_accepted_and_sent(two.as_slice()));
-    let three = lane.run_others()?;
-    holds(rt, are_idle_answered_and_drained(three.as_slice()));
+    holds(rt, gave(lane.run_nothing()?.as_slice(), &[]));
+    holds(rt, gave(lane.run_accept_and_step()?.as_slice(), &TWO));
+    holds(rt, gave(lane.run_others()?.as_slice(), &FOUR));
     Ok(())
 }
 
 #[test]
 fn each_event_has_its_answer(rt: HostRuntime) -> Result<(), Fail> {
-    let mut lane = TestLane::new(rt.alloc(), "")?;
+    let mut lane = TestLane::new(rt.alloc(), (0, ""))?;
     let ran = run_each(&rt, &mut lane);
     lane.end();
     ran

@@ -4,13 +4,13 @@ use super::comparing::holds;
 use super::leaving::is_same;
 use super::test_lane::{CLIENT, CLIENT_PORT, TestLane};
 use block_queue::BlockQueue;
-use rad_lane::{Action, Counts, HearFault, Leftover, Record, Refusal, Stamp, Taken};
+use rad_lane::{Action, Counts, HearFault, Leftover, Record, Refusal, Taken};
 use rad_tables::{Moment, Slot};
 use std::alloc::Global;
 use std::process::Abort;
 use std::test::Fail;
 
-/// A call of a lane.
+/// A call of a lane, or many.
 #[derive(Clone, Copy)]
 pub enum Call<'a> {
     /// A datagram comes from the client.
@@ -19,11 +19,53 @@ pub enum Call<'a> {
     /// A datagram comes from the home server to this source port.
     Hear(u16, &'a [u8]),
     Drain,
+    /// Calls with packets that `test_octets` makes.
+    Made(Made),
     /// Looks at how much there is.
     Counts,
+    /// Looks at the sums of all octets that the calls of `Made` sent and answered.
+    Sums,
+    Is(Question<'a>),
+}
+
+/// Calls with packets that are made. Those of the numbers from one on to another are all but the last.
+#[derive(Clone, Copy)]
+pub enum Made {
+    /// A request of this length comes from the client.
+    AcceptOfLength(usize),
+    /// The requests of these numbers come from the client, and each is taken as new with its number.
+    AcceptEach(u16, u16),
+    /// The requests of these numbers are sent, each under the pair of its number.
+    SendEach(u16, u16),
+    /// The reply to the sending of this place comes from the home server to this source port.
+    Hear(u16, usize),
+    /// In so many rounds so many requests each are accepted, sent and answered, from this number on. They are sent under
+    /// so many pairs, which go round.
+    Serve(u16, u16, u16, u16),
+}
+
+/// What is asked of a lane.
+#[derive(Clone, Copy)]
+pub enum Question<'a> {
     IsDraining,
     IsDone,
+    /// Whether these stamps are all that it accepted.
+    HasAccepted(&'a [Stamped]),
+    /// Whether these stamps are all that it sent.
+    HasSent(&'a [Stamped]),
+    /// Whether these answers are all that it keeps.
+    Keeps(&'a [Kept<'a>]),
+    /// Whether it goes down by the request of this number, which is the client's and has this session.
+    IsSpent(u64, &'a [u8]),
+    /// Whether it goes down by none.
+    IsUnspent,
 }
+
+/// A stamp of a request of the client: its number, its Identifier, its Authenticator and the milliseconds.
+pub type Stamped = (u64, u8, u128, u32);
+
+/// An answer: its request, the milliseconds, its serial, and the octets of the sending, the reply and the response.
+pub type Kept<'a> = (Stamped, u32, u64, [&'a [u8]; 3]);
 
 /// What a call answers, without the packets.
 #[derive(Clone, Copy, PartialEq, Eq)]
@@ -34,7 +76,12 @@ pub enum Gives {
     Idle(Option<u64>),
     Hear(Result<Told, HearFault>),
     Drain(u64),
+    /// A volume begins with the request of this number and has so many.
+    Turned(u64, usize),
+    /// All was as it should be until the request of this number, which is the end where nothing went wrong.
+    Until(u16),
     Counts(Counts),
+    Sums(u64, u64),
     Is(bool),
 }
 
@@ -47,16 +94,8 @@ pub enum Told {
 }
 
 impl Gives {
-    pub fn is_refused(&self) -> bool {
+    fn is_refused(&self) -> bool {
         matches!(self, Gives::Accept(Err(_)) | Gives::Hear(Err(_)))
-    }
-
-    /// Whether memory was refused.
-    pub fn wants_memory(&self) -> bool {
-        matches!(
-            self,
-            Gives::Accept(Err(Refusal::OutOfMemory)) | Gives::Hear(Err(HearFault::OutOfMemory))
-        )
     }
 }
 
@@ -66,6 +105,10 @@ pub type Row<'a> = (u32, Call<'a>, Gives, &'a [u8]);
 
 pub const NOTHING: &[u8] = &[];
 
+pub const YES: Gives = Gives::Is(true);
+
+pub const NO: Gives = Gives::Is(false);
+
 pub const TAKEN_0: Gives = Gives::Accept(Ok(Taken::New(0)));
 
 pub const TAKEN_1: Gives = Gives::Accept(Ok(Taken::New(1)));
@@ -73,11 +116,17 @@ pub const TAKEN_1: Gives = Gives::Accept(Ok(Taken::New(1)));
 /// Request 0 is sent under the first pair.
 pub const SENT_0: Gives = Gives::Step(Action::Sent(0, FIRST));
 
+/// Request 1 is sent under the second pair.
+pub const SENT_1: Gives = Gives::Step(Action::Sent(1, SECOND));
+
 pub const RESENT_0: Gives = Gives::Step(Action::Resent(0, FIRST));
 
 pub const WENT_DOWN: Gives = Gives::Step(Action::WentDown);
 
 pub const WENT_UP: Gives = Gives::Step(Action::WentUp);
+
+/// The home server is probed under Identifier 1 of the first source port.
+pub const PROBED_AS_1: Gives = Gives::Step(Action::Probed(SECOND));
 
 /// The home server is probed under Identifier 2 of the first source port.
 pub const PROBED_AS_2: Gives = Gives::Step(Action::Probed(THIRD));
@@ -96,20 +145,33 @@ pub const FIRST: Slot = Slot {
     identifier: 0,
 };
 
+const SECOND: Slot = Slot {
+    port: 0,
+    identifier: 1,
+};
+
 const THIRD: Slot = Slot {
     port: 0,
     identifier: 2,
 };
 
-/// Plays a script on a new lane, whose home server has these lines more in the configuration. After each call that
-/// is refused the lane has to leave what it leaves without that call, and so it has where a call was refused memory.
-pub fn play(rt: &impl Abort, alloc: Global, more: &str, script: &[Row<'_>]) -> Result<(), Fail> {
-    holds(rt, leave_same(rt, alloc, more, script, script)?);
+/// The number of a home server, and lines more in the configuration, which its limits are.
+pub type Home<'a> = (u16, &'a str);
+
+/// Plays a script on a new lane. After each call that is refused the lane has to leave what it leaves without that call,
+/// and so it has where a call was refused memory.
+pub fn play(
+    rt: &impl Abort,
+    alloc: Global,
+    home: Home<'_>,
+    script: &[Row<'_>],
+) -> Result<(), Fail> {
+    holds(rt, leave_same(rt, alloc, home, script, script)?);
     for place in 0..script.len() {
         if script[place].2.is_refused() {
             let (before, after) = (&script[..place], &script[..place + 1]);
             assert!(rt;
-                leave_same(rt, alloc, more, before, after)?,
+                leave_same(rt, alloc, home, before, after)?,
                 "changed by call {place}"
             );
         }
@@ -121,23 +183,34 @@ pub fn play(rt: &impl Abort, alloc: Global, more: &str, script: &[Row<'_>]) -> R
 fn leave_same(
     rt: &impl Abort,
     alloc: Global,
-    more: &str,
+    home: Home<'_>,
     one: &[Row<'_>],
     other: &[Row<'_>],
 ) -> Result<bool, Fail> {
-    let one = leave(rt, alloc, more, one)?;
-    let other = leave(rt, alloc, more, other)?;
+    let one = leave(rt, alloc, home, one)?;
+    let other = leave(rt, alloc, home, other)?;
     Ok(is_same(&one, &other))
 }
 
-/// What a new lane leaves when it is closed after a script.
-fn leave(
+/// Plays a long script on a new lane, and no more.
+pub fn play_once(
     rt: &impl Abort,
     alloc: Global,
-    more: &str,
+    home: Home<'_>,
+    script: &[Row<'_>],
+) -> Result<(), Fail> {
+    leave(rt, alloc, home, script)?;
+    Ok(())
+}
+
+/// What a new lane leaves when it is closed after a script.
+pub fn leave(
+    rt: &impl Abort,
+    alloc: Global,
+    home: Home<'_>,
     script: &[Row<'_>],
 ) -> Result<Leftover<BlockQueue<Record>>, Fail> {
-    let mut lane = TestLane::new(alloc, more)?;
+    let mut lane = TestLane::new(alloc, home)?;
     lane.play(rt, script);
     Ok(lane.close())
 }
@@ -152,39 +225,4 @@ pub fn pair(count: u16) -> Slot {
         port: count / 256,
         identifier: (count % 256) as u8,
     }
-}
-
-/// The pair of the first source port and the Identifier that goes round with this count.
-pub fn slot(count: u16) -> Slot {
-    Slot {
-        port: 0,
-        identifier: (count % 256) as u8,
-    }
-}
-
-/// The stamp of a request of this identifier and Authenticator.
-pub fn stamp(number: u64, identifier: u8, authenticator: u128, milliseconds: u32) -> Stamp {
-    Stamp {
-        number,
-        client: CLIENT,
-        port: CLIENT_PORT,
-        identifier,
-        authenticator: authenticator.to_be_bytes(),
-        moment: moment(milliseconds),
-    }
-}
-
-/// A request is taken as new, with this number.
-pub fn taken(number: u64) -> Gives {
-    Gives::Accept(Ok(Taken::New(number)))
-}
-
-/// The first sending of the request of this number, under the Identifier that goes round with it.
-pub fn sent(number: u16) -> Gives {
-    Gives::Step(Action::Sent(u64::from(number), slot(number)))
-}
-
-/// The client's answer of this serial.
-pub fn answer(serial: u64) -> Gives {
-    Gives::Hear(Ok(Told::Answer(serial, CLIENT, CLIENT_PORT)))
 }

@@ -1,4 +1,5 @@
-use super::script::{Call, Gives, Row, Told, moment};
+use super::script::{Call, Gives, Home, Row, Told, moment};
+use super::serving::NO_OCTETS;
 use block_queue::BlockQueue;
 use rad_lane::{Action, HearFault, Heard, Lane, Leftover, Record, Refusal, Setup, Taken};
 use rad_packet::{Datagram, read};
@@ -32,89 +33,82 @@ pub const CLIENT_PORT: u16 = 40_000;
 /// The Authenticator of each probe.
 pub const RANDOM: [u8; 16] = [0xa5; 16];
 
-/// The lane of a home server, and the datagram that is handed to its calls.
+/// The lane of a home server, the datagram that is handed to its calls, and of the made requests the replies and sums.
 #[derive(Drop)]
 pub struct TestLane {
     pub alloc: Global,
     pub config: Config,
     pub lane: Lane<BlockQueue<Record>>,
-    datagram: Datagram,
+    pub datagram: Datagram,
+    pub replies: Vec<Datagram>,
+    pub forwarded: u64,
+    pub responses: u64,
 }
 
 impl TestLane {
-    /// An empty lane of the first home server, by the configuration that goes on with these lines.
-    pub fn new(alloc: Global, more: &str) -> Result<TestLane, Fail> {
-        TestLane::of_home(alloc, more, 0)
-    }
-
-    /// The same of the home server of this number.
-    pub fn of_home(alloc: Global, more: &str, number: u16) -> Result<TestLane, Fail> {
-        let mut text = String::from_str(alloc, TEXT)?;
-        text.push_str(more)?;
-        let config = read_config(alloc, text.as_str())?;
-        if usize::from(number) >= config.homes().len() {
-            return Err(Fail::from("a home server"));
-        }
-        let setup = Setup::of(alloc, &config, number)?;
+    /// An empty lane of a home server.
+    pub fn new(alloc: Global, (number, more): Home<'_>) -> Result<TestLane, Fail> {
+        let text = text_of(alloc, more)?;
+        let config = config_of(alloc, text.as_str())?;
+        let lane = lane_of(alloc, &config, number)?;
         Ok(TestLane {
             alloc,
             config,
-            lane: Lane::new(alloc, setup)?,
+            lane,
             datagram: Datagram::new(),
+            replies: Vec::new(alloc),
+            forwarded: NO_OCTETS,
+            responses: NO_OCTETS,
         })
     }
 
     /// Makes the calls of a script, and compares what each gives and what it puts into the datagram.
     pub fn play(&mut self, rt: &impl Abort, script: &[Row<'_>]) {
         for (moment, call, gives, octets) in script {
-            assert!(rt; self.call(*moment, *call) == *gives, "at {moment}");
-            assert!(rt; self.octets() == *octets, "octets at {moment}");
+            let is_given = self.call(*moment, *call) == *gives;
+            assert!(rt; is_given && self.octets() == *octets, "at {moment}");
         }
     }
 
-    /// Makes one call, and once more where memory was refused.
-    pub fn call(&mut self, moment: u32, call: Call<'_>) -> Gives {
-        let gives = self.call_once(moment, call);
-        if gives.wants_memory() {
-            return self.call_once(moment, call);
-        }
-        gives
-    }
-
-    /// Makes one call with a datagram that has no packet of its own.
-    fn call_once(&mut self, milliseconds: u32, call: Call<'_>) -> Gives {
+    /// Makes a call.
+    pub fn call(&mut self, milliseconds: u32, call: Call<'_>) -> Gives {
         self.datagram = Datagram::new();
         let moment = moment(milliseconds);
         match call {
-            Call::Accept(request) => Gives::Accept(self.accept(request, moment)),
+            Call::Accept(request) => Gives::Accept(self.accept(moment, request)),
             Call::Step => self.step(moment),
             Call::Hear(port, reply) => Gives::Hear(self.hear(moment, port, reply)),
             Call::Drain => Gives::Drain(self.lane.drain()),
+            Call::Made(made) => self.call_made(moment, made),
             Call::Counts => Gives::Counts(self.lane.counts()),
-            Call::IsDraining => Gives::Is(self.lane.is_draining()),
-            Call::IsDone => Gives::Is(self.lane.is_done()),
+            Call::Sums => Gives::Sums(self.forwarded, self.responses),
+            Call::Is(question) => Gives::Is(self.is(question)),
         }
     }
 
     /// The octets that the last call put into the datagram.
     pub fn octets(&self) -> &[u8] {
-        let octets = self.datagram.bytes();
-        if octets == Datagram::new().bytes() {
-            return &[];
-        }
-        octets
+        octets_in(&self.datagram)
     }
 
     /// What the lane does next.
-    fn step(&mut self, moment: Moment) -> Gives {
-        match self.lane.step(moment, RANDOM, &mut self.datagram) {
-            Action::Idle(due) => Gives::Idle(due.map(|due| due.get())),
-            action => Gives::Step(action),
+    pub fn step(&mut self, moment: Moment) -> Gives {
+        self.datagram = Datagram::new();
+        done(self.lane.step(moment, RANDOM, &mut self.datagram))
+    }
+
+    /// The lane's answer to a datagram of its client, once more where memory was refused.
+    pub fn accept(&mut self, moment: Moment, request: &[u8]) -> Result<Taken, Refusal> {
+        let taken = self.accept_once(moment, request);
+        if taken == Err(Refusal::OutOfMemory) {
+            return self.accept_once(moment, request);
         }
+        taken
     }
 
     /// The lane's answer to a datagram of its client; `WrongLane` where that is no request of the lane.
-    fn accept(&mut self, request: &[u8], moment: Moment) -> Result<Taken, Refusal> {
+    fn accept_once(&mut self, moment: Moment, request: &[u8]) -> Result<Taken, Refusal> {
+        self.datagram = Datagram::new();
         match check_in(&self.config, CLIENT, CLIENT_PORT, request) {
             Ok(Incoming::Request(request)) if self.lane.takes(&request) => {
                 self.lane
@@ -124,24 +118,87 @@ impl TestLane {
         }
     }
 
-    /// The lane's answer to a datagram from the home server. A response to the client goes into the datagram.
-    fn hear(&mut self, moment: Moment, port: u16, reply: &[u8]) -> Result<Told, HearFault> {
-        match self.lane.hear(self.alloc, moment, port, reply)? {
-            Heard::Answer(outgoing) => {
-                if let Ok(response) = read(outgoing.reply.response()) {
-                    self.datagram.load(&response);
-                }
-                Ok(Told::Answer(outgoing.serial, outgoing.client, outgoing.port))
-            }
-            Heard::ProbeAnswered => Ok(Told::ProbeAnswered),
+    /// The lane's answer to a datagram from the home server, once more where memory was refused.
+    pub fn hear(&mut self, moment: Moment, port: u16, reply: &[u8]) -> Result<Told, HearFault> {
+        let told = self.hear_once(moment, port, reply);
+        if told == Err(HearFault::OutOfMemory) {
+            return self.hear_once(moment, port, reply);
         }
+        told
     }
 
-    /// Lets it go, so that it is proved once that it may be, and not in each test.
-    pub fn end(self) {}
+    /// The lane's answer to a datagram from the home server. A response to the client goes into the datagram.
+    fn hear_once(&mut self, moment: Moment, port: u16, reply: &[u8]) -> Result<Told, HearFault> {
+        self.datagram = Datagram::new();
+        let heard = self.lane.hear(self.alloc, moment, port, reply)?;
+        if let Ok(response) = read(response_in(&heard)) {
+            self.datagram.load(&response);
+        }
+        Ok(told(&heard))
+    }
 
     /// Closes the lane.
     pub fn close(self) -> Leftover<BlockQueue<Record>> {
         self.lane.close()
+    }
+
+    /// Closes the lane, which takes less to prove than its drop.
+    pub fn end(self) {
+        self.close();
+    }
+}
+
+/// The text of the configuration that goes on with these lines.
+fn text_of(alloc: Global, more: &str) -> Result<String, Fail> {
+    let mut text = String::from_str(alloc, TEXT)?;
+    text.push_str(more)?;
+    Ok(text)
+}
+
+/// The configuration of a text. It stands apart from that text, which no proof has to read.
+pub fn config_of(alloc: Global, text: &str) -> Result<Config, Fail> {
+    Ok(read_config(alloc, text)?)
+}
+
+/// The lane of the home server of this number, which is empty.
+fn lane_of(alloc: Global, config: &Config, number: u16) -> Result<Lane<BlockQueue<Record>>, Fail> {
+    if usize::from(number) >= config.homes().len() {
+        return Err(Fail::from("a home server"));
+    }
+    let setup = Setup::of(alloc, config, number)?;
+    Ok(Lane::new(alloc, setup)?)
+}
+
+/// The octets of a datagram that has a packet of its own, or none.
+pub fn octets_in(datagram: &Datagram) -> &[u8] {
+    let octets = datagram.bytes();
+    if octets == Datagram::new().bytes() {
+        return &[];
+    }
+    octets
+}
+
+/// What a step answers.
+pub fn done(action: Action) -> Gives {
+    match action {
+        Action::Idle(Some(due)) => Gives::Idle(Some(due.get())),
+        Action::Idle(None) => Gives::Idle(None),
+        action => Gives::Step(action),
+    }
+}
+
+/// What was heard, without its packets.
+pub fn told(heard: &Heard) -> Told {
+    match heard {
+        Heard::Answer(outgoing) => Told::Answer(outgoing.serial, outgoing.client, outgoing.port),
+        Heard::ProbeAnswered => Told::ProbeAnswered,
+    }
+}
+
+/// The response that goes to the client, or none.
+pub fn response_in(heard: &Heard) -> &[u8] {
+    match heard {
+        Heard::Answer(outgoing) => outgoing.reply.response(),
+        Heard::ProbeAnswered => &[],
     }
 }
