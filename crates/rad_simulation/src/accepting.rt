@@ -1,4 +1,4 @@
-//! How a lane takes a request, as the rules have it.
+//! How a lane accepts a request, by the rules.
 
 use crate::book::{Asked, Book};
 use crate::rules::Rule;
@@ -6,10 +6,10 @@ use rad_lane::Refusal;
 use rad_packet::PacketRef;
 use rad_realms::Endpoint;
 
-/// The longest request that the mark fits behind.
+/// The length of the longest request behind which the mark fits.
 const LONGEST_REQUEST: usize = 4084;
 
-/// How a request is taken.
+/// What became of a request.
 #[derive(Clone, Copy)]
 pub enum Taking {
     New(u64),
@@ -19,7 +19,7 @@ pub enum Taking {
 }
 
 impl Book {
-    /// The last request with this key.
+    /// Returns the number of the last request with this key.
     fn last_of(&self, from: Endpoint, packet: &PacketRef<'_>) -> Option<u64> {
         let (identifier, authenticator) = (packet.identifier(), packet.authenticator());
         let mut last = None;
@@ -34,7 +34,7 @@ impl Book {
         last
     }
 
-    /// Takes a request of the lane.
+    /// Accepts or refuses a request of the lane, or finds that it is a repeat.
     pub fn accept(
         &mut self,
         from: Endpoint,
@@ -66,7 +66,7 @@ impl Book {
         Ok(Taking::New(number))
     }
 
-    /// How what repeats a request is taken; none where its span is over.
+    /// Returns what becomes of a repeat of a request, or `None` if that request is over.
     fn repeat_of(&self, number: u64, now: u64) -> Option<Taking> {
         let span = u64::from(self.limits.span);
         match self.at(number)?.answered {
@@ -76,7 +76,7 @@ impl Book {
         }
     }
 
-    /// Why a new request is refused.
+    /// Returns why a new request is refused, if it is.
     fn refusal_of(&self, packet: &PacketRef<'_>) -> Option<Refusal> {
         if self.is_drained {
             return Some(Refusal::Draining);

@@ -1,4 +1,4 @@
-//! The book of a lane as the rules have it: flat lists, and loops over all of them. What its calls do stands in `accepting.rt`,
+//! The book of a lane, by the rules: flat lists, and loops over all of them. Its calls are in `accepting.rt`,
 //! `hearing.rt` and `stepping.rt`.
 
 use crate::making::{ACCT_SESSION_ID, first_value};
@@ -9,22 +9,22 @@ use rad_packet::read;
 use rad_realms::{Endpoint, LimitNumbers};
 use std::alloc::Global;
 
-/// A request that was accepted; its number is its place in the list.
+/// An accepted request. Its number is its place in the list.
 #[derive(Drop)]
 pub struct Asked {
     pub from: Endpoint,
     pub identifier: u8,
     pub authenticator: [u8; 16],
-    /// When it was accepted.
+    /// The moment at which it was accepted.
     pub moment: u64,
     pub text: Vec<u8>,
-    /// When it was answered.
+    /// The moment at which it was answered.
     pub answered: Option<u64>,
     pub response: Vec<u8>,
 }
 
 impl Asked {
-    /// Its Acct-Session-Id, where it has one.
+    /// Returns its Acct-Session-Id, if it has one.
     pub fn session(&self) -> Option<&[u8]> {
         match read(self.text.as_slice()) {
             Ok(packet) => first_value(&packet, ACCT_SESSION_ID),
@@ -33,7 +33,7 @@ impl Asked {
     }
 }
 
-/// What is out under a pair: a request, or a probe, which has no number.
+/// An outstanding request or a probe, with its pair. A probe has no number.
 #[derive(Drop)]
 pub struct Out {
     /// The pair's place in the order of pairs.
@@ -44,7 +44,7 @@ pub struct Out {
     pub due: u64,
 }
 
-/// What a lane that is down waits for.
+/// The moments that a lane waits for while it is down.
 #[derive(Clone, Copy)]
 pub struct Down {
     pub until: u64,
@@ -56,31 +56,31 @@ pub struct Down {
 pub struct Book {
     pub alloc: Global,
     pub lane: u16,
-    /// Where the home server is.
+    /// The address and port of the home server.
     pub endpoint: Endpoint,
     /// The secret that the home server shares with the proxy.
     pub secret: Secret,
     pub limits: LimitNumbers,
     pub asked: Vec<Asked>,
-    /// The number of the first request that is not cut off.
+    /// The number of the first request that is not cut.
     pub opening: u64,
-    /// How many were sent for the first time: those are the first ones.
+    /// How many requests were sent for the first time. Those are the first ones.
     pub sent: u64,
     pub out: Vec<Out>,
-    /// The numbers of what was answered, in order of answering.
+    /// The numbers of the answered requests, in the order in which they were answered.
     pub answers: Vec<u64>,
     /// How many responses were taken.
     pub taken: usize,
     pub down: Option<Down>,
     pub is_drained: bool,
-    /// The last moment.
+    /// The latest moment.
     pub last: u64,
-    /// The pair that was taken last.
+    /// The pair that was allotted last.
     pub pair: u32,
 }
 
 impl Book {
-    /// An empty book.
+    /// Returns an empty book.
     pub fn new(alloc: Global, lane: u16, home: &Home) -> Book {
         Book {
             alloc,
@@ -101,22 +101,22 @@ impl Book {
         }
     }
 
-    /// How many requests were accepted since the first.
+    /// Returns how many requests were accepted in all.
     pub fn accepted(&self) -> u64 {
         self.asked.len() as u64
     }
 
-    /// How many requests the book holds.
+    /// Returns how many requests the book holds.
     pub fn held(&self) -> u64 {
         self.accepted().saturating_sub(self.opening)
     }
 
-    /// How many requests wait to be sent.
+    /// Returns how many requests are queued.
     pub fn queued(&self) -> u64 {
         self.accepted().saturating_sub(self.sent)
     }
 
-    /// How many requests are out; a probe is none.
+    /// Returns how many requests are outstanding. A probe does not count.
     pub fn outstanding(&self) -> usize {
         let mut count: usize = 0;
         for out in self.out.as_slice() {
@@ -127,12 +127,12 @@ impl Book {
         count
     }
 
-    /// How many responses wait to be taken.
+    /// Returns how many responses wait to be taken.
     pub fn untaken(&self) -> usize {
         self.answers.len().saturating_sub(self.taken)
     }
 
-    /// What the counts of the lane have to be.
+    /// Returns the counts that the lane must have.
     pub fn counts(&self) -> Counts {
         Counts {
             opening: self.opening,
@@ -145,12 +145,12 @@ impl Book {
         }
     }
 
-    /// The request of a number.
+    /// Returns the request of a number.
     pub fn at(&self, number: u64) -> Option<&Asked> {
         self.asked.as_slice().get(place_of(number)?)
     }
 
-    /// The response of a request; no octets where it has none.
+    /// Returns the response of a request, or no octets if it has none.
     pub fn response_of(&self, number: u64) -> &[u8] {
         match self.at(number) {
             Some(asked) => asked.response.as_slice(),
@@ -158,7 +158,7 @@ impl Book {
         }
     }
 
-    /// The next response that waits to be taken: its serial, and the number of its request.
+    /// Takes the next response that waits. Returns its serial, and the number of its request.
     pub fn take(&mut self) -> Option<(u64, u64)> {
         let serial = self.taken;
         let number = self.answers.as_slice().get(serial).copied()?;
@@ -166,13 +166,13 @@ impl Book {
         Some((serial as u64, number))
     }
 
-    /// The lane is drained. It gives how many requests were accepted until it was drained first.
+    /// Drains the lane. Returns how many requests were accepted until it was drained first.
     pub fn drain(&mut self) -> u64 {
         self.is_drained = true;
         self.accepted()
     }
 
-    /// Cuts the first requests that are over, and tells how many.
+    /// Cuts the first requests that are over, and returns how many.
     pub fn cut(&mut self, moment: u64) -> u64 {
         let now = moment.max(self.last);
         let span = u64::from(self.limits.span);
@@ -197,7 +197,7 @@ impl Book {
         count
     }
 
-    /// The least moment at which something changes by itself, behind a moment.
+    /// Returns the least moment after `now` at which something changes by itself.
     pub fn next_change(&self, now: u64) -> Option<u64> {
         let span = u64::from(self.limits.span);
         let mut least = None;
@@ -219,7 +219,7 @@ impl Book {
     }
 }
 
-/// The earlier of two moments that are behind a third one.
+/// Returns the earlier of `least` and `moment`, of which only moments after `now` count.
 fn earlier(least: Option<u64>, moment: u64, now: u64) -> Option<u64> {
     if moment <= now {
         return least;
@@ -230,7 +230,7 @@ fn earlier(least: Option<u64>, moment: u64, now: u64) -> Option<u64> {
     }
 }
 
-/// The place of a number in a list.
+/// Returns the place of a number in a list.
 pub fn place_of(number: u64) -> Option<usize> {
     usize::try_from(number).ok()
 }

@@ -1,18 +1,18 @@
-//! Chance of a given seed: the same seed gives the same numbers.
+//! Pseudo-random numbers of a given seed: the same seed gives the same numbers.
 
-/// Where a row of numbers stands (Steele, Lea and Flood: SplitMix64).
+/// The state of a sequence of numbers (Steele, Lea and Flood: SplitMix64).
 #[derive(Clone, Copy)]
 pub struct Chance {
     state: u64,
 }
 
 impl Chance {
-    /// The row of a seed, at its beginning.
+    /// Returns the sequence of a seed, at its beginning.
     pub fn new(seed: u64) -> Chance {
         Chance { state: seed }
     }
 
-    /// The next number.
+    /// Returns the next number.
     pub fn draw(&mut self) -> u64 {
         self.state = self.state.wrapping_add(0x9e37_79b9_7f4a_7c15);
         let mixed = self.state;
@@ -21,39 +21,39 @@ impl Chance {
         mixed ^ (mixed >> 31)
     }
 
-    /// A number below a bound; 0 below none.
+    /// Returns a number below `bound`, or 0 if `bound` is 0.
     pub fn below(&mut self, bound: u64) -> u64 {
         self.draw().checked_rem(bound).unwrap_or(0)
     }
 
-    /// A number from one to another.
+    /// Returns a number from `least` to `most`.
     pub fn between(&mut self, least: u64, most: u64) -> u64 {
         let more = self.below(most.saturating_sub(least).saturating_add(1));
         least.saturating_add(more)
     }
 
-    /// Whether what comes once in so many times does.
+    /// Returns true in one of `times` cases.
     pub fn is_one_in(&mut self, times: u64) -> bool {
         self.below(times) == 0
     }
 
-    /// Whether what comes once in so many times does; never, where the number is 0.
+    /// Returns true in one of `odds` cases, or never if `odds` is 0.
     pub fn strikes(&mut self, odds: u64) -> bool {
         odds != 0 && self.is_one_in(odds)
     }
 
-    /// One of these; none of an empty list.
+    /// Returns one of these items, or `None` if there is none.
     pub fn pick<'a, T>(&mut self, items: &'a [T]) -> Option<&'a T> {
         let place = usize::try_from(self.below(items.len() as u64)).ok()?;
         items.get(place)
     }
 
-    /// An octet.
+    /// Returns an octet.
     pub fn octet(&mut self) -> u8 {
         (self.draw() & 0xff) as u8
     }
 
-    /// Sixteen octets, as of a probe.
+    /// Returns 16 octets, as a probe's Authenticator has them.
     pub fn authenticator(&mut self) -> [u8; 16] {
         let mut octets = [0; 16];
         let (first, second) = (self.draw().to_be_bytes(), self.draw().to_be_bytes());

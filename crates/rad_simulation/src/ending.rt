@@ -1,4 +1,4 @@
-//! The comparison of what a closed proxy leaves.
+//! The comparison of what is left of a closed proxy.
 
 use crate::book::{Book, Out};
 use crate::rules::Rule;
@@ -35,7 +35,7 @@ fn compare_lane(end: &LaneEnd, book: &Book) -> Result<(), Rule> {
     Rule::CLOSE_REST.unless(are_untaken(&end.rest, book))
 }
 
-/// Whether these are the requests that the book holds, in order of accepting.
+/// Returns whether these are the requests that the book holds, in the order in which they were accepted.
 fn are_accepted(stamps: &[Stamp], book: &Book) -> bool {
     for (place, stamp) in stamps.iter().enumerate() {
         if !is_stamp(stamp, book.opening.saturating_add(place as u64), book) {
@@ -45,7 +45,7 @@ fn are_accepted(stamps: &[Stamp], book: &Book) -> bool {
     stamps.len() as u64 == book.held()
 }
 
-/// Whether a stamp is that of the request of a number.
+/// Returns whether a stamp is that of the request of a number.
 fn is_stamp(stamp: &Stamp, number: u64, book: &Book) -> bool {
     let Some(asked) = book.at(number) else {
         return false;
@@ -61,7 +61,8 @@ fn is_stamp(stamp: &Stamp, number: u64, book: &Book) -> bool {
         && stamp.moment.get() == asked.moment
 }
 
-/// Whether these are the answers to the requests that the book holds, in order of answering.
+/// Returns whether these are the answers to the requests that the book holds, in the order in which they were
+/// answered.
 fn are_answered(answered: &[Answered], book: &Book) -> bool {
     let mut left = answered.iter();
     for (serial, number) in book.answers.as_slice().iter().enumerate() {
@@ -85,7 +86,7 @@ fn is_answer(answer: &Answered, serial: u64, number: u64, book: &Book) -> bool {
         && answer.reply().response() == asked.response.as_slice()
 }
 
-/// Whether what is outstanding is what is out in the book, each under its pair.
+/// Returns whether the end has the outstanding requests of the book, each under its pair.
 fn are_outstanding(end: &LaneEnd, book: &Book) -> bool {
     for out in book.out.as_slice() {
         if !is_outstanding(end, out) {
@@ -112,7 +113,7 @@ fn is_outstanding(end: &LaneEnd, out: &Out) -> bool {
     }
 }
 
-/// Whether these are the responses that nobody took, in order.
+/// Returns whether these are the untaken responses, in order.
 fn are_untaken(rest: &Rest, book: &Book) -> bool {
     let Rest::Known(rest) = rest else {
         return false;
@@ -141,7 +142,7 @@ fn is_outgoing(outgoing: &Outgoing, serial: usize, book: &Book) -> bool {
         && outgoing.reply.response() == asked.response.as_slice()
 }
 
-/// Compares what was never sent: of the first lane in order, then of the second, and so on.
+/// Compares the queued requests: those of the first lane in order, then those of the second, and so on.
 fn compare_queued(report: &mut Report, books: &[Book]) -> Result<(), Rule> {
     for book in books {
         for number in book.sent..book.accepted() {
@@ -151,7 +152,7 @@ fn compare_queued(report: &mut Report, books: &[Book]) -> Result<(), Rule> {
     Rule::CLOSE_QUEUED.unless(report.queued.is_empty())
 }
 
-/// Whether the next record of the queue is the request of this number.
+/// Returns whether the next record of the queue is the request of this number.
 fn is_next_queued(report: &mut Report, number: u64, book: &Book) -> bool {
     match (report.queued.pop_front(), book.at(number)) {
         (Some(record), Some(asked)) => {

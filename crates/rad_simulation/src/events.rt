@@ -1,32 +1,32 @@
-//! What happens while a worker is called: each call of its wire and of its gate.
+//! The events of a call of a worker: each call of its wire and of its gate.
 
 use rad_desk::{Call, Go, Note, UpReason};
 use rad_realms::Endpoint;
 use std::alloc::{AllocError, Global};
 
-/// What came to a wire.
+/// The result of a receive.
 #[derive(Drop)]
 pub enum Came {
     /// A datagram.
     Datagram(Mail),
     /// Nothing.
     Nothing,
-    /// The receive fails.
+    /// A failure of the receive.
     Fault,
 }
 
 /// A datagram on its way.
 #[derive(Drop)]
 pub struct Mail {
-    /// Who sent it.
+    /// The endpoint that sent it.
     pub from: Endpoint,
-    /// The index of the socket that it comes to.
+    /// The index of the socket at which it arrives.
     pub socket: u16,
     pub octets: Vec<u8>,
 }
 
 impl Mail {
-    /// The same once more.
+    /// Returns a copy.
     pub fn copy(&self, alloc: Global) -> Result<Mail, AllocError> {
         Ok(Mail {
             from: self.from,
@@ -39,32 +39,32 @@ impl Mail {
 /// A datagram that was sent.
 #[derive(Drop)]
 pub struct Gone {
-    /// The index of the socket that it went from.
+    /// The index of the socket from which it was sent.
     pub socket: u16,
     pub to: Endpoint,
     pub octets: Vec<u8>,
-    /// Whether it was handed over; else the send failed.
+    /// Whether it was handed over. If not, the send failed.
     pub is_handed_over: bool,
 }
 
-/// What a gate is asked or told without octets.
+/// What a gate is asked or notified of, without octets.
 #[derive(Clone, Copy)]
 pub enum Sign {
     /// The gate is asked before a call.
     Before(Call, Go),
-    /// The gate is told that a call was made.
+    /// The gate is notified that a call was made.
     After(Call),
     Noted(Note),
     Accepted(u16, u64),
     Answered(u16, u64),
     WentUp(u16, UpReason),
     Marked(u16, Endpoint, u64),
-    /// The gate is asked or told in the name of another worker.
+    /// The gate is asked or notified in the name of another worker.
     OfAnother,
 }
 
 impl Sign {
-    /// Whether it is this one, which tells something.
+    /// Returns whether it is `other`, which is a notification.
     pub fn is(self, other: Sign) -> bool {
         match (self, other) {
             (Sign::After(call), Sign::After(of)) => call == of,
@@ -80,7 +80,7 @@ impl Sign {
     }
 }
 
-/// By which request a home server went down, as a gate is told.
+/// The request by which a home server was marked down, as the gate is notified of it.
 #[derive(Drop)]
 pub struct DownBy {
     pub lane: u16,
@@ -93,16 +93,16 @@ pub struct DownBy {
 /// One call of a wire or of a gate.
 #[derive(Drop)]
 pub enum Event {
-    /// The wire gave this, and from then on it is this moment.
+    /// The wire returned this from a receive, and from then on it is this moment.
     Received(u64, Came),
     /// The wire drew these octets.
     Drew([u8; 16]),
     /// The wire sent this.
     Went(Gone),
     Signed(Sign),
-    /// The gate is told of a datagram that came from there.
+    /// The gate is notified of a datagram that came from this endpoint.
     ToldReceived(Endpoint, Vec<u8>),
-    /// The gate is told of a datagram that is to go there.
+    /// The gate is notified of a datagram that is to be sent to this endpoint.
     ToldSends(Endpoint, Vec<u8>),
     ToldDown(DownBy),
     ToldNoRealm(Vec<u8>),

@@ -1,4 +1,4 @@
-//! The turns of the front, as the rules have them.
+//! The turns of the front, by the rules.
 
 use crate::accepting::Taking;
 use crate::book::Book;
@@ -18,16 +18,16 @@ use rad_realms::{Dropped, Endpoint};
 /// The length of the value of a mark.
 const MARK_LENGTH: usize = 10;
 
-/// What a right datagram of a client is.
+/// A valid datagram of a client.
 #[derive(Drop)]
 enum Kind<'a> {
     /// A request that leads to the lane at this place.
     Request(usize, PacketRef<'a>),
-    /// A Status-Server, under this secret.
+    /// A Status-Server that is valid under this secret.
     Status(PacketRef<'a>, Secret),
 }
 
-/// The books of all lanes, and what the front knows beside them.
+/// The books of all lanes, and what else the front knows.
 #[derive(Drop)]
 pub struct Books {
     pub books: Vec<Book>,
@@ -36,7 +36,7 @@ pub struct Books {
 }
 
 impl Books {
-    /// Compares a turn. It gives whether the front goes on.
+    /// Compares a turn. Returns whether the front goes on.
     pub fn front_turn(&mut self, walk: &mut Walk<'_>) -> bool {
         let (moment, coming) = walk.begins();
         let goes_on = match coming {
@@ -46,7 +46,7 @@ impl Books {
         goes_on && self.hand_out(walk)
     }
 
-    /// What came is dropped, answered, or led to its lane.
+    /// Expects that a datagram is dropped, is answered, or is passed to its lane.
     fn take_in(&mut self, moment: u64, mail: &Mail, walk: &mut Walk<'_>) -> bool {
         match self.kind_of(mail) {
             Ok(Kind::Request(place, packet)) => self.accept(place, moment, mail, &packet, walk),
@@ -62,7 +62,7 @@ impl Books {
         }
     }
 
-    /// What came, or why it is dropped.
+    /// Returns what a datagram is, or why it is dropped.
     fn kind_of<'a>(&self, mail: &'a Mail) -> Result<Kind<'a>, Dropped> {
         let Some(secret) = client_secret(mail.from.address) else {
             return Err(Dropped::UnknownClient);
@@ -92,7 +92,7 @@ impl Books {
         }
     }
 
-    /// The place of the lane that a request leads to.
+    /// Returns the place of the lane that a request leads to.
     fn lane_of(&self, packet: &PacketRef<'_>) -> Option<usize> {
         let Some(realm) = realm_of(first_value(packet, USER_NAME).unwrap_or(&[])) else {
             return self.default;
@@ -105,7 +105,7 @@ impl Books {
         None
     }
 
-    /// A request comes to its lane.
+    /// Expects that a request is passed to its lane.
     fn accept(
         &mut self,
         place: usize,
@@ -123,7 +123,7 @@ impl Books {
         }
     }
 
-    /// The front takes from each inlet once, and sends what it took.
+    /// Expects that the front takes from each inlet once, and sends what it takes.
     fn hand_out(&mut self, walk: &mut Walk<'_>) -> bool {
         for book in self.books.as_mut_slice().iter_mut() {
             if !walk.asks(Call::Take, Rule::TAKE) {
@@ -136,7 +136,7 @@ impl Books {
     }
 }
 
-/// What came is dropped.
+/// Expects that a datagram is dropped.
 fn dropped(mail: &Mail, reason: Dropped, walk: &mut Walk<'_>) {
     if reason == Dropped::NoRealm {
         walk.told_no_realm(mail.octets.as_slice());
@@ -144,7 +144,7 @@ fn dropped(mail: &Mail, reason: Dropped, walk: &mut Walk<'_>) {
     walk.meets(Sign::Noted(Note::Dropped(reason)), Rule::DROPPED);
 }
 
-/// A lane takes a request, or not.
+/// Expects that a lane accepts a request, or does not.
 fn accept(
     book: &mut Book,
     moment: u64,
@@ -167,7 +167,7 @@ fn accept(
     true
 }
 
-/// How a lane takes a request is told, or answered.
+/// Expects that what became of a request is reported, or that the request is answered again.
 fn taken(book: &Book, taking: Taking, mail: &Mail, walk: &mut Walk<'_>) {
     match taking {
         Taking::New(number) => walk.meets(Sign::Accepted(book.lane, number), Rule::ACCEPTED),
@@ -187,7 +187,7 @@ fn taken(book: &Book, taking: Taking, mail: &Mail, walk: &mut Walk<'_>) {
     }
 }
 
-/// The next response of a lane, where there is one, goes to its client.
+/// Expects that the next response of a lane, if there is one, goes to its client.
 fn take(book: &mut Book, walk: &mut Walk<'_>) {
     let Some((serial, number)) = book.take() else {
         return;
@@ -206,7 +206,7 @@ fn take(book: &mut Book, walk: &mut Walk<'_>) {
     walk.meets(Sign::Noted(Note::Took(book.lane, serial)), Rule::TOOK);
 }
 
-/// These octets answer a client, from a socket.
+/// Expects that these octets are sent to a client, from a socket.
 fn answer(socket: u16, client: Endpoint, octets: &[u8], rule: Rule, walk: &mut Walk<'_>) {
     if let Some(gone) = walk.sends(octets, rule) {
         walk.keeps(Rule::CLIENT, gone.to == client);
@@ -215,7 +215,7 @@ fn answer(socket: u16, client: Endpoint, octets: &[u8], rule: Rule, walk: &mut W
     }
 }
 
-/// What follows the last `@` of a name.
+/// Returns the part of a name after its last `@`.
 fn realm_of(name: &[u8]) -> Option<&[u8]> {
     let mut behind = None;
     for (place, octet) in name.iter().enumerate() {
@@ -226,7 +226,7 @@ fn realm_of(name: &[u8]) -> Option<&[u8]> {
     name.get(behind?..)
 }
 
-/// How many Proxy-States of a mark's form a packet has.
+/// Returns how many Proxy-States of the form of a mark a packet has.
 fn marks_of(packet: &PacketRef<'_>) -> u64 {
     let mut marks = 0_u64;
     for it in packet.attributes() {

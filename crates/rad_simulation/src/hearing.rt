@@ -1,4 +1,4 @@
-//! What a lane makes of a datagram of its home server, as the rules have it.
+//! How a lane hears a datagram of its home server, by the rules.
 
 use crate::book::{Book, Out, place_of};
 use crate::making::{last_value, response};
@@ -10,7 +10,7 @@ use rad_lane::HearFault;
 use rad_packet::{PacketRef, read};
 use test_octets::mark_value;
 
-/// What a datagram of the home server is.
+/// What became of a datagram of the home server.
 #[derive(Clone, Copy)]
 pub enum Hearing {
     Answer(u64),
@@ -19,7 +19,7 @@ pub enum Hearing {
 }
 
 impl Book {
-    /// Hears a datagram of the home server that came to a source port.
+    /// Hears a datagram of the home server that arrived at a source port.
     pub fn hear(&mut self, moment: u64, port: u16, datagram: &[u8]) -> Result<Hearing, Rule> {
         if self.untaken() as u64 >= u64::from(self.limits.ring) {
             return Ok(Hearing::Fault(DeskFault::RingFull));
@@ -34,7 +34,7 @@ impl Book {
         }
     }
 
-    /// The place of what a packet of the home server answers.
+    /// Returns the place of the outstanding request or the probe that a packet of the home server answers.
     fn check_reply(&self, port: u16, packet: &PacketRef<'_>) -> Result<usize, HearFault> {
         if packet.code() != ACCOUNTING_RESPONSE {
             return Err(HearFault::WrongCode);
@@ -64,7 +64,7 @@ impl Book {
         Ok(place)
     }
 
-    /// What is out under a pair, and its place.
+    /// Returns the outstanding request or the probe of a pair, and its place.
     pub fn find_out(&self, pair: u32) -> Option<(usize, &Out)> {
         for (place, out) in self.out.as_slice().iter().enumerate() {
             if out.pair == pair {
@@ -74,7 +74,7 @@ impl Book {
         None
     }
 
-    /// Keeps the reply to what is out at a place.
+    /// Keeps the reply to the outstanding request or the probe at a place.
     fn heard(&mut self, now: u64, place: usize, reply: &PacketRef<'_>) -> Result<Hearing, Rule> {
         self.last = now;
         let heard = match self.number_at(place) {
@@ -95,12 +95,12 @@ impl Book {
         Ok(heard)
     }
 
-    /// The number of the request that is out at a place.
+    /// Returns the number of the outstanding request at a place.
     pub fn number_at(&self, place: usize) -> Option<u64> {
         self.out.as_slice().get(place)?.number
     }
 
-    /// A request is answered by a reply: its response is made.
+    /// Answers a request with a reply, from which its response is made.
     fn answer(&mut self, now: u64, number: u64, reply: &PacketRef<'_>) -> Result<(), Rule> {
         let alloc = self.alloc;
         if let Some(place) = place_of(number)

@@ -1,4 +1,4 @@
-//! The turns of a lane's worker, as the rules have them.
+//! The turns of a lane's worker, by the rules.
 
 use crate::book::{Asked, Book};
 use crate::events::{DownBy, Mail, Sign};
@@ -8,7 +8,7 @@ use crate::stepping::Doing;
 use crate::walk::Walk;
 use rad_desk::{Call, Note, UpReason};
 
-/// Compares a turn. It gives whether the worker goes on.
+/// Compares a turn. Returns whether the worker goes on.
 pub fn lane_turn(book: &mut Book, walk: &mut Walk<'_>) -> bool {
     let (moment, coming) = walk.begins();
     let goes_on = match coming {
@@ -18,7 +18,7 @@ pub fn lane_turn(book: &mut Book, walk: &mut Walk<'_>) -> bool {
     goes_on && step(book, moment, walk)
 }
 
-/// The lane hears what came from its home server.
+/// Expects that the lane hears what arrived from its home server.
 fn hear(book: &mut Book, moment: u64, mail: &Mail, walk: &mut Walk<'_>) -> bool {
     if mail.from != book.endpoint {
         walk.meets(Sign::Noted(Note::NotHome), Rule::NOT_HOME);
@@ -35,7 +35,7 @@ fn hear(book: &mut Book, moment: u64, mail: &Mail, walk: &mut Walk<'_>) -> bool 
     true
 }
 
-/// It is told what a lane heard.
+/// Expects that what the lane heard is reported.
 fn heard(lane: u16, hearing: Hearing, walk: &mut Walk<'_>) {
     match hearing {
         Hearing::Answer(serial) => walk.meets(Sign::Answered(lane, serial), Rule::ANSWERED),
@@ -46,7 +46,7 @@ fn heard(lane: u16, hearing: Hearing, walk: &mut Walk<'_>) {
     }
 }
 
-/// The lane does what is next.
+/// Expects that the lane makes its next step.
 fn step(book: &mut Book, moment: u64, walk: &mut Walk<'_>) -> bool {
     if !walk.asks(Call::Step, Rule::STEP) {
         return false;
@@ -61,7 +61,7 @@ fn step(book: &mut Book, moment: u64, walk: &mut Walk<'_>) -> bool {
     true
 }
 
-/// The lane does this.
+/// Expects that the worker does what this step asks for.
 fn does(book: &Book, doing: Doing, moment: u64, walk: &mut Walk<'_>) {
     match doing {
         Doing::Send(place) => send(book, place, Rule::FIRST_SENDING, walk),
@@ -73,7 +73,8 @@ fn does(book: &Book, doing: Doing, moment: u64, walk: &mut Walk<'_>) {
     }
 }
 
-/// What is out at a place goes to the home server, from the socket of its pair's source port.
+/// Expects that the request or the probe at a place is sent to the home server, from the socket of its pair's source
+/// port.
 fn send(book: &Book, place: usize, rule: Rule, walk: &mut Walk<'_>) {
     let Some(out) = book.out.as_slice().get(place) else {
         walk.breaks(rule);
@@ -86,13 +87,13 @@ fn send(book: &Book, place: usize, rule: Rule, walk: &mut Walk<'_>) {
     }
 }
 
-/// It is told that the lane went up, and why.
+/// Expects the reports that the lane went up, and why.
 fn went_up(lane: u16, reason: UpReason, rule: Rule, walk: &mut Walk<'_>) {
     walk.meets(Sign::Noted(Note::WentUp), rule);
     walk.meets(Sign::WentUp(lane, reason), rule);
 }
 
-/// It is told that the lane went down, and by which request.
+/// Expects the reports that the lane went down, and by which request.
 fn went_down(book: &Book, number: u64, moment: u64, walk: &mut Walk<'_>) {
     walk.meets(Sign::Noted(Note::WentDown), Rule::WENT_DOWN);
     let is_told = match (walk.told_down(), book.at(number)) {
@@ -104,7 +105,7 @@ fn went_down(book: &Book, number: u64, moment: u64, walk: &mut Walk<'_>) {
     walk.keeps(Rule::DOWN_BY, is_told);
 }
 
-/// Whether a lane went down at this moment by a request, as it is told.
+/// Returns whether `down` describes the request by which a lane went down at this moment.
 fn is_down_by(down: &DownBy, asked: &Asked, moment: u64) -> bool {
     let session = match &down.session {
         Some(session) => Some(session.as_slice()),
@@ -115,7 +116,7 @@ fn is_down_by(down: &DownBy, asked: &Asked, moment: u64) -> bool {
         && asked.session() == session
 }
 
-/// After an idle step the book is turned where it is half full.
+/// Expects that after an idle step the book is turned, if it is at least half full.
 fn turn(book: &mut Book, moment: u64, walk: &mut Walk<'_>) -> bool {
     if book.held().saturating_mul(2) < u64::from(book.limits.book) {
         walk.idles();

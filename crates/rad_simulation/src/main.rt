@@ -1,12 +1,14 @@
-//! A simulation of the whole proxy: `front_worker` and every `lane_worker` of rad_desk, called for a turn or for several by a
-//! scheduler of a given seed, in one thread, over wires in memory, with one virtual clock and a network that loses, doubles,
-//! delays and reorders. NASes repeat, home servers die, come back and answer late, twice, wrongly or never, receives and sends
-//! fail, gates stop, lanes are drained, and the proxy is closed at the end. After each call all that the worker did is compared
-//! with what the rules say, by a flat model of them (`book.rt` and what it names, `front_turn.rt`, `lane_turn.rt`) that calls
-//! nothing of the lanes.
+//! A simulation of the whole proxy, in one thread. A scheduler with a given seed calls `front_worker` and every
+//! `lane_worker` of rad_desk, for one turn or for several. They work over wires in memory, with one virtual clock. The
+//! network loses, duplicates, delays and reorders datagrams. NASes repeat requests. Home servers die, come back, and
+//! reply late, twice, wrongly or never. Receives and sends fail, gates stop workers, lanes are drained, and the proxy
+//! is closed at the end.
 //!
-//! It is called with the first seed and how many seeds there are. Where a seed fails, it prints that seed, its turn and the rule
-//! that was broken, and ends with status 1; the same seed fails again.
+//! After each call, everything that the worker did is compared with the rules. The comparison uses a flat model of
+//! them (`book.rt` and the files that it names, `front_turn.rt`, `lane_turn.rt`), which calls no code of the lanes.
+//!
+//! The arguments are the first seed and the number of seeds. If a seed fails, the program prints the seed, the turn
+//! and the rule that was broken, and ends with status 1. The same seed fails again.
 #![tactic(auto)]
 
 mod accepting;
@@ -35,14 +37,14 @@ use std::io::Print;
 use std::process::ExitCode;
 use std::sync::Wait;
 
-/// The status where a seed fails, or where the words are none.
+/// The exit status if a seed fails, or if the arguments are not two numbers.
 const FAILED: u8 = 1;
 
 fn main(rt: HostRuntime) -> ExitCode {
     ExitCode::from(obey(&rt))
 }
 
-/// Runs the seeds that the words ask for, and gives the status.
+/// Runs the seeds that the arguments ask for, and returns the exit status.
 fn obey<R: Env + AllocGlobal + Print + Wait>(rt: &R) -> u8 {
     match seeds(rt) {
         Some((first, count)) => run_all(rt, first, count),
@@ -53,7 +55,7 @@ fn obey<R: Env + AllocGlobal + Print + Wait>(rt: &R) -> u8 {
     }
 }
 
-/// Runs so many seeds from a first one on.
+/// Runs `count` seeds, from `first` on.
 fn run_all<R: AllocGlobal + Print + Wait>(rt: &R, first: u64, count: u64) -> u8 {
     let mut turns: u64 = 0;
     for place in 0..count {
@@ -72,7 +74,7 @@ fn run_all<R: AllocGlobal + Print + Wait>(rt: &R, first: u64, count: u64) -> u8 
     }
 }
 
-/// The first seed, and how many there are.
+/// Returns the first seed and the number of seeds.
 fn seeds<R: Env + AllocGlobal>(rt: &R) -> Option<(u64, u64)> {
     let arguments = env::args(rt).ok()?;
     let words: Vec<String> = arguments.collect(rt.alloc()).ok()?;

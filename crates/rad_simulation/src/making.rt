@@ -1,4 +1,4 @@
-//! The packets of a run, as docs/protocol.md says that they are made.
+//! The packets of a run, made as docs/protocol.md says.
 
 use rad_auth::{
     ACCOUNTING_REQUEST, ACCOUNTING_RESPONSE, MESSAGE_AUTHENTICATOR, PROXY_STATE, STATUS_SERVER,
@@ -16,19 +16,20 @@ pub const CLASS: u8 = 25;
 /// The Type of an Acct-Session-Id (RFC 2866 section 5.5).
 pub const ACCT_SESSION_ID: u8 = 44;
 
-/// A packet with these parts, and no attributes.
+/// Returns a packet with these parts and no attributes.
 pub fn begun(code: u8, identifier: u8, authenticator: [u8; 16]) -> Datagram {
     let mut datagram = Datagram::new();
     datagram.begin(code, identifier, authenticator);
     datagram
 }
 
-/// Adds an attribute, where it fits.
+/// Adds an attribute, if it fits.
 pub fn push(datagram: &mut Datagram, kind: u8, value: &[u8]) {
     let _ = datagram.push(kind, value);
 }
 
-/// What goes to a home server for a request: its attributes and the mark, under an Identifier of the lane's own.
+/// Returns the packet that goes to a home server for a request: the request's attributes and the mark, under an
+/// Identifier of the lane.
 pub fn forwarded(
     request: &PacketRef<'_>,
     identifier: u8,
@@ -44,7 +45,8 @@ pub fn forwarded(
     made
 }
 
-/// The response to a request of this Identifier and Authenticator: the reply's attributes without the last Proxy-State.
+/// Returns the response to a request of this Identifier and Authenticator: the reply's attributes without the last
+/// Proxy-State.
 pub fn response(
     reply: &PacketRef<'_>,
     identifier: u8,
@@ -66,14 +68,14 @@ pub fn response(
     made
 }
 
-/// An answer without attributes.
+/// Returns an answer without attributes.
 pub fn plain_answer(identifier: u8, asked: &[u8; 16], secret: &Secret) -> Datagram {
     let mut made = begun(ACCOUNTING_RESPONSE, identifier, [0; 16]);
     sign_response(&mut made, asked, secret);
     made
 }
 
-/// A Status-Server with a Message-Authenticator alone.
+/// Returns a Status-Server whose only attribute is a Message-Authenticator.
 pub fn status_server(identifier: u8, authenticator: [u8; 16], secret: &Secret) -> Datagram {
     let mut made = begun(STATUS_SERVER, identifier, authenticator);
     push(&mut made, MESSAGE_AUTHENTICATOR, &[0; 16]);
@@ -83,7 +85,7 @@ pub fn status_server(identifier: u8, authenticator: [u8; 16], secret: &Secret) -
     made
 }
 
-/// The value of the last attribute of a kind.
+/// Returns the value of the last attribute of a kind.
 pub fn last_value<'a>(packet: &PacketRef<'a>, kind: u8) -> Option<&'a [u8]> {
     let mut value = None;
     for attribute in packet.attributes() {
@@ -94,7 +96,7 @@ pub fn last_value<'a>(packet: &PacketRef<'a>, kind: u8) -> Option<&'a [u8]> {
     value
 }
 
-/// The value of the first attribute of a kind.
+/// Returns the value of the first attribute of a kind.
 pub fn first_value<'a>(packet: &PacketRef<'a>, kind: u8) -> Option<&'a [u8]> {
     for attribute in packet.attributes() {
         if attribute.kind == kind {

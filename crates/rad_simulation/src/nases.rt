@@ -1,4 +1,4 @@
-//! The NASes: what they send, and send again.
+//! The NASes: the datagrams that they send, and send again.
 
 use crate::chance::Chance;
 use crate::events::Mail;
@@ -11,21 +11,21 @@ use rad_realms::Endpoint;
 use std::alloc::Global;
 use test_octets::{mark_value, sign_request};
 
-/// Of so many requests that were sent last, one may be sent again.
+/// How many of the last datagrams are kept, so that they may be sent again.
 const KEPT: usize = 24;
 
 /// All NASes.
 #[derive(Drop)]
 pub struct Nases {
     alloc: Global,
-    /// What was sent, and may be sent again.
+    /// The datagrams that were sent, and may be sent again.
     letters: Vec<Mail>,
-    /// How many requests there were.
+    /// How many requests were made.
     count: u16,
 }
 
 impl Nases {
-    /// Nothing was sent yet.
+    /// Returns NASes that have sent nothing yet.
     pub fn new(alloc: Global) -> Nases {
         Nases {
             alloc,
@@ -34,7 +34,7 @@ impl Nases {
         }
     }
 
-    /// What is sent next.
+    /// Returns the next datagram to send.
     pub fn send(&mut self, chance: &mut Chance, setting: &Setting) -> Result<Mail, Rule> {
         let repeats = if setting.is_hurried { 12 } else { 2 };
         if !self.letters.is_empty() && chance.is_one_in(repeats) {
@@ -46,7 +46,7 @@ impl Nases {
         Ok(mail)
     }
 
-    /// A new request, or seldom a Status-Server.
+    /// Returns a new request, or rarely a Status-Server.
     fn letter(&mut self, chance: &mut Chance, setting: &Setting) -> Result<Mail, Rule> {
         let address = client_address(chance.is_one_in(2));
         let Some(secret) = client_secret(address) else {
@@ -66,7 +66,7 @@ impl Nases {
         })
     }
 
-    /// Keeps what was sent.
+    /// Keeps a datagram that was sent.
     fn keep(&mut self, letter: Mail) -> Result<(), Rule> {
         if self.letters.len() >= KEPT {
             self.letters.remove(0);
@@ -75,7 +75,7 @@ impl Nases {
         Ok(())
     }
 
-    /// What was sent before is sent again, seldom from another port.
+    /// Returns a datagram that was sent before, rarely with another source port.
     fn repeat(&self, chance: &mut Chance) -> Result<Mail, Rule> {
         let Some(letter) = chance.pick(self.letters.as_slice()) else {
             return Err(Rule::CONFIGURATION);
@@ -113,7 +113,7 @@ impl Nases {
     }
 }
 
-/// One in a few is cut short, has a bit turned or padding behind it, or comes from nobody.
+/// Spoils one datagram in a few: cuts it short, flips a bit, appends padding, or has it come from a stranger.
 fn spoil(mail: &mut Mail, chance: &mut Chance) -> Result<(), Rule> {
     match chance.below(60) {
         0 => turn_a_bit(&mut mail.octets, chance),
@@ -125,7 +125,7 @@ fn spoil(mail: &mut Mail, chance: &mut Chance) -> Result<(), Rule> {
     Ok(())
 }
 
-/// A User-Name: mostly of a realm that leads to a home server.
+/// Adds a User-Name, in most cases in a realm that leads to a home server.
 fn push_name(draft: &mut Datagram, chance: &mut Chance, setting: &Setting) {
     match chance.below(40) {
         0 => push(draft, USER_NAME, b"bob"),
@@ -140,7 +140,7 @@ fn push_name(draft: &mut Datagram, chance: &mut Chance, setting: &Setting) {
     }
 }
 
-/// A User-Name in a realm.
+/// Adds a User-Name in a realm.
 fn push_name_in(draft: &mut Datagram, realm: &str) {
     let mut name = [0; 32];
     let octets = realm.as_bytes();
@@ -155,7 +155,7 @@ fn push_name_in(draft: &mut Datagram, realm: &str) {
     }
 }
 
-/// So much that the mark fits behind it just so, or not.
+/// Adds so many attributes that the mark just fits behind them, or just does not.
 fn push_much(draft: &mut Datagram, chance: &mut Chance) {
     for _ in 0..15 {
         push(draft, CLASS, &[b'A'; 253]);
@@ -167,7 +167,7 @@ fn push_much(draft: &mut Datagram, chance: &mut Chance) {
     }
 }
 
-/// Turns a bit of one octet.
+/// Flips a bit of one octet.
 pub fn turn_a_bit(octets: &mut Vec<u8>, chance: &mut Chance) {
     let place = chance.below(octets.len() as u64) as usize;
     let bit = 1_u8.checked_shl((chance.below(8) & 7) as u32).unwrap_or(1);

@@ -16,9 +16,9 @@ use test_octets::sign_response;
 /// A datagram on its way to the proxy.
 #[derive(Drop)]
 struct Flying {
-    /// When it arrives.
+    /// The moment at which it arrives.
     at: u64,
-    /// Which lane it flies to; none to the front.
+    /// The lane that it goes to, or `None` for the front.
     lane: Option<u16>,
     mail: Mail,
 }
@@ -33,7 +33,7 @@ pub struct Network {
 }
 
 impl Network {
-    /// Nothing is on its way, and all home servers are alive.
+    /// Returns a network with no datagram on its way, in which all home servers are alive.
     pub fn new(alloc: Global) -> Network {
         Network {
             alloc,
@@ -42,7 +42,7 @@ impl Network {
         }
     }
 
-    /// A home server dies, or comes back.
+    /// Has a home server die or come back.
     pub fn turn_over(&mut self, chance: &mut Chance) {
         let place = chance.below(3) as usize;
         if let Some(dead) = self.dead.get_mut(place) {
@@ -50,7 +50,7 @@ impl Network {
         }
     }
 
-    /// A datagram goes to the proxy: it may be lost, come twice, late, and behind others.
+    /// Carries a datagram to the proxy. It may be lost, duplicated, delayed or reordered.
     pub fn carry(
         &mut self,
         chance: &mut Chance,
@@ -74,7 +74,7 @@ impl Network {
         Ok(())
     }
 
-    /// What arrives by a moment at a lane, or at the front: the first that was sent.
+    /// Removes and returns what arrives at a lane, or at the front, by a moment: the datagram that was sent first.
     pub fn arrive(&mut self, now: u64, lane: Option<u16>) -> Option<Mail> {
         let place = self.find(now, lane)?;
         if place >= self.flying.len() {
@@ -93,7 +93,7 @@ impl Network {
         None
     }
 
-    /// What a worker did not receive flies on.
+    /// Puts the datagrams that a worker did not receive on their way again.
     pub fn give_back(
         &mut self,
         arrivals: Vec<Arrival>,
@@ -109,7 +109,7 @@ impl Network {
         Ok(())
     }
 
-    /// A home server gets what a lane sent: it answers, or not, late, twice or wrongly.
+    /// Delivers what a lane sent to its home server, which replies, or does not, or replies late, twice or wrongly.
     pub fn reach_home(
         &mut self,
         chance: &mut Chance,
@@ -142,7 +142,7 @@ impl Network {
     }
 }
 
-/// The reply to what was sent: mostly with each Proxy-State in its order.
+/// Returns the reply to a packet, in most cases with each Proxy-State in its order.
 fn reply_to(sent: &PacketRef<'_>, home: &Home, chance: &mut Chance, setting: &Setting) -> Datagram {
     let fault = if setting.is_hurried {
         99
@@ -171,7 +171,7 @@ fn reply_to(sent: &PacketRef<'_>, home: &Home, chance: &mut Chance, setting: &Se
     reply
 }
 
-/// One reply in a few has a bit turned, is cut short, comes from nobody or to another socket, or has more behind it.
+/// Spoils one reply in a few: flips a bit, cuts it short, changes its sender or its socket, or appends octets.
 fn spoil(mail: &mut Mail, chance: &mut Chance) -> Result<(), Rule> {
     match chance.below(50) {
         0 => turn_a_bit(&mut mail.octets, chance),
@@ -193,7 +193,7 @@ fn push_states(draft: &mut Datagram, sent: &PacketRef<'_>) {
     }
 }
 
-/// An endpoint that differs from a home server's in its address, or in its port.
+/// Returns an endpoint that differs from a home server's in its address, or in its port.
 fn nobody(home: Endpoint, chance: &mut Chance) -> Endpoint {
     let mut nobody = home;
     if chance.is_one_in(2) {
@@ -204,7 +204,7 @@ fn nobody(home: Endpoint, chance: &mut Chance) -> Endpoint {
     nobody
 }
 
-/// How long a datagram is on its way.
+/// Returns how many milliseconds a datagram is on its way.
 fn delay(chance: &mut Chance, setting: &Setting) -> u64 {
     if setting.is_hurried {
         return 0;

@@ -1,24 +1,24 @@
-//! Who is called next, and what comes meanwhile.
+//! Which worker is called next, and what arrives meanwhile.
 
 use crate::events::Came;
 use crate::run::Run;
 use crate::trace::Arrival;
 
-/// What is fixed of a call of a worker before it is made.
+/// What is decided about a call of a worker before the call.
 #[derive(Drop)]
 pub struct Plan {
-    /// The lane whose worker it is; with none, the front.
+    /// The lane whose worker is called, or `None` for the front.
     pub lane: Option<u16>,
     pub turns: u64,
     pub arrivals: Vec<Arrival>,
-    /// How many calls its gate lets it make; with none, all.
+    /// How many calls the gate lets the worker make, or `None` for all.
     pub calls: Option<u32>,
     /// How many milliseconds the worker's clock is behind.
     pub lag: u64,
 }
 
 impl Run {
-    /// Who is called next, for how many turns, and what comes in each.
+    /// Decides which worker is called next, for how many turns, and what arrives in each.
     pub fn plan(&mut self) -> Plan {
         let lanes = self.setting.homes.len() as u64;
         let lane = match self.chance.below(lanes.saturating_add(1)) {
@@ -50,7 +50,7 @@ impl Run {
         }
     }
 
-    /// What comes in so many turns, the first one last; nothing where memory is refused.
+    /// Returns what arrives in `turns` turns, the first one last; nothing if memory is refused.
     fn arrivals(&mut self, lane: Option<u16>, turns: u64) -> Vec<Arrival> {
         let mut arrivals = Vec::new(self.alloc);
         let mut clock = self.clock;
@@ -74,7 +74,8 @@ impl Run {
         }
     }
 
-    /// How long a receive waits: not at all, a little, or just until, or just before, something is due.
+    /// Returns how many milliseconds a receive waits: not at all, a little, or just until, or just before, something
+    /// is due.
     fn wait(&mut self, clock: u64) -> u64 {
         if self.setting.is_hurried {
             return self.chance.below(2);

@@ -1,9 +1,9 @@
-//! The rules that a run may break, as they are told.
+//! The rules that a run may break, with the texts that are printed.
 
 use std::alloc::{AllocError, AllocFailed};
 use std::fmt;
 
-/// A rule of docs/protocol.md, or of what a worker asks and tells, in words.
+/// A rule of docs/protocol.md, or of what a worker asks its gate and reports to it, in words.
 #[derive(Clone, Copy)]
 pub struct Rule(&'static str);
 
@@ -124,7 +124,7 @@ impl Rule {
 
     pub const CLOSE_QUEUED: Rule = Rule("the end tells what was never sent, lane by lane");
 
-    /// It is broken, unless this holds.
+    /// Returns the rule as an error if `is_kept` is false.
     pub fn unless(self, is_kept: bool) -> Result<(), Rule> {
         if is_kept { Ok(()) } else { Err(self) }
     }

@@ -1,4 +1,4 @@
-//! One seed's run: who works when, what comes and what fails, and the comparison after each call.
+//! The run of one seed: which worker is called when, what arrives and what fails, and the comparison after each call.
 
 use crate::book::Book;
 use crate::chance::Chance;
@@ -19,23 +19,23 @@ use std::alloc::Global;
 use std::cell::Cell;
 use std::sync::Wait;
 
-/// What a run came to.
+/// The result of a run.
 #[derive(Clone, Copy)]
 pub struct Outcome {
-    /// How many turns there were.
+    /// The number of turns.
     pub turns: u64,
-    /// The rule that was broken in the last of them, if one was.
+    /// The rule that was broken in the last of them, if any.
     pub broken: Option<Rule>,
 }
 
-/// The proxy that is run.
+/// The proxy of a run, with its configuration.
 #[derive(Clone, Copy)]
 struct Served<'a> {
     config: &'a Config,
     proxy: &'a Proxy,
 }
 
-/// Has a worker take its turns; none where there is no such worker.
+/// Runs a worker for `turns` turns. Returns `None` if there is no such worker.
 fn work(
     rt: &impl Wait,
     alloc: Global,
@@ -53,7 +53,7 @@ fn work(
     }
 }
 
-/// Has the worker of a lane take its turns; none where there is no such lane.
+/// Runs the worker of a lane for `turns` turns. Returns `None` if there is no such lane.
 fn work_lane(
     rt: &impl Wait,
     alloc: Global,
@@ -71,7 +71,7 @@ fn work_lane(
     Some(lane_worker(rt, alloc, proxy, lane, home, wire, gate, turns))
 }
 
-/// A run that goes on, but for its proxy.
+/// A run in progress, without its proxy.
 #[derive(Drop)]
 pub struct Run {
     pub alloc: Global,
@@ -113,7 +113,7 @@ fn begin(alloc: Global, seed: u64) -> Result<Run, Rule> {
     })
 }
 
-/// Empty books for all lanes.
+/// Returns empty books for all lanes.
 fn books_of(alloc: Global, setting: &Setting) -> Result<Books, Rule> {
     let mut books = Vec::new(alloc);
     for (lane, home) in setting.homes.as_slice().iter().enumerate() {
@@ -123,7 +123,7 @@ fn books_of(alloc: Global, setting: &Setting) -> Result<Books, Rule> {
     Ok(Books { books, default })
 }
 
-/// Closes a proxy, and compares what is left.
+/// Closes a proxy, and compares its report with the books.
 fn close(alloc: Global, proxy: Proxy, inlets: Vec<Inlet>, books: &[Book]) -> Result<(), Rule> {
     match proxy.close(alloc, inlets) {
         Ok(mut report) => compare_end(&mut report, books),
@@ -140,7 +140,7 @@ impl Run {
         }
     }
 
-    /// Runs a proxy of the configuration's text.
+    /// Runs a proxy with the configuration that the setting's text describes.
     fn serve_text(&mut self, rt: &impl Wait) -> Result<(), Rule> {
         let text = self.setting.text(self.alloc)?;
         match read_config(self.alloc, text.as_str()) {
@@ -149,7 +149,7 @@ impl Run {
         }
     }
 
-    /// Runs a proxy of a configuration.
+    /// Runs a proxy with a configuration.
     fn serve(&mut self, rt: &impl Wait, config: &Config) -> Result<(), Rule> {
         match open(self.alloc, config) {
             Ok((proxy, inlets)) => self.run_proxy(rt, config, proxy, inlets),
@@ -157,7 +157,7 @@ impl Run {
         }
     }
 
-    /// Has the workers take their turns, and closes the proxy.
+    /// Calls the workers, and closes the proxy.
     fn run_proxy(
         &mut self,
         rt: &impl Wait,
@@ -183,7 +183,7 @@ impl Run {
         Ok(())
     }
 
-    /// Something may happen outside, and then one worker is called.
+    /// Has something happen outside the workers, by chance, and then calls one worker.
     fn step(
         &mut self,
         rt: &impl Wait,
@@ -198,7 +198,7 @@ impl Run {
         compare_counts(rt, served.proxy, self.books.books.as_slice())
     }
 
-    /// A NAS may send, and a home server may die or come back.
+    /// Has a NAS send something, and a home server die or come back, by chance.
     fn happen(&mut self) -> Result<(), Rule> {
         let sends = if self.setting.is_hurried { 1 } else { 3 };
         if self.chance.is_one_in(sends) {
@@ -217,7 +217,7 @@ impl Run {
             .carry(&mut self.chance, &self.setting, self.clock, None, mail)
     }
 
-    /// A lane is drained.
+    /// Drains a lane.
     fn drain(&mut self, rt: &impl Wait, proxy: &Proxy) -> Result<(), Rule> {
         let place = self.chance.below(self.books.books.len() as u64) as usize;
         match self.books.books.as_mut_slice().get_mut(place) {
@@ -246,7 +246,7 @@ impl Run {
         }
     }
 
-    /// Compares what a worker did, and has the home servers get what it sent.
+    /// Compares what a worker did, and delivers what it sent to the home servers.
     fn follow(
         &mut self,
         lane: Option<u16>,
@@ -258,7 +258,7 @@ impl Run {
         self.react(lane, events)
     }
 
-    /// Has a worker take its turns. It gives its tally, where there is such a worker.
+    /// Runs a worker. Returns its tally, if there is such a worker.
     fn work(
         &mut self,
         rt: &impl Wait,
@@ -295,7 +295,7 @@ impl Run {
         Ok(tally)
     }
 
-    /// Compares what a worker did with what the rules say.
+    /// Compares what a worker did with the rules.
     fn compare(
         &mut self,
         lane: Option<u16>,
@@ -318,7 +318,7 @@ impl Run {
         walk.ends(Rule::ENDS);
     }
 
-    /// Compares a turn. It gives whether the worker goes on.
+    /// Compares a turn. Returns whether the worker goes on.
     fn compare_turn(&mut self, lane: Option<u16>, walk: &mut Walk<'_>) -> bool {
         let Some(lane) = lane else {
             return self.books.front_turn(walk);
@@ -329,7 +329,7 @@ impl Run {
         }
     }
 
-    /// The home servers get what a lane sent.
+    /// Delivers what a lane sent to the home servers.
     fn react(&mut self, lane: Option<u16>, events: &[Event]) -> Result<(), Rule> {
         let Some(lane) = lane else {
             return Ok(());

@@ -1,4 +1,4 @@
-//! What stands for a whole run: the home servers with their limits, and how good the network is.
+//! What is fixed for a whole run: the home servers with their limits, and how reliable the network is.
 
 use crate::chance::Chance;
 use crate::rules::Rule;
@@ -6,7 +6,7 @@ use rad_auth::Secret;
 use rad_realms::{Endpoint, LimitNumbers};
 use std::alloc::Global;
 
-/// The tables of each home server and of its realm, but for its limits.
+/// The tables of each home server and of its realm, without its limits.
 const FIRST_HOME: &str = r#"
 [[realm]]
 name = "example.org"
@@ -37,7 +37,7 @@ address = "127.0.0.1:2814"
 secret = "third-secret"
 "#;
 
-/// Both clients.
+/// The tables of both clients.
 const CLIENTS: &str = r#"
 [[client]]
 address = "10.0.0.1"
@@ -55,29 +55,29 @@ pub struct Home {
     pub limits: LimitNumbers,
 }
 
-/// What stands for a whole run.
+/// What is fixed for a whole run.
 #[derive(Drop)]
 pub struct Setting {
-    /// One to three home servers.
+    /// The home servers, one to three.
     pub homes: Vec<Home>,
     /// Whether a request without a realm leads to the first home server.
     pub has_default: bool,
-    /// Whether requests come as fast as they are answered, so that identifiers go round.
+    /// Whether requests come as fast as they are answered, so that Identifiers are used again.
     pub is_hurried: bool,
-    /// One datagram in so many is lost, and one comes twice; 0 where none is.
+    /// One datagram in `losses` is lost, and one in `losses` is duplicated; 0 for none.
     pub losses: u64,
-    /// One receive and one send in so many fails; 0 where none does.
+    /// One receive in `faults` and one send in `faults` fails; 0 for none.
     pub faults: u64,
-    /// One call in so many is stopped by its gate; 0 where none is.
+    /// One call in `stops` is stopped by its gate; 0 for none.
     pub stops: u64,
-    /// A lane is drained after one call in so many; 0 where none is.
+    /// A lane is drained after one call in `drains`; 0 for none.
     pub drains: u64,
-    /// How many calls of a worker there are.
+    /// The number of calls of workers.
     pub calls: u64,
 }
 
 impl Setting {
-    /// Draws one.
+    /// Draws a setting.
     pub fn draw(alloc: Global, chance: &mut Chance) -> Result<Setting, Rule> {
         let is_hurried = chance.is_one_in(8);
         let is_calm = is_hurried || chance.is_one_in(4);
@@ -119,7 +119,7 @@ impl Setting {
         Ok(())
     }
 
-    /// The configuration's text.
+    /// Returns the text of the configuration.
     pub fn text(&self, alloc: Global) -> Result<String, Rule> {
         let mut text = String::from_str(alloc, "listen = \"127.0.0.1:1813\"\n")?;
         if self.has_default {
@@ -133,7 +133,7 @@ impl Setting {
     }
 }
 
-/// Limits of which many are so small that they are come up to.
+/// Returns limits, many of which are so small that they are reached.
 fn limits(chance: &mut Chance) -> LimitNumbers {
     LimitNumbers {
         window: one_of(chance, &[1, 2, 3, 8, 64, 254]),
@@ -149,7 +149,7 @@ fn limits(chance: &mut Chance) -> LimitNumbers {
     }
 }
 
-/// Limits by which more than 256 requests go through a lane.
+/// Returns limits with which more than 256 requests go through a lane.
 fn hurried_limits(chance: &mut Chance) -> LimitNumbers {
     LimitNumbers {
         window: one_of(chance, &[4, 20, 200]),
@@ -169,7 +169,7 @@ fn one_of(chance: &mut Chance, numbers: &[u32]) -> u32 {
     chance.pick(numbers).copied().unwrap_or(1)
 }
 
-/// The tables of a home server and of its realm.
+/// Adds the tables of a home server and of its realm.
 fn push_home(alloc: Global, text: &mut String, place: u16, home: &Home) -> Result<(), Rule> {
     text.push_str(tables(place))?;
     for (key, number) in keys(&home.limits) {
@@ -187,7 +187,7 @@ fn tables(place: u16) -> &'static str {
     }
 }
 
-/// The keys of a home server's limits, and their numbers.
+/// Returns the keys of a home server's limits, and their numbers.
 fn keys(limits: &LimitNumbers) -> [(&'static str, u32); 10] {
     [
         ("window", limits.window),
@@ -203,7 +203,7 @@ fn keys(limits: &LimitNumbers) -> [(&'static str, u32); 10] {
     ]
 }
 
-/// The realm that leads to a home server.
+/// Returns the realm that leads to a home server.
 pub fn realm_of_home(place: u16) -> &'static str {
     match place {
         0 => "example.org",
@@ -212,7 +212,7 @@ pub fn realm_of_home(place: u16) -> &'static str {
     }
 }
 
-/// Two home servers have one port, and two one address.
+/// Returns the endpoint of a home server. Two home servers have the same port, and two have the same address.
 fn home_endpoint(place: u16) -> Endpoint {
     Endpoint {
         address: [127, 0, 0, if place == 1 { 2 } else { 1 }],
@@ -228,12 +228,12 @@ fn home_secret(place: u16) -> &'static str {
     }
 }
 
-/// The address of a client.
+/// Returns the address of a client.
 pub fn client_address(is_first: bool) -> [u8; 4] {
     [10, 0, 0, if is_first { 1 } else { 2 }]
 }
 
-/// The secret of the client of this address.
+/// Returns the secret of the client with this address.
 pub fn client_secret(address: [u8; 4]) -> Option<Secret> {
     if address == client_address(true) {
         return Secret::new(b"nas-secret").ok();

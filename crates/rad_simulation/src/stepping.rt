@@ -1,4 +1,4 @@
-//! What a lane does by itself, as the rules have it.
+//! The steps of a lane, by the rules.
 
 use crate::book::{Book, Down, Out};
 use crate::making::{forwarded, status_server};
@@ -6,10 +6,10 @@ use crate::rules::Rule;
 use rad_packet::read;
 use test_octets::mark_value;
 
-/// The longest wait for an answer.
+/// The longest wait for an answer, in milliseconds.
 const LONGEST_WAIT: u64 = 120_000;
 
-/// What a lane does next. What it sends stands at a place of what is out.
+/// A step of a lane. What it sends is at this place among the outstanding requests and the probe.
 #[derive(Clone, Copy)]
 pub enum Doing {
     Send(usize),
@@ -21,7 +21,7 @@ pub enum Doing {
 }
 
 impl Book {
-    /// The lane goes up: its probe is forgotten, and what is out is due at once.
+    /// Marks the home server up: forgets the probe, and makes the outstanding requests due at once.
     pub fn go_up(&mut self, now: u64) {
         self.down = None;
         self.forget_probe();
@@ -35,7 +35,7 @@ impl Book {
         self.out.retain(|out| out.number.is_some());
     }
 
-    /// Does what is next, with these octets as a probe's Authenticator.
+    /// Makes the next step, with these octets as a probe's Authenticator.
     pub fn step(&mut self, moment: u64, drawn: [u8; 16]) -> Result<Doing, Rule> {
         let now = moment.max(self.last);
         self.last = now;
@@ -65,7 +65,8 @@ impl Book {
         Ok(Doing::Idle)
     }
 
-    /// Of what is due and spent, or not spent, the place of the first one: of least due, and of these of least number.
+    /// Returns the place of the first due request of those that are spent, or not spent. The first one has the least
+    /// due moment, and of these the least number.
     fn least_due(&self, is_spent: bool, now: u64) -> Option<usize> {
         let mut least: Option<(u64, u64, usize)> = None;
         for (place, out) in self.out.as_slice().iter().enumerate() {
@@ -98,7 +99,7 @@ impl Book {
         self.put_out(Some(number), octets, due)
     }
 
-    /// What goes to the home server for a request, under the pair that was taken last.
+    /// Returns the octets that go to the home server for a request, under the pair that was allotted last.
     fn first_sending(&self, number: u64) -> Result<Vec<u8>, Rule> {
         let text = match self.at(number) {
             Some(asked) => asked.text.as_slice(),
@@ -112,7 +113,7 @@ impl Book {
         Ok(made.bytes().to_vec(self.alloc)?)
     }
 
-    /// These octets are out under the pair that was taken last.
+    /// Adds these octets as sent, under the pair that was allotted last. Returns their place.
     fn put_out(&mut self, number: Option<u64>, octets: Vec<u8>, due: u64) -> Result<usize, Rule> {
         let place = self.out.len();
         self.out.push(Out {
@@ -125,7 +126,7 @@ impl Book {
         Ok(place)
     }
 
-    /// Takes the first free pair behind the one that was taken last.
+    /// Allots the first free pair after the one that was allotted last.
     fn take_pair(&mut self) {
         let pairs = self.limits.ports.saturating_mul(256);
         for _ in 0..pairs {
@@ -158,7 +159,7 @@ impl Book {
     }
 }
 
-/// Whether this one comes before the least so far.
+/// Returns whether this request comes before the least one so far.
 fn is_before(due: u64, number: u64, least: Option<(u64, u64, usize)>) -> bool {
     match least {
         None => true,
@@ -167,7 +168,8 @@ fn is_before(due: u64, number: u64, least: Option<(u64, u64, usize)>) -> bool {
     }
 }
 
-/// How long to wait after so many sendings of a round: twice as long each time, and two minutes at most.
+/// Returns how many milliseconds to wait after `sendings` sendings of a round: twice as long each time, and at most
+/// two minutes.
 fn wait_after(first_wait: u32, sendings: u32) -> u64 {
     let mut wait = u64::from(first_wait);
     for _ in 1..sendings {

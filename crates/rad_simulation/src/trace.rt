@@ -1,4 +1,4 @@
-//! The gate and the wire of a worker in the simulation: both put down what they are asked and told, in one list.
+//! The gate and the wire of a worker in the simulation. Both record their calls in one list.
 
 use crate::chance::Chance;
 use crate::events::{Came, DownBy, Event, Gone, Mail, Sign};
@@ -8,7 +8,7 @@ use rad_tables::Moment;
 use std::alloc::Global;
 use std::cell::Cell;
 
-/// The list of what happened.
+/// The list of events.
 #[derive(Drop)]
 pub struct Trace {
     alloc: Global,
@@ -16,7 +16,7 @@ pub struct Trace {
 }
 
 impl Trace {
-    /// Nothing happened yet.
+    /// Returns a list without events.
     pub fn new(alloc: Global) -> Trace {
         Trace {
             alloc,
@@ -24,12 +24,12 @@ impl Trace {
         }
     }
 
-    /// All that happened, in order; nothing where memory was refused. It is forgotten then.
+    /// Returns all events in order, or `None` if memory was refused. The list forgets them.
     pub fn take(&self) -> Option<Vec<Event>> {
         self.events.replace(Some(Vec::new(self.alloc)))
     }
 
-    /// Puts down one event more. Where memory is refused, the list is gone.
+    /// Adds an event. If memory is refused, the list is lost.
     fn add(&self, event: Event) {
         let Some(mut events) = self.events.replace(None) else {
             return;
@@ -39,7 +39,7 @@ impl Trace {
         }
     }
 
-    /// A copy of octets; none where memory is refused, and then the list is gone.
+    /// Returns a copy of octets. If memory is refused, returns `None`, and the list is lost.
     fn copy(&self, octets: &[u8]) -> Option<Vec<u8>> {
         match octets.to_vec(self.alloc) {
             Ok(copy) => Some(copy),
@@ -51,17 +51,17 @@ impl Trace {
     }
 }
 
-/// The gate of a worker for one call, which may stop it.
+/// The gate of a worker for one call of the worker, which it may stop.
 #[derive(Drop)]
 pub struct TraceGate<'a> {
     pub trace: &'a Trace,
     pub worker: Worker,
-    /// How many calls it lets the worker make, which it stops before the next one; with none, all.
+    /// How many more calls it lets the worker make before it stops the worker, or `None` for all.
     pub calls: Cell<Option<u32>>,
 }
 
 impl<'a> TraceGate<'a> {
-    /// What it is asked or told, in whose name.
+    /// Records what it is asked or notified of, and in whose name.
     fn add(&self, worker: Worker, sign: Sign) {
         let is_own = worker == self.worker;
         self.tell(if is_own { sign } else { Sign::OfAnother });
@@ -71,7 +71,7 @@ impl<'a> TraceGate<'a> {
         self.trace.add(Event::Signed(sign));
     }
 
-    /// Whether one call more is let.
+    /// Returns whether one more call is allowed.
     fn lets(&self) -> Go {
         match self.calls.get() {
             None => Go::On,
@@ -148,31 +148,31 @@ impl<'a> Gate for TraceGate<'a> {
     }
 }
 
-/// What the next receive gives, and how many milliseconds it waits.
+/// The result of the next receive, and how many milliseconds the receive waits.
 #[derive(Drop)]
 pub struct Arrival {
     pub wait: u64,
     pub came: Came,
 }
 
-/// The wire of a worker for one call: what is to come is known before.
+/// The wire of a worker for one call of the worker. What arrives is known beforehand.
 #[derive(Drop)]
 pub struct TraceWire<'a> {
     pub trace: &'a Trace,
-    /// What comes, the next one last.
+    /// What arrives, the next one last.
     pub arrivals: Vec<Arrival>,
-    /// The moment.
+    /// The current moment.
     pub clock: u64,
     /// How many milliseconds this worker's clock is behind.
     pub lag: u64,
-    /// What the octets are drawn by, and which send fails.
+    /// The source of the octets that are drawn, and of the choice of the sends that fail.
     pub chance: Chance,
-    /// One send in so many fails; 0 where none does.
+    /// One send in `faults` fails; 0 for none.
     pub faults: u64,
 }
 
 impl<'a> TraceWire<'a> {
-    /// What comes next.
+    /// Returns what arrives next.
     fn arrive(&mut self) -> Came {
         match self.arrivals.pop() {
             Some(Arrival { wait, came }) => {
@@ -183,7 +183,7 @@ impl<'a> TraceWire<'a> {
         }
     }
 
-    /// The moment of this worker's clock.
+    /// Returns the moment of this worker's clock.
     fn moment(&self) -> u64 {
         self.clock.saturating_sub(self.lag)
     }

@@ -1,24 +1,24 @@
-//! The walk over what happened in one call of a worker, which compares each event with what should have been.
+//! The walk over the events of one call of a worker, which compares each event with the expected one.
 
 use crate::events::{Came, DownBy, Event, Gone, Mail, Sign};
 use crate::rules::Rule;
 use rad_desk::{Call, Go, Note, Tally};
 
-/// Where a walk stands, and what the worker should have done so far.
+/// The position of a walk, and what the worker should have done so far.
 #[derive(Clone, Copy)]
 pub struct Walk<'a> {
     events: &'a [Event],
-    /// How many events were looked at.
+    /// How many events were read.
     place: usize,
-    /// Whether the worker began all its turns, by what it says itself.
+    /// Whether the worker began all its turns, according to its own tally.
     began_all: bool,
-    /// The first rule that was broken, if one was. From then on no event is next.
+    /// The first rule that was broken, if any. Once a rule is broken, `next` returns no event.
     broken: Option<Rule>,
     pub tally: Tally,
 }
 
 impl<'a> Walk<'a> {
-    /// It begins at the first event.
+    /// Returns a walk that begins at the first event.
     pub fn new(events: &'a [Event], began_all: bool) -> Walk<'a> {
         Walk {
             events,
@@ -34,14 +34,14 @@ impl<'a> Walk<'a> {
         }
     }
 
-    /// This rule is broken; the first one that is stays.
+    /// Records that this rule is broken, unless an earlier one was.
     pub fn breaks(&mut self, rule: Rule) {
         if self.broken.is_none() {
             self.broken = Some(rule);
         }
     }
 
-    /// This rule is broken, unless this holds.
+    /// Records that this rule is broken if `is_kept` is false.
     pub fn keeps(&mut self, rule: Rule, is_kept: bool) {
         if !is_kept {
             self.breaks(rule);
@@ -52,7 +52,7 @@ impl<'a> Walk<'a> {
         self.broken.is_some()
     }
 
-    /// What the walk comes to, with the tally that the worker gave.
+    /// Returns the result of the walk, given the tally that the worker returned.
     pub fn outcome(&self, tally: Tally) -> Result<(), Rule> {
         match self.broken {
             Some(rule) => Err(rule),
@@ -60,7 +60,8 @@ impl<'a> Walk<'a> {
         }
     }
 
-    /// The next event, if no rule was broken. Where there is none, this rule is broken, or the worker did not go on.
+    /// Returns the next event, if no rule was broken. If no event is left, `rule` is broken, or `GOES_ON` if the
+    /// worker did not begin all its turns.
     fn next(&mut self, rule: Rule) -> Option<&'a Event> {
         if self.is_broken() {
             return None;
@@ -74,14 +75,14 @@ impl<'a> Walk<'a> {
         next
     }
 
-    /// What was next should not be, where another event was to be by this rule.
+    /// Records that an unexpected event, if there is one, breaks a rule. By `rule` another event was expected.
     fn misses(&mut self, next: Option<&Event>, rule: Rule) {
         if let Some(event) = next {
             self.breaks(rule_of(event, rule));
         }
     }
 
-    /// A turn begins with a receive. It gives its moment, and the datagram that came.
+    /// Expects a receive, with which each turn begins. Returns its moment, and the datagram that arrived.
     pub fn begins(&mut self) -> (u64, Option<&'a Mail>) {
         self.tally.turns = self.tally.turns.saturating_add(1);
         match self.next(Rule::RECEIVE) {
@@ -93,7 +94,7 @@ impl<'a> Walk<'a> {
         }
     }
 
-    /// The gate is told of what came. It gives the datagram that came.
+    /// Expects that the gate is notified of what arrived. Returns the datagram that arrived.
     fn received(&mut self, came: &'a Came) -> Option<&'a Mail> {
         match came {
             Came::Datagram(mail) => {
@@ -108,7 +109,7 @@ impl<'a> Walk<'a> {
         }
     }
 
-    /// A receive or a send fails, and that is noted.
+    /// Counts a receive or a send that fails, and expects its note.
     fn fails(&mut self, note: Note, rule: Rule) {
         self.tally.faults = self.tally.faults.saturating_add(1);
         self.meets(Sign::Noted(note), rule);
@@ -125,13 +126,14 @@ impl<'a> Walk<'a> {
         self.keeps(Rule::TOLD_RECEIVED, is_told);
     }
 
-    /// Nothing more happens.
+    /// Expects that no event is left.
     pub fn ends(&mut self, rule: Rule) {
         let more = self.events.get(self.place);
         self.misses(more, rule);
     }
 
-    /// The gate is asked before a call. It gives whether the call is made; where it is not, nothing more happens.
+    /// Expects that the gate is asked before a call. Returns whether the call is made. If it is not, no event may
+    /// follow.
     pub fn asks(&mut self, call: Call, rule: Rule) -> bool {
         match self.next(rule) {
             Some(Event::Signed(Sign::Before(asked, Go::On))) if *asked == call => true,
@@ -146,7 +148,7 @@ impl<'a> Walk<'a> {
         }
     }
 
-    /// The next turn begins here, or nothing more happens.
+    /// Expects that the next turn begins here, or that no event is left.
     pub fn idles(&mut self) {
         match self.events.get(self.place) {
             Some(Event::Received(..)) | None => {}
@@ -155,7 +157,7 @@ impl<'a> Walk<'a> {
         }
     }
 
-    /// The gate is told this.
+    /// Expects that the gate is notified of `sign`.
     pub fn meets(&mut self, sign: Sign, rule: Rule) {
         match self.next(rule) {
             Some(Event::Signed(met)) if met.is(sign) => {}
@@ -163,7 +165,7 @@ impl<'a> Walk<'a> {
         }
     }
 
-    /// The gate is told of a packet whose realm leads nowhere.
+    /// Expects that the gate is notified of a packet whose realm leads to no lane.
     pub fn told_no_realm(&mut self, octets: &[u8]) {
         let is_told = match self.next(Rule::NO_REALM) {
             Some(Event::ToldNoRealm(text)) => text.as_slice() == octets,
@@ -172,7 +174,7 @@ impl<'a> Walk<'a> {
         self.keeps(Rule::NO_REALM, is_told);
     }
 
-    /// The gate is told by which request a lane went down.
+    /// Expects that the gate is notified of the request by which a home server was marked down.
     pub fn told_down(&mut self) -> Option<&'a DownBy> {
         match self.next(Rule::DOWN_BY) {
             Some(Event::ToldDown(down)) => Some(down),
@@ -180,7 +182,7 @@ impl<'a> Walk<'a> {
         }
     }
 
-    /// The octets that the wire draws.
+    /// Expects that the wire draws octets, and returns them.
     pub fn draws(&mut self, rule: Rule) -> [u8; 16] {
         match self.next(rule) {
             Some(Event::Drew(octets)) => *octets,
@@ -191,7 +193,8 @@ impl<'a> Walk<'a> {
         }
     }
 
-    /// These octets are sent, and the gate is told right before. With a fault the datagram is lost, and that is noted behind it.
+    /// Expects that these octets are sent, and that the gate is notified right before. If the send fails, the datagram
+    /// is lost, and a note of that follows.
     pub fn sends(&mut self, octets: &[u8], rule: Rule) -> Option<&'a Gone> {
         let Some(Event::ToldSends(to, text)) = self.next(rule) else {
             self.breaks(rule);
@@ -209,7 +212,7 @@ impl<'a> Walk<'a> {
         Some(gone)
     }
 
-    /// What was sent is counted; where it is lost, that is noted.
+    /// Counts a datagram that was sent. If it was lost, expects the note of that.
     pub fn counts(&mut self, gone: &Gone) {
         if gone.is_handed_over {
             self.tally.sent = self.tally.sent.saturating_add(1);
@@ -219,7 +222,8 @@ impl<'a> Walk<'a> {
     }
 }
 
-/// The rule that is broken by an event that should not be, where another was to be by this rule: its own, where it has one.
+/// Returns the rule that an unexpected event breaks: the event's own rule, if it has one, and otherwise `rule`, by
+/// which another event was expected.
 fn rule_of(event: &Event, rule: Rule) -> Rule {
     match event {
         Event::Signed(sign) => rule_of_sign(*sign, rule),
