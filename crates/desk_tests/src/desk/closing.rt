@@ -133,7 +133,7 @@ fn with_exchanged_inlets_nothing_is_known(rt: HostRuntime) -> Result<(), Fail> {
     Ok(())
 }
 
-/// Gives a proxy an inlet of another one. Returns whether it got one, which it does if memory is not refused.
+/// Gives a proxy an inlet of another one. Returns false if memory is refused.
 fn add_surplus(proxy: &mut TestProxy, other: &mut TestProxy) -> bool {
     match other.inlets.pop() {
         Some(inlet) => proxy.inlets.push(inlet).is_ok(),

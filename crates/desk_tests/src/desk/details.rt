@@ -1,5 +1,5 @@
-//! What a gate is notified of besides the notes: by which request a home server was marked down, and why it was marked
-//! up; which packet has a realm that leads to no lane; and which request has Proxy-States of the form of this proxy's
+//! What a gate is notified of besides the notes: which request marked a home server down, and why it was marked up;
+//! which packet has a realm that leads to no lane; and which request has Proxy-States of the form of this proxy's
 //! marks.
 
 use super::playing::{CLIENT, Event, FORWARD, FRONT, LANE, Story, play};

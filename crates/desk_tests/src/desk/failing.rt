@@ -39,7 +39,7 @@ fn is_answered(rt: &impl Wait, proxy: &mut TestProxy) -> bool {
 }
 
 /// Makes a run from a request to its response, in which a receive or send of a worker's wire fails after `passing`
-/// that do not. Returns whether one failed.
+/// others. Returns whether one failed.
 fn meets_fault<R: Wait + Abort>(
     rt: &R,
     proxy: &mut TestProxy,

@@ -16,8 +16,8 @@ const ACCEPTED_BY_BOTH: &[Event<'static>] = &[
     Event::Accept(&OTHER_REQUEST, Ok(Taken::New(0))),
 ];
 
-/// Each lane has turns at 0, 1000 and 2000 milliseconds, and sends its request. By the limits of the first lane, its
-/// home server is marked down by then.
+/// Each lane has turns at 0, 1000 and 2000 milliseconds, and sends its request. By then the limits of the first
+/// lane have its home server marked down.
 const SENT_BY_BOTH: Story<'static> = Story {
     more: TWO_HOMES,
     scenes: &[

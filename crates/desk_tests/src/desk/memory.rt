@@ -73,7 +73,7 @@ impl MemoryWire {
         self.first = first;
     }
 
-    /// Has a receive or send fail, after `passing` that do not.
+    /// Has a receive or send fail, after `passing` others.
     pub fn fail_after(&mut self, passing: u32) {
         self.passing = Some(passing);
     }

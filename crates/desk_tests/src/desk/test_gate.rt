@@ -16,8 +16,8 @@ pub enum Telling {
     Accepted(u16, u64),
     /// The response of this serial was put into a lane's ring.
     Answered(u16, u64),
-    /// The home server of this lane was marked down, because of the request with this number, from this client, which
-    /// was accepted this many milliseconds ago. The last field is whether that request is of the session `S1`.
+    /// The home server of this lane was marked down by the request with this number, from this client, which was
+    /// accepted this many milliseconds ago. The last field is whether that request is of the session `S1`.
     Down(u16, u64, Endpoint, u64, bool),
     /// The home server of this lane was marked up.
     Up(u16, UpReason),
@@ -121,7 +121,7 @@ impl TestGate {
     }
 }
 
-/// Returns whether the request because of which a home server was marked down is of the session `S1`.
+/// Returns whether the request that marked a home server down is of the session `S1`.
 fn is_of_first_session(spent: &Spent) -> bool {
     match &spent.session {
         Some(session) => session.octets() == "S1".as_bytes(),
