@@ -1,6 +1,6 @@
-//! What no clause says: that a desk takes requests, sends them and hears of them where memory is ample, what it says
-//! when its ring is full, that a call through a lock reaches its own lane, what the workers make of wires that fail and of
-//! datagrams that are spoiled, and the octets of another implementation.
+//! Tests of what no clause says: that a desk accepts requests, sends them and hears replies to them if memory is
+//! ample; what it returns when its ring is full; that a call through a lock reaches its own lane; how the workers
+//! handle wires that fail and spoiled datagrams; and the octets of another implementation.
 
 mod calls;
 mod closing;

@@ -1,5 +1,5 @@
-//! Tests over the public calls of `rad_desk`, apart from it so that no proof of its own is made again for a test. It has
-//! no other code.
+//! Tests of the public calls of `rad_desk`, in a crate of their own, so that no proof of `rad_desk` is repeated for a
+//! test. It has no other code.
 #![tactic(auto)]
 
 #[cfg(test)]

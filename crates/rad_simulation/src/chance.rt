@@ -32,12 +32,12 @@ impl Chance {
         least.saturating_add(more)
     }
 
-    /// Returns true in one of `times` cases.
+    /// Returns true once in `times` calls, on average.
     pub fn is_one_in(&mut self, times: u64) -> bool {
         self.below(times) == 0
     }
 
-    /// Returns true in one of `odds` cases, or never if `odds` is 0.
+    /// Returns true once in `odds` calls, on average, or never if `odds` is 0.
     pub fn strikes(&mut self, odds: u64) -> bool {
         odds != 0 && self.is_one_in(odds)
     }

@@ -80,7 +80,7 @@ impl Sign {
     }
 }
 
-/// The request by which a home server was marked down, as the gate is notified of it.
+/// The request that marked a home server down, as the gate is notified of it.
 #[derive(Drop)]
 pub struct DownBy {
     pub lane: u16,

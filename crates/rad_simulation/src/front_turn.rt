@@ -144,7 +144,7 @@ fn dropped(mail: &Mail, reason: Dropped, walk: &mut Walk<'_>) {
     walk.meets(Sign::Noted(Note::Dropped(reason)), Rule::DROPPED);
 }
 
-/// Expects that a lane accepts a request, or does not.
+/// Expects the call that passes a request to a lane, and the report of what became of it.
 fn accept(
     book: &mut Book,
     moment: u64,

@@ -100,7 +100,7 @@ impl Book {
         self.out.as_slice().get(place)?.number
     }
 
-    /// Answers a request with a reply, from which its response is made.
+    /// Answers a request with a reply: makes its response.
     fn answer(&mut self, now: u64, number: u64, reply: &PacketRef<'_>) -> Result<(), Rule> {
         let alloc = self.alloc;
         if let Some(place) = place_of(number)

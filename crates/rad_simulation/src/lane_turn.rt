@@ -87,13 +87,13 @@ fn send(book: &Book, place: usize, rule: Rule, walk: &mut Walk<'_>) {
     }
 }
 
-/// Expects the reports that the lane went up, and why.
+/// Expects the reports that the home server was marked up, and why.
 fn went_up(lane: u16, reason: UpReason, rule: Rule, walk: &mut Walk<'_>) {
     walk.meets(Sign::Noted(Note::WentUp), rule);
     walk.meets(Sign::WentUp(lane, reason), rule);
 }
 
-/// Expects the reports that the lane went down, and by which request.
+/// Expects the reports that the home server was marked down, and of the request that marked it down.
 fn went_down(book: &Book, number: u64, moment: u64, walk: &mut Walk<'_>) {
     walk.meets(Sign::Noted(Note::WentDown), Rule::WENT_DOWN);
     let is_told = match (walk.told_down(), book.at(number)) {
@@ -105,7 +105,7 @@ fn went_down(book: &Book, number: u64, moment: u64, walk: &mut Walk<'_>) {
     walk.keeps(Rule::DOWN_BY, is_told);
 }
 
-/// Returns whether `down` describes the request by which a lane went down at this moment.
+/// Returns whether `down` describes the request that marked the home server down at this moment.
 fn is_down_by(down: &DownBy, asked: &Asked, moment: u64) -> bool {
     let session = match &down.session {
         Some(session) => Some(session.as_slice()),

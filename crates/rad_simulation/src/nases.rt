@@ -155,7 +155,7 @@ fn push_name_in(draft: &mut Datagram, realm: &str) {
     }
 }
 
-/// Adds so many attributes that the mark just fits behind them, or just does not.
+/// Adds so many attributes that the mark just fits behind them, or just does not fit.
 fn push_much(draft: &mut Datagram, chance: &mut Chance) {
     for _ in 0..15 {
         push(draft, CLASS, &[b'A'; 253]);

@@ -74,8 +74,8 @@ impl Run {
         }
     }
 
-    /// Returns how many milliseconds a receive waits: not at all, a little, or just until, or just before, something
-    /// is due.
+    /// Returns how long a receive waits, in milliseconds: not at all, a little, or just until, or just before,
+    /// something is due.
     fn wait(&mut self, clock: u64) -> u64 {
         if self.setting.is_hurried {
             return self.chance.below(2);

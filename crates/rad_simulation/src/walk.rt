@@ -174,7 +174,7 @@ impl<'a> Walk<'a> {
         self.keeps(Rule::NO_REALM, is_told);
     }
 
-    /// Expects that the gate is notified of the request by which a home server was marked down.
+    /// Expects that the gate is notified of the request that marked a home server down.
     pub fn told_down(&mut self) -> Option<&'a DownBy> {
         match self.next(Rule::DOWN_BY) {
             Some(Event::ToldDown(down)) => Some(down),

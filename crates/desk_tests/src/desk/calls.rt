@@ -1,4 +1,5 @@
-//! What each call answers where memory is ample and the ring has a place. A body that always refuses meets its contract.
+//! Tests of what each call returns if memory is ample and the ring has a place. A body that always refuses would meet
+//! its contract.
 
 use super::closing::has_no_rest;
 use super::comparing::holds;
@@ -11,7 +12,7 @@ use std::test::Fail;
 use test_octets::homes::{FORWARDED, REPLY};
 use test_octets::nas::{REQUEST, RESPONSE};
 
-/// A desk takes a request, sends it, hears its reply, gives the response and cuts the request off.
+/// A desk accepts a request, sends it, hears its reply, gives the response and cuts the request.
 const SERVED: &[DeskEvent<'static>] = &[
     DeskEvent::Accept(0, &REQUEST, Ok(Taken::New(0))),
     DeskEvent::Send(0, 0, 0, &FORWARDED),
@@ -34,7 +35,7 @@ const SERVED_THROUGH_LOCK: &[Event<'static>] = &[
     Event::Cut(0, Ok(1)),
 ];
 
-/// Whether the first ring had nothing left.
+/// Returns whether the first ring held nothing.
 fn has_nothing_left(report: &Report) -> bool {
     match report.ends.as_slice().first() {
         Some(end) => has_no_rest(end),

@@ -15,8 +15,8 @@ use std::test::Fail;
 use test_octets::homes::{FORWARDED, REPLY, SECOND_FORWARDED, SECOND_REPLY};
 use test_octets::nas::{OTHER_REQUEST, REQUEST, RESPONSE, SECOND_REQUEST, SECOND_RESPONSE};
 
-/// Two lanes: the first answered two requests, of which the first response was taken; a request waits in the queue
-/// of the second.
+/// Two lanes. The first one answered two requests, and the response to the first of these was taken. The second one
+/// has a queued request.
 const LEFT_OVER: &[Event<'static>] = &[
     Event::Accept(&REQUEST, Ok(Taken::New(0))),
     Event::Send(0, 0, 0, &FORWARDED),
@@ -28,14 +28,14 @@ const LEFT_OVER: &[Event<'static>] = &[
     Event::Take(0, &RESPONSE),
 ];
 
-/// A proxy of these two lanes.
+/// Returns a proxy with these two lanes.
 fn left_over<R: Wait + Abort>(rt: &R, alloc: Global) -> Result<TestProxy, Fail> {
     let mut proxy = TestProxy::new(alloc, TWO_HOMES)?;
     proxy.play(rt, LEFT_OVER);
     Ok(proxy)
 }
 
-/// The responses that a lane's ring still had, where that is known.
+/// Returns the responses that a lane's ring still held, if they are known.
 pub fn known(end: &LaneEnd) -> Option<&[Outgoing]> {
     match &end.rest {
         Rest::Known(rest) => Some(rest.as_slice()),
@@ -43,7 +43,7 @@ pub fn known(end: &LaneEnd) -> Option<&[Outgoing]> {
     }
 }
 
-/// Of each of two lanes whether its rest is known.
+/// Returns whether the rest is known, for each of two lanes.
 fn are_known(report: &Report) -> Option<(bool, bool)> {
     match report.ends.as_slice() {
         [first, second] => Some((known(first).is_some(), known(second).is_some())),
@@ -51,8 +51,8 @@ fn are_known(report: &Report) -> Option<(bool, bool)> {
     }
 }
 
-/// Whether the first lane's ring still had the second response alone. It agrees with the second of two answers, and not with the
-/// first.
+/// Returns whether the first lane's ring still held the second response alone. This response agrees with the second of
+/// two answers, and not with the first.
 fn has_second_response(end: &LaneEnd) -> bool {
     match (known(end), end.answered.as_slice()) {
         (Some([rest]), [first, second]) => {
@@ -79,12 +79,12 @@ fn compare_second(rt: &impl Abort, end: &LaneEnd) {
     holds(rt, has_no_rest(end));
 }
 
-/// Whether a lane's ring had nothing left.
+/// Returns whether a lane's ring held nothing.
 pub fn has_no_rest(end: &LaneEnd) -> bool {
     matches!(known(end), Some([]))
 }
 
-/// Whether the only record that was never sent is that of the other request.
+/// Returns whether the only record that was never sent is that of the other request.
 fn has_other_record(report: &Report) -> bool {
     match report.queued.front() {
         Some(record) => report.queued.len() == 1 && record.text() == OTHER_REQUEST.as_slice(),
@@ -111,7 +111,7 @@ fn close_knows_and_take_gives(rt: HostRuntime) -> Result<(), Fail> {
     Ok(())
 }
 
-/// Whether the rest of each of the two lanes of a proxy is known at its end.
+/// Returns whether the rest of each of a proxy's two lanes is known at its end.
 fn knows(proxy: TestProxy) -> Result<Option<(bool, bool)>, Fail> {
     let report = proxy.report()?;
     Ok(are_known(&report))
@@ -133,7 +133,7 @@ fn with_exchanged_inlets_nothing_is_known(rt: HostRuntime) -> Result<(), Fail> {
     Ok(())
 }
 
-/// Gives a proxy an inlet of another one, where memory is ample.
+/// Gives a proxy an inlet of another one. Returns false if memory is refused.
 fn add_surplus(proxy: &mut TestProxy, other: &mut TestProxy) -> bool {
     match other.inlets.pop() {
         Some(inlet) => proxy.inlets.push(inlet).is_ok(),

@@ -1,5 +1,6 @@
-//! What a gate is told beside the notes: by which request a home server went down, and why it came up; which packet has a realm
-//! that leads nowhere, and which request bears Proxy-States of this proxy's form.
+//! What a gate is notified of besides the notes: which request marked a home server down, and why it was marked up;
+//! which packet has a realm that leads to no lane; and which request has Proxy-States of the form of this proxy's
+//! marks.
 
 use super::playing::{CLIENT, Event, FORWARD, FRONT, LANE, Story, play};
 use super::test_gate::Telling;
@@ -9,7 +10,8 @@ use std::test::Fail;
 use test_octets::homes::{FORWARDED, PROBE, PROBE_ANSWER};
 use test_octets::nas::{OTHER_REQUEST, REQUEST};
 
-/// One sending without an answer takes the home server to be down, for five seconds; and one client more is a proxy of this form.
+/// The home server is marked down after one sending without an answer, for five seconds. A second client is a proxy
+/// whose marks have the form of this proxy's.
 const MORE: &str = r#"
 tries = 1
 down_wait = 5000
@@ -18,13 +20,13 @@ address = "10.0.0.2"
 secret = "home-secret"
 "#;
 
-/// That proxy.
+/// The endpoint of that proxy.
 const OTHER_PROXY: Endpoint = Endpoint {
     address: [10, 0, 0, 2],
     port: 1813,
 };
 
-/// The request that was sent finds no answer.
+/// The request that was sent gets no answer.
 const DOWN: &[Event<'static>] = &[
     Event::Beside(None),
     Event::Turn(LANE, &[], [0, 0, 0], None, &[]),

@@ -1,4 +1,4 @@
-//! What the workers make of wires of which one receive or send fails.
+//! Tests of how the workers handle wires on which one receive or send fails.
 
 use super::comparing::same;
 use super::playing::{ANSWERED, CLIENT, Event, FORWARD, FRONT, HOME, LANE, OUT, Story, play};
@@ -12,14 +12,14 @@ use std::test::Fail;
 use test_octets::homes::{FORWARDED, REPLY};
 use test_octets::nas::{REQUEST, RESPONSE};
 
-/// The most turns of a run from a request to its response.
+/// The most turns of each worker in a run from a request to its response.
 const TURNS: u32 = 12;
 
-/// The most receives and sends of a run.
+/// The most receives and sends of a worker's wire in a run.
 const CALLS: u32 = 9;
 
-/// Whether the request comes to its response: the client sends it in each third turn until then, and the home server
-/// replies to whatever reaches it, which is the request each time.
+/// Returns whether the request gets its response. Until then the client sends it in every third turn, and the home
+/// server replies to each datagram that reaches it, which is the request each time.
 fn is_answered(rt: &impl Wait, proxy: &mut TestProxy) -> bool {
     for turn in 0..TURNS {
         if turn % 3 == 0 {
@@ -38,8 +38,8 @@ fn is_answered(rt: &impl Wait, proxy: &mut TestProxy) -> bool {
     false
 }
 
-/// A run from a request to its response, in which the receive or send of a worker's wire fails before which so many
-/// pass. It says whether there was one.
+/// Makes a run from a request to its response, in which a receive or send of a worker's wire fails after `passing`
+/// others. Returns whether one failed.
 fn meets_fault<R: Wait + Abort>(
     rt: &R,
     proxy: &mut TestProxy,
@@ -56,7 +56,8 @@ fn meets_fault<R: Wait + Abort>(
     !proxy.wire(worker).is_to_fail()
 }
 
-/// In how many runs each receive and send of a worker's wire fails in turn, until a run meets no fault.
+/// Has each receive and send of a worker's wire fail in turn, one in each run, until a run has no fault. Returns the
+/// number of runs with a fault.
 fn faults_met<R: Wait + Abort>(rt: &R, alloc: Global, worker: Worker) -> Result<u32, Fail> {
     for passing in 0..CALLS {
         let mut proxy = TestProxy::new(alloc, "")?;
@@ -113,7 +114,7 @@ fn a_failed_send_is_sent_again(rt: HostRuntime) -> Result<(), Fail> {
     play(&rt, rt.alloc(), &SENT_AGAIN)
 }
 
-/// The same in one call of the worker.
+/// The failed send is sent again, in one call of the worker.
 const COUNTED_ONCE: Story<'static> = Story {
     more: "",
     scenes: &[&[

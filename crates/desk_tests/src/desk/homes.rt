@@ -1,5 +1,5 @@
-//! What `open` gives each lane: the secret, the number and the limits of its own home server; and which lane a gate is
-//! told.
+//! Tests of what `open` gives each lane, which is the secret, the number and the limits of its own home server, and of
+//! which lane a gate is notified of.
 
 use super::playing::{Event, LANE, SECOND_LANE, Story, play};
 use super::test_desk::TWO_HOMES;
@@ -10,13 +10,14 @@ use std::test::Fail;
 use test_octets::homes::{FORWARDED, OTHER_FORWARDED, OTHER_REPLY};
 use test_octets::nas::{OTHER_REQUEST, REQUEST};
 
-/// The lane of each home server takes a request.
+/// The lane of each home server accepts a request.
 const ACCEPTED_BY_BOTH: &[Event<'static>] = &[
     Event::Accept(&REQUEST, Ok(Taken::New(0))),
     Event::Accept(&OTHER_REQUEST, Ok(Taken::New(0))),
 ];
 
-/// Each lane sends its request, at 0, 1000 and 2000 milliseconds, which is longer than the first one's limits have it.
+/// Each lane has turns at 0, 1000 and 2000 milliseconds, and sends its request. By then the limits of the first
+/// lane have its home server marked down.
 const SENT_BY_BOTH: Story<'static> = Story {
     more: TWO_HOMES,
     scenes: &[

@@ -8,22 +8,22 @@ use rad_realms::Endpoint;
 use rad_tables::Moment;
 use std::alloc::Global;
 
-/// A wire of sockets that gives one datagram at most, and keeps what was sent last. One receive or send of it fails, where that is
-/// asked for; what was to be received then comes with the next receive.
+/// A wire of sockets that gives at most one datagram, and keeps what was sent last. A test may have one receive or
+/// send of it fail; a datagram that was to be received then arrives with the next receive.
 #[derive(Drop)]
 pub struct MemoryWire {
     alloc: Global,
-    /// To which socket what comes next comes, from where, and its octets.
+    /// The next datagram to arrive: its socket, its sender and its octets.
     coming: Option<(u16, Endpoint, Vec<u8>)>,
-    /// By which socket what was sent last left, where it went, and its octets.
+    /// The last datagram sent: its socket, its receiver and its octets.
     gone: Option<(u16, Endpoint, Vec<u8>)>,
-    /// How many receives and sends pass before the one that fails; none where that is over.
+    /// How many receives and sends pass before the one that fails, or `None` if none is to fail.
     passing: Option<u32>,
-    /// How many receives there were since the first moment.
+    /// How many receives there were since the first moment was set.
     receives: u32,
-    /// The moment of the first of them.
+    /// The moment of the first of these receives.
     first: u32,
-    /// How many milliseconds each is after the one before.
+    /// How many milliseconds each receive is after the one before it.
     pub tick: u32,
     traffic: Traffic,
 }
@@ -42,7 +42,7 @@ impl MemoryWire {
         }
     }
 
-    /// Has a datagram come next, to this socket; none where memory is refused.
+    /// Has a datagram arrive next, at this socket, or none if memory is refused.
     pub fn comes(&mut self, socket: u16, from: Endpoint, octets: &[u8]) {
         self.coming = match octets.to_vec(self.alloc) {
             Ok(octets) => Some((socket, from, octets)),
@@ -50,8 +50,8 @@ impl MemoryWire {
         };
     }
 
-    /// Whether these octets went there by this socket, as the last that was sent; with none, whether nothing was sent. That is
-    /// forgotten then.
+    /// Returns whether these octets were sent last, from this socket to this endpoint; with no octets, whether nothing
+    /// was sent. Forgets what was sent.
     pub fn sent(&mut self, socket: u16, to: Endpoint, octets: &[u8]) -> bool {
         match self.gone.take() {
             Some((by, peer, gone)) => by == socket && peer == to && gone.as_slice() == octets,
@@ -59,7 +59,7 @@ impl MemoryWire {
         }
     }
 
-    /// The octets that were sent last. They are forgotten then.
+    /// Returns the octets that were sent last, and forgets them.
     pub fn take_sent(&mut self) -> Option<Vec<u8>> {
         match self.gone.take() {
             Some((_, _, octets)) => Some(octets),
@@ -67,23 +67,23 @@ impl MemoryWire {
         }
     }
 
-    /// Has the next receive be at this moment, as the first.
+    /// Sets the moment of the next receive, from which the later ones are counted.
     pub fn start_at(&mut self, first: u32) {
         self.receives = 0;
         self.first = first;
     }
 
-    /// Has the receive or send fail before which so many pass.
+    /// Has a receive or send fail, after `passing` others.
     pub fn fail_after(&mut self, passing: u32) {
         self.passing = Some(passing);
     }
 
-    /// Whether the one that was to fail is still to come.
+    /// Returns whether the one that is to fail has not come yet.
     pub fn is_to_fail(&self) -> bool {
         self.passing.is_some()
     }
 
-    /// Whether this receive or send is the one that fails.
+    /// Returns whether this receive or send is the one that fails.
     fn fails(&mut self) -> bool
         ensures { self.new.traffic ≡ self.old.traffic }
     {
@@ -104,7 +104,7 @@ impl MemoryWire {
 impl Wire for MemoryWire {
     ghost log = { λ w. Some w.traffic.passed };
 
-    /// A tick after the receive before.
+    /// Returns the moment of the last receive, which is one tick after the receive before it.
     fn now(&mut self) -> Moment {
         let passed = self.receives.saturating_sub(1).saturating_mul(self.tick);
         let moment = at(self.first.saturating_add(passed));

@@ -1,4 +1,4 @@
-//! What a proxy is to do in a test, as data, and what is wanted of it.
+//! What a proxy is to do in a test, as data, with the expected results.
 
 use super::comparing::same;
 use super::test_desk::{CLIENT_PORT, slot};
@@ -35,7 +35,7 @@ pub const LANE: Worker = Worker::Lane(0);
 
 pub const SECOND_LANE: Worker = Worker::Lane(1);
 
-/// A lane that has nothing, and whose home server is up.
+/// The counts of a lane that has nothing, and whose home server is marked up.
 pub const IDLE: Counts = Counts {
     opening: 0,
     accepted: 0,
@@ -46,14 +46,14 @@ pub const IDLE: Counts = Counts {
     draining: false,
 };
 
-/// The request waits to be sent.
+/// The request is queued.
 pub const WAITING: Counts = Counts {
     accepted: 1,
     queued: 1,
     ..IDLE
 };
 
-/// It is with the home server.
+/// It is outstanding.
 pub const OUT: Counts = Counts {
     accepted: 1,
     outstanding: 1,
@@ -67,60 +67,61 @@ pub const ANSWERED: Counts = Counts {
     ..IDLE
 };
 
-/// What a proxy does, and what is wanted of it. Of a worker it says in this order how many datagrams come and are handed over, and
-/// how many receives and sends fail; what it tells last; and what it sends last, to its peer. With no octets, nothing comes or is
-/// sent.
+/// What a proxy does, and the expected results. An event of a worker says in this order: how many datagrams are
+/// received and handed over, and how many receives and sends fail; the last notification of its gate; and what it
+/// sends last, to its peer. With no octets, nothing is received or sent.
 #[derive(Clone, Copy)]
 pub enum Event<'a> {
-    /// A worker takes a turn, for which this comes.
+    /// A worker takes a turn, and this arrives for it.
     Turn(Worker, &'a [u8], [u64; 3], Option<Telling>, &'a [u8]),
-    /// A worker takes a turn, in which it receives this, which was to come before.
+    /// A worker takes a turn, in which it receives this, which was already on its way.
     Receives(Worker, &'a [u8], [u64; 3], Option<Telling>, &'a [u8]),
-    /// A worker may take the first number of turns, for which nothing comes, and takes the second number.
+    /// A worker is asked for the first number of turns, and takes the second number. Nothing arrives.
     Turns(Worker, u64, u64, [u64; 3], Option<Telling>, &'a [u8]),
-    /// What comes from now on comes to the first of these sockets, and what leaves leaves by the second one.
+    /// From now on datagrams arrive at the first of these sockets, and are sent from the second one.
     Sockets(u16, u16),
-    /// What comes from now on is from there, and not from the worker's peer.
+    /// From now on datagrams come from this endpoint, and not from the worker's peer.
     From(Endpoint),
-    /// The receive or send of a worker's wire is to fail before which so many pass.
+    /// A receive or send of a worker's wire is to fail, after this many others.
     Fails(Worker, u32),
-    /// The receives of the lane's worker are so many milliseconds apart from now on.
+    /// From now on the receives of the lane's worker are this many milliseconds apart.
     Tick(u32),
-    /// The next one is at this moment.
+    /// The next receive of the lane's worker is at this moment.
     Start(u32),
     /// The gate stops a worker before this call.
     Stops(Call),
-    /// So many times a lane was to cut off what is over.
+    /// A lane was to cut what is over this many times.
     Turned(u64),
-    /// This the gate was told last besides.
+    /// This is the last other notification of the gate.
     Beside(Option<Telling>),
-    /// There are so many lanes, and so many inlets.
+    /// There are this many lanes, and this many inlets.
     Lanes(u16, usize),
-    /// The lane of this number stands like this.
+    /// The lane of this number has these counts.
     Stands(u16, Counts),
-    /// This request is taken or refused at moment 0.
+    /// This request is accepted or refused at moment 0.
     Accept(&'a [u8], Result<Taken, Refusal>),
-    /// The lane of this number sends the request of this number, under this Identifier, at moment 0; and these octets.
+    /// The lane of this number sends the request of the second number, under this Identifier, with these octets, at
+    /// moment 0.
     Send(u16, u64, u8, &'a [u8]),
-    /// It has nothing to do at moment 0, for as long as nothing comes.
+    /// The lane has nothing to do at moment 0, until something arrives.
     Idle(u16),
-    /// It hears this reply at moment 0.
+    /// The lane hears this reply at moment 0.
     Hear(u16, &'a [u8], Result<Told, DeskFault>),
-    /// It cuts off so many requests at moment 30,000.
+    /// The lane cuts this many requests at moment 30,000.
     Cut(u16, Result<usize, TurnFault>),
-    /// It is drained, and has so many requests to do.
+    /// The lane is drained, after it accepted this many requests.
     Drain(u16, u64),
-    /// The next response is taken from its ring; with no octets, there is none.
+    /// The next response is taken from the lane's ring. With no octets, there is none.
     Take(u16, &'a [u8]),
 }
 
-/// What a test is: the proxy of the configuration that goes on with these lines meets the events of these scenes in order.
+/// A test: the proxy with the tests' configuration and the lines `more` makes the events of these scenes in order.
 pub struct Story<'a> {
     pub more: &'a str,
     pub scenes: &'a [&'a [Event<'a>]],
 }
 
-/// The first request is taken, and sent to the home server.
+/// The first request is accepted, and sent to the home server.
 pub const FORWARD: &[Event<'static>] = &[
     Event::Turn(
         FRONT,
@@ -132,22 +133,22 @@ pub const FORWARD: &[Event<'static>] = &[
     Event::Turn(LANE, &[], [0, 1, 0], None, &FORWARDED),
 ];
 
-/// Turns of a worker.
+/// Turns of a worker, with the expected results.
 #[derive(Drop)]
 struct Turns<'a> {
     worker: Worker,
-    /// How many it may take, and how many it takes.
+    /// How many turns it is asked for, and how many it takes.
     asked: u64,
     taken: u64,
     /// What it receives.
     receives: &'a [u8],
-    /// How many datagrams come and are handed over, and how many receives and sends fail.
+    /// How many datagrams are received and handed over, and how many receives and sends fail.
     did: [u64; 3],
     tells: Option<Telling>,
     sends: &'a [u8],
 }
 
-/// With whom a worker speaks.
+/// Returns the endpoint with which a worker communicates.
 fn peer_of(worker: Worker) -> Endpoint {
     match worker {
         Worker::Front => CLIENT,
@@ -157,14 +158,14 @@ fn peer_of(worker: Worker) -> Endpoint {
 }
 
 impl TestProxy {
-    /// Meets these events in order, and compares what is to be compared of each.
+    /// Makes these events in order, and compares the result of each.
     pub fn play<R: Wait + Abort>(&mut self, rt: &R, events: &[Event<'_>]) {
         for (place, event) in events.iter().enumerate() {
             self.meet(rt, place, event);
         }
     }
 
-    /// Meets the event of this place.
+    /// Makes the event at this place, and compares its result.
     fn meet<R: Wait + Abort>(&mut self, rt: &R, place: usize, event: &Event<'_>) {
         match *event {
             Event::Turn(worker, receives, did, tells, sends) => {
@@ -267,7 +268,7 @@ impl TestProxy {
         }
     }
 
-    /// Whether this is the next response of a lane; with no octets, whether there is none.
+    /// Takes the next response of a lane, and returns whether it is this one; with no octets, whether there is none.
     fn takes(&mut self, lane: u16, response: &[u8]) -> bool {
         match self.take(lane) {
             Some(outgoing) => outgoing.reply.response() == response,
@@ -275,7 +276,7 @@ impl TestProxy {
         }
     }
 
-    /// Has this come to a worker, where it is not empty.
+    /// Has these octets arrive for a worker, unless there are none.
     fn come(&mut self, worker: Worker, octets: &[u8]) {
         if octets.is_empty() {
             return;
@@ -285,7 +286,8 @@ impl TestProxy {
         self.wire(worker).comes(to, from, octets);
     }
 
-    /// Has a worker take turns, and compares what it does, tells and sends, and of which datagrams it tells.
+    /// Has a worker take turns, and compares its tally, the last notification, what it sends, and the datagrams that
+    /// the gate was notified of.
     fn work_at<R: Wait + Abort>(&mut self, rt: &R, place: usize, turns: &Turns<'_>) {
         let did = self.work(rt, turns.worker, turns.asked);
         same(rt, (place, did), (place, tally(turns.taken, turns.did)));
@@ -294,7 +296,8 @@ impl TestProxy {
         same(rt, (place, datagrams), (place, (true, true)));
     }
 
-    /// Whether the gate was told of what was received last, of which the first 4096 octets are read.
+    /// Returns whether the gate was notified of the datagram that was received last, of which the first 4096 octets
+    /// are read.
     fn has_received(&self, turns: &Turns<'_>) -> bool {
         let octets = match turns.did[0] {
             0 => &[],
@@ -304,7 +307,7 @@ impl TestProxy {
         self.gate.has_received(turns.worker, from, octets)
     }
 
-    /// Whether what is to be sent last was sent, and the gate was told of it.
+    /// Returns whether the expected octets were sent last, and the gate was notified of them.
     fn has_sent(&mut self, turns: &Turns<'_>) -> bool {
         let (_, by) = self.sockets;
         let peer = peer_of(turns.worker);
@@ -313,7 +316,7 @@ impl TestProxy {
     }
 }
 
-/// Has a proxy meet a story.
+/// Has a proxy make the events of a story.
 pub fn play<R: Wait + Abort>(rt: &R, alloc: Global, story: &Story<'_>) -> Result<(), Fail> {
     let mut proxy = TestProxy::new(alloc, story.more)?;
     for scene in story.scenes {
@@ -323,7 +326,7 @@ pub fn play<R: Wait + Abort>(rt: &R, alloc: Global, story: &Story<'_>) -> Result
     Ok(())
 }
 
-/// Has a new proxy meet each of these stories.
+/// Has a new proxy make the events of each of these stories.
 pub fn play_each<R: Wait + Abort>(
     rt: &R,
     alloc: Global,

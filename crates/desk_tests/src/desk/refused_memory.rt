@@ -1,4 +1,5 @@
-//! Calls that are made again where memory was refused: nothing had changed, and they answer as ever.
+//! Tests of calls that are made again after memory was refused: nothing has changed, and they return what they would
+//! have returned.
 
 use super::closing::known;
 use super::comparing::{holds, same};
@@ -14,7 +15,7 @@ use std::test::Fail;
 use test_octets::homes::REPLY;
 use test_octets::nas::{REQUEST, RESPONSE};
 
-/// The answer to the request, which is given once more where memory was refused.
+/// Has the request accepted, again if memory was refused.
 fn accept<R: Wait + Abort>(rt: &R, proxy: &TestProxy) -> Option<Result<Taken, Refusal>> {
     let taken = proxy.accept(rt, &REQUEST);
     if taken != Some(Err(Refusal::OutOfMemory)) {
@@ -24,7 +25,7 @@ fn accept<R: Wait + Abort>(rt: &R, proxy: &TestProxy) -> Option<Result<Taken, Re
     proxy.accept(rt, &REQUEST)
 }
 
-/// The same of the reply.
+/// Has the reply heard, again if memory was refused.
 fn hear<R: Wait + Abort>(rt: &R, proxy: &TestProxy) -> Option<Result<Told, DeskFault>> {
     let told = proxy.hear(rt, 0, &REPLY);
     if told != Some(Err(DeskFault::Lane(HearFault::OutOfMemory))) {
@@ -34,7 +35,7 @@ fn hear<R: Wait + Abort>(rt: &R, proxy: &TestProxy) -> Option<Result<Told, DeskF
     proxy.hear(rt, 0, &REPLY)
 }
 
-/// The same of a turn.
+/// Turns the book, again if memory was refused.
 fn turn<R: Wait + Abort>(rt: &R, proxy: &TestProxy) -> Option<Result<usize, TurnFault>> {
     let turned = proxy.turn(rt, 0);
     if turned != Some(Err(TurnFault::OutOfMemory)) {
@@ -44,7 +45,7 @@ fn turn<R: Wait + Abort>(rt: &R, proxy: &TestProxy) -> Option<Result<usize, Turn
     proxy.turn(rt, 0)
 }
 
-/// The same of the end. It says whether the request is served there.
+/// Closes the proxy, again if memory was refused. Returns whether the request is served in the report.
 fn closes_served(rt: &impl Abort, alloc: Global, proxy: TestProxy) -> bool {
     match proxy.close() {
         Ok(report) => is_served(&report),
@@ -52,7 +53,7 @@ fn closes_served(rt: &impl Abort, alloc: Global, proxy: TestProxy) -> bool {
     }
 }
 
-/// The same of the end where memory was refused before.
+/// Closes the proxy for which memory was refused. Returns whether the request is served in the report.
 fn closes_again(rt: &impl Abort, alloc: Global, proxy: Proxy, inlets: Series<Inlet>) -> bool {
     same(rt, (proxy.lanes(), inlets.as_slice().len()), (1, 1));
     match close(alloc, proxy, inlets.into_vec()) {
@@ -68,14 +69,14 @@ fn send<R: Wait + Abort>(rt: &R, proxy: &mut TestProxy) {
     same(rt, proxy.step(rt, 0), Some(Action::Sent(0, slot(0))));
 }
 
-/// Has it answered, and cut off.
+/// Has the request answered, and cut.
 fn answer<R: Wait + Abort>(rt: &R, proxy: &TestProxy) {
     same(rt, hear(rt, proxy), Some(Ok(Told::Answer(0))));
     same(rt, proxy.counts(rt, 0), Some(ANSWERED));
     same(rt, turn(rt, proxy), Some(Ok(1)));
 }
 
-/// A proxy that served the request.
+/// Returns a proxy that served the request.
 fn served<R: Wait + Abort>(rt: &R, alloc: Global) -> Result<TestProxy, Fail> {
     let mut proxy = TestProxy::new(alloc, "")?;
     send(rt, &mut proxy);
@@ -83,7 +84,7 @@ fn served<R: Wait + Abort>(rt: &R, alloc: Global) -> Result<TestProxy, Fail> {
     Ok(proxy)
 }
 
-/// Whether a lane's end knows the one response, which nobody took.
+/// Returns whether a lane's end knows the one response, which nobody took.
 fn has_the_response(end: &LaneEnd) -> bool {
     match known(end) {
         Some([outgoing]) => outgoing.reply.response() == RESPONSE.as_slice(),
@@ -91,7 +92,7 @@ fn has_the_response(end: &LaneEnd) -> bool {
     }
 }
 
-/// Whether the only lane answered the request and cut it off.
+/// Returns whether the only lane answered the request and cut it.
 fn is_served(report: &Report) -> bool {
     match report.ends.as_slice() {
         [end] => (end.counts.opening, end.counts.answered) == (1, 1) && has_the_response(end),

@@ -1,4 +1,4 @@
-//! What a desk does where its ring is full.
+//! Tests of what a desk does if its ring is full.
 
 use super::playing::IDLE;
 use super::test_desk::{DeskEvent, play_desk};
@@ -10,8 +10,8 @@ use test_octets::homes::{
 };
 use test_octets::nas::{REQUEST, RESPONSE, SECOND_REQUEST, SECOND_RESPONSE};
 
-/// Both requests are accepted and sent. Then both replies come, and the ring has a place for one response alone. Then a repeat is
-/// answered again, and the ring has one response more.
+/// Both requests are accepted and sent. Then both replies arrive, and the ring has a place for one response only. Once
+/// a place is free, the second reply is heard, a repeat is answered again, and the ring has one more response.
 const THROUGH_THE_RING: &[DeskEvent<'static>] = &[
     DeskEvent::Accept(0, &REQUEST, Ok(Taken::New(0))),
     DeskEvent::Accept(0, &SECOND_REQUEST, Ok(Taken::New(1))),
@@ -43,8 +43,8 @@ fn responses_go_through_the_ring(rt: HostRuntime) -> Result<(), Fail> {
     play_desk(&rt, rt.alloc(), THROUGH_THE_RING)
 }
 
-/// Both requests are accepted and sent. The first reply comes, and then no other, so that the home server is probed. Its answer
-/// comes while the ring is full, and once more.
+/// Both requests are accepted and sent. The first reply arrives and no other does, so the home server is probed. Its
+/// answer arrives while the ring is full, and once more afterwards.
 const PROBED: &[DeskEvent<'static>] = &[
     DeskEvent::Accept(0, &REQUEST, Ok(Taken::New(0))),
     DeskEvent::Accept(0, &SECOND_REQUEST, Ok(Taken::New(1))),

@@ -1,4 +1,4 @@
-//! By which sockets the workers send, and of which they hear, where there are two.
+//! Tests of which sockets the workers send from and receive at, if there are two.
 
 use super::playing::{Event, FORWARD, FRONT, HOME, LANE, Story, play};
 use super::test_gate::Telling;
@@ -8,13 +8,15 @@ use std::test::Fail;
 use test_octets::homes::{FORWARDED, PROBE, REPLY, SECOND_PROBE, SECOND_PROBE_ANSWER};
 use test_octets::nas::{REQUEST, RESPONSE, STATUS, STATUS_ANSWER};
 
-/// Two source ports. One sending without an answer takes the home server to be down, for an hour, and each second it is probed.
+/// Two source ports. The home server is marked down after one sending without an answer, for an hour, and is probed
+/// each second.
 const TWO_PORTS: &str = "ports = 2\ntries = 1\nprobe_every = 1000\ndown_wait = 3600000\n";
 
 const UNKNOWN: Telling = Telling::Of(HOME, Note::Unheard(DeskFault::Lane(HearFault::Unknown)));
 
-/// A request is with its home server, which is down. It is probed by each pair of the first source port that is free, and then
-/// by those of the second up to Identifier 2. Then the clock stands, and the answer comes to each of the two.
+/// A request is outstanding while its home server is marked down. The probes use each free pair of the first source
+/// port, and then those of the second one up to Identifier 2. Then the clock stands still, and the answer arrives at
+/// each of the two ports.
 const PROBED_BY_THE_SECOND_PORT: Story<'static> = Story {
     more: TWO_PORTS,
     scenes: &[
@@ -50,7 +52,7 @@ fn a_lane_sends_and_hears_by_the_source_port(rt: HostRuntime) -> Result<(), Fail
     play(&rt, rt.alloc(), &PROBED_BY_THE_SECOND_PORT)
 }
 
-/// What is asked by the second socket is answered by it, and the first response leaves by the first one.
+/// What is asked at the second socket is answered from it, and the first response is sent from the first one.
 const ASKED_BY_THE_SECOND_SOCKET: Story<'static> = Story {
     more: "",
     scenes: &[&[

@@ -1,4 +1,4 @@
-//! What the workers make of datagrams that are spoiled, come twice or come late.
+//! Tests of how the workers handle datagrams that are spoiled, arrive twice or arrive late.
 
 use super::comparing::holds;
 use super::playing::{ANSWERED, CLIENT, Event, FORWARD, FRONT, HOME, IDLE, LANE, OUT};
@@ -15,7 +15,7 @@ use test_octets::homes::REPLY;
 use test_octets::nas::{REQUEST, SECOND_REQUEST};
 use test_octets::{reply_to, request};
 
-/// A datagram comes from the client, which the front drops for this reason. Then the lane has nothing.
+/// Checks that a datagram from the client is dropped by the front for this reason, and that the lane then has nothing.
 fn drop_for<R: Wait + Abort>(rt: &R, proxy: &mut TestProxy, octets: &[u8], reason: Dropped) {
     let dropped = Telling::Of(CLIENT, Note::Dropped(reason));
     proxy.front.comes(0, CLIENT, octets);
@@ -26,7 +26,7 @@ fn drop_for<R: Wait + Abort>(rt: &R, proxy: &mut TestProxy, octets: &[u8], reaso
     proxy.play(rt, &events);
 }
 
-/// Why the first octets of a request are dropped.
+/// Returns why the first `count` octets of a request are dropped.
 fn fault_of_length(count: usize) -> ReadFault {
     if count < 20 {
         ReadFault::Short
@@ -35,7 +35,7 @@ fn fault_of_length(count: usize) -> ReadFault {
     }
 }
 
-/// Drops each request that lacks octets at its end.
+/// Checks that a request is dropped if octets are missing at its end, for each number of them.
 fn drop_cut<R: Wait + Abort>(rt: &R, proxy: &mut TestProxy) {
     for count in 0..REQUEST.len() {
         let reason = Dropped::Unread(fault_of_length(count));
@@ -61,7 +61,7 @@ fn the_longest_datagram_is_dropped(rt: HostRuntime) -> Result<(), Fail> {
     Ok(())
 }
 
-/// Why the second request is dropped with the last bit of this octet turned.
+/// Returns why the second request is dropped if the last bit of this octet is flipped.
 fn fault_of_bit(place: usize) -> Dropped {
     match place {
         0 => Dropped::WrongCode,
@@ -73,7 +73,7 @@ fn fault_of_bit(place: usize) -> Dropped {
     }
 }
 
-/// Drops the second request with the last bit of each octet turned.
+/// Checks that the second request is dropped if the last bit of an octet is flipped, for each octet.
 fn drop_turned<R: Wait + Abort>(rt: &R, proxy: &mut TestProxy) {
     for place in 0..SECOND_REQUEST.len() {
         let mut turned = SECOND_REQUEST;
@@ -90,7 +90,7 @@ fn a_turned_bit_is_dropped(rt: HostRuntime) -> Result<(), Fail> {
     Ok(())
 }
 
-/// What the lane hears is dropped for these reasons.
+/// The reasons for which datagrams of the home server are dropped.
 const TRUNCATED: HearFault = HearFault::Unread(ReadFault::Truncated);
 
 const CUT: Telling = Telling::Of(HOME, Note::Unheard(DeskFault::Lane(TRUNCATED)));
@@ -102,7 +102,7 @@ const OF_ANOTHER: Telling = Telling::Of(
     Note::Unheard(DeskFault::Lane(HearFault::BadAuthenticator)),
 );
 
-/// The lane hears this, which tells that, and then it stands like this.
+/// Checks that the gate is notified of `tells` when the lane hears this, and that the lane then has these counts.
 fn hear<R: Wait + Abort>(
     rt: &R,
     proxy: &mut TestProxy,
@@ -117,7 +117,7 @@ fn hear<R: Wait + Abort>(
     proxy.play(rt, &events);
 }
 
-/// The lane hears the reply without its last octet, then all of it, and then once more.
+/// Has the lane hear the reply without its last octet, then all of it, and then all of it once more.
 fn hear_cut<R: Wait + Abort>(rt: &R, proxy: &mut TestProxy) {
     proxy.play(rt, FORWARD);
     hear(rt, proxy, &REPLY[..41], CUT, OUT);
@@ -133,7 +133,7 @@ fn spoiled_replies_leave_the_sending(rt: HostRuntime) -> Result<(), Fail> {
     Ok(())
 }
 
-/// Has the request of this count sent to the home server, and gives the reply to it.
+/// Has the request made from `count` sent to the home server. Returns the reply to it.
 fn send(rt: &impl Wait, proxy: &mut TestProxy, count: u16) -> Option<Datagram> {
     proxy.front.comes(0, CLIENT, request(count)?.bytes());
     let _ = proxy.work(rt, FRONT, 1);
@@ -145,7 +145,8 @@ fn send(rt: &impl Wait, proxy: &mut TestProxy, count: u16) -> Option<Datagram> {
     reply_to(sent.as_slice(), 0)
 }
 
-/// Has the requests of these counts answered, each before the next, and gives the reply to the first.
+/// Has the requests made from the counts below `end` answered, each before the next is sent. Returns the reply to the
+/// first.
 fn answer_each(rt: &impl Wait, proxy: &mut TestProxy, end: u16) -> Option<Datagram> {
     let first = send(rt, proxy, 0)?;
     proxy.lane.comes(0, HOME, first.bytes());
@@ -159,7 +160,7 @@ fn answer_each(rt: &impl Wait, proxy: &mut TestProxy, end: u16) -> Option<Datagr
     Some(first)
 }
 
-/// Number 256 is with the home server, and then it is answered.
+/// The counts while number 256 is outstanding, and then once it is answered.
 const LAST_OUT: Counts = Counts {
     accepted: 257,
     answered: 256,
@@ -173,8 +174,8 @@ const LAST_ANSWERED: Counts = Counts {
     ..IDLE
 };
 
-/// The lane hears the reply to number 0 while number 256 is outstanding, and then the reply to that. It says whether all replies
-/// were made.
+/// Has the lane hear the reply to number 0 while number 256 is outstanding, and then the reply to number 256. Returns
+/// whether all replies were made.
 fn hear_late<R: Wait + Abort>(rt: &R, proxy: &mut TestProxy) -> bool {
     let (Some(late), Some(reply)) = (answer_each(rt, proxy, 256), send(rt, proxy, 256)) else {
         return false;

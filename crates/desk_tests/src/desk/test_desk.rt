@@ -1,4 +1,4 @@
-//! A desk with its inlet, and the calls that the tests make of it.
+//! A desk with its inlet, and the calls that the tests make.
 
 ghost use Rattle.std.specs.Prelude.{IfOk};
 ghost use Rattle.rad_desk.specs.Inlet.{AreOfOneRing};
@@ -14,7 +14,7 @@ use std::alloc::Global;
 use std::process::Abort;
 use std::test::Fail;
 
-/// A client, a realm and its home server, with the limits that stand where no other is said.
+/// A client, a realm and its home server, with the limits that hold if a test sets no other.
 const TEXT: &str = r#"
 listen = "127.0.0.1:1813"
 [[client]]
@@ -29,11 +29,11 @@ address = "127.0.0.1:2813"
 secret = "home-secret"
 "#;
 
-/// One sending without an answer takes the home server to be down, and the ring has one place.
+/// The home server is marked down after one sending without an answer, and the ring has one place.
 const ONE_TRY_AND_PLACE: &str = "tries = 1\nring = 1\n";
 
-/// One sending without an answer takes the home server to be down. There is a second home server, of which that does not hold,
-/// and its realm.
+/// The home server is marked down after one sending without an answer. There is a second home server, for which that
+/// does not hold, with its realm.
 pub const TWO_HOMES: &str = r#"
 tries = 1
 [[home]]
@@ -51,38 +51,38 @@ pub const CLIENT_PORT: u16 = 40_000;
 /// The Authenticator of each probe.
 pub const RANDOM: [u8; 16] = [0xa5; 16];
 
-/// What a desk does in a test, at so many milliseconds, and what is wanted of it.
+/// What a desk does in a test, at a moment in milliseconds, and the expected result.
 #[derive(Clone, Copy)]
 pub enum DeskEvent<'a> {
-    /// This request is taken or refused.
+    /// It accepts or refuses this request.
     Accept(u32, &'a [u8], Result<Taken, Refusal>),
-    /// The lane sends the request of this number, under this Identifier; and these octets.
+    /// It sends the request of this number, under this Identifier, with these octets.
     Send(u32, u64, u8, &'a [u8]),
-    /// It sends a probe, under this Identifier; and these octets.
+    /// It sends a probe, under this Identifier, with these octets.
     Probe(u32, u8, &'a [u8]),
     /// It marks the home server down.
     GoDown(u32),
     /// It hears this reply.
     Hear(u32, &'a [u8], Result<Told, DeskFault>),
-    /// It cuts off so many requests.
+    /// It cuts this many requests.
     Turn(u32, Result<usize, TurnFault>),
-    /// It is drained, and has so many requests to do.
+    /// It is drained, after it accepted this many requests.
     Drain(u64),
     IsDraining(bool),
     IsDone(bool),
-    /// It stands like this.
+    /// It has these counts.
     Stands(Counts),
-    /// So many responses wait in the ring.
+    /// This many responses wait in the ring.
     Waiting(usize),
-    /// The response of this serial is the next one.
+    /// The next response has this serial and these octets.
     Take(u64, &'a [u8]),
     /// There is no response.
     TakeNothing,
-    /// The last call put these octets into the datagram.
+    /// The last call wrote these octets into the datagram.
     Octets(&'a [u8]),
 }
 
-/// The desk of that home server with its inlet, and the datagram that is handed to its calls.
+/// The desk of the first home server with its inlet, and the datagram that is passed to its calls.
 #[derive(Drop)]
 pub struct TestDesk {
     alloc: Global,
@@ -106,7 +106,7 @@ impl TestDesk {
         })
     }
 
-    /// The desk's answer to a datagram of its client; `WrongLane` where that is no request of the lane.
+    /// Passes a datagram of its client to the desk. Returns `WrongLane` if it is not a request of the lane.
     fn accept(&mut self, moment: u32, request: &[u8]) -> Result<Taken, Refusal> {
         match check_in(&self.config, [10, 0, 0, 1], CLIENT_PORT, request) {
             Ok(Incoming::Request(request)) if self.desk.takes(&request) => {
@@ -145,7 +145,8 @@ impl TestDesk {
         self.desk.counts()
     }
 
-    /// Whether the next response, of the inlet's only lane, is this one for the client.
+    /// Takes the next response from the inlet, and returns whether it has this serial and these octets, and is for the
+    /// client.
     fn takes(&mut self, serial: u64, response: &[u8]) -> bool {
         match self.inlet.take() {
             Some(outgoing) => {
@@ -156,27 +157,27 @@ impl TestDesk {
         }
     }
 
-    /// Whether there is no response to take.
+    /// Returns whether there is no response to take.
     fn has_no_response(&mut self) -> bool {
         self.inlet.take().is_none()
     }
 
-    /// The number of the inlet's lane.
+    /// Returns the number of the inlet's lane.
     fn lane(&self) -> u16 {
         self.inlet.lane()
     }
 
-    /// How many responses wait in the ring.
+    /// Returns how many responses wait in the ring.
     fn waiting(&mut self) -> usize {
         self.desk.waiting(&mut self.inlet)
     }
 
-    /// What the last call put into the datagram.
+    /// Returns what the last call wrote into the datagram.
     fn octets(&self) -> &[u8] {
         self.datagram.bytes()
     }
 
-    /// Meets the event of this place.
+    /// Makes the event at this place, and compares its result.
     fn meet(&mut self, rt: &impl Abort, place: usize, event: &DeskEvent<'_>) {
         match *event {
             DeskEvent::Accept(moment, request, taken) => {
@@ -216,11 +217,11 @@ impl TestDesk {
         }
     }
 
-    /// Lets it go, so that no test has to show that it may.
+    /// Drops the desk here, so that no test has to prove that it may.
     fn end(self) {}
 }
 
-/// Has a desk meet these events in order, and compares what is to be compared of each.
+/// Has a desk make these events in order, and compares the result of each.
 pub fn play_desk(rt: &impl Abort, alloc: Global, events: &[DeskEvent<'_>]) -> Result<(), Fail> {
     let mut desk = TestDesk::new(alloc)?;
     same(rt, desk.lane(), 0);
@@ -231,14 +232,14 @@ pub fn play_desk(rt: &impl Abort, alloc: Global, events: &[DeskEvent<'_>]) -> Re
     Ok(())
 }
 
-/// The configuration that goes on with these lines.
+/// Returns the tests' configuration with the lines `more`.
 pub fn config(alloc: Global, more: &str) -> Result<Config, Fail> {
     let mut text = String::from_str(alloc, TEXT)?;
     text.push_str(more)?;
     Ok(read_config(alloc, text.as_str())?)
 }
 
-/// The desk and the inlet of the home server.
+/// Returns the desk and the inlet of the home server.
 fn pair(alloc: Global, config: &Config) -> Result<(Desk, Inlet), Fail>
     ensures { IfOk result (λ pair. AreOfOneRing pair.0 pair.1) }
 {
@@ -248,7 +249,7 @@ fn pair(alloc: Global, config: &Config) -> Result<(Desk, Inlet), Fail>
     Ok(Desk::pair(alloc, Setup::of(alloc, config, 0)?)?)
 }
 
-/// How many requests were cut off.
+/// Returns how many requests were cut.
 pub fn count_of(turned: Result<Volume, TurnFault>) -> Result<usize, TurnFault> {
     match turned {
         Ok(volume) => Ok(volume.stamps.as_slice().len()),
@@ -256,7 +257,7 @@ pub fn count_of(turned: Result<Volume, TurnFault>) -> Result<usize, TurnFault> {
     }
 }
 
-/// The pair of the one source port and this Identifier.
+/// Returns the pair of the only source port and this Identifier.
 pub fn slot(identifier: u8) -> Slot {
     Slot {
         port: 0,

@@ -1,37 +1,37 @@
-//! A gate for workers that take their turns in a test, and what it is told.
+//! A gate for workers that take their turns in a test, and what it is notified of.
 
 use rad_desk::{Call, Gate, Go, Note, Spent, UpReason, Worker};
 use rad_realms::Endpoint;
 use std::alloc::Global;
 use std::cell::Cell;
 
-/// What a gate is told.
+/// A notification of a gate.
 #[derive(Clone, Copy, Debug, PartialEq, Eq)]
 pub enum Telling {
-    /// A note that is of no datagram.
+    /// A note that is not about a datagram.
     Note(Note),
-    /// A note of the datagram that came last from there, or that was sent there last.
+    /// A note about the last datagram that was received from this endpoint, or sent to it.
     Of(Endpoint, Note),
-    /// A lane took a new request, as this number.
+    /// A lane accepted a new request, with this number.
     Accepted(u16, u64),
-    /// The response of this serial went into a lane's ring.
+    /// The response of this serial was put into a lane's ring.
     Answered(u16, u64),
-    /// The home server of this lane went down, by the request of this number and client, which is so many milliseconds old. The
-    /// last is whether it is of the session `S1`.
+    /// The home server of this lane was marked down by the request with this number, from this client, which was
+    /// accepted this many milliseconds ago. The last field is whether that request is of the session `S1`.
     Down(u16, u64, Endpoint, u64, bool),
-    /// That of this lane came up.
+    /// The home server of this lane was marked up.
     Up(u16, UpReason),
-    /// The realm of a packet of this Identifier leads nowhere.
+    /// The realm of a packet with this Identifier leads to no lane.
     NoRealm(u8),
-    /// A request for this lane, from there, has so many Proxy-States of this proxy's form.
+    /// A request for this lane, from this endpoint, has this many Proxy-States of the form of this proxy's marks.
     Marked(u16, Endpoint, u64),
 }
 
-/// The datagram that a gate was told of last.
+/// The last datagram that a gate was notified of.
 #[derive(Drop)]
 struct LastDatagram {
     alloc: Global,
-    /// Whose datagram it is, and its other end.
+    /// The worker whose datagram it is, and its other end.
     ends: Cell<Option<(Worker, Endpoint)>>,
     octets: Cell<Option<Vec<u8>>>,
 }
@@ -45,13 +45,13 @@ impl LastDatagram {
         }
     }
 
-    /// Keeps a datagram; no octets where memory is refused.
+    /// Keeps a datagram, without its octets if memory is refused.
     fn keep(&self, worker: Worker, peer: Endpoint, octets: &[u8]) {
         self.ends.set(Some((worker, peer)));
         self.octets.set(octets.to_vec(self.alloc).ok());
     }
 
-    /// A note of it; one that is of no datagram, where it is not this worker's.
+    /// Returns a note about the datagram if it is this worker's, and otherwise a note that is not about a datagram.
     fn note(&self, worker: Worker, note: Note) -> Telling {
         match self.ends.get() {
             Some((owner, peer)) if owner == worker => Telling::Of(peer, note),
@@ -59,7 +59,7 @@ impl LastDatagram {
         }
     }
 
-    /// Whether it is this one; with no octets, whether there is none. It is forgotten then.
+    /// Returns whether this is the datagram; with no octets, whether there is none. Forgets the datagram.
     fn is(&self, worker: Worker, peer: Endpoint, octets: &[u8]) -> bool {
         let ends = self.ends.replace(None);
         match self.octets.replace(None) {
@@ -69,12 +69,12 @@ impl LastDatagram {
     }
 }
 
-/// A gate that keeps what it was told last and counts the cuts, and stops a worker before one call.
+/// A gate that keeps its last notifications, counts the cuts, and stops a worker before one call.
 #[derive(Drop)]
 pub struct TestGate {
-    /// What it was told last of a note, a new request or an answer.
+    /// The last note, new request or answer that it was notified of.
     told: Cell<Option<Telling>>,
-    /// What it was told last besides.
+    /// The last other notification.
     beside: Cell<Option<Telling>>,
     received: LastDatagram,
     sent: LastDatagram,
@@ -94,33 +94,34 @@ impl TestGate {
         }
     }
 
-    /// What it was told last of a note, a new request or an answer. That is forgotten then.
+    /// Returns the last note, new request or answer that it was notified of, and forgets it.
     pub fn told(&self) -> Option<Telling> {
         self.told.replace(None)
     }
 
-    /// What it was told last besides. That is forgotten then.
+    /// Returns the last other notification, and forgets it.
     pub fn beside(&self) -> Option<Telling> {
         self.beside.replace(None)
     }
 
-    /// Whether this is the datagram that a worker received last; with no octets, whether none came. It is forgotten then.
+    /// Returns whether this is the datagram that a worker received last; with no octets, whether none was received.
+    /// Forgets the datagram.
     pub fn has_received(&self, worker: Worker, from: Endpoint, octets: &[u8]) -> bool {
         self.received.is(worker, from, octets)
     }
 
-    /// The same of the datagram that a worker was about to send last.
+    /// Does the same for the datagram that a worker was last about to send.
     pub fn has_sent(&self, worker: Worker, to: Endpoint, octets: &[u8]) -> bool {
         self.sent.is(worker, to, octets)
     }
 
-    /// How many times a lane was to cut off what is over.
+    /// Returns how many times a lane was to cut what is over.
     pub fn turns(&self) -> u64 {
         self.turns.get()
     }
 }
 
-/// Whether a request by which a home server went down is of the session `S1`.
+/// Returns whether the request that marked a home server down is of the session `S1`.
 fn is_of_first_session(spent: &Spent) -> bool {
     match &spent.session {
         Some(session) => session.octets() == "S1".as_bytes(),

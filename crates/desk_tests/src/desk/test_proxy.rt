@@ -1,4 +1,5 @@
-//! The lanes behind their locks with their inlets, their workers over wires in memory, and the calls that the tests make of them.
+//! The lanes behind their locks with their inlets, their workers over wires in memory, and the calls that the tests
+//! make.
 
 use super::memory::MemoryWire;
 use super::test_desk::{CLIENT_PORT, RANDOM, at, config, count_of};
@@ -14,8 +15,9 @@ use std::alloc::Global;
 use std::sync::Wait;
 use std::test::Fail;
 
-/// The proxy of a configuration with its inlets, the datagram that is handed to its calls, and the wires and the gate of its
-/// workers: the workers of all lanes have one wire. A call by the number of a lane that is not there answers nothing.
+/// The proxy of a configuration with its inlets, the datagram that is passed to its calls, and the gate and the wires
+/// of its workers. The workers of all lanes share one wire. A call with the number of a lane that does not exist
+/// returns `None`, or a tally of no turns.
 #[derive(Drop)]
 pub struct TestProxy {
     pub alloc: Global,
@@ -26,14 +28,14 @@ pub struct TestProxy {
     pub front: MemoryWire,
     pub lane: MemoryWire,
     pub gate: TestGate,
-    /// To which socket what comes comes, and by which one what leaves is to leave.
+    /// The socket at which a datagram arrives, and the socket from which one is to be sent.
     pub sockets: (u16, u16),
-    /// From where what comes comes. Where that is not said, it is the peer of its worker.
+    /// The endpoint from which datagrams come, or `None` for the peer of the worker.
     pub from: Option<Endpoint>,
 }
 
 impl TestProxy {
-    /// Over the configuration that goes on with these lines.
+    /// Opens a proxy with the tests' configuration and the lines `more`.
     pub fn new(alloc: Global, more: &str) -> Result<TestProxy, Fail> {
         let config = config(alloc, more)?;
         let (proxy, inlets) = open(alloc, &config)?;
@@ -51,7 +53,7 @@ impl TestProxy {
         })
     }
 
-    /// Has a worker take so many turns; none where there is no such lane.
+    /// Has a worker take `turns` turns, or none if there is no such lane.
     pub fn work(&mut self, rt: &impl Wait, worker: Worker, turns: u64) -> Tally {
         match worker {
             Worker::Front => front_worker(
@@ -84,7 +86,7 @@ impl TestProxy {
         }
     }
 
-    /// The wire of a worker.
+    /// Returns the wire of a worker.
     pub fn wire(&mut self, worker: Worker) -> &mut MemoryWire {
         match worker {
             Worker::Front => &mut self.front,
@@ -92,27 +94,27 @@ impl TestProxy {
         }
     }
 
-    /// The answer to a request at moment 0; nothing where it is none.
+    /// Passes a request to its lane at moment 0, and returns the result, or `None` if it is not a valid request.
     pub fn accept(&self, rt: &impl Wait, request: &[u8]) -> Option<Result<Taken, Refusal>> {
         accept(rt, self.alloc, &self.proxy, &self.config, request)
     }
 
-    /// What a lane does at moment 0.
+    /// Makes a step of a lane at moment 0, and returns what the lane did.
     pub fn step(&mut self, rt: &impl Wait, lane: u16) -> Option<Action> {
         step(rt, &self.proxy, lane, &mut self.datagram)
     }
 
-    /// What the last step put into the datagram.
+    /// Returns what the last step wrote into the datagram.
     pub fn octets(&self) -> &[u8] {
         self.datagram.bytes()
     }
 
-    /// What a lane hears at moment 0.
+    /// Has a lane hear a reply at moment 0, and returns the result.
     pub fn hear(&self, rt: &impl Wait, lane: u16, reply: &[u8]) -> Option<Result<Told, DeskFault>> {
         hear(rt, self.alloc, &self.proxy, lane, reply)
     }
 
-    /// How many requests a lane cuts off at moment 30,000.
+    /// Returns how many requests a lane cuts at moment 30,000.
     pub fn turn(&self, rt: &impl Wait, lane: u16) -> Option<Result<usize, TurnFault>> {
         if lane >= self.proxy.lanes() {
             return None;
@@ -135,7 +137,7 @@ impl TestProxy {
         Some(self.proxy.counts(rt, lane))
     }
 
-    /// The next response of a lane.
+    /// Takes the next response of a lane.
     pub fn take(&mut self, lane: u16) -> Option<Outgoing> {
         self.inlets
             .as_mut_slice()
@@ -147,7 +149,7 @@ impl TestProxy {
         close(self.alloc, self.proxy, self.inlets)
     }
 
-    /// What is left at the end, where memory is ample.
+    /// Returns what is left at the end. Fails if memory is refused.
     pub fn report(self) -> Result<Report, Fail> {
         match self.close() {
             Ok(report) => Ok(report),
@@ -155,11 +157,11 @@ impl TestProxy {
         }
     }
 
-    /// Lets it go, so that no test has to show that it may.
+    /// Drops the proxy here, so that no test has to prove that it may.
     pub fn end(self) {}
 }
 
-/// What a worker did: its turns, what came, what was handed over and what failed.
+/// Returns a tally of these turns, in which `did` counts the datagrams received, those handed over, and the faults.
 pub fn tally(turns: u64, did: [u64; 3]) -> Tally {
     Tally {
         turns,
@@ -169,7 +171,8 @@ pub fn tally(turns: u64, did: [u64; 3]) -> Tally {
     }
 }
 
-/// A proxy's answer to a request that was checked against a configuration, at moment 0; nothing where it is none.
+/// Passes a request that was checked against a configuration to its lane at moment 0. Returns the result, or `None` if
+/// it is not a valid request.
 pub fn accept(
     rt: &impl Wait,
     alloc: Global,
@@ -186,7 +189,7 @@ pub fn accept(
     }
 }
 
-/// What a lane of a proxy does at moment 0.
+/// Makes a step of a proxy's lane at moment 0, and returns what the lane did.
 pub fn step(rt: &impl Wait, proxy: &Proxy, lane: u16, datagram: &mut Datagram) -> Option<Action> {
     if lane >= proxy.lanes() {
         return None;
@@ -194,7 +197,7 @@ pub fn step(rt: &impl Wait, proxy: &Proxy, lane: u16, datagram: &mut Datagram) -
     Some(proxy.step(rt, lane, at(0), RANDOM, datagram))
 }
 
-/// What a lane of a proxy hears at moment 0.
+/// Has a proxy's lane hear a reply at moment 0, and returns the result.
 pub fn hear(
     rt: &impl Wait,
     alloc: Global,
@@ -208,7 +211,7 @@ pub fn hear(
     Some(proxy.hear(rt, alloc, lane, at(0), 0, reply))
 }
 
-/// What is left of a proxy at the end.
+/// Closes a proxy, and returns what is left of it.
 pub fn close(alloc: Global, proxy: Proxy, inlets: Vec<Inlet>) -> Result<Report, CloseFault> {
     proxy.close(alloc, inlets)
 }

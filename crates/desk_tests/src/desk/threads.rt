@@ -1,4 +1,4 @@
-//! A lane and the front in threads of their own.
+//! Tests of a lane and the front in threads of their own.
 
 use super::closing::known;
 use super::comparing::{holds, same};
@@ -17,22 +17,22 @@ use std::thread::Threads;
 use std::time::{Clock, Duration};
 use test_octets::{reply_to, request};
 
-/// A ring of four places.
+/// A ring with four places.
 const FOUR_PLACES: &str = "ring = 4\n";
 
-/// How many requests go through it.
+/// How many requests are answered through the ring.
 const REQUESTS: u16 = 300;
 
 /// How many of the responses are taken before the end.
 const TAKEN: usize = 298;
 
-/// How many of them are left.
+/// How many of the responses are left.
 const LEFT: usize = 2;
 
-/// How often a thread looks again, a millisecond apart.
+/// How often a thread looks again, at intervals of a millisecond.
 const LOOKS: u32 = 10_000;
 
-/// Has all requests accepted, sent and answered. It gives their numbers.
+/// Has all requests accepted, sent and answered. Returns their numbers.
 fn answer_all<R: Wait + Clock>(
     rt: &R,
     alloc: Global,
@@ -54,7 +54,7 @@ fn answer_all<R: Wait + Clock>(
     Some(numbers)
 }
 
-/// Sends the first request of the queue and hears its reply, once the ring has a place. It gives the serial.
+/// Sends the first request of the queue, and hears its reply once the ring has a place. Returns the serial.
 fn answer<R: Wait + Clock>(rt: &R, alloc: Global, proxy: &Proxy) -> Option<u64> {
     let mut datagram = Datagram::new();
     let Action::Sent(..) = step(rt, proxy, 0, &mut datagram)? else {
@@ -71,7 +71,7 @@ fn answer<R: Wait + Clock>(rt: &R, alloc: Global, proxy: &Proxy) -> Option<u64> 
     None
 }
 
-/// Takes most of the responses, and gives them with the inlet.
+/// Takes most of the responses, and returns them with the inlet.
 fn take_most<R: Clock>(rt: &R, alloc: Global, mut inlet: Inlet) -> Option<(Inlet, Vec<Outgoing>)> {
     let mut taken = Vec::with_capacity(alloc, TAKEN).ok()?;
     for _ in 0..LOOKS {
@@ -86,7 +86,7 @@ fn take_most<R: Clock>(rt: &R, alloc: Global, mut inlet: Inlet) -> Option<(Inlet
     None
 }
 
-/// The response of this place, of those taken and then the rest.
+/// Returns the response at this place: first those that were taken, then the rest.
 fn response_at<'a>(
     taken: &'a [Outgoing],
     rest: &'a [Outgoing],
@@ -99,7 +99,7 @@ fn response_at<'a>(
     }
 }
 
-/// Whether a response has this serial, and agrees with the answer.
+/// Returns whether a response has this serial, and agrees with the answer.
 fn is_given(answer: &Answered, serial: u64, response: Option<&Outgoing>) -> bool {
     match response {
         Some(response) => response.serial == serial && agrees(answer, response),
@@ -107,7 +107,7 @@ fn is_given(answer: &Answered, serial: u64, response: Option<&Outgoing>) -> bool
     }
 }
 
-/// Compares the responses, those taken and then the rest, with the answers.
+/// Compares the responses with the answers: first those that were taken, then the rest.
 fn compare_responses(
     rt: &impl Abort,
     taken: &[Outgoing],
@@ -122,7 +122,7 @@ fn compare_responses(
     }
 }
 
-/// Whether a request was accepted as the one of this count.
+/// Returns whether the accepted request is the one made from `count`, with `count` as its number.
 fn is_of(stamp: &Stamp, count: u16) -> bool {
     match request(count) {
         Some(made) => {
@@ -132,7 +132,7 @@ fn is_of(stamp: &Stamp, count: u16) -> bool {
     }
 }
 
-/// Compares the requests that were accepted with those that were made, and the numbers that they got.
+/// Compares the accepted requests with those that were made, and with the numbers that they got.
 fn compare_requests(rt: &impl Abort, accepted: &[Stamp], numbers: &[u64]) {
     let lengths = (accepted.len(), numbers.len());
     same(rt, lengths, (usize::from(REQUESTS), usize::from(REQUESTS)));
@@ -142,7 +142,7 @@ fn compare_requests(rt: &impl Abort, accepted: &[Stamp], numbers: &[u64]) {
     }
 }
 
-/// What the two threads gave: the numbers of the requests, and the inlet with what was taken.
+/// The results of the two threads: the numbers of the requests, and the inlet with the responses that were taken.
 type Both = (Option<Vec<u64>>, Option<(Inlet, Vec<Outgoing>)>);
 
 /// Answers all requests in one thread, while another takes most of the responses.
@@ -160,7 +160,7 @@ fn in_threads<R: Clock + Threads + Wait + Sync>(
     )
 }
 
-/// Compares what was taken, and what was left, with what the only lane kept.
+/// Compares the responses that were taken, and those that were left, with what the only lane kept.
 fn compare(rt: &impl Abort, taken: &[Outgoing], end: &LaneEnd, numbers: &[u64]) {
     match known(end) {
         Some(rest) => {
@@ -172,12 +172,12 @@ fn compare(rt: &impl Abort, taken: &[Outgoing], end: &LaneEnd, numbers: &[u64]) 
     compare_requests(rt, end.accepted.as_slice(), numbers);
 }
 
-/// Gives the inlet back, where memory is ample.
+/// Puts the inlet back into the proxy. Returns false if memory is refused.
 fn give_back(proxy: &mut TestProxy, inlet: Inlet) -> bool {
     proxy.inlets.push(inlet).is_ok()
 }
 
-/// Compares what the only lane has at the end with what was taken and with the numbers of the requests.
+/// Compares the end of the only lane with the responses that were taken and with the numbers of the requests.
 fn compare_end(rt: &impl Abort, report: &Report, taken: &[Outgoing], numbers: &[u64]) {
     match report.ends.as_slice() {
         [end] => compare(rt, taken, end, numbers),
@@ -185,7 +185,7 @@ fn compare_end(rt: &impl Abort, report: &Report, taken: &[Outgoing], numbers: &[
     }
 }
 
-/// Answers all requests and takes most of the responses. It gives the numbers of the requests, and what was taken.
+/// Answers all requests, and takes most of the responses. Returns the numbers of the requests, and the responses.
 fn give_all<R: Clock + Threads + Wait + Abort + Sync>(
     rt: &R,
     alloc: Global,

@@ -1,4 +1,4 @@
-//! The calls through the lock of a lane, of which no clause says which lane they reached.
+//! Tests of the calls through the lock of a lane: no clause says which lane they reached.
 
 use super::comparing::same;
 use super::playing::{Event, IDLE, Story, play};
@@ -26,7 +26,7 @@ const SERVED_BY_SECOND: &[Event<'static>] = &[
     Event::Take(1, &OTHER_RESPONSE),
 ];
 
-/// Two lanes are drained, of which the second answered a request, and turned.
+/// Two lanes are drained. The second one answered a request, and its book is turned.
 const DRAINED_AND_TURNED: Story<'static> = Story {
     more: TWO_HOMES,
     scenes: &[
@@ -77,7 +77,8 @@ name = "other.org"
 home = "h1"
 "#;
 
-/// Refuses a request that was checked against another configuration, which goes on with these lines.
+/// Checks that a request is refused that was checked against another configuration, the tests' one with the lines
+/// `more`.
 fn refuse_other<R: Wait + Abort>(rt: &R, proxy: &TestProxy, more: &str) -> Result<(), Fail> {
     let other = config(proxy.alloc, more)?;
     let taken = accept(rt, proxy.alloc, &proxy.proxy, &other, &OTHER_REQUEST);
@@ -85,7 +86,8 @@ fn refuse_other<R: Wait + Abort>(rt: &R, proxy: &TestProxy, more: &str) -> Resul
     Ok(())
 }
 
-/// Has requests accepted that were checked against other configurations, and then one of its own.
+/// Checks that requests that were checked against other configurations are refused, and then that one of the proxy's
+/// own is accepted.
 fn accept_each<R: Wait + Abort>(rt: &R, proxy: &TestProxy) -> Result<(), Fail> {
     refuse_other(rt, proxy, TWO_HOMES)?;
     refuse_other(rt, proxy, OTHER_REALM)?;

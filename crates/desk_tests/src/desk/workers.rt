@@ -1,4 +1,5 @@
-//! What the workers do in a turn, over wires in memory: what each counts and tells, and where what it sends goes.
+//! Tests of what the workers do in a turn, over wires in memory: what each one counts and reports, and where it sends
+//! to.
 
 use super::playing::{CLIENT, Event, FORWARD, FRONT, HOME, LANE, Story, play, play_each};
 use super::test_desk::TWO_HOMES;
@@ -14,7 +15,7 @@ use test_octets::nas::{
     OTHER_REQUEST, REQUEST, RESPONSE, SECOND_REQUEST, SECOND_RESPONSE, STATUS, STATUS_ANSWER,
 };
 
-/// The request is answered, and its response is given, also to a repeat.
+/// The request is answered, and its response is sent, also for a repeat.
 const EACH_PART: Story<'static> = Story {
     more: "",
     scenes: &[
@@ -39,7 +40,7 @@ fn each_worker_does_its_part(rt: HostRuntime) -> Result<(), Fail> {
     play(&rt, rt.alloc(), &EACH_PART)
 }
 
-/// Both requests are taken, and both are answered. Then both responses are in the ring.
+/// Both requests are accepted, and both are answered. Then both responses are in the ring.
 const BOTH_ANSWERED: Story<'static> = Story {
     more: "",
     scenes: &[&[
@@ -104,7 +105,7 @@ const OTHER_ADDRESS: Endpoint = Endpoint {
     port: 2813,
 };
 
-/// The reply comes from each of them.
+/// The reply comes from each of these endpoints.
 const FROM_ELSEWHERE: &[Story<'static>] = &[
     Story {
         more: "",
@@ -291,7 +292,7 @@ fn a_half_full_book_is_cut(rt: HostRuntime) -> Result<(), Fail> {
     play(&rt, rt.alloc(), &CUT_AT_ONCE)
 }
 
-/// The clock stands.
+/// The clock stands still.
 const STANDING: &[Event<'static>] = &[Event::Tick(0)];
 
 /// The request is answered, and a span later it is cut.
@@ -317,13 +318,14 @@ fn a_request_is_cut_once_its_span_is_over(rt: HostRuntime) -> Result<(), Fail> {
     play(&rt, rt.alloc(), &CUT_AFTER_SPAN)
 }
 
-/// The worker comes by each millisecond.
+/// The receives are a millisecond apart.
 const EACH_MILLISECOND: &[Event<'static>] = &[Event::Tick(1)];
 
-/// The lane's worker has nothing else to do while the request is out.
+/// The lane's worker has nothing else to do while the request is outstanding.
 const WITHOUT_WORK: &[Event<'static>] = &[Event::Turns(LANE, 31, 31, [0, 0, 0], None, &[])];
 
-/// A book of three has its lane cut off what is over at no turn, and one of two or of one at each.
+/// A lane with a book of three is to cut what is over in no turn, and a lane with a book of two or of one in each
+/// turn.
 const HALF_FULL: &[Story<'static>] = &[
     Story {
         more: "book = 3\n",
