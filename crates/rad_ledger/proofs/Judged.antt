@@ -34,7 +34,7 @@ module _ (e : Entry) where
       by_reason (Some NoPacket) j = absurd j
       by_reason (Some WrongSent) j = absurd j
       by_reason (Some WrongReply) j = (p, (s, j))
-      by_reason (Some WrongResponse) j = (p, (s, (j.0, j.1)))
+      by_reason (Some WrongResponse) j = (p, (s, j.0, j.1))
       by_reason (Some SerialNotAbove) j = j
       by_reason (Some UnknownLane) j = j
 

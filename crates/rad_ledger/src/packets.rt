@@ -63,5 +63,12 @@ fn is_mark_value(value: &[u8], mark: Mark) -> bool
         return false;
     }
     let (lane, number) = value.split_at(2);
-    lane == mark.lane.to_be_bytes().as_slice() && number == mark.number.to_be_bytes().as_slice()
+    is_same(lane, &mark.lane.to_be_bytes()) && is_same(number, &mark.number.to_be_bytes())
+}
+
+/// Whether octets are these.
+fn is_same(octets: &[u8], others: &[u8]) -> bool
+    ensures { IsTrue result ↔ (octets.now ≡ others.now) }
+{
+    octets == others
 }

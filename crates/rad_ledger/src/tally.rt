@@ -109,7 +109,6 @@ impl Tally {
     /// # Errors
     ///
     /// `SerialNotAbove` for a serial that is not above the last one, or is 2^63 or more; nothing is counted then.
-    #[tactic(auto, using(crate::proofs::Serials::counts_more))]
     pub fn take(&mut self, serial: u64) -> Result<Option<Gap>, Reason>
         ensures above { OnOk result ((self.old.next ≤ serial) × (serial < 2 ^ 63)) }
         ensures gap { IfOk result (λ gap. LeavesGap self.old.next serial gap) }
@@ -153,7 +152,7 @@ impl Tally {
     }
 
     /// What was counted shows.
-    #[tactic(auto, using(crate::proofs::Serials::tells_gap, crate::proofs::Serials::tells_open, crate::proofs::Serials::tells_less, crate::proofs::Serials::tells_whole, crate::proofs::Serials::tells_missing))]
+    #[tactic(auto, using(crate::proofs::Serials::tells_gap, crate::proofs::Serials::tells_open, crate::proofs::Serials::tells_less, crate::proofs::Serials::tells_missing))]
     fn found(&self) -> Verdict
         ensures { (serials : List ℕ) → Counts self.now serials → Tells self.now serials result }
     {

@@ -4,6 +4,7 @@ use super::comparing::same;
 use super::vectors::ENTRY_LINE;
 use rad_auth::Secret;
 use rad_ledger::{Entry, Gap, Line, Reason, Room, Tally, Verdict, judge, read_line};
+use std::alloc::AllocGlobal;
 use std::process::Abort;
 use std::test::Fail;
 
@@ -12,6 +13,7 @@ const HOME: &[u8] = b"home-secret";
 const CLIENT: &[u8] = b"nas-secret";
 
 /// An entry, with what it is judged by.
+#[derive(Drop)]
 struct Judged<'a> {
     entry: Entry<'a>,
     home: Secret,
@@ -28,9 +30,9 @@ impl<'a> Judged<'a> {
     }
 
     /// Whether this is the reason that is told of another entry, whose lane has this next serial.
-    fn tells(
+    fn tells<R: Abort + AllocGlobal>(
         &self,
-        rt: &HostRuntime,
+        rt: &R,
         entry: Entry<'_>,
         next: Option<u64>,
         wanted: Option<Reason>,
