@@ -1,3 +1,6 @@
+pub mod Lines
+pub mod Found
+pub mod Parts
 pub mod Whole
 pub mod Last
 pub mod Marks

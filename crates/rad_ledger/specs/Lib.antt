@@ -1,3 +1,4 @@
+pub mod Lines
 pub mod Judging
 pub mod Counting
 pub mod Outlets

@@ -8,12 +8,12 @@
 mod begin;
 mod entry;
 mod faults;
-mod fields;
 mod judging;
 mod packets;
 mod reading;
 mod reason;
 mod tally;
+mod values;
 mod writing;
 
 pub use begin::{Begin, End, LaneCount, LaneStart};

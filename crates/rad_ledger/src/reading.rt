@@ -1,17 +1,24 @@
 //! Lines of a ledger, as they are read.
 
-ghost use Rattle.std.specs.Prelude.{◌<◌, ◌^◌, IfSome};
+ghost use Rattle.std.specs.Prelude.{◌≡◌, ◌++◌, [], ◌∷◌, IfErr, List, MatchResult, OnOk, codes};
+ghost use Rattle.json.specs.Value.{value_view};
+ghost use Rattle.rad_ledger.specs.declared.begin.Begin.{Begin as TheBegin};
+ghost use Rattle.rad_ledger.specs.declared.begin.End.{End as TheEnd};
+ghost use Rattle.rad_ledger.specs.declared.begin.LaneStart.{LaneStart as TheStart};
+ghost use Rattle.rad_ledger.specs.declared.begin.LaneCount.{LaneCount as TheCount};
+ghost use Rattle.rad_ledger.specs.declared.entry.Entry.{Entry as TheEntry};
+ghost use Rattle.rad_ledger.specs.declared.faults.LineFault.TheVariants.{OutOfMemory};
+ghost use Rattle.rad_ledger.specs.declared.reading.Line.{Line as TheLine};
+ghost use Rattle.rad_ledger.specs.Lines.{Denies, HasLanes, HasText, IsBegin, IsEnd, IsEntry, IsLaneCount, IsLaneStart, IsLine, IsLineOf};
 
 use crate::begin::{Begin, End, LaneCount, LaneStart};
 use crate::entry::Entry;
 use crate::faults::LineFault;
-use crate::fields::{
-    AUTHENTICATOR, CLIENT, ENTRIES, FILE, Fields, HOME, IDENTIFIER, LANE, Members, PORT, REALM,
-    REALM_OCTETS, RECORD, REPLY, RESPONSE, RUN, SENT, SERIAL, SESSION, SESSION_OCTETS, STATUS,
-    TIME, TYPE, VERSION, push, read_fields,
+use crate::values::{
+    authenticator_at, client_at, has_keys, number_at, octet_at, octets_at, read_value, run_at,
+    serial_at, short_at, status_at, text_at, time_at, words_at,
 };
-use json::{Reader, Scratch};
-use rad_realms::read_address;
+use json::{Scratch, Value};
 use std::alloc::{AllocError, Global};
 
 /// The most octets of a line.
@@ -27,7 +34,7 @@ pub enum Line<'a> {
     End(End<'a>),
 }
 
-/// What a line is read with: it is used again for each line, and takes its memory when it is made.
+/// What a line is read with: it is used again for each line.
 #[derive(Drop)]
 pub struct Room {
     scratch: Scratch<Global>,
@@ -56,22 +63,17 @@ impl Room {
         Ok(Room {
             scratch,
             octets: Octets {
-                sent: octets_of_a_line(alloc)?,
-                reply: octets_of_a_line(alloc)?,
-                response: octets_of_a_line(alloc)?,
-                realm: octets_of_a_line(alloc)?,
-                session: octets_of_a_line(alloc)?,
+                sent: Vec::new(alloc),
+                reply: Vec::new(alloc),
+                response: Vec::new(alloc),
+                realm: Vec::new(alloc),
+                session: Vec::new(alloc),
             },
         })
     }
 }
 
-/// Room for as many octets as a line can have as digits.
-fn octets_of_a_line(alloc: Global) -> Result<Vec<u8>, AllocError> {
-    vec![in alloc; 0u8; MOST_LINE_OCTETS / 2]
-}
-
-/// Reads a line, without its line end. Of an entry or a file's first line it takes each key once, in any order, and no other keys.
+/// Reads a line, without its line end: an object of the keys of its kind, each once and in any order.
 ///
 /// # Errors
 ///
@@ -80,39 +82,72 @@ pub fn read_line<'a>(
     alloc: Global,
     octets: &'a [u8],
     room: &'a mut Room,
-) -> Result<Line<'a>, LineFault> {
-    let Ok(text) = str::from_utf8(octets) else {
+) -> Result<Line<'a>, LineFault>
+    ensures { MatchResult result (λ line. IsLine octets.now line) (λ fault. Denies fault ((line : TheLine) × IsLine octets.now line)) }
+{
+    if octets.len() > MOST_LINE_OCTETS {
         return Err(LineFault::NotALine);
-    };
+    }
     let Room {
         scratch,
         octets: digits,
     } = room;
-    let mut reader = Reader::new(text, scratch)?;
-    let fields = read_fields(alloc, &mut reader)?;
-    match fields.members.texts[TYPE] {
-        Some("entry") => entry_line(&fields, digits),
-        Some("begin") => begin_line(alloc, &fields),
-        Some("end") => end_line(alloc, &fields),
+    let value = read_value(alloc, octets, scratch)?;
+    line_of(alloc, &value, digits)
+}
+
+/// The line that a value is.
+fn line_of<'a>(
+    alloc: Global,
+    value: &Value<'a>,
+    room: &'a mut Octets,
+) -> Result<Line<'a>, LineFault>
+    ensures { MatchResult result (λ line. IsLineOf (value_view value.now) line) (λ fault. Denies fault ((line : TheLine) × IsLineOf (value_view value.now) line)) }
+{
+    match text_at(value, "type")? {
+        "entry" => Ok(Line::Entry(entry_of(alloc, value, room)?)),
+        "begin" => Ok(Line::Begin(begin_of(alloc, value)?)),
+        "end" => Ok(Line::End(end_of(alloc, value)?)),
         _ => Err(LineFault::NotALine),
     }
 }
 
-/// The entry that these fields are.
-fn entry_line<'a>(fields: &Fields<'a>, room: &'a mut Octets) -> Result<Line<'a>, LineFault> {
-    if fields.lanes.is_some() {
+/// The keys of an entry, those too that it may lack.
+const KEYS_OF_ENTRY: [&str; 19] = [
+    "type",
+    "run",
+    "time",
+    "home",
+    "lane",
+    "serial",
+    "record",
+    "client",
+    "port",
+    "identifier",
+    "authenticator",
+    "sent",
+    "reply",
+    "response",
+    "realm",
+    "realm_octets",
+    "session",
+    "session_octets",
+    "status",
+];
+
+/// The entry that a value is.
+#[tactic(auto, using(crate::proofs::Lines::entry_keys, crate::proofs::Lines::entry_run, crate::proofs::Lines::entry_time, crate::proofs::Lines::entry_home, crate::proofs::Lines::entry_lane, crate::proofs::Lines::entry_serial, crate::proofs::Lines::entry_record, crate::proofs::Lines::entry_client, crate::proofs::Lines::entry_port, crate::proofs::Lines::entry_identifier, crate::proofs::Lines::entry_authenticator, crate::proofs::Lines::entry_sent, crate::proofs::Lines::entry_reply, crate::proofs::Lines::entry_response, crate::proofs::Lines::entry_realm, crate::proofs::Lines::entry_session, crate::proofs::Lines::entry_status))]
+fn entry_of<'a>(
+    alloc: Global,
+    value: &Value<'a>,
+    room: &'a mut Octets,
+) -> Result<Entry<'a>, LineFault>
+    requires { HasText (codes "type") (value_view value.now) (codes "entry") }
+    ensures { MatchResult result (λ entry. IsEntry (value_view value.now) entry) (λ fault. Denies fault ((entry : TheEntry) × IsEntry (value_view value.now) entry)) }
+{
+    if !has_keys(value, &KEYS_OF_ENTRY) {
         return Err(LineFault::NotALine);
     }
-    match entry_of(&fields.members, room) {
-        Some(entry) => Ok(Line::Entry(entry)),
-        None => Err(LineFault::NotALine),
-    }
-}
-
-/// How many members an entry has, but for those that it may lack.
-const MEMBERS_OF_ENTRY: usize = 14;
-
-fn entry_of<'a>(members: &Members<'a>, room: &'a mut Octets) -> Option<Entry<'a>> {
     let Octets {
         sent,
         reply,
@@ -120,201 +155,124 @@ fn entry_of<'a>(members: &Members<'a>, room: &'a mut Octets) -> Option<Entry<'a>
         realm,
         session,
     } = room;
-    let realm = words_of(members.texts[REALM], members.texts[REALM_OCTETS], realm)?;
-    let session = words_of(
-        members.texts[SESSION],
-        members.texts[SESSION_OCTETS],
-        session,
-    )?;
-    let status = status_of(members.numbers[STATUS])?;
-    let optional = usize::from(realm.is_some())
-        + usize::from(session.is_some())
-        + usize::from(status.is_some());
-    if members.count != MEMBERS_OF_ENTRY + optional {
-        return None;
-    }
-    Some(Entry {
-        run: run_of(members.texts[RUN]?)?,
-        time: time_of(members.texts[TIME]?)?,
-        home: members.texts[HOME]?,
-        lane: u16::try_from(members.numbers[LANE]?).ok()?,
-        serial: serial_of(members.numbers[SERIAL]?)?,
-        number: members.numbers[RECORD]?,
-        client: read_address(members.texts[CLIENT]?)?,
-        port: u16::try_from(members.numbers[PORT]?).ok()?,
-        identifier: u8::try_from(members.numbers[IDENTIFIER]?).ok()?,
-        authenticator: authenticator_of(members.texts[AUTHENTICATOR]?)?,
-        sent: octets_of(members.texts[SENT]?, sent)?,
-        reply: octets_of(members.texts[REPLY]?, reply)?,
-        response: octets_of(members.texts[RESPONSE]?, response)?,
-        realm,
-        session,
-        status,
+    Ok(Entry {
+        run: run_at(value)?,
+        time: time_at(value)?,
+        home: text_at(value, "home")?,
+        lane: short_at(value, "lane")?,
+        serial: serial_at(value, "serial")?,
+        number: number_at(value, "record")?,
+        client: client_at(value)?,
+        port: short_at(value, "port")?,
+        identifier: octet_at(value, "identifier")?,
+        authenticator: authenticator_at(value)?,
+        sent: octets_at(alloc, value, "sent", sent)?,
+        reply: octets_at(alloc, value, "reply", reply)?,
+        response: octets_at(alloc, value, "response", response)?,
+        realm: words_at(alloc, value, "realm", "realm_octets", realm)?,
+        session: words_at(alloc, value, "session", "session_octets", session)?,
+        status: status_at(value)?,
     })
 }
 
-/// The first line of a file that these fields are.
-fn begin_line<'a>(alloc: Global, fields: &Fields<'a>) -> Result<Line<'a>, LineFault> {
-    let Some(lanes) = &fields.lanes else {
-        return Err(LineFault::NotALine);
-    };
-    let mut starts = Vec::with_capacity(alloc, lanes.len())?;
-    for members in lanes.iter() {
-        match lane_start(members) {
-            Some(start) => push(&mut starts, start)?,
-            None => return Err(LineFault::NotALine),
-        }
-    }
-    match begin_of(&fields.members, starts) {
-        Some(begin) => Ok(Line::Begin(begin)),
-        None => Err(LineFault::NotALine),
-    }
-}
-
-fn begin_of<'a>(members: &Members<'a>, lanes: Vec<LaneStart<'a>>) -> Option<Begin<'a>> {
-    if members.count != 5 {
-        return None;
-    }
-    Some(Begin {
-        run: run_of(members.texts[RUN]?)?,
-        time: time_of(members.texts[TIME]?)?,
-        version: members.texts[VERSION]?,
-        file: members.numbers[FILE]?,
-        lanes,
-    })
-}
-
-fn lane_start<'a>(members: &Members<'a>) -> Option<LaneStart<'a>> {
-    if members.count != 3 {
-        return None;
-    }
-    Some(LaneStart {
-        lane: u16::try_from(members.numbers[LANE]?).ok()?,
-        home: members.texts[HOME]?,
-        serial: serial_of(members.numbers[SERIAL]?)?,
-    })
-}
-
-/// The end line that these fields are.
-fn end_line<'a>(alloc: Global, fields: &Fields<'a>) -> Result<Line<'a>, LineFault> {
-    let Some(lanes) = &fields.lanes else {
-        return Err(LineFault::NotALine);
-    };
-    let mut counts = Vec::with_capacity(alloc, lanes.len())?;
-    for members in lanes.iter() {
-        match lane_count(members) {
-            Some(count) => push(&mut counts, count)?,
-            None => return Err(LineFault::NotALine),
-        }
-    }
-    match end_of(&fields.members, counts) {
-        Some(end) => Ok(Line::End(end)),
-        None => Err(LineFault::NotALine),
-    }
-}
-
-fn end_of<'a>(members: &Members<'a>, lanes: Vec<LaneCount>) -> Option<End<'a>> {
-    if members.count != 3 {
-        return None;
-    }
-    Some(End {
-        run: run_of(members.texts[RUN]?)?,
-        time: time_of(members.texts[TIME]?)?,
-        lanes,
-    })
-}
-
-fn lane_count(members: &Members<'_>) -> Option<LaneCount> {
-    if members.count != 2 {
-        return None;
-    }
-    Some(LaneCount {
-        lane: u16::try_from(members.numbers[LANE]?).ok()?,
-        entries: members.numbers[ENTRIES]?,
-    })
-}
-
-/// A run's name: sixteen hexadecimal digits.
-fn run_of(text: &str) -> Option<u64> {
-    let mut octets = [0; 8];
-    match hex::decode_to_slice(text, &mut octets) {
-        Ok(()) => Some(u64::from_be_bytes(octets)),
-        Err(_) => None,
-    }
-}
-
-/// A request's Authenticator: thirty-two hexadecimal digits.
-fn authenticator_of(text: &str) -> Option<[u8; 16]> {
-    let mut octets = [0; 16];
-    match hex::decode_to_slice(text, &mut octets) {
-        Ok(()) => Some(octets),
-        Err(_) => None,
-    }
-}
-
-/// The octets that digits write, in this room.
-fn octets_of<'a>(digits: &str, room: &'a mut [u8]) -> Option<&'a [u8]> {
-    let count = digits.len() / 2;
-    if count > room.len() {
-        return None;
-    }
-    let octets = &mut room[..count];
-    match hex::decode_to_slice(digits, octets) {
-        Ok(()) => Some(octets),
-        Err(_) => None,
-    }
-}
-
-/// A realm or a session: none, a text, or octets that are no text as digits. It is `None` where both are there, or the digits are none.
-fn words_of<'a>(
-    text: Option<&'a str>,
-    digits: Option<&str>,
-    room: &'a mut [u8],
-) -> Option<Option<&'a [u8]>> {
-    match (text, digits) {
-        (None, None) => Some(None),
-        (Some(text), None) => Some(Some(text.as_bytes())),
-        (None, Some(digits)) => Some(Some(octets_of(digits, room)?)),
-        (Some(_), Some(_)) => None,
-    }
-}
-
-/// An Acct-Status-Type, where there is one. It is `None` where it is above 2^32 - 1.
-fn status_of(number: Option<u64>) -> Option<Option<u32>> {
-    match number {
-        None => Some(None),
-        Some(number) => Some(Some(u32::try_from(number).ok()?)),
-    }
-}
-
-/// A serial, below 2^63.
-fn serial_of(number: u64) -> Option<u64>
-    ensures { IfSome result (λ serial. serial < 2 ^ 63) }
+/// The first line of a file that a value is.
+#[tactic(auto, using(crate::proofs::Lines::begin_keys, crate::proofs::Lines::begin_run, crate::proofs::Lines::begin_time, crate::proofs::Lines::begin_version, crate::proofs::Lines::begin_file, crate::proofs::Lines::begin_lanes))]
+fn begin_of<'a>(alloc: Global, value: &Value<'a>) -> Result<Begin<'a>, LineFault>
+    requires { HasText (codes "type") (value_view value.now) (codes "begin") }
+    ensures { MatchResult result (λ begin. IsBegin (value_view value.now) begin) (λ fault. Denies fault ((begin : TheBegin) × IsBegin (value_view value.now) begin)) }
 {
-    if number < 1 << 63 { Some(number) } else { None }
-}
-
-/// A moment of the form `2026-01-31T23:59:59.999Z`.
-fn time_of(text: &str) -> Option<&str> {
-    let form = b"dddd-dd-ddTdd:dd:dd.dddZ";
-    let octets = text.as_bytes();
-    if octets.len() == form.len()
-        && form
-            .iter()
-            .zip(octets)
-            .all(|(form, octet)| fits(*form, *octet))
-    {
-        Some(text)
-    } else {
-        None
+    if !has_keys(value, &["type", "run", "time", "version", "file", "lanes"]) {
+        return Err(LineFault::NotALine);
     }
+    Ok(Begin {
+        run: run_at(value)?,
+        time: time_at(value)?,
+        version: text_at(value, "version")?,
+        file: number_at(value, "file")?,
+        lanes: starts_of(alloc, value)?,
+    })
 }
 
-/// Whether an octet stands where the form of a moment has this one: `d` for a digit.
-fn fits(form: u8, octet: u8) -> bool {
-    if form == b'd' {
-        octet.is_ascii_digit()
-    } else {
-        octet == form
+/// The lanes of the first line of a file.
+fn starts_of<'a>(alloc: Global, value: &Value<'a>) -> Result<Vec<LaneStart<'a>>, LineFault>
+    ensures { MatchResult result (λ lanes. HasLanes IsLaneStart (value_view value.now) lanes.items) (λ fault. Denies fault ((lanes : List TheStart) × HasLanes IsLaneStart (value_view value.now) lanes)) }
+{
+    let Some(Value::Array(values)) = value.get("lanes") else {
+        return Err(LineFault::NotALine);
+    };
+    let mut starts = Vec::with_capacity(alloc, values.len())?;
+    for value in values.iter() {
+        push(&mut starts, start_of(value)?)?;
+    }
+    Ok(starts)
+}
+
+/// The lane that a value of that list is.
+#[tactic(auto, using(crate::proofs::Lines::start_keys, crate::proofs::Lines::start_lane, crate::proofs::Lines::start_home, crate::proofs::Lines::start_serial))]
+fn start_of<'a>(value: &Value<'a>) -> Result<LaneStart<'a>, LineFault>
+    ensures { MatchResult result (λ start. IsLaneStart (value_view value.now) start) (λ fault. Denies fault ((start : TheStart) × IsLaneStart (value_view value.now) start)) }
+{
+    if !has_keys(value, &["lane", "home", "serial"]) {
+        return Err(LineFault::NotALine);
+    }
+    Ok(LaneStart {
+        lane: short_at(value, "lane")?,
+        home: text_at(value, "home")?,
+        serial: serial_at(value, "serial")?,
+    })
+}
+
+/// The end line that a value is.
+#[tactic(auto, using(crate::proofs::Lines::end_keys, crate::proofs::Lines::end_run, crate::proofs::Lines::end_time, crate::proofs::Lines::end_lanes))]
+fn end_of<'a>(alloc: Global, value: &Value<'a>) -> Result<End<'a>, LineFault>
+    requires { HasText (codes "type") (value_view value.now) (codes "end") }
+    ensures { MatchResult result (λ end. IsEnd (value_view value.now) end) (λ fault. Denies fault ((end : TheEnd) × IsEnd (value_view value.now) end)) }
+{
+    if !has_keys(value, &["type", "run", "time", "lanes"]) {
+        return Err(LineFault::NotALine);
+    }
+    Ok(End {
+        run: run_at(value)?,
+        time: time_at(value)?,
+        lanes: counts_of(alloc, value)?,
+    })
+}
+
+/// The lanes of an end line.
+fn counts_of(alloc: Global, value: &Value<'_>) -> Result<Vec<LaneCount>, LineFault>
+    ensures { MatchResult result (λ lanes. HasLanes IsLaneCount (value_view value.now) lanes.items) (λ fault. Denies fault ((lanes : List TheCount) × HasLanes IsLaneCount (value_view value.now) lanes)) }
+{
+    let Some(Value::Array(values)) = value.get("lanes") else {
+        return Err(LineFault::NotALine);
+    };
+    let mut counts = Vec::with_capacity(alloc, values.len())?;
+    for value in values.iter() {
+        push(&mut counts, count_of(value)?)?;
+    }
+    Ok(counts)
+}
+
+/// The lane that a value of that list counts.
+#[tactic(auto, using(crate::proofs::Lines::count_keys, crate::proofs::Lines::count_lane, crate::proofs::Lines::count_entries))]
+fn count_of(value: &Value<'_>) -> Result<LaneCount, LineFault>
+    ensures { MatchResult result (λ count. IsLaneCount (value_view value.now) count) (λ fault. Denies fault ((count : TheCount) × IsLaneCount (value_view value.now) count)) }
+{
+    if !has_keys(value, &["lane", "entries"]) {
+        return Err(LineFault::NotALine);
+    }
+    Ok(LaneCount {
+        lane: short_at(value, "lane")?,
+        entries: number_at(value, "entries")?,
+    })
+}
+
+/// Puts a value behind the others.
+fn push<T: Drop>(list: &mut Vec<T>, value: T) -> Result<(), LineFault>
+    ensures pushed { OnOk result (list.new.items ≡ list.old.items ++ value ∷ []) }
+    ensures refused { IfErr result (λ fault. fault ≡ OutOfMemory) }
+{
+    match list.push(value) {
+        Ok(()) => Ok(()),
+        Err(_) => Err(LineFault::OutOfMemory),
     }
 }
