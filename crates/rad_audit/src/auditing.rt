@@ -1,13 +1,12 @@
 //! The audit of files.
 
 use crate::faults::Fault;
-use crate::ledger_lines::{LineRoom, Piece};
+use crate::line_room::{LineRoom, Piece};
 use crate::printing::{Findings, Place, Report};
 use crate::runs::Runs;
+use ledger_lines::{Begin, End, Line, LineFault, MOST_LINE_OCTETS, Room, read_line};
 use rad_auth::Secret;
-use rad_ledger::{
-    Begin, End, Entry, Line, LineFault, MOST_LINE_OCTETS, Reason, Room, judge, read_line,
-};
+use rad_ledger::{Entry, Reason, judge};
 use rad_realms::{Config, Home};
 use std::alloc::{AllocError, Global};
 use std::fs;

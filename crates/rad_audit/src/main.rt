@@ -1,10 +1,10 @@
 //! Audits ledgers of rad_proxy: reads their lines, in the order of the files, and prints what is wrong with them, what is missing, and
-//! how much of each lane of each run is there. What is right is said in `rad_ledger`.
+//! how much of each lane of each run is there. What is right is said in `rad_ledger`, and what a line is in `ledger_lines`.
 #![tactic(auto)]
 
 mod auditing;
 mod faults;
-mod ledger_lines;
+mod line_room;
 mod printing;
 mod runs;
 mod shown;

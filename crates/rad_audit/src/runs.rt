@@ -1,7 +1,8 @@
 //! What is known of each run and lane.
 
 use crate::shown::Word;
-use rad_ledger::{Begin, LaneStart, Tally};
+use ledger_lines::{Begin, LaneStart};
+use rad_ledger::Tally;
 use std::alloc::{AllocError, Global};
 
 /// A lane of a run.

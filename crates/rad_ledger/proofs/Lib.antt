@@ -1,6 +1,3 @@
-pub mod Lines
-pub mod Found
-pub mod Parts
 pub mod Whole
 pub mod Last
 pub mod Marks

@@ -1,4 +1,3 @@
-pub mod Lines
 pub mod Judging
 pub mod Counting
 pub mod Outlets

@@ -2,8 +2,9 @@
 
 use super::comparing::same;
 use super::vectors::ENTRY_LINE;
+use ledger_lines::{Line, Room, read_line};
 use rad_auth::Secret;
-use rad_ledger::{Entry, Gap, Line, Reason, Room, Tally, Verdict, judge, read_line};
+use rad_ledger::{Entry, Gap, Reason, Tally, Verdict, judge};
 use std::alloc::AllocGlobal;
 use std::process::Abort;
 use std::test::Fail;

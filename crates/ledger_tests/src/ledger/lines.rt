@@ -2,7 +2,7 @@
 
 use super::comparing::{holds, same};
 use super::vectors::{BEGIN_LINE, BINARY_LINE, END_LINE, ENTRY_LINE};
-use rad_ledger::{Line, LineFault, Room, read_line, write_begin, write_end, write_entry};
+use ledger_lines::{Line, LineFault, Room, read_line, write_begin, write_end, write_entry};
 use std::alloc::Global;
 use std::process::Abort;
 use std::test::Fail;

@@ -1,24 +1,24 @@
 //! Lines of a ledger, as they are read.
 
 ghost use Rattle.std.specs.Prelude.{◌≡◌, ◌++◌, [], ◌∷◌, IfErr, List, MatchResult, OnOk, codes};
-ghost use Rattle.json.specs.Value.{value_view};
-ghost use Rattle.rad_ledger.specs.declared.begin.Begin.{Begin as TheBegin};
-ghost use Rattle.rad_ledger.specs.declared.begin.End.{End as TheEnd};
-ghost use Rattle.rad_ledger.specs.declared.begin.LaneStart.{LaneStart as TheStart};
-ghost use Rattle.rad_ledger.specs.declared.begin.LaneCount.{LaneCount as TheCount};
+ghost use Rattle.json.specs.Value.{items_view, value_view};
+ghost use Rattle.ledger_lines.specs.declared.begin.Begin.{Begin as TheBegin};
+ghost use Rattle.ledger_lines.specs.declared.begin.End.{End as TheEnd};
+ghost use Rattle.ledger_lines.specs.declared.begin.LaneStart.{LaneStart as TheStart};
+ghost use Rattle.ledger_lines.specs.declared.begin.LaneCount.{LaneCount as TheCount};
 ghost use Rattle.rad_ledger.specs.declared.entry.Entry.{Entry as TheEntry};
-ghost use Rattle.rad_ledger.specs.declared.faults.LineFault.TheVariants.{OutOfMemory};
-ghost use Rattle.rad_ledger.specs.declared.reading.Line.{Line as TheLine};
-ghost use Rattle.rad_ledger.specs.Lines.{Denies, HasLanes, HasText, IsBegin, IsEnd, IsEntry, IsLaneCount, IsLaneStart, IsLine, IsLineOf};
+ghost use Rattle.ledger_lines.specs.declared.faults.LineFault.TheVariants.{OutOfMemory};
+ghost use Rattle.ledger_lines.specs.declared.reading.Line.{Line as TheLine};
+ghost use Rattle.ledger_lines.specs.Lines.{AreEach, Denies, HasLanes, HasText, IsBegin, IsEnd, IsEntry, IsLaneCount, IsLaneStart, IsLine, IsLineOf};
 
 use crate::begin::{Begin, End, LaneCount, LaneStart};
-use crate::entry::Entry;
 use crate::faults::LineFault;
 use crate::values::{
-    authenticator_at, client_at, has_keys, number_at, octet_at, octets_at, read_value, run_at,
-    serial_at, short_at, status_at, text_at, time_at, words_at,
+    authenticator_at, client_at, has_members, lanes_at, members_of_entry, number_at, octet_at,
+    octets_at, read_value, run_at, serial_at, short_at, status_at, text_at, time_at, words_at,
 };
 use json::{Scratch, Value};
+use rad_ledger::Entry;
 use std::alloc::{AllocError, Global};
 
 /// The most octets of a line.
@@ -78,6 +78,7 @@ impl Room {
 /// # Errors
 ///
 /// `NotALine` where it is none, `OutOfMemory` where memory was refused.
+#[tactic(auto, using(crate::proofs::Kinds::too_long, crate::proofs::Kinds::no_value_no_line, crate::proofs::Kinds::no_line, crate::proofs::Kinds::is_line))]
 pub fn read_line<'a>(
     alloc: Global,
     octets: &'a [u8],
@@ -97,6 +98,7 @@ pub fn read_line<'a>(
 }
 
 /// The line that a value is.
+#[tactic(auto, using(crate::proofs::Kinds::no_type, crate::proofs::Kinds::entry_denied, crate::proofs::Kinds::begin_denied, crate::proofs::Kinds::end_denied, crate::proofs::Kinds::other_denied))]
 fn line_of<'a>(
     alloc: Global,
     value: &Value<'a>,
@@ -112,31 +114,8 @@ fn line_of<'a>(
     }
 }
 
-/// The keys of an entry, those too that it may lack.
-const KEYS_OF_ENTRY: [&str; 19] = [
-    "type",
-    "run",
-    "time",
-    "home",
-    "lane",
-    "serial",
-    "record",
-    "client",
-    "port",
-    "identifier",
-    "authenticator",
-    "sent",
-    "reply",
-    "response",
-    "realm",
-    "realm_octets",
-    "session",
-    "session_octets",
-    "status",
-];
-
 /// The entry that a value is.
-#[tactic(auto, using(crate::proofs::Lines::entry_keys, crate::proofs::Lines::entry_run, crate::proofs::Lines::entry_time, crate::proofs::Lines::entry_home, crate::proofs::Lines::entry_lane, crate::proofs::Lines::entry_serial, crate::proofs::Lines::entry_record, crate::proofs::Lines::entry_client, crate::proofs::Lines::entry_port, crate::proofs::Lines::entry_identifier, crate::proofs::Lines::entry_authenticator, crate::proofs::Lines::entry_sent, crate::proofs::Lines::entry_reply, crate::proofs::Lines::entry_response, crate::proofs::Lines::entry_realm, crate::proofs::Lines::entry_session, crate::proofs::Lines::entry_status))]
+#[tactic(auto, using(crate::proofs::Lines::entry_members, crate::proofs::Lines::entry_run, crate::proofs::Lines::entry_time, crate::proofs::Lines::entry_home, crate::proofs::Lines::entry_lane, crate::proofs::Lines::entry_serial, crate::proofs::Lines::entry_record, crate::proofs::Lines::entry_client, crate::proofs::Lines::entry_port, crate::proofs::Lines::entry_identifier, crate::proofs::Lines::entry_authenticator, crate::proofs::Lines::entry_sent, crate::proofs::Lines::entry_reply, crate::proofs::Lines::entry_response, crate::proofs::Lines::entry_realm, crate::proofs::Lines::entry_session, crate::proofs::Lines::entry_status))]
 fn entry_of<'a>(
     alloc: Global,
     value: &Value<'a>,
@@ -145,7 +124,7 @@ fn entry_of<'a>(
     requires { HasText (codes "type") (value_view value.now) (codes "entry") }
     ensures { MatchResult result (λ entry. IsEntry (value_view value.now) entry) (λ fault. Denies fault ((entry : TheEntry) × IsEntry (value_view value.now) entry)) }
 {
-    if !has_keys(value, &KEYS_OF_ENTRY) {
+    if !has_members(value, members_of_entry(value)) {
         return Err(LineFault::NotALine);
     }
     let Octets {
@@ -176,12 +155,12 @@ fn entry_of<'a>(
 }
 
 /// The first line of a file that a value is.
-#[tactic(auto, using(crate::proofs::Lines::begin_keys, crate::proofs::Lines::begin_run, crate::proofs::Lines::begin_time, crate::proofs::Lines::begin_version, crate::proofs::Lines::begin_file, crate::proofs::Lines::begin_lanes))]
+#[tactic(auto, using(crate::proofs::Lines::begin_members, crate::proofs::Lines::begin_run, crate::proofs::Lines::begin_time, crate::proofs::Lines::begin_version, crate::proofs::Lines::begin_file, crate::proofs::Lines::begin_lanes))]
 fn begin_of<'a>(alloc: Global, value: &Value<'a>) -> Result<Begin<'a>, LineFault>
     requires { HasText (codes "type") (value_view value.now) (codes "begin") }
     ensures { MatchResult result (λ begin. IsBegin (value_view value.now) begin) (λ fault. Denies fault ((begin : TheBegin) × IsBegin (value_view value.now) begin)) }
 {
-    if !has_keys(value, &["type", "run", "time", "version", "file", "lanes"]) {
+    if !has_members(value, 6) {
         return Err(LineFault::NotALine);
     }
     Ok(Begin {
@@ -189,30 +168,35 @@ fn begin_of<'a>(alloc: Global, value: &Value<'a>) -> Result<Begin<'a>, LineFault
         time: time_at(value)?,
         version: text_at(value, "version")?,
         file: number_at(value, "file")?,
-        lanes: starts_of(alloc, value)?,
+        lanes: starts_at(alloc, value)?,
     })
 }
 
 /// The lanes of the first line of a file.
-fn starts_of<'a>(alloc: Global, value: &Value<'a>) -> Result<Vec<LaneStart<'a>>, LineFault>
+#[tactic(auto, using(crate::proofs::Lists::lanes_found, crate::proofs::Lists::no_list_of_lanes, crate::proofs::Lists::no_lanes_in))]
+fn starts_at<'a>(alloc: Global, value: &Value<'a>) -> Result<Vec<LaneStart<'a>>, LineFault>
     ensures { MatchResult result (λ lanes. HasLanes IsLaneStart (value_view value.now) lanes.items) (λ fault. Denies fault ((lanes : List TheStart) × HasLanes IsLaneStart (value_view value.now) lanes)) }
 {
-    let Some(Value::Array(values)) = value.get("lanes") else {
-        return Err(LineFault::NotALine);
-    };
+    starts_of(alloc, lanes_at(value)?)
+}
+
+/// The lanes that these values are.
+fn starts_of<'a>(alloc: Global, values: &[Value<'a>]) -> Result<Vec<LaneStart<'a>>, LineFault>
+    ensures { MatchResult result (λ lanes. AreEach IsLaneStart (items_view values.now) lanes.items) (λ fault. Denies fault ((lanes : List TheStart) × AreEach IsLaneStart (items_view values.now) lanes)) }
+{
     let mut starts = Vec::with_capacity(alloc, values.len())?;
-    for value in values.iter() {
+    for value in values {
         push(&mut starts, start_of(value)?)?;
     }
     Ok(starts)
 }
 
 /// The lane that a value of that list is.
-#[tactic(auto, using(crate::proofs::Lines::start_keys, crate::proofs::Lines::start_lane, crate::proofs::Lines::start_home, crate::proofs::Lines::start_serial))]
+#[tactic(auto, using(crate::proofs::Lines::start_members, crate::proofs::Lines::start_lane, crate::proofs::Lines::start_home, crate::proofs::Lines::start_serial))]
 fn start_of<'a>(value: &Value<'a>) -> Result<LaneStart<'a>, LineFault>
     ensures { MatchResult result (λ start. IsLaneStart (value_view value.now) start) (λ fault. Denies fault ((start : TheStart) × IsLaneStart (value_view value.now) start)) }
 {
-    if !has_keys(value, &["lane", "home", "serial"]) {
+    if !has_members(value, 3) {
         return Err(LineFault::NotALine);
     }
     Ok(LaneStart {
@@ -223,41 +207,46 @@ fn start_of<'a>(value: &Value<'a>) -> Result<LaneStart<'a>, LineFault>
 }
 
 /// The end line that a value is.
-#[tactic(auto, using(crate::proofs::Lines::end_keys, crate::proofs::Lines::end_run, crate::proofs::Lines::end_time, crate::proofs::Lines::end_lanes))]
+#[tactic(auto, using(crate::proofs::Lines::end_members, crate::proofs::Lines::end_run, crate::proofs::Lines::end_time, crate::proofs::Lines::end_lanes))]
 fn end_of<'a>(alloc: Global, value: &Value<'a>) -> Result<End<'a>, LineFault>
     requires { HasText (codes "type") (value_view value.now) (codes "end") }
     ensures { MatchResult result (λ end. IsEnd (value_view value.now) end) (λ fault. Denies fault ((end : TheEnd) × IsEnd (value_view value.now) end)) }
 {
-    if !has_keys(value, &["type", "run", "time", "lanes"]) {
+    if !has_members(value, 4) {
         return Err(LineFault::NotALine);
     }
     Ok(End {
         run: run_at(value)?,
         time: time_at(value)?,
-        lanes: counts_of(alloc, value)?,
+        lanes: counts_at(alloc, value)?,
     })
 }
 
 /// The lanes of an end line.
-fn counts_of(alloc: Global, value: &Value<'_>) -> Result<Vec<LaneCount>, LineFault>
+#[tactic(auto, using(crate::proofs::Lists::lanes_found, crate::proofs::Lists::no_list_of_lanes, crate::proofs::Lists::no_lanes_in))]
+fn counts_at(alloc: Global, value: &Value<'_>) -> Result<Vec<LaneCount>, LineFault>
     ensures { MatchResult result (λ lanes. HasLanes IsLaneCount (value_view value.now) lanes.items) (λ fault. Denies fault ((lanes : List TheCount) × HasLanes IsLaneCount (value_view value.now) lanes)) }
 {
-    let Some(Value::Array(values)) = value.get("lanes") else {
-        return Err(LineFault::NotALine);
-    };
+    counts_of(alloc, lanes_at(value)?)
+}
+
+/// The lanes that these values count.
+fn counts_of(alloc: Global, values: &[Value<'_>]) -> Result<Vec<LaneCount>, LineFault>
+    ensures { MatchResult result (λ lanes. AreEach IsLaneCount (items_view values.now) lanes.items) (λ fault. Denies fault ((lanes : List TheCount) × AreEach IsLaneCount (items_view values.now) lanes)) }
+{
     let mut counts = Vec::with_capacity(alloc, values.len())?;
-    for value in values.iter() {
+    for value in values {
         push(&mut counts, count_of(value)?)?;
     }
     Ok(counts)
 }
 
 /// The lane that a value of that list counts.
-#[tactic(auto, using(crate::proofs::Lines::count_keys, crate::proofs::Lines::count_lane, crate::proofs::Lines::count_entries))]
+#[tactic(auto, using(crate::proofs::Lines::count_members, crate::proofs::Lines::count_lane, crate::proofs::Lines::count_entries))]
 fn count_of(value: &Value<'_>) -> Result<LaneCount, LineFault>
     ensures { MatchResult result (λ count. IsLaneCount (value_view value.now) count) (λ fault. Denies fault ((count : TheCount) × IsLaneCount (value_view value.now) count)) }
 {
-    if !has_keys(value, &["lane", "entries"]) {
+    if !has_members(value, 2) {
         return Err(LineFault::NotALine);
     }
     Ok(LaneCount {

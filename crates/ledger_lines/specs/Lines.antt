@@ -1,24 +1,23 @@
 -- Lines of a ledger (own): objects of JSON (RFC 8259), with their keys in any order, each once.
-use Rattle.std.specs.Prelude.{◌≡◌, ℕ, ◌<◌, ◌≤◌, ◌*◌, ◌^◌, List, [], ◌∷◌, length, All, Contains, codes, Bool, option_copied, IsTrue, cond, ◌==◌, Option, Some, None, Ok, ◌⊎◌, ⊤}
-use Rattle.std.specs.List.{zip}
+use Rattle.std.specs.Prelude.{◌≡◌, ℕ, ◌<◌, ◌≤◌, ◌*◌, ◌^◌, ◌+◌, List, length, get_or, codes, Bool, MatchOption, option_copied, IsTrue, cond, ◌==◌, Option, Some, None, Ok, ◌⊎◌, ⊤}
 use Rattle.std.specs.Int.{w64, from_be_bytes}
 use Rattle.std.specs.Char.{is_ascii_digit}
 use Rattle.std.specs.Str.{IsUtf8}
 use Rattle.std.specs.Str.Parse.{IsNumeral, digits_value, without_leading_plus}
-use Rattle.json.specs.Json.{Json, string, number, array, object, Items, no_items, item, Members, document}
+use Rattle.json.specs.Json.{Json, null, boolean, string, number, array, object, Items, no_items, item, document}
 use Rattle.json.specs.Find.{get}
 use Rattle.json.specs.Strict.{keys, HasUniqueKeys}
 use Rattle.hex.specs.Hex.{decode_of}
 use Rattle.rad_realms.specs.Address.{address_in}
 use Rattle.rad_ledger.specs.declared.entry.Entry.{Entry}
-use Rattle.rad_ledger.specs.declared.begin.Begin.{Begin}
-use Rattle.rad_ledger.specs.declared.begin.End.{End}
-use Rattle.rad_ledger.specs.declared.begin.LaneStart.{LaneStart}
-use Rattle.rad_ledger.specs.declared.begin.LaneCount.{LaneCount}
-use Rattle.rad_ledger.specs.declared.faults.LineFault.{LineFault}
-use Rattle.rad_ledger.specs.declared.faults.LineFault.TheVariants.{NotALine, OutOfMemory}
-use Rattle.rad_ledger.specs.declared.reading.Line.{Line}
-use Rattle.rad_ledger.specs.declared.reading.Line.TheVariants.{Begin as begins, Entry as enters, End as ends}
+use Rattle.ledger_lines.specs.declared.begin.Begin.{Begin}
+use Rattle.ledger_lines.specs.declared.begin.End.{End}
+use Rattle.ledger_lines.specs.declared.begin.LaneStart.{LaneStart}
+use Rattle.ledger_lines.specs.declared.begin.LaneCount.{LaneCount}
+use Rattle.ledger_lines.specs.declared.faults.LineFault.{LineFault}
+use Rattle.ledger_lines.specs.declared.faults.LineFault.TheVariants.{NotALine, OutOfMemory}
+use Rattle.ledger_lines.specs.declared.reading.Line.{Line}
+use Rattle.ledger_lines.specs.declared.reading.Line.TheVariants.{Begin as begins, Entry as enters, End as ends}
 
 -- A fault tells that nothing is there, where it is not want of memory.
 abbrev pub Denies : LineFault → Type 0 → Type 0
@@ -54,11 +53,18 @@ abbrev pub MayHaveWords : List ℕ → List ℕ → Json → Option (List ℕ) �
 MayHaveWords key other value None = Lacks key value × Lacks other value
 MayHaveWords key other value (Some octets) = (HasText key value octets × Lacks other value) ⊎ (Lacks key value × HasOctets other value octets)
 
--- An object that has no keys but these.
-pub record HasKeys (known : List (List ℕ)) (value : Json) : Type 0 where
-  pub members : Members
-  pub is_object : value ≡ object members
-  pub known_all : All (λ key. Contains known key) (keys members)
+-- An object of so many members. No key stands in it twice (`IsValue`), so it has no others than as many that it is known to have.
+abbrev pub HasMembers : ℕ → Json → Type 0
+HasMembers count null = ⊥
+HasMembers count (boolean b) = ⊥
+HasMembers count (number digits) = ⊥
+HasMembers count (string text) = ⊥
+HasMembers count (array items) = ⊥
+HasMembers count (object members) = length (keys members) ≡ count
+
+-- One where an object has this key, and else none.
+abbrev pub one_at : List ℕ → Json → ℕ
+one_at key value = MatchOption (get key value) 0 (λ found. 1)
 
 -- A moment, as `2026-01-31T23:59:59.999Z`: a digit where the form has `d`, and else what the form has.
 abbrev pub has_form : ℕ → ℕ → Bool
@@ -66,7 +72,7 @@ has_form form octet = cond (form == 100) (is_ascii_digit octet) (octet == form)
 
 pub record IsTime (text : List ℕ) : Type 0 where
   pub long : length text ≡ 24
-  pub formed : All (λ both. IsTrue (has_form both.0 both.1)) (zip (codes "dddd-dd-ddTdd:dd:dd.dddZ") text)
+  pub formed : (place : ℕ) → place < 24 → IsTrue (has_form (get_or (codes "dddd-dd-ddTdd:dd:dd.dddZ") place 0) (get_or text place 0))
 
 -- So many octets, as twice as many digits.
 pub record HasArray (key : List ℕ) (count : ℕ) (value : Json) (octets : List ℕ) : Type 0 where
@@ -94,26 +100,14 @@ pub record HasClient (value : Json) (client : List ℕ) : Type 0 where
 abbrev pub HasAuthenticator : Json → List ℕ → Type 0
 HasAuthenticator value octets = HasArray (codes "authenticator") 16 value octets
 
-abbrev pub keys_of_entry : List (List ℕ)
-keys_of_entry =
-    codes "type" ∷ codes "run" ∷ codes "time" ∷ codes "home" ∷ codes "lane" ∷ codes "serial" ∷ codes "record" ∷ codes "client" ∷ codes "port"
-    ∷ codes "identifier" ∷ codes "authenticator" ∷ codes "sent" ∷ codes "reply" ∷ codes "response" ∷ codes "realm" ∷ codes "realm_octets"
-    ∷ codes "session" ∷ codes "session_octets" ∷ codes "status" ∷ []
-
-abbrev pub keys_of_begin : List (List ℕ)
-keys_of_begin = codes "type" ∷ codes "run" ∷ codes "time" ∷ codes "version" ∷ codes "file" ∷ codes "lanes" ∷ []
-
-abbrev pub keys_of_end : List (List ℕ)
-keys_of_end = codes "type" ∷ codes "run" ∷ codes "time" ∷ codes "lanes" ∷ []
-
-abbrev pub keys_of_start : List (List ℕ)
-keys_of_start = codes "lane" ∷ codes "home" ∷ codes "serial" ∷ []
-
-abbrev pub keys_of_count : List (List ℕ)
-keys_of_count = codes "lane" ∷ codes "entries" ∷ []
+-- How many members an entry has: fourteen, and those that it may lack.
+abbrev pub members_of_entry : Json → ℕ
+members_of_entry value =
+    14 + one_at (codes "realm") value + one_at (codes "realm_octets") value + one_at (codes "session") value
+    + one_at (codes "session_octets") value + one_at (codes "status") value
 
 pub record IsEntry (value : Json) (e : Entry) : Type 0 where
-  pub its_keys : HasKeys keys_of_entry value
+  pub its_members : HasMembers (members_of_entry value) value
   pub type_is : HasText (codes "type") value (codes "entry")
   pub run : HasRun value e.run
   pub time : HasTime value e.time.now
@@ -139,24 +133,35 @@ AreEach Is no_items (x ∷ xs) = ⊥
 AreEach Is (item value values) [] = ⊥
 AreEach Is (item value values) (x ∷ xs) = Is value x × AreEach Is values xs
 
+abbrev pub as_items : Json → Option Items
+as_items null = None
+as_items (boolean b) = None
+as_items (number digits) = None
+as_items (string text) = None
+as_items (array items) = Some items
+as_items (object members) = None
+
+abbrev pub HasList : Json → Items → Type 0
+HasList value items = get (codes "lanes") value ≡ Some (array items)
+
 pub record HasLanes {X : Type 0} (Is : Json → X → Type 0) (value : Json) (lanes : List X) : Type 0 where
   pub items : Items
-  pub there : get (codes "lanes") value ≡ Some (array items)
+  pub there : HasList value items
   pub are : AreEach Is items lanes
 
 pub record IsLaneStart (value : Json) (start : LaneStart) : Type 0 where
-  pub its_keys : HasKeys keys_of_start value
+  pub its_members : HasMembers 3 value
   pub lane : HasNumber (codes "lane") (2 ^ 16) value start.lane
   pub home : HasText (codes "home") value start.home.now
   pub serial : HasNumber (codes "serial") (2 ^ 63) value start.serial
 
 pub record IsLaneCount (value : Json) (count : LaneCount) : Type 0 where
-  pub its_keys : HasKeys keys_of_count value
+  pub its_members : HasMembers 2 value
   pub lane : HasNumber (codes "lane") (2 ^ 16) value count.lane
   pub entries : HasNumber (codes "entries") (2 ^ 64) value count.entries
 
 pub record IsBegin (value : Json) (begin : Begin) : Type 0 where
-  pub its_keys : HasKeys keys_of_begin value
+  pub its_members : HasMembers 6 value
   pub type_is : HasText (codes "type") value (codes "begin")
   pub run : HasRun value begin.run
   pub time : HasTime value begin.time.now
@@ -165,7 +170,7 @@ pub record IsBegin (value : Json) (begin : Begin) : Type 0 where
   pub lanes : HasLanes IsLaneStart value begin.lanes.items
 
 pub record IsEnd (value : Json) (end : End) : Type 0 where
-  pub its_keys : HasKeys keys_of_end value
+  pub its_members : HasMembers 4 value
   pub type_is : HasText (codes "type") value (codes "end")
   pub run : HasRun value end.run
   pub time : HasTime value end.time.now

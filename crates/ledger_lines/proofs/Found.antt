@@ -2,13 +2,13 @@
 use Rattle.std.proofs.Common.{◌≡◌, ℕ, ◌<◌, ◌≤◌, ◌^◌, List, Option, Some, None, MatchOption, IfSome, Result, Ok, Err, MatchResult, ok_or, refl, sym, ap, ◌∙◌, subst, arith}
 use Rattle.std.specs.Prelude.{⊤}
 use Rattle.std.specs.Str.Parse.{IsNumeral, digits_value, without_leading_plus, ParsesUnsigned}
-use Rattle.json.specs.Json.{Json, null, boolean, number, string, array, object}
+use Rattle.json.specs.Json.{Json, Items, null, boolean, number, string, array, object}
 use Rattle.json.specs.Find.{get, as_str, as_number}
 use Rattle.hex.specs.Hex.{decode_of}
 use Rattle.hex.specs.declared.error.FromHexError.{FromHexError}
-use Rattle.rad_ledger.specs.Lines.{Denies, HasText, HasNumber, HasOctets}
-use Rattle.rad_ledger.specs.declared.faults.LineFault.{LineFault}
-use Rattle.rad_ledger.proofs.Lines.{denied}
+use Rattle.ledger_lines.specs.Lines.{Denies, HasText, HasNumber, HasOctets, as_items}
+use Rattle.ledger_lines.specs.declared.faults.LineFault.{LineFault}
+use Rattle.ledger_lines.proofs.Lines.{denied}
 
 abbrev pub nothing : Option ℕ
 nothing = None
@@ -34,6 +34,14 @@ number_by (number s) t e = ap number (same_some s t e)
 number_by (string s) t e = absurd (differ None t refl e)
 number_by (array js) t e = absurd (differ None t refl e)
 number_by (object ms) t e = absurd (differ None t refl e)
+
+pub items_by : (j : Json) (items : Items) → as_items j ≡ Some items → j ≡ array items
+items_by null items e = absurd (differ None items refl e)
+items_by (boolean b) items e = absurd (differ None items refl e)
+items_by (number s) items e = absurd (differ None items refl e)
+items_by (string s) items e = absurd (differ None items refl e)
+items_by (array js) items e = ap array (same_some js items e)
+items_by (object ms) items e = absurd (differ None items refl e)
 
 module _ (key : List ℕ) (value : Json) where
   abbrev pub TextThere : Type 0
@@ -61,7 +69,7 @@ module _ (key : List ℕ) (value : Json) where
 
   module _ (found : Json) (e : Some found ≡ get key value) where
     by_digits : (n : ℕ) (digits : Option (List ℕ)) → as_number found ≡ digits → MatchOption digits (Some n ≡ None) (λ s. ParsesUnsigned 64 10 s (ok_or (Some n) s)) → HasNumber key (2 ^ 64) value n
-    by_digits n None is p = absurd (differ None n (sym p) refl)
+    by_digits n None is p = absurd (differ (Some n) n (sym p) refl)
     by_digits n (Some s) is p = record {
       digits = s;
       there = sym e ∙ ap Some (number_by found s is);

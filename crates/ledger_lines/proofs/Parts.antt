@@ -12,10 +12,10 @@ use Rattle.hex.specs.Hex.{decode_of, decode_sized}
 use Rattle.hex.proofs.HexLemmas.{decode_sized-ok, decode_sized-twice}
 use Rattle.hex.specs.declared.error.FromHexError.{FromHexError}
 use Rattle.rad_realms.specs.Address.{address_in}
-use Rattle.rad_ledger.specs.Lines.{Denies, Lacks, HasText, HasNumber, HasOctets, HasArray, HasRun, HasTime, IsTime, HasClient, MayHaveNumber, MayHaveWords, IsValue}
-use Rattle.rad_ledger.specs.declared.faults.LineFault.{LineFault}
-use Rattle.rad_ledger.proofs.Lines.{denied}
-use Rattle.rad_ledger.proofs.Found.{differ, same_some, string_by, TextThere, NumberThere, OctetsThere, narrower, too_large, none_below}
+use Rattle.ledger_lines.specs.Lines.{Denies, Lacks, HasText, HasNumber, HasOctets, HasArray, HasRun, HasTime, IsTime, HasClient, MayHaveNumber, MayHaveWords, IsValue}
+use Rattle.ledger_lines.specs.declared.faults.LineFault.{LineFault}
+use Rattle.ledger_lines.proofs.Lines.{denied}
+use Rattle.ledger_lines.proofs.Found.{differ, same_some, string_by, TextThere, NumberThere, OctetsThere, narrower, too_large, none_below}
 
 -- ---- the value of a line
 

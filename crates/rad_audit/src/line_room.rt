@@ -1,6 +1,6 @@
 //! The lines of a file, in a room of fixed size.
 
-use rad_ledger::MOST_LINE_OCTETS;
+use ledger_lines::MOST_LINE_OCTETS;
 use std::alloc::{AllocError, Global};
 use std::io::{BufRead, Read, Result};
 

@@ -1,14 +1,14 @@
 -- A value that lacks what a line has is none.
 use Rattle.std.proofs.Common.{◌≡◌, ◌≢◌, ℕ, ◌<◌, ◌≤◌, ◌^◌, List, Option, codes, option_copied, sym, subst}
 use Rattle.json.specs.Json.{Json}
-use Rattle.rad_ledger.specs.Lines.{Denies, Lacks, HasText, HasNumber, HasOctets, MayHaveNumber, MayHaveWords, HasKeys, HasRun, HasTime, HasClient, HasAuthenticator, HasLanes, IsEntry, IsBegin, IsEnd, IsLaneStart, IsLaneCount, keys_of_entry, keys_of_begin, keys_of_end, keys_of_start, keys_of_count}
+use Rattle.ledger_lines.specs.Lines.{Denies, Lacks, HasText, HasNumber, HasOctets, MayHaveNumber, MayHaveWords, HasMembers, members_of_entry, HasRun, HasTime, HasClient, HasAuthenticator, HasLanes, IsEntry, IsBegin, IsEnd, IsLaneStart, IsLaneCount}
 use Rattle.rad_ledger.specs.declared.entry.Entry.{Entry}
-use Rattle.rad_ledger.specs.declared.begin.Begin.{Begin}
-use Rattle.rad_ledger.specs.declared.begin.End.{End}
-use Rattle.rad_ledger.specs.declared.begin.LaneStart.{LaneStart}
-use Rattle.rad_ledger.specs.declared.begin.LaneCount.{LaneCount}
-use Rattle.rad_ledger.specs.declared.faults.LineFault.{LineFault}
-use Rattle.rad_ledger.specs.declared.faults.LineFault.TheVariants.{NotALine, OutOfMemory}
+use Rattle.ledger_lines.specs.declared.begin.Begin.{Begin}
+use Rattle.ledger_lines.specs.declared.begin.End.{End}
+use Rattle.ledger_lines.specs.declared.begin.LaneStart.{LaneStart}
+use Rattle.ledger_lines.specs.declared.begin.LaneCount.{LaneCount}
+use Rattle.ledger_lines.specs.declared.faults.LineFault.{LineFault}
+use Rattle.ledger_lines.specs.declared.faults.LineFault.TheVariants.{NotALine, OutOfMemory}
 
 -- What denies one thing denies another one that has it.
 pub denied : (A B : Type 0) → (B → A) → (fault : LineFault) → Denies fault A → Denies fault B
@@ -19,8 +19,8 @@ module _ (value : Json) (fault : LineFault) where
   abbrev pub IsEntryThere : Type 0
   IsEntryThere = (x : Entry) × IsEntry value x
 
-  pub entry_keys : ¬ HasKeys keys_of_entry value → ¬ IsEntryThere
-  entry_keys n p = n p.1.its_keys
+  pub entry_members : ¬ HasMembers (members_of_entry value) value → ¬ IsEntryThere
+  entry_members n p = n p.1.its_members
 
   pub entry_run : Denies fault ((x : ℕ) × HasRun value x) → Denies fault IsEntryThere
   entry_run = denied ((x : ℕ) × HasRun value x) IsEntryThere (λ p. (p.0.run, p.1.run)) fault
@@ -73,8 +73,8 @@ module _ (value : Json) (fault : LineFault) where
   abbrev pub IsBeginThere : Type 0
   IsBeginThere = (x : Begin) × IsBegin value x
 
-  pub begin_keys : ¬ HasKeys keys_of_begin value → ¬ IsBeginThere
-  begin_keys n p = n p.1.its_keys
+  pub begin_members : ¬ HasMembers 6 value → ¬ IsBeginThere
+  begin_members n p = n p.1.its_members
 
   pub begin_run : Denies fault ((x : ℕ) × HasRun value x) → Denies fault IsBeginThere
   begin_run = denied ((x : ℕ) × HasRun value x) IsBeginThere (λ p. (p.0.run, p.1.run)) fault
@@ -94,8 +94,8 @@ module _ (value : Json) (fault : LineFault) where
   abbrev pub IsEndThere : Type 0
   IsEndThere = (x : End) × IsEnd value x
 
-  pub end_keys : ¬ HasKeys keys_of_end value → ¬ IsEndThere
-  end_keys n p = n p.1.its_keys
+  pub end_members : ¬ HasMembers 4 value → ¬ IsEndThere
+  end_members n p = n p.1.its_members
 
   pub end_run : Denies fault ((x : ℕ) × HasRun value x) → Denies fault IsEndThere
   end_run = denied ((x : ℕ) × HasRun value x) IsEndThere (λ p. (p.0.run, p.1.run)) fault
@@ -109,8 +109,8 @@ module _ (value : Json) (fault : LineFault) where
   abbrev pub IsStartThere : Type 0
   IsStartThere = (x : LaneStart) × IsLaneStart value x
 
-  pub start_keys : ¬ HasKeys keys_of_start value → ¬ IsStartThere
-  start_keys n p = n p.1.its_keys
+  pub start_members : ¬ HasMembers 3 value → ¬ IsStartThere
+  start_members n p = n p.1.its_members
 
   pub start_lane : Denies fault ((x : ℕ) × HasNumber (codes "lane") (2 ^ 16) value x) → Denies fault IsStartThere
   start_lane = denied ((x : ℕ) × HasNumber (codes "lane") (2 ^ 16) value x) IsStartThere (λ p. (p.0.lane, p.1.lane)) fault
@@ -124,8 +124,8 @@ module _ (value : Json) (fault : LineFault) where
   abbrev pub IsCountThere : Type 0
   IsCountThere = (x : LaneCount) × IsLaneCount value x
 
-  pub count_keys : ¬ HasKeys keys_of_count value → ¬ IsCountThere
-  count_keys n p = n p.1.its_keys
+  pub count_members : ¬ HasMembers 2 value → ¬ IsCountThere
+  count_members n p = n p.1.its_members
 
   pub count_lane : Denies fault ((x : ℕ) × HasNumber (codes "lane") (2 ^ 16) value x) → Denies fault IsCountThere
   count_lane = denied ((x : ℕ) × HasNumber (codes "lane") (2 ^ 16) value x) IsCountThere (λ p. (p.0.lane, p.1.lane)) fault

@@ -1,8 +1,8 @@
 //! Lines of a ledger, as they are written.
 
 use crate::begin::{Begin, End};
-use crate::entry::Entry;
 use json::Writer;
+use rad_ledger::Entry;
 use std::alloc::{AllocError, Global};
 
 /// Writes a line that names a run, with its line end, behind what these octets are.

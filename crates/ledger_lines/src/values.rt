@@ -1,9 +1,9 @@
 //! What a line has at its keys.
 
-ghost use Rattle.std.specs.Prelude.{◌≡◌, ◌↔◌, ◌^◌, ℕ, List, Option, codes, map, Contains, MatchResult, IsTrue, option_copied};
-ghost use Rattle.json.specs.Json.{Json};
-ghost use Rattle.json.specs.Value.{value_view};
-ghost use Rattle.rad_ledger.specs.Lines.{Denies, HasAuthenticator, HasClient, HasKeys, HasNumber, HasOctets, HasRun, HasText, HasTime, has_form, IsTime, IsValue, MayHaveNumber, MayHaveWords};
+ghost use Rattle.std.specs.Prelude.{◌≡◌, ◌↔◌, ◌^◌, ℕ, List, Option, codes, ◌≤◌, MatchResult, IsTrue, option_copied, option_map};
+ghost use Rattle.json.specs.Json.{Items, Json};
+ghost use Rattle.json.specs.Value.{items_view, value_view};
+ghost use Rattle.ledger_lines.specs.Lines.{as_items, Denies, HasAuthenticator, HasClient, HasList, HasMembers, HasNumber, HasOctets, HasRun, HasText, HasTime, has_form, IsTime, IsValue, MayHaveNumber, MayHaveWords, members_of_entry as the_members_of_entry, one_at as the_one_at};
 
 use crate::faults::LineFault;
 use hex::FromHexError;
@@ -30,23 +30,36 @@ pub(crate) fn read_value<'a>(
     }
 }
 
-/// Whether a value is an object of no keys but these.
-pub(crate) fn has_keys(value: &Value<'_>, known: &[&str]) -> bool
-    ensures { IsTrue result ↔ HasKeys (map (λ key. key.now) known.now) (value_view value.now) }
+/// Whether a value is an object of so many members.
+pub(crate) fn has_members(value: &Value<'_>, count: usize) -> bool
+    ensures { IsTrue result ↔ HasMembers count (value_view value.now) }
 {
     match value {
-        Value::Object(members) => members
-            .iter()
-            .all(|member: &(&str, Value<'_>)| is_known(known, member.0)),
+        Value::Object(members) => members.len() == count,
         _ => false,
     }
 }
 
-/// Whether a key is among these.
-fn is_known(known: &[&str], key: &str) -> bool
-    ensures { IsTrue result ↔ Contains (map (λ key. key.now) known.now) key.now }
+/// How many members an entry has, with those that it may lack.
+pub(crate) fn members_of_entry(value: &Value<'_>) -> usize
+    ensures { result ≡ the_members_of_entry (value_view value.now) }
 {
-    known.iter().any(|other: &&str| *other == key)
+    14 + one_at(value, "realm")
+        + one_at(value, "realm_octets")
+        + one_at(value, "session")
+        + one_at(value, "session_octets")
+        + one_at(value, "status")
+}
+
+/// One where an object has this key, and else none.
+fn one_at(value: &Value<'_>, key: &str) -> usize
+    ensures is { result ≡ the_one_at key.now (value_view value.now) }
+    ensures most { result ≤ 1 }
+{
+    match value.get(key) {
+        Some(_) => 1,
+        None => 0,
+    }
 }
 
 /// The text at a key.
@@ -170,16 +183,22 @@ pub(crate) fn time_at<'a>(value: &Value<'a>) -> Result<&'a str, LineFault>
     }
 }
 
+/// The form of a moment: `d` stands for a digit.
+const FORM: [u8; 24] = *b"dddd-dd-ddTdd:dd:dd.dddZ";
+
 /// A moment of the form `2026-01-31T23:59:59.999Z`.
 fn is_time(octets: &[u8]) -> bool
     ensures { IsTrue result ↔ IsTime octets.now }
 {
-    let form = b"dddd-dd-ddTdd:dd:dd.dddZ";
-    octets.len() == form.len()
-        && form
-            .iter()
-            .zip(octets)
-            .all(|(form, octet)| fits(*form, *octet))
+    if octets.len() != 24 {
+        return false;
+    }
+    for place in 0..24 {
+        if !fits(FORM[place], octets[place]) {
+            return false;
+        }
+    }
+    true
 }
 
 /// Whether an octet stands where the form of a moment has this one: `d` for a digit.
@@ -241,5 +260,30 @@ pub(crate) fn status_at(value: &Value<'_>) -> Result<Option<u32>, LineFault>
     match u32::try_from(number_at(value, "status")?) {
         Ok(status) => Ok(Some(status)),
         Err(_) => Err(LineFault::NotALine),
+    }
+}
+
+/// The values of the list of lanes.
+#[tactic(auto, using(crate::proofs::Lists::list_found, crate::proofs::Lists::no_list, crate::proofs::Lists::no_list_there))]
+pub(crate) fn lanes_at<'v, 'a>(value: &'v Value<'a>) -> Result<&'v [Value<'a>], LineFault>
+    ensures { MatchResult result (λ values. HasList (value_view value.now) (items_view values.now)) (λ fault. Denies fault ((items : Items) × HasList (value_view value.now) items)) }
+{
+    let Some(found) = value.get("lanes") else {
+        return Err(LineFault::NotALine);
+    };
+    match items_of(found) {
+        Some(values) => Ok(values),
+        None => Err(LineFault::NotALine),
+    }
+}
+
+/// The values of a list.
+fn items_of<'v, 'a>(value: &'v Value<'a>) -> Option<&'v [Value<'a>]>
+    ensures { option_map (λ values. items_view values.now) result ≡ as_items (value_view value.now) }
+{
+    if let Value::Array(values) = value {
+        Some(values.as_slice())
+    } else {
+        None
     }
 }
