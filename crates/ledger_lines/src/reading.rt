@@ -115,7 +115,7 @@ fn line_of<'a>(
 }
 
 /// The entry that a value is.
-#[tactic(auto, using(crate::proofs::Lines::entry_members, crate::proofs::Lines::entry_run, crate::proofs::Lines::entry_time, crate::proofs::Lines::entry_home, crate::proofs::Lines::entry_lane, crate::proofs::Lines::entry_serial, crate::proofs::Lines::entry_record, crate::proofs::Lines::entry_client, crate::proofs::Lines::entry_port, crate::proofs::Lines::entry_identifier, crate::proofs::Lines::entry_authenticator, crate::proofs::Lines::entry_sent, crate::proofs::Lines::entry_reply, crate::proofs::Lines::entry_response, crate::proofs::Lines::entry_realm, crate::proofs::Lines::entry_session, crate::proofs::Lines::entry_status))]
+#[tactic(auto, using(crate::proofs::Lines::entry_members))]
 fn entry_of<'a>(
     alloc: Global,
     value: &Value<'a>,
@@ -134,23 +134,39 @@ fn entry_of<'a>(
         realm,
         session,
     } = room;
+    let run = run_at(value)?;
+    let time = time_at(value)?;
+    let home = text_at(value, "home")?;
+    let lane = short_at(value, "lane")?;
+    let serial = serial_at(value, "serial")?;
+    let number = number_at(value, "record")?;
+    let client = client_at(value)?;
+    let port = short_at(value, "port")?;
+    let identifier = octet_at(value, "identifier")?;
+    let authenticator = authenticator_at(value)?;
+    let sent = octets_at(alloc, value, "sent", sent)?;
+    let reply = octets_at(alloc, value, "reply", reply)?;
+    let response = octets_at(alloc, value, "response", response)?;
+    let realm = words_at(alloc, value, "realm", "realm_octets", realm)?;
+    let session = words_at(alloc, value, "session", "session_octets", session)?;
+    let status = status_at(value)?;
     Ok(Entry {
-        run: run_at(value)?,
-        time: time_at(value)?,
-        home: text_at(value, "home")?,
-        lane: short_at(value, "lane")?,
-        serial: serial_at(value, "serial")?,
-        number: number_at(value, "record")?,
-        client: client_at(value)?,
-        port: short_at(value, "port")?,
-        identifier: octet_at(value, "identifier")?,
-        authenticator: authenticator_at(value)?,
-        sent: octets_at(alloc, value, "sent", sent)?,
-        reply: octets_at(alloc, value, "reply", reply)?,
-        response: octets_at(alloc, value, "response", response)?,
-        realm: words_at(alloc, value, "realm", "realm_octets", realm)?,
-        session: words_at(alloc, value, "session", "session_octets", session)?,
-        status: status_at(value)?,
+        run,
+        time,
+        home,
+        lane,
+        serial,
+        number,
+        client,
+        port,
+        identifier,
+        authenticator,
+        sent,
+        reply,
+        response,
+        realm,
+        session,
+        status,
     })
 }
 
