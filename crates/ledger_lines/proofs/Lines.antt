@@ -1,7 +1,7 @@
 -- A value that lacks what a line has is none.
-use Rattle.std.proofs.Common.{◌≡◌, ◌≢◌, ℕ, ◌<◌, ◌≤◌, ◌^◌, List, Option, codes, option_copied, sym, subst}
+use Rattle.std.proofs.Common.{ℕ, ◌^◌, List, Option, codes, option_copied}
 use Rattle.json.specs.Json.{Json}
-use Rattle.ledger_lines.specs.Lines.{Denies, Lacks, HasText, HasNumber, HasOctets, MayHaveNumber, MayHaveWords, HasMembers, members_of_entry, HasRun, HasTime, HasClient, HasAuthenticator, HasLanes, IsEntry, IsBegin, IsEnd, IsLaneStart, IsLaneCount}
+use Rattle.ledger_lines.specs.Lines.{Denies, HasText, HasNumber, HasOctets, MayHaveNumber, MayHaveWords, HasMembers, members_of_entry, HasRun, HasTime, HasClient, HasAuthenticator, HasLanes, IsEntry, IsBegin, IsEnd, IsLaneStart, IsLaneCount}
 use Rattle.rad_ledger.specs.declared.entry.Entry.{Entry}
 use Rattle.ledger_lines.specs.declared.begin.Begin.{Begin}
 use Rattle.ledger_lines.specs.declared.begin.End.{End}

@@ -1,18 +1,18 @@
 -- What texts and numbers at the keys of a line show of its parts.
-use Rattle.std.proofs.Common.{◌≡◌, ◌≢◌, ℕ, ◌*◌, ◌<◌, ◌≤◌, ◌^◌, List, length, codes, Option, Some, None, MatchOption, Result, Ok, Err, MatchResult, refl, sym, ap, ◌∙◌, subst, arith, inl, inr}
+use Rattle.std.proofs.Common.{◌≡◌, ◌≢◌, ℕ, ◌*◌, ◌<◌, ◌≤◌, ◌^◌, List, length, codes, Option, Some, None, Result, Ok, Err, MatchResult, refl, sym, ap, ◌∙◌, subst, arith, inl, inr}
 use Rattle.std.specs.Prelude.{IsSomeAnd, ⊤}
 use Rattle.std.specs.Int.{w64, from_be_bytes}
 use Rattle.std.specs.Str.{IsUtf8}
-use Rattle.json.specs.Json.{Json, string, number, document}
+use Rattle.json.specs.Json.{Json, string, document}
 use Rattle.json.specs.Find.{get, as_str}
 use Rattle.json.specs.Strict.{HasUniqueKeys}
 use Rattle.json.specs.declared.error.Error.{Error}
 use Rattle.json.specs.declared.error.Error.TheVariants.{Invalid, OutOfMemory, TooLong, DuplicateKey}
-use Rattle.hex.specs.Hex.{decode_of, decode_sized}
+use Rattle.hex.specs.Hex.{decode_sized}
 use Rattle.hex.proofs.HexLemmas.{decode_sized-ok, decode_sized-twice}
 use Rattle.hex.specs.declared.error.FromHexError.{FromHexError}
 use Rattle.rad_realms.specs.Address.{address_in}
-use Rattle.ledger_lines.specs.Lines.{Denies, Lacks, HasText, HasNumber, HasOctets, HasArray, HasRun, HasTime, IsTime, HasClient, MayHaveNumber, MayHaveWords, IsValue}
+use Rattle.ledger_lines.specs.Lines.{Denies, HasText, HasNumber, HasOctets, HasArray, HasRun, HasTime, IsTime, HasClient, MayHaveNumber, MayHaveWords, IsValue}
 use Rattle.ledger_lines.specs.declared.faults.LineFault.{LineFault}
 use Rattle.ledger_lines.proofs.Lines.{denied}
 use Rattle.ledger_lines.proofs.Found.{differ, same_some, string_by, TextThere, NumberThere, OctetsThere, narrower, too_large, none_below}

@@ -1,7 +1,7 @@
 -- What is wrong with an entry, out of what its parts show.
-use Rattle.std.proofs.Common.{◌≡◌, ℕ, ◌<◌, ◌≤◌, List, Option, Some, None, MatchOption, IfSome, Result, Ok, Err, IfOk, sym, subst}
+use Rattle.std.proofs.Common.{ℕ, List, Option, Some, None, MatchOption, IfSome, Result, Ok, Err, IfOk}
 use Rattle.rad_packet.specs.Packet.{IsPacketText}
-use Rattle.rad_ledger.specs.Judging.{ArePackets, ArePacketsRight, HasSent, HasReply, HasResponse, IsInPlace, IsWrong, IsWrongPacket, JudgesReply, head_of}
+use Rattle.rad_ledger.specs.Judging.{ArePackets, ArePacketsRight, HasSent, HasReply, HasResponse, IsWrong, IsWrongPacket, JudgesReply, head_of}
 use Rattle.rad_ledger.specs.declared.entry.Entry.{Entry}
 use Rattle.rad_ledger.specs.declared.reason.Reason.{Reason}
 use Rattle.rad_ledger.specs.declared.reason.Reason.TheVariants.{NotEntry, NoPacket, WrongSent, WrongReply, WrongResponse, SerialNotAbove, UnknownLane}

@@ -1,5 +1,5 @@
 -- The last attribute of a packet.
-use Rattle.std.proofs.Common.{◌≡◌, ◌≢◌, ℕ, List, [], ◌∷◌, ◌++◌, refl, sym, ap, ◌∙◌, Option, Some, None, MatchOption, append_assoc, length, drop, arith, length-append}
+use Rattle.std.proofs.Common.{◌≡◌, ℕ, List, [], ◌∷◌, ◌++◌, refl, sym, ap, ◌∙◌, Option, Some, None, MatchOption, append_assoc, length, drop, arith, length-append}
 use Rattle.std.proofs.lemmas.List.{same_from_push, append-nil}
 use Rattle.rad_packet.specs.Attribute.{Attribute, attributes_of}
 use Rattle.rad_packet.specs.Packet.{packet_attributes}

@@ -1,13 +1,12 @@
 -- A tally that is whole is over all that an outlet was given, and over nothing else.
-use Rattle.std.proofs.Common.{◌≡◌, ◌↔◌, ℕ, ◌+◌, ◌<◌, ◌≤◌, List, ◌∷◌, ◌++◌, length, map as each, refl, sym, ap, ◌∙◌, subst, arith, Some, length-append, get_or, inl, inr}
+use Rattle.std.proofs.Common.{◌≡◌, ◌↔◌, ℕ, ◌+◌, ◌<◌, List, ◌∷◌, length, refl, sym, ap, ◌∙◌, subst, arith, Some, length-append, get_or, inl, inr}
 use Rattle.std.specs.Prelude.{IfSome}
 use Rattle.std.specs.List.{range_with_len}
 use Rattle.std.proofs.lemmas.List.{length-map}
 use Rattle.std.proofs.lemmas.List.FromFn.{get_or-range_with_len}
 use Rattle.std.proofs.Math.Seq.{get_or-append_seam}
 use Rattle.rad_lane.specs.declared.outgoing.Outgoing.{Outgoing}
-use Rattle.rad_desk.specs.Outlet.{InOrder}
-use Rattle.rad_ledger.specs.Counting.{GoOnFrom, IsFirstGap, IsWhole, Tells}
+use Rattle.rad_ledger.specs.Counting.{GoOnFrom, IsFirstGap, Tells}
 use Rattle.rad_ledger.specs.Outlets.{serials_of, AreAllGiven}
 use Rattle.rad_ledger.specs.declared.tally.Tally.{Tally}
 use Rattle.rad_ledger.specs.declared.tally.Gap.{Gap}

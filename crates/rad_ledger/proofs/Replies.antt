@@ -1,5 +1,5 @@
 -- What a response that was made shows of the entry's.
-use Rattle.std.proofs.Common.{◌≡◌, ◌≢◌, ℕ, List, refl, sym, ap, ◌∙◌, subst}
+use Rattle.std.proofs.Common.{◌≡◌, ◌≢◌, ℕ, List, subst}
 use Rattle.rad_packet.specs.Packet.{code_of, identifier_of}
 use Rattle.rad_auth.specs.Answers.{Answers}
 use Rattle.rad_auth.specs.Refusing.{IsAnsweredOrRefused, RefusesReply}

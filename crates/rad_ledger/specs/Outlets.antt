@@ -1,5 +1,5 @@
 -- What a tally shows of the outlet of a lane (own).
-use Rattle.std.specs.Prelude.{◌≡◌, ◌↔◌, ℕ, List, length, map as each, Some}
+use Rattle.std.specs.Prelude.{◌≡◌, ℕ, List, length, map as each, Some}
 use Rattle.rad_lane.specs.declared.outgoing.Outgoing.{Outgoing}
 use Rattle.rad_desk.specs.Outlet.{InOrder}
 use Rattle.rad_ledger.specs.declared.tally.Tally.{Tally}

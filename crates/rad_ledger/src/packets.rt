@@ -1,6 +1,6 @@
 //! Packets as a ledger has them: whole, and without padding.
 
-ghost use Rattle.std.specs.Prelude.{◌≡◌, ◌≤◌, ◌↔◌, ◌++◌, [], ◌∷◌, List, IsTrue, MatchOption};
+ghost use Rattle.std.specs.Prelude.{◌≡◌, ◌↔◌, ◌++◌, [], ◌∷◌, List, IsTrue, MatchOption};
 ghost use Rattle.rad_packet.specs.Attribute.{Attribute};
 ghost use Rattle.rad_packet.specs.Item.{attribute_at};
 ghost use Rattle.rad_packet.specs.Packet.{IsPacketText, packet_attributes};
