@@ -2,4 +2,4 @@ pub mod Lines
 pub mod Found
 pub mod Parts
 pub mod Lists
-pub mod Kinds
+pub mod Types

@@ -78,7 +78,7 @@ impl Room {
 /// # Errors
 ///
 /// `NotALine` where it is none, `OutOfMemory` where memory was refused.
-#[tactic(auto, using(crate::proofs::Kinds::too_long, crate::proofs::Kinds::no_value_no_line, crate::proofs::Kinds::no_line, crate::proofs::Kinds::is_line))]
+#[tactic(auto, using(crate::proofs::Types::too_long, crate::proofs::Types::no_value_no_line, crate::proofs::Types::no_line, crate::proofs::Types::is_line))]
 pub fn read_line<'a>(
     alloc: Global,
     octets: &'a [u8],
@@ -98,7 +98,7 @@ pub fn read_line<'a>(
 }
 
 /// The line that a value is.
-#[tactic(auto, using(crate::proofs::Kinds::no_type, crate::proofs::Kinds::entry_denied, crate::proofs::Kinds::begin_denied, crate::proofs::Kinds::end_denied, crate::proofs::Kinds::other_denied))]
+#[tactic(auto, using(crate::proofs::Types::no_type, crate::proofs::Types::entry_denied, crate::proofs::Types::begin_denied, crate::proofs::Types::end_denied, crate::proofs::Types::other_denied))]
 fn line_of<'a>(
     alloc: Global,
     value: &Value<'a>,
