@@ -1,5 +1,5 @@
 -- Lines of a ledger (own): objects of JSON (RFC 8259), with their keys in any order, each once.
-use Rattle.std.specs.Prelude.{◌≡◌, ℕ, ◌<◌, ◌≤◌, ◌*◌, ◌^◌, ◌+◌, List, length, get_or, codes, Bool, MatchOption, option_copied, IsTrue, cond, ◌==◌, Option, Some, None, Ok, ◌⊎◌, ⊤}
+use Rattle.std.specs.Prelude.{◌≡◌, ℕ, ◌<◌, ◌≤◌, ◌*◌, ◌^◌, ◌+◌, List, [], ◌∷◌, length, get_or, codes, Bool, option_copied, IsTrue, cond, ◌==◌, Option, Some, None, Ok, ◌⊎◌, ⊤}
 use Rattle.std.specs.Int.{w64, from_be_bytes}
 use Rattle.std.specs.Char.{is_ascii_digit}
 use Rattle.std.specs.Str.{IsUtf8}
@@ -63,8 +63,12 @@ HasMembers count (array items) = ⊥
 HasMembers count (object members) = length (keys members) ≡ count
 
 -- One where an object has this key, and else none.
+abbrev pub one_if : Option Json → ℕ
+one_if None = 0
+one_if (Some found) = 1
+
 abbrev pub one_at : List ℕ → Json → ℕ
-one_at key value = MatchOption (get key value) 0 (λ found. 1)
+one_at key value = one_if (get key value)
 
 -- A moment, as `2026-01-31T23:59:59.999Z`: a digit where the form has `d`, and else what the form has.
 abbrev pub has_form : ℕ → ℕ → Bool
@@ -139,7 +143,7 @@ as_items (boolean b) = None
 as_items (number digits) = None
 as_items (string text) = None
 as_items (array items) = Some items
-as_items (object members) = None
+as_items (object ms) = None
 
 abbrev pub HasList : Json → Items → Type 0
 HasList value items = get (codes "lanes") value ≡ Some (array items)

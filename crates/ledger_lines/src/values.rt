@@ -31,6 +31,7 @@ pub(crate) fn read_value<'a>(
 }
 
 /// Whether a value is an object of so many members.
+#[tactic(auto, using(crate::proofs::Lists::length_keys))]
 pub(crate) fn has_members(value: &Value<'_>, count: usize) -> bool
     ensures { IsTrue result ↔ HasMembers count (value_view value.now) }
 {
@@ -52,6 +53,7 @@ pub(crate) fn members_of_entry(value: &Value<'_>) -> usize
 }
 
 /// One where an object has this key, and else none.
+#[tactic(auto, using(crate::proofs::Lists::one_of, crate::proofs::Lists::none_of))]
 fn one_at(value: &Value<'_>, key: &str) -> usize
     ensures is { result ≡ the_one_at key.now (value_view value.now) }
     ensures most { result ≤ 1 }
