@@ -1,0 +1,10 @@
+pub mod Lines
+pub mod Found
+pub mod Parts
+pub mod Whole
+pub mod Last
+pub mod Marks
+pub mod Replies
+pub mod Judged
+pub mod Serials
+pub mod Outlets

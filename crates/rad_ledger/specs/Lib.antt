@@ -1,0 +1,5 @@
+pub mod Lines
+pub mod Judging
+pub mod Counting
+pub mod Outlets
+pub mod Printed
