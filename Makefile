@@ -115,11 +115,12 @@ UNITDIR ?= $(PREFIX)/lib/systemd/system
 SYSUSERSDIR ?= $(PREFIX)/lib/sysusers.d
 SYSCONFDIR ?= /etc
 RUNDIR ?= /run
+STATEDIR ?= /var/lib
 DESTDIR ?=
 
 # What is made of the sources of packaging/: the folders, and for the unit the configuration's name.
 FOLDERS = -e 's,@sbindir@,$(SBINDIR),g' -e 's,@libexecdir@,$(LIBEXECDIR),g' -e 's,@sysconfdir@,$(SYSCONFDIR),g' \
-	-e 's,@rundir@,$(RUNDIR),g'
+	-e 's,@rundir@,$(RUNDIR),g' -e 's,@statedir@,$(STATEDIR),g'
 ONE = -e 's,@of@,,' -e 's,@config@,rad_proxy,g' -e 's,@runtime@,rad_proxy,'
 UNITS = rad_proxy.service rad_proxy@.service rad_proxy-metrics.socket rad_proxy-metrics@.service
 MANY = -e 's,@of@, %i,' -e 's,@config@,%i,g' -e 's,@runtime@,rad_proxy-%i,'

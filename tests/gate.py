@@ -57,6 +57,7 @@ SCRIPTS = {
     "memory": ("hostile/memory.py", "PROGRAM"),
     "locks": ("hostile/locks.py", "PROGRAM"),
     "ledger": ("ledger.py", "--check"),
+    "ledger-files": ("hostile/ledger_files.py", "PROGRAM"),
     "audits": ("audits.py", "crates/rad_audit/out/rad_audit"),
     "spoiled-ledgers": ("hostile/spoiled_ledgers.py", "crates/rad_audit/out/rad_audit"),
 }

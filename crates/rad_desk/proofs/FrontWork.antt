@@ -197,7 +197,7 @@ hands_one was is outgoing octets same took response =
         delivery = sent.delivery;
         took = took;
         is = ap (λ l. handed outgoing ∷ l)
-        (sent.is ∙ ap (λ l. departed 0 (endpoint outgoing.client outgoing.port) l sent.delivery ∷ []) response);
+            (sent.is ∙ ap (λ l. departed 0 (endpoint outgoing.client outgoing.port) l sent.delivery ∷ []) response);
       }),
     ))
 

@@ -50,4 +50,4 @@ pub use socket_number::SocketNumber;
 pub use socket_numbers::SocketReading;
 pub use udp_sockets::{UdpSockets, read_udp_sockets};
 pub use value::Value;
-pub use writing::{write_ledger, write_numbers};
+pub use writing::{VERSION, write_ledger, write_numbers};

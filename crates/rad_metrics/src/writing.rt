@@ -20,7 +20,7 @@ use std::io::{self, Write};
 use std::time::Clock;
 
 /// The version of the program.
-const VERSION: &str = "0.1.0";
+pub const VERSION: &str = "0.1.0";
 
 /// The name of the family that counts how often the home servers were marked up.
 const UPS: &str = "ups_total";

@@ -10,10 +10,11 @@ use rad_metrics::UdpSockets;
 use rad_realms::Config;
 use rad_server::{Descriptors, LocalAddresses, ServeFault, run};
 use rad_telemetry::{
-    CounterFile, CounterTexts, ErrorLines, LedgerState, Log, Logged, ReplaceFile, Reporter, StopFlag,
-    Telemetry, ToldStream, find_counter_file, log_fault, open_log, report, start_texts, tell_reason,
+    CounterFile, CounterTexts, ErrorLines, LedgerState, Log, Logged, ReplaceFile, Reporter,
+    StopFlag, Telemetry, ToldStream, find_counter_file, log_fault, open_log, report, start_texts,
+    tell_reason,
 };
-use rad_writer::{LedgerInlet, OpenedLedger, find_folder, open_ledger, start_writer};
+use rad_writer::{LedgerDisk, LedgerInlet, OpenedLedger, find_folder, open_ledger, start_writer};
 use std::alloc::{AllocError, AllocGlobal, Global};
 use std::io::{self, Error, Read, Write};
 use std::net::Net;
@@ -43,9 +44,10 @@ const NO_WAIT: &str = "the system can't wait for it";
 /// # Errors
 ///
 /// Those of [`load`] and of [`run`]; `Threads` if a thread that reports or writes can't be started.
-pub fn serve_file<R, F, A>(
+pub fn serve_file<R, F, D, A>(
     rt: &R,
     files: F,
+    disk: D,
     machine: &A,
     alloc: Global,
     path: &str,
@@ -54,18 +56,20 @@ where
     R: Runtime + AllocGlobal + Net + RandomSource + Threads + Wait + Sync + Copy + Send + 'static,
     R::File: Drop,
     F: ReplaceFile + Drop + Send + 'static,
+    D: LedgerDisk + Drop + Send + 'static,
     A: LocalAddresses + UdpSockets + Sync,
 {
     let Ok(log) = open_log(rt, alloc) else {
         return Err(Fault::Memory);
     };
-    serve_logged(rt, files, machine, alloc, path, &log)
+    serve_logged(rt, files, disk, machine, alloc, path, &log)
 }
 
 /// Serves the configuration in a file until standard input ends, with this log.
-fn serve_logged<R, F, A>(
+fn serve_logged<R, F, D, A>(
     rt: &R,
     files: F,
+    disk: D,
     machine: &A,
     alloc: Global,
     path: &str,
@@ -75,16 +79,18 @@ where
     R: Runtime + AllocGlobal + Net + RandomSource + Threads + Wait + Sync + Copy + Send + 'static,
     R::File: Drop,
     F: ReplaceFile + Drop + Send + 'static,
+    D: LedgerDisk + Drop + Send + 'static,
     A: LocalAddresses + UdpSockets + Sync,
 {
     let config = load(rt, alloc, log, path)?;
-    serve_config(rt, files, machine, alloc, &config, log)
+    serve_config(rt, files, disk, machine, alloc, &config, log)
 }
 
 /// Serves a configuration, while other threads write the log and the file of the counters.
-fn serve_config<R, F, A>(
+fn serve_config<R, F, D, A>(
     rt: &R,
     files: F,
+    disk: D,
     machine: &A,
     alloc: Global,
     config: &Config,
@@ -94,6 +100,7 @@ where
     R: Runtime + AllocGlobal + Net + RandomSource + Threads + Wait + Sync + Copy + Send + 'static,
     R::File: Drop,
     F: ReplaceFile + Drop + Send + 'static,
+    D: LedgerDisk + Drop + Send + 'static,
     A: LocalAddresses + UdpSockets + Sync,
 {
     let Ok(file) = find_counter_file(rt, log) else {
@@ -110,14 +117,15 @@ where
         return Err(fault_told(log, ServeFault::Threads));
     }
     let left = if is_reported { Some(&*texts) } else { None };
-    let outcome = serve_kept(rt, machine, alloc, config, &telemetry, left, log);
+    let outcome = serve_kept(rt, disk, machine, alloc, config, &telemetry, left, log);
     end_writers(rt, log, &texts);
     outcome
 }
 
 /// Serves a configuration, while a thread writes the ledger, if there is to be one.
-fn serve_kept<'a, R, A>(
+fn serve_kept<'a, R, D, A>(
     rt: &'a R,
+    disk: D,
     machine: &'a A,
     alloc: Global,
     config: &'a Config,
@@ -127,14 +135,16 @@ fn serve_kept<'a, R, A>(
 ) -> Result<EndLine, Fault>
 where
     R: Runtime + AllocGlobal + Net + RandomSource + Threads + Wait + Sync + Copy + Send + 'static,
-    R::File: Drop,
+    D: LedgerDisk + Drop + Send + 'static,
     A: LocalAddresses + UdpSockets + Sync,
 {
     let Ok(folder) = find_folder(rt, log) else {
         return Err(Fault::Memory);
     };
     let Some(folder) = folder else {
-        return serve_told(rt, machine, alloc, config, telemetry, texts, None, None, log);
+        return serve_told(
+            rt, machine, alloc, config, telemetry, texts, None, None, log,
+        );
     };
     let Ok(opened) = open_ledger(rt, alloc, folder, config) else {
         return Err(Fault::Memory);
@@ -144,7 +154,7 @@ where
         writer,
         state,
     } = opened;
-    if !start_writer(rt, alloc, writer) {
+    if !start_writer(rt, alloc, writer, disk) {
         return Err(fault_told(log, ServeFault::Threads));
     }
     let outcome = serve_told(
@@ -328,7 +338,12 @@ fn end_ledger<R: Clock + Wait, L, A>(service: Service<'_, R, L, A>, is_clean: bo
         return;
     };
     if let Ok(start) = Instant::now(service.rt) {
-        ledger.end(service.rt, is_clean, start, Duration::from_millis(LAST_ENTRIES));
+        ledger.end(
+            service.rt,
+            is_clean,
+            start,
+            Duration::from_millis(LAST_ENTRIES),
+        );
     }
 }
 

@@ -70,11 +70,7 @@ impl Display for LedgerFault {
 }
 
 /// Writes what the system refused, and the system's text for its number, if there is one.
-fn write_refused<W: fmt::Write>(
-    f: &mut fmt::Formatter<W>,
-    what: &str,
-    number: u32,
-) -> fmt::Result {
+fn write_refused<W: fmt::Write>(f: &mut fmt::Formatter<W>, what: &str, number: u32) -> fmt::Result {
     f.write_str(what)?;
     match i32::try_from(number) {
         Ok(number) if number != 0 => {

@@ -91,7 +91,8 @@ impl LedgerState {
 
     /// Makes the thread sleep for `milliseconds`, or until the ledger is ended.
     pub fn sleep<R: Clock + Wait>(&self, rt: &R, milliseconds: u64) {
-        self.state.sleep_for(rt, Duration::from_millis(milliseconds));
+        self.state
+            .sleep_for(rt, Duration::from_millis(milliseconds));
     }
 
     /// Records that the thread has done its last round.
@@ -101,13 +102,7 @@ impl LedgerState {
 
     /// Makes the thread write what is left and end, with the line that ends the run if `is_clean` is set, and waits for
     /// it, at most until `longest` after `start`.
-    pub fn end<R: Clock + Wait>(
-        &self,
-        rt: &R,
-        is_clean: bool,
-        start: Instant,
-        longest: Duration,
-    ) {
+    pub fn end<R: Clock + Wait>(&self, rt: &R, is_clean: bool, start: Instant, longest: Duration) {
         self.is_clean.store(u64::from(is_clean), Ordering::SeqCst);
         self.state.end();
         self.state.wait(rt, start, longest);

@@ -1,16 +1,14 @@
 //! The lines of entries that are put together before they are written.
 
+use crate::disk::LedgerDisk;
 use crate::entry_buffer::EntryBuffer;
 use crate::lines::entry_line;
-use crate::open_file::OpenedFile;
 use crate::parcel::ParcelHead;
 use crate::pending::Pending;
 use crate::run_names::RunNames;
 use crate::utc::day_of;
 use rad_telemetry::LedgerFault;
 use std::alloc::{AllocError, Global};
-use std::fs::OpenFile;
-use std::io::Write;
 use std::mem;
 
 /// How many octets of lines are put together.
@@ -118,12 +116,12 @@ impl Batch {
 
     /// Writes the lines that are not written yet. Of each one that is written whole, the serial behind it is put into
     /// `next` at the place of its lane. It returns how many that are, and the fault that kept the others from it.
-    pub(crate) fn write<F: Write + OpenFile + Drop>(
+    pub(crate) fn write<D: LedgerDisk>(
         &mut self,
-        file: &mut OpenedFile<F>,
+        disk: &mut D,
         next: &mut [u64],
     ) -> (u64, Result<(), LedgerFault>) {
-        let outcome = self.pending.write(file);
+        let outcome = self.pending.write(disk);
         let mut count = 0;
         for _ in 0..self.ends.len() {
             let Some(line) = self.ends.get(self.whole) else {

@@ -37,7 +37,12 @@ impl<R: Clock> Ledger for LedgerInlet<'_, R> {
         let head = ParcelHead::of(time, outgoing);
         self.taken.took(head.lane, head.serial);
         let is_packed = pack(&head, outgoing, &mut self.parcel).is_ok();
-        if is_packed && self.buffer.push_entire_slice(self.parcel.as_slice()).is_ok() {
+        if is_packed
+            && self
+                .buffer
+                .push_entire_slice(self.parcel.as_slice())
+                .is_ok()
+        {
             self.state.count_put();
         } else {
             self.state.count_dropped();

@@ -10,20 +10,23 @@
 
 mod batch;
 mod counts;
+mod disk;
 mod entry_buffer;
 mod file_name;
 mod inlet;
 mod lines;
-mod open_file;
 mod opening;
 mod parcel;
 mod pending;
 mod run_names;
+mod runtime_disk;
 mod utc;
 mod writer;
 
 pub use counts::TakenCounts;
+pub use disk::LedgerDisk;
 pub use inlet::LedgerInlet;
 pub use opening::{OpenedLedger, find_folder, open_ledger, start_writer};
+pub use runtime_disk::RuntimeDisk;
 pub use utc::{UtcTime, day_of};
 pub use writer::LedgerWriter;

@@ -5,15 +5,11 @@ use crate::entry_buffer::Parcel;
 use crate::run_names::RunNames;
 use crate::utc::UtcTime;
 use rad_lane::session_of;
-use rad_ledger::{
-    Begin, End, Entry, LaneCount, LaneStart, write_begin, write_end, write_entry,
-};
+use rad_ledger::{Begin, End, Entry, LaneCount, LaneStart, write_begin, write_end, write_entry};
+use rad_metrics::VERSION;
 use rad_packet::{PacketRef, read};
 use rad_realms::realm_of_packet;
 use std::alloc::{AllocError, Global};
-
-/// The version of the program.
-const VERSION: &str = "0.1.0";
 
 /// The Type of an Acct-Status-Type (RFC 2866 section 5.1).
 const ACCT_STATUS_TYPE: u8 = 40;

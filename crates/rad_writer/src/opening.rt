@@ -2,6 +2,7 @@
 
 use crate::batch::Batch;
 use crate::counts::TakenCounts;
+use crate::disk::LedgerDisk;
 use crate::entry_buffer::EntryBuffer;
 use crate::inlet::{LedgerInlet, time_since_1970};
 use crate::parcel::MOST;
@@ -12,7 +13,6 @@ use rad_telemetry::{LedgerFault, LedgerState, Log, log_ledger_fault};
 use rtrb::RingBuffer;
 use std::alloc::{AllocError, AllocGlobal, Global};
 use std::env::{self, Env, VarError};
-use std::fs::Files;
 use std::random::RandomSource;
 use std::sync::{Arc, Wait};
 use std::thread::{self, Threads};
@@ -105,12 +105,13 @@ fn draw_name<R: Clock + RandomSource>(rt: &R) -> u64 {
     }
 }
 
-/// Starts the thread that writes, and returns whether that succeeded. No thread joins it: it ends with the program.
-pub fn start_writer<R>(rt: &R, alloc: Global, writer: LedgerWriter) -> bool
+/// Starts the thread that writes to this disk, and returns whether that succeeded. No thread joins it: it ends with the program.
+pub fn start_writer<R, D>(rt: &R, alloc: Global, writer: LedgerWriter, disk: D) -> bool
 where
-    R: Files + Clock + Threads + Wait + Copy + Send + 'static,
+    R: Clock + Threads + Wait + Copy + Send + 'static,
+    D: LedgerDisk + Drop + Send + 'static,
 {
     let own = *rt;
     writer.state.start();
-    thread::spawn(rt, move || writer.write_all(&own, alloc)).is_ok()
+    thread::spawn(rt, move || writer.write_all(&own, alloc, disk)).is_ok()
 }

@@ -1,11 +1,8 @@
 //! Octets that are to be written, and how far they are written.
 
+use crate::disk::LedgerDisk;
 use rad_telemetry::LedgerFault;
 use std::alloc::Global;
-use std::fs::OpenFile;
-use std::io::Write;
-
-use crate::open_file::OpenedFile;
 
 /// Octets that are to be written, and how many of them are.
 #[derive(Drop)]
@@ -33,17 +30,14 @@ impl Pending {
     /// # Errors
     ///
     /// `Write` if the system refuses it. What was written before counts as written.
-    pub(crate) fn write<F: Write + OpenFile + Drop>(
-        &mut self,
-        file: &mut OpenedFile<F>,
-    ) -> Result<(), LedgerFault> {
+    pub(crate) fn write<D: LedgerDisk>(&mut self, disk: &mut D) -> Result<(), LedgerFault> {
         for _ in 0..self.octets.len() {
             let rest = self.octets.get(self.done..).unwrap_or(&[]);
             if rest.is_empty() {
                 return Ok(());
             }
-            let count = file.write(rest)?;
-            self.done = self.done.saturating_add(count);
+            let count = disk.write(rest)?;
+            self.done = self.done.saturating_add(count.min(rest.len()));
         }
         Ok(())
     }

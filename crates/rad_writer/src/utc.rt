@@ -58,6 +58,9 @@ impl fmt::Display for UtcTime {
         let minute = passed / 60_000 % 60;
         let second = passed / 1000 % 60;
         let milliseconds = passed % 1000;
-        write!(f, "{year:04}-{month:02}-{day:02}T{hour:02}:{minute:02}:{second:02}.{milliseconds:03}Z")
+        write!(
+            f,
+            "{year:04}-{month:02}-{day:02}T{hour:02}:{minute:02}:{second:02}.{milliseconds:03}Z"
+        )
     }
 }

@@ -2,18 +2,16 @@
 
 use crate::batch::Batch;
 use crate::counts::TakenCounts;
+use crate::disk::LedgerDisk;
 use crate::entry_buffer::EntryBuffer;
 use crate::file_name::FileName;
 use crate::inlet::time_since_1970;
 use crate::lines::{begin_line, end_line};
-use crate::open_file::OpenedFile;
 use crate::pending::Pending;
 use crate::run_names::RunNames;
 use crate::utc::day_of;
 use rad_telemetry::{LedgerFault, LedgerState};
 use std::alloc::{AllocError, Global};
-use std::fs::{Files, OpenFile};
-use std::io::Write;
 use std::sync::{Arc, Wait};
 use std::time::{Clock, Duration, Instant};
 
@@ -44,12 +42,11 @@ pub struct LedgerWriter {
 
 /// A writer at work.
 #[derive(Drop)]
-struct Session<'a, R, F: Drop> {
+struct Session<'a, R, D: Drop> {
     rt: &'a R,
     alloc: Global,
     writer: LedgerWriter,
-    /// The file that is written to.
-    file: Option<OpenedFile<F>>,
+    disk: D,
     /// The number of the next file.
     number: u64,
     /// The number of the day of the entries in the file.
@@ -66,12 +63,12 @@ struct Session<'a, R, F: Drop> {
 
 impl LedgerWriter {
     /// Writes the entries as they come, until the ledger is ended. The thread does nothing else.
-    pub fn write_all<R: Files + Clock + Wait>(self, rt: &R, alloc: Global) {
+    pub fn write_all<R: Clock + Wait, D: LedgerDisk + Drop>(self, rt: &R, alloc: Global, disk: D) {
         let mut session = Session {
             rt,
             alloc,
             writer: self,
-            file: None,
+            disk,
             number: 0,
             day: 0,
             first: Pending::new(alloc),
@@ -92,7 +89,7 @@ impl LedgerWriter {
     }
 }
 
-impl<R: Files<File = F> + Clock, F: Write + OpenFile + Drop> Session<'_, R, F> {
+impl<R: Clock, D: LedgerDisk + Drop> Session<'_, R, D> {
     /// Writes what there is, and reports whether that failed. After a fault it goes on where it stopped, at first in the
     /// same file. If that fails again, or the file is no longer there, it begins the next file.
     fn do_round(&mut self, is_last: bool) {
@@ -102,7 +99,7 @@ impl<R: Files<File = F> + Clock, F: Write + OpenFile + Drop> Session<'_, R, F> {
             return;
         };
         self.fail(fault);
-        let is_lost = fault == LedgerFault::Gone || (was_failing && self.has_written());
+        let is_lost = fault == LedgerFault::Gone || (was_failing && self.disk.size() > 0);
         if is_lost && self.begin_file().is_ok() && self.write_round(is_last).is_ok() {
             self.succeed();
         }
@@ -121,14 +118,6 @@ impl<R: Files<File = F> + Clock, F: Write + OpenFile + Drop> Session<'_, R, F> {
         if self.is_failing {
             self.is_failing = false;
             self.writer.state.goes_on();
-        }
-    }
-
-    /// Returns whether anything was written to the file.
-    fn has_written(&self) -> bool {
-        match &self.file {
-            Some(file) => file.size > 0,
-            None => false,
         }
     }
 
@@ -173,10 +162,8 @@ impl<R: Files<File = F> + Clock, F: Write + OpenFile + Drop> Session<'_, R, F> {
     fn have_file(&mut self) -> Result<(), LedgerFault> {
         let day = self.day_now();
         let size = self.writer.batch.size();
-        let is_due = match &self.file {
-            Some(file) => day > self.day || file.size.saturating_add(size) > MOST,
-            None => true,
-        };
+        let is_full = self.disk.size().saturating_add(size) > MOST;
+        let is_due = !self.disk.is_open() || day > self.day || is_full;
         if is_due && self.first.is_done() {
             self.begin_file()?;
         }
@@ -195,12 +182,9 @@ impl<R: Files<File = F> + Clock, F: Write + OpenFile + Drop> Session<'_, R, F> {
         }
     }
 
-    /// Syncs and closes the file, if there is one, and begins the next one. A line of an entry that was not written
+    /// Begins the next file. A line of an entry that was not written
     /// whole will be written to the new file.
     fn begin_file(&mut self) -> Result<(), LedgerFault> {
-        if let Some(file) = &mut self.file {
-            let _ = file.sync();
-        }
         let now = time_since_1970(self.rt).unwrap_or(0);
         let Ok(path) = self.next_path() else {
             return Err(LedgerFault::Memory);
@@ -208,8 +192,7 @@ impl<R: Files<File = F> + Clock, F: Write + OpenFile + Drop> Session<'_, R, F> {
         let Ok(line) = self.first_line(now) else {
             return Err(LedgerFault::Memory);
         };
-        let file = OpenedFile::create(self.rt, path)?;
-        self.file = Some(file);
+        self.disk.create(path)?;
         self.number = self.number.saturating_add(1);
         self.day = self.day.max(self.day_now());
         self.first = Pending {
@@ -268,22 +251,22 @@ impl<R: Files<File = F> + Clock, F: Write + OpenFile + Drop> Session<'_, R, F> {
     /// Writes the line that begins the file, the lines of entries and the line that ends the run, as far as they are
     /// not written, if the file is still at its path.
     fn write_pending(&mut self) -> Result<(), LedgerFault> {
-        let Some(file) = &mut self.file else {
-            return Ok(());
-        };
         if self.first.is_done() && self.writer.batch.is_done() && self.last.is_done() {
             return Ok(());
         }
-        file.check_place(self.rt)?;
-        self.first.write(file)?;
+        self.disk.check_place()?;
+        self.first.write(&mut self.disk)?;
         let LedgerWriter {
-            batch, next, state, ..
+            batch,
+            next,
+            state,
+            ..
         } = &mut self.writer;
-        let (count, outcome) = batch.write(file, next.as_mut_slice());
+        let (count, outcome) = batch.write(&mut self.disk, next.as_mut_slice());
         state.count_written(count);
         state.set_oldest(batch.oldest());
         outcome?;
-        self.last.write(file)
+        self.last.write(&mut self.disk)
     }
 
     /// Syncs the file, if that is due or `is_now` is set.
@@ -300,9 +283,6 @@ impl<R: Files<File = F> + Clock, F: Write + OpenFile + Drop> Session<'_, R, F> {
             return Ok(());
         }
         self.synced = now;
-        match &mut self.file {
-            Some(file) => file.sync(),
-            None => Ok(()),
-        }
+        self.disk.sync()
     }
 }
