@@ -122,7 +122,7 @@ impl Batch {
         next: &mut [u64],
     ) -> (u64, Result<(), LedgerFault>) {
         let outcome = self.pending.write(disk);
-        let mut count = 0;
+        let mut count = 0u64;
         for _ in 0..self.ends.len() {
             let Some(line) = self.ends.get(self.whole) else {
                 break;
@@ -133,8 +133,8 @@ impl Batch {
             if let Some(serial) = next.get_mut(usize::from(line.head.lane)) {
                 *serial = line.head.serial.saturating_add(1);
             }
-            self.whole += 1;
-            count += 1;
+            self.whole = self.whole.saturating_add(1);
+            count = count.saturating_add(1);
         }
         (count, outcome)
     }

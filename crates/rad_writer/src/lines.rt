@@ -11,6 +11,9 @@ use rad_packet::{PacketRef, read};
 use rad_realms::realm_of_packet;
 use std::alloc::{AllocError, Global};
 
+/// The greatest serial of a ledger.
+const GREATEST_SERIAL: u64 = 9_223_372_036_854_775_807;
+
 /// The Type of an Acct-Status-Type (RFC 2866 section 5.1).
 const ACCT_STATUS_TYPE: u8 = 40;
 
@@ -106,10 +109,10 @@ pub(crate) fn begin_line(
     write_begin(alloc, &begin, out)
 }
 
-/// Returns a lane's next serial. A ledger has none above the greatest number of 63 bits.
+/// Returns a lane's next serial.
 fn serial_at(next: &[u64], lane: usize) -> u64 {
     match next.get(lane) {
-        Some(serial) => (*serial).min(u64::MAX >> 1),
+        Some(serial) => (*serial).min(GREATEST_SERIAL),
         None => 0,
     }
 }
