@@ -81,6 +81,7 @@ soak:
 	@status=0; \
 	python3 tests/hostile/soak.py $(PROGRAM) --seconds $(SECONDS) $(SEED) || status=1; \
 	python3 tests/hostile/memory.py $(PROGRAM) --seconds $(SECONDS) || status=1; \
+	KILLS=50 SEED=$(SEED) python3 tests/hostile/ledger_files.py $(PROGRAM) a_killed_run_is_open || status=1; \
 	exit $$status
 
 # Measures the program that was built, a bare relay, and radsecproxy and FreeRADIUS where they are installed; docs/performance.md

@@ -208,6 +208,15 @@ def ends_a_run_with_requests_left(trial):
     trial.is_all_there()
 
 
+def a_program_that_cannot_serve_leaves_no_file(trial):
+    """Where the clients' socket cannot be bound there is no file."""
+    other = bound(port=trial.port)
+    kept = environment() | {"RAD_PROXY_LEDGER": str(trial.folder)}
+    ended = subprocess.run([trial.program, "run", trial.file], stdin=subprocess.DEVNULL, capture_output=True, env=kept, timeout=PATIENCE)
+    other.close()
+    hope("status and files", (ended.returncode, trial.files()), (4, []))
+
+
 def is_written_within_a_tenth_of_a_second(trial):
     """An entry is in the file a tenth of a second after its answer."""
     trial.start()
@@ -408,8 +417,8 @@ def a_name_that_is_no_text_is_told(trial):
 
 
 TESTS = [
-    writes_what_was_acknowledged, writes_none_unasked, ends_a_run_with_requests_left, is_written_within_a_tenth_of_a_second,
-    a_folder_that_is_not_there_is_told, a_folder_that_goes_away_and_comes_back, a_folder_that_is_made_anew,
+    writes_what_was_acknowledged, writes_none_unasked, ends_a_run_with_requests_left, a_program_that_cannot_serve_leaves_no_file,
+    is_written_within_a_tenth_of_a_second, a_folder_that_is_not_there_is_told, a_folder_that_goes_away_and_comes_back, a_folder_that_is_made_anew,
     a_limit_of_size_is_a_next_file, a_full_disk_loses_nothing, a_slow_write_delays_no_answer, slow_writes_lose_nothing,
     drops_are_counted, a_killed_run_is_open, midnight_is_a_next_file, a_long_ledger_is_several_files, a_name_that_is_no_text_is_told,
 ]

@@ -69,6 +69,9 @@ pub trait Wire {
 
 /// What keeps evidence of the responses that are handed over to it.
 pub trait Ledger {
+    /// From now on responses may come.
+    fn begin(&mut self);
+
     /// Keeps a response. It takes no memory and waits for nothing.
     fn keep(&mut self, outgoing: &Outgoing);
 }

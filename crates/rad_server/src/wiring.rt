@@ -12,7 +12,7 @@ use crate::polling::PolledSockets;
 use crate::sockets::{BoundSockets, lane_fault};
 use crate::wires::UdpWire;
 use crate::worker_sockets::WorkerSockets;
-use rad_desk::Gate;
+use rad_desk::{Gate, Ledger};
 use rad_realms::{Client, Config};
 use rand::rngs::StdRng;
 use rand::{Rng, make_rng};
@@ -42,17 +42,21 @@ struct WireMaker<'a, R, G, A> {
 }
 
 impl<'a, R: Clock + Net + RandomSource, G: Gate, A> WireMaker<'a, R, G, A> {
-    /// Makes the wire of the front over these sockets, which these clients see as one, with this ledger.
+    /// Makes the wire of the front over these sockets, which these clients see as one, with this ledger. All sockets are
+    /// bound, so the ledger begins.
     ///
     /// # Errors
     ///
     /// The system's error, and `OutOfMemory` if memory is refused.
-    fn make_front<L: Drop>(
+    fn make_front<L: Ledger + Drop>(
         &self,
         sockets: ClientSockets,
         clients: &[Client],
-        ledger: Option<L>,
+        mut ledger: Option<L>,
     ) -> io::Result<UdpWire<'a, R, G, A, L>> {
+        if let Some(ledger) = &mut ledger {
+            ledger.begin();
+        }
         let ClientSockets { sockets, known } = sockets;
         let mut random: StdRng = make_rng(self.rt)?;
         let answering = match known {
@@ -150,7 +154,7 @@ impl<'a, R: Clock + Net + RandomSource, G: Gate, A> WireMaker<'a, R, G, A> {
 ///
 /// `Listen` or `LaneSocket` if the system refuses a wire, `Memory` if a growth is refused, and `Clock` if the clock
 /// fails.
-pub(crate) fn make_wires<'a, R: Clock + Net + RandomSource, G: Gate, A, L: Drop>(
+pub(crate) fn make_wires<'a, R: Clock + Net + RandomSource, G: Gate, A, L: Ledger + Drop>(
     rt: &'a R,
     addresses: &'a A,
     alloc: Global,

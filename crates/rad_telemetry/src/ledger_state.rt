@@ -12,6 +12,8 @@ use std::time::{Clock, Duration, Instant};
 /// front waits.
 #[derive(Drop)]
 pub struct LedgerState {
+    /// 1 if entries may come.
+    begun: AtomicU64,
     /// How many entries were put into the buffer.
     put: AtomicU64,
     /// How many of them were written.
@@ -36,6 +38,7 @@ impl LedgerState {
     /// Makes a state without a thread and without entries.
     pub fn new() -> LedgerState {
         LedgerState {
+            begun: AtomicU64::new(0),
             put: AtomicU64::new(0),
             written: AtomicU64::new(0),
             dropped: AtomicU64::new(0),
@@ -46,6 +49,17 @@ impl LedgerState {
             is_clean: AtomicU64::new(0),
             state: WriterState::new(),
         }
+    }
+
+    /// Makes the thread begin the first file, since entries may come.
+    pub fn begin(&self) {
+        self.begun.store(1, Ordering::SeqCst);
+        self.state.notify();
+    }
+
+    /// Returns whether entries may come.
+    pub fn is_begun(&self) -> bool {
+        self.begun.load(Ordering::SeqCst) != 0
     }
 
     /// Counts an entry that was put into the buffer.
@@ -89,7 +103,7 @@ impl LedgerState {
         self.state.begin_round()
     }
 
-    /// Makes the thread sleep for `milliseconds`, or until the ledger is ended.
+    /// Makes the thread sleep for `milliseconds`, or until the ledger is begun or ended.
     pub fn sleep<R: Clock + Wait>(&self, rt: &R, milliseconds: u64) {
         self.state
             .sleep_for(rt, Duration::from_millis(milliseconds));

@@ -60,9 +60,10 @@ impl Batch {
         self.whole >= self.ends.len()
     }
 
-    /// Returns how many octets the batch has.
-    pub(crate) fn size(&self) -> u64 {
-        self.pending.octets.len() as u64
+    /// Returns how many octets of the lines are not written.
+    pub(crate) fn left(&self) -> u64 {
+        let count = self.pending.octets.len();
+        count.saturating_sub(self.pending.done) as u64
     }
 
     /// Returns when the first entry was handed over whose line is not written whole.

@@ -32,6 +32,10 @@ impl<R: Clock> LedgerInlet<'_, R> {
 }
 
 impl<R: Clock> Ledger for LedgerInlet<'_, R> {
+    fn begin(&mut self) {
+        self.state.begin();
+    }
+
     fn keep(&mut self, outgoing: &Outgoing) {
         let time = self.read_time();
         let head = ParcelHead::of(time, outgoing);

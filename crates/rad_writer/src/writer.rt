@@ -24,8 +24,8 @@ const AGAIN: u64 = 1000;
 /// How many milliseconds after a sync the next one is due. A round is late by at most its own writes and [`PAUSE`].
 const SYNC: u64 = 900;
 
-/// The most octets of a file.
-const MOST: u64 = 268_435_456;
+/// The most octets of a file before the line that ends the run: 256 MiB less 64 KiB.
+const MOST: u64 = 268_369_920;
 
 /// What the thread that writes a ledger has, before it is started.
 #[derive(Drop)]
@@ -122,8 +122,11 @@ impl<R: Clock, D: LedgerDisk + Drop> Session<'_, R, D> {
     }
 
     /// Writes all entries that wait, and in the last round the line that ends the run, if there is to be one. Syncs the
-    /// file if that is due.
+    /// file if that is due. Until entries may come it does nothing, so a program that can't serve leaves no file.
     fn write_round(&mut self, is_last: bool) -> Result<(), LedgerFault> {
+        if !self.writer.state.is_begun() {
+            return Ok(());
+        }
         for _ in 0..u64::MAX {
             self.fill()?;
             self.have_file()?;
@@ -161,8 +164,8 @@ impl<R: Clock, D: LedgerDisk + Drop> Session<'_, R, D> {
     /// octets.
     fn have_file(&mut self) -> Result<(), LedgerFault> {
         let day = self.day_now();
-        let size = self.writer.batch.size();
-        let is_full = self.disk.size().saturating_add(size) > MOST;
+        let left = self.writer.batch.left();
+        let is_full = self.disk.size().saturating_add(left) > MOST;
         let is_due = !self.disk.is_open() || day > self.day || is_full;
         if is_due && self.first.is_done() {
             self.begin_file()?;
@@ -182,8 +185,7 @@ impl<R: Clock, D: LedgerDisk + Drop> Session<'_, R, D> {
         }
     }
 
-    /// Begins the next file. A line of an entry that was not written
-    /// whole will be written to the new file.
+    /// Begins the next file. The line of an entry that was not written whole is written to it from its start.
     fn begin_file(&mut self) -> Result<(), LedgerFault> {
         let now = time_since_1970(self.rt).unwrap_or(0);
         let Ok(path) = self.next_path() else {

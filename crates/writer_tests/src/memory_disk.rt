@@ -76,7 +76,8 @@ impl LedgerDisk for MemoryDisk<'_> {
             return Err(LedgerFault::Write(28));
         }
         self.room = self.room.saturating_sub(count);
-        self.written.add(self.alloc, octets.get(..count).unwrap_or(&[]));
+        self.written
+            .add(self.alloc, octets.get(..count).unwrap_or(&[]));
         self.size = Some(self.size().saturating_add(count as u64));
         Ok(count)
     }

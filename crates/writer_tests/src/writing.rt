@@ -2,6 +2,7 @@
 
 use crate::comparing::holds;
 use crate::memory_disk::{MemoryDisk, Written};
+use rad_desk::Ledger;
 use rad_realms::read_config;
 use rad_writer::{OpenedLedger, open_ledger};
 use std::alloc::AllocGlobal;
@@ -82,10 +83,11 @@ fn ends_as<R: Wait + AllocGlobal>(rt: &R, gives: Gives, wanted: &str) -> Result<
     let folder = String::from_str(alloc, "folder")?;
     let still = Still { _rt: rt };
     let OpenedLedger {
-        inlet: _inlet,
+        mut inlet,
         writer,
         state,
     } = open_ledger(&still, alloc, folder, &config)?;
+    inlet.begin();
     let start = Instant::now(&still)?;
     state.end(&still, true, start, Duration::from_millis(0));
     let written = Written::new(alloc);
@@ -141,7 +143,8 @@ fn a_full_disk_ends_a_line_early(rt: HostRuntime) -> Result<(), Fail> {
         refused: 0,
         room: 48,
     };
-    let cut = "folder/0101010101010101-000000.jsonl\n{\"type\":\"begin\",\"run\":\"0101010101010101\",\"time\":";
+    let cut =
+        "folder/0101010101010101-000000.jsonl\n{\"type\":\"begin\",\"run\":\"0101010101010101\",\"time\":";
     holds(&rt, ends_as(&rt, gives, cut)?);
     Ok(())
 }
