@@ -210,6 +210,7 @@ fn hand_out<W: Wire, G: Gate>(inlets: &mut [Inlet], wire: &mut W, shift: &mut Sh
 }
 
 /// Takes a response, if there is one, hands it over to the ledger, and then sends it.
+#[tactic(auto, using(crate::proofs::FrontWork::hands_one))]
 fn take<W: Wire, G: Gate>(inlet: &mut Inlet, wire: &mut W, shift: &mut Shift<'_, G>)
     ensures hands { Passes (Hands inlet.old inlet.new) (W.log wire.old) (W.log wire.new) }
     ensures turns { shift.new.tally.turns ≡ shift.old.tally.turns }
