@@ -5,7 +5,7 @@ use rad_desk::Worker;
 use std::alloc::{AllocError, Global};
 use std::io;
 use std::sync::Arc;
-use std::sync::atomic::{AtomicU8, Ordering};
+use std::sync::atomic::{AtomicBool, AtomicU8, Ordering};
 
 /// The worker is looking for work.
 const AWAKE: u8 = 0;
@@ -25,6 +25,10 @@ struct Shared {
     /// One of the three states above.
     state: AtomicU8,
     waker: Waker,
+    /// Whether the worker is due: it slept when another one had work for it, and was not woken yet.
+    is_due: AtomicBool,
+    /// Whether the worker is busy, so that those that it has work for become due. It alone writes and reads this.
+    is_busy: AtomicBool,
 }
 
 /// Notifies a worker that there is work for it. The waker of its poll is called only if the worker sleeps.
@@ -44,6 +48,8 @@ impl Notifier {
         let shared = Shared {
             state: AtomicU8::new(AWAKE),
             waker: Waker::new(poll.registry(), TOKEN)?,
+            is_due: AtomicBool::new(false),
+            is_busy: AtomicBool::new(false),
         };
         Ok(Notifier(Arc::new(alloc, shared)?))
     }
@@ -63,6 +69,35 @@ impl Notifier {
         if self.0.state.swap(NOTIFIED, Ordering::SeqCst) == ASLEEP {
             let _ = self.0.waker.wake();
         }
+    }
+
+    /// Tells the worker that there is work for it. If it sleeps, it is not woken, but becomes due. Whoever calls this
+    /// calls [`Notifier::notify_if_due`] soon.
+    fn notify_later(&self) {
+        let found = self
+            .0
+            .state
+            .compare_exchange(AWAKE, NOTIFIED, Ordering::SeqCst, Ordering::SeqCst);
+        if found == Err(ASLEEP) {
+            self.0.is_due.store(true, Ordering::SeqCst);
+        }
+    }
+
+    /// Notifies the worker if it is due.
+    pub(crate) fn notify_if_due(&self) {
+        if self.0.is_due.load(Ordering::SeqCst) && self.0.is_due.swap(false, Ordering::SeqCst) {
+            self.notify();
+        }
+    }
+
+    /// Returns whether the worker is busy.
+    fn is_busy(&self) -> bool {
+        self.0.is_busy.load(Ordering::SeqCst)
+    }
+
+    /// Sets whether the worker is busy. Once it is no longer busy, it wakes all that are due.
+    pub(crate) fn set_busy(&self, is_busy: bool) {
+        self.0.is_busy.store(is_busy, Ordering::SeqCst);
     }
 
     /// Marks the worker as asleep and returns `true`, unless it was notified since it was awake.
@@ -100,13 +135,28 @@ impl Notifiers {
 
     /// Notifies a worker, if it has a notifier.
     pub(crate) fn notify(&self, worker: Worker) {
+        if let Some(notifier) = self.of(worker) {
+            notifier.notify();
+        }
+    }
+
+    /// Notifies a worker, if it has a notifier, that `by` has work for it. While `by` is busy, a worker that sleeps is
+    /// not woken, but becomes due.
+    pub(crate) fn notify_for(&self, by: Worker, worker: Worker) {
+        let Some(notifier) = self.of(worker) else {
+            return;
+        };
+        match self.of(by) {
+            Some(own) if own.is_busy() => notifier.notify_later(),
+            _ => notifier.notify(),
+        }
+    }
+
+    /// Returns the notifier of a worker, if it has one.
+    fn of(&self, worker: Worker) -> Option<&Notifier> {
         match worker {
-            Worker::Front => notify_if_any(&self.front),
-            Worker::Lane(lane) => {
-                if let Some(notifier) = self.lanes.get(usize::from(lane)) {
-                    notifier.notify();
-                }
-            }
+            Worker::Front => self.front.as_ref(),
+            Worker::Lane(lane) => self.lanes.get(usize::from(lane)),
         }
     }
 

@@ -2,6 +2,7 @@
 
 ghost use Rattle.rad_server.specs.internal.Wires.{FitsRoom};
 
+use crate::neighbours::Neighbours;
 use crate::notifying::Notifier;
 use crate::ready_socket::ReadySocket;
 use mio::{Events, Poll, Token};
@@ -12,7 +13,7 @@ use std::net::{Net, SocketAddr, UdpSocket};
 use std::time::Duration;
 
 /// The longest sleep, in milliseconds.
-const SLEEP: u64 = 20;
+pub(crate) const SLEEP: u64 = 20;
 
 /// The most events that one sleep returns: those of a lane's sockets and of its notifier. The next sleep, which then
 /// ends at once, returns the others.
@@ -46,11 +47,11 @@ impl Sleeper {
         })
     }
 
-    /// Sleeps until a datagram arrives, the worker is notified, or [`SLEEP`] milliseconds have passed.
-    fn sleep(&mut self) {
-        let _ = self
-            .poll
-            .poll(&mut self.events, Some(Duration::from_millis(SLEEP)));
+    /// Sleeps until a datagram arrives, the worker is notified, or so many milliseconds have passed, of which more than
+    /// [`SLEEP`] do not count. Returns whether the system allowed it.
+    fn sleep(&mut self, milliseconds: u64) -> bool {
+        let longest = Duration::from_millis(milliseconds.min(SLEEP));
+        self.poll.poll(&mut self.events, Some(longest)).is_ok()
     }
 }
 
@@ -65,6 +66,10 @@ pub(crate) struct PolledSockets {
     /// The index of the socket that is received from next.
     turn: u16,
     sleeper: Sleeper,
+    neighbours: Neighbours,
+    /// Whether a receive failed since every socket was last tried again. Datagrams may then wait at a socket that no
+    /// sleep reports.
+    has_failed: bool,
     /// The number of receives since the worker last slept or tried every socket again.
     receives: usize,
     /// Whether a datagram was sent since the last receive.
@@ -84,10 +89,13 @@ impl PolledSockets {
     ) -> io::Result<PolledSockets> {
         let sleeper = Sleeper::new(net, alloc)?;
         let sockets = register_each(alloc, &sleeper.poll, sockets)?;
+        let neighbours = Neighbours::new(sleeper.notifier.share()?, Vec::new(alloc));
         Ok(PolledSockets {
             sockets,
             turn: 0,
             sleeper,
+            neighbours,
+            has_failed: false,
             receives: 0,
             has_sent: false,
         })
@@ -102,12 +110,18 @@ impl PolledSockets {
         self.sleeper.notifier.share()
     }
 
-    /// Receives a datagram, and waits for one if there is nothing else to do. The worker looks for work afterwards.
-    pub(crate) fn receive(&mut self, room: &mut [u8; 4096]) -> Received
+    /// Sets the notifiers of the other workers that the worker has work for.
+    pub(crate) fn set_neighbours(&mut self, others: Vec<Notifier>) {
+        self.neighbours.set(others);
+    }
+
+    /// Receives a datagram, and waits for one if there is nothing else to do, for at most so many milliseconds. The
+    /// worker looks for work afterwards.
+    pub(crate) fn receive(&mut self, milliseconds: u64, room: &mut [u8; 4096]) -> Received
         ensures { FitsRoom result }
     {
         self.count_receive();
-        let received = self.wait(room);
+        let received = self.wait(milliseconds, room);
         self.sleeper.notifier.set_awake();
         self.has_sent = false;
         received
@@ -124,20 +138,27 @@ impl PolledSockets {
     /// Marks every socket as one that may have datagrams.
     fn set_each_waiting(&mut self) {
         self.receives = 0;
+        self.has_failed = false;
         for socket in &mut self.sockets {
             socket.set_waiting();
         }
     }
 
-    /// Receives a datagram, and waits for one if there is nothing else to do.
-    fn wait(&mut self, room: &mut [u8; 4096]) -> Received
+    /// Receives a datagram, and waits for one if there is nothing else to do. Before it waits, it wakes the other
+    /// workers that are due.
+    fn wait(&mut self, milliseconds: u64, room: &mut [u8; 4096]) -> Received
         ensures { FitsRoom result }
     {
         let received = self.try_each(room);
-        if received != Received::Nothing || self.has_sent || !self.sleeper.notifier.try_sleep() {
+        if received != Received::Nothing {
+            self.neighbours.went_on();
             return received;
         }
-        self.sleep();
+        self.neighbours.paused();
+        if self.has_sent || !self.sleeper.notifier.try_sleep() {
+            return received;
+        }
+        self.sleep(milliseconds);
         self.try_each(room)
     }
 
@@ -165,18 +186,21 @@ impl PolledSockets {
         } else {
             0
         };
-        match self.sockets.get_mut(usize::from(index)) {
+        let received = match self.sockets.get_mut(usize::from(index)) {
             Some(socket) => socket.receive(index, room),
             None => Received::Nothing,
-        }
+        };
+        self.has_failed = self.has_failed || received == Received::Fault;
+        received
     }
 
-    /// Sleeps until a datagram arrives, the worker is notified, or [`SLEEP`] milliseconds have passed. If neither a
-    /// socket nor a notification ended the sleep, every socket is tried again.
-    fn sleep(&mut self) {
-        self.sleeper.sleep();
+    /// Sleeps until a datagram arrives, the worker is notified, or so many milliseconds have passed. Every socket is
+    /// tried again if the system allowed no sleep, or if neither a socket nor a notification ended it and a receive
+    /// failed before.
+    fn sleep(&mut self, milliseconds: u64) {
+        let has_slept = self.sleeper.sleep(milliseconds);
         self.receives = 0;
-        if self.sleeper.events.is_empty() {
+        if !has_slept || (self.has_failed && self.sleeper.events.is_empty()) {
             self.set_each_waiting();
         }
         for event in self.sleeper.events.iter() {

@@ -230,7 +230,7 @@ impl<G: Gate> Gate for Supervisor<'_, G> {
     }
 
     fn accepted(&self, lane: u16, number: u64) {
-        self.notifiers.notify(Worker::Lane(lane));
+        self.notifiers.notify_for(Worker::Front, Worker::Lane(lane));
         self.outer.accepted(lane, number);
     }
 
@@ -259,7 +259,7 @@ impl<G: Gate> Gate for Supervisor<'_, G> {
         if self.set_down(Worker::Lane(lane), false) {
             self.outer.went_up(lane, UpReason::Answered);
         }
-        self.notifiers.notify(Worker::Front);
+        self.notifiers.notify_for(Worker::Lane(lane), Worker::Front);
         self.outer.answered(lane, serial);
     }
 

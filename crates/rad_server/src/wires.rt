@@ -2,29 +2,37 @@
 
 ghost use Rattle.std.specs.Prelude.{Some};
 
+use crate::heap_room::HeapRoom;
 use crate::local_addresses::LocalAddresses;
 use crate::notifying::Notifier;
+use crate::polling::SLEEP;
 use crate::worker_sockets::WorkerSockets;
 use rad_desk::{Delivery, Gate, Received, Traffic, Wire};
 use rad_realms::Endpoint;
 use rad_tables::Moment;
 use rand::Rng;
 use rand::rngs::StdRng;
-use std::alloc::AllocError;
+use std::alloc::{AllocError, Global};
 use std::time::{Clock, Instant};
 
 /// The sockets of a worker, with its clock and its random octets.
 ///
 /// A receive waits for at most 20 milliseconds. In the turn after a send it does not wait at all, since there may be
-/// more to send. Whoever has work for the worker ends the wait by a notification.
+/// more to send. Whoever has work for the worker ends the wait by a notification. Otherwise the waits of idle workers
+/// end together, once in 20 milliseconds since their common start.
+///
+/// The clock is read once in a turn: the moment stays the same from one receive to the next.
 #[derive(Drop)]
 pub(crate) struct UdpWire<'a, R, G, A> {
     clock: &'a R,
     start: Instant,
     /// The last moment that was returned.
     moment: Moment,
+    /// Whether it was read since the last receive.
+    is_fresh: bool,
     random: StdRng,
     sockets: WorkerSockets<'a, R, G, A>,
+    heap: HeapRoom,
     traffic: Traffic,
 }
 
@@ -32,6 +40,7 @@ impl<'a, R, G, A> UdpWire<'a, R, G, A> {
     /// Makes a wire over these sockets, whose moments count from `start`.
     pub(crate) fn new(
         clock: &'a R,
+        alloc: Global,
         start: Instant,
         random: StdRng,
         sockets: WorkerSockets<'a, R, G, A>,
@@ -40,8 +49,10 @@ impl<'a, R, G, A> UdpWire<'a, R, G, A> {
             clock,
             start,
             moment: Moment::new(0).unwrap(),
+            is_fresh: false,
             random,
             sockets,
+            heap: HeapRoom::new(alloc),
             traffic: Traffic::new(),
         }
     }
@@ -54,15 +65,41 @@ impl<'a, R, G, A> UdpWire<'a, R, G, A> {
     pub(crate) fn notifier(&self) -> Result<Notifier, AllocError> {
         self.sockets.notifier()
     }
+
+    /// Sets the notifiers of the other workers that the worker has work for.
+    pub(crate) fn set_neighbours(&mut self, others: Vec<Notifier>) {
+        self.sockets.set_neighbours(others);
+    }
+
+    /// Returns how many milliseconds the next wait may take: until the next multiple of [`SLEEP`] since the start, if
+    /// the clock was read in this turn, and otherwise [`SLEEP`].
+    fn longest_wait(&self) -> u64 {
+        if self.is_fresh {
+            SLEEP - self.moment.get() % SLEEP
+        } else {
+            SLEEP
+        }
+    }
+
+    /// Reads the clock. If that fails, the moment stays.
+    fn read_clock(&mut self)
+    where
+        R: Clock,
+    {
+        if let Ok(passed) = self.start.elapsed(self.clock) {
+            let milliseconds = u64::try_from(passed.as_millis()).unwrap_or(u64::MAX);
+            self.moment = Moment::new(milliseconds).unwrap_or(self.moment);
+            self.is_fresh = true;
+        }
+    }
 }
 
 impl<R: Clock, G: Gate, A: LocalAddresses> Wire for UdpWire<'_, R, G, A> {
     ghost log = { λ w. Some w.traffic.passed };
 
     fn now(&mut self) -> Moment {
-        if let Ok(passed) = self.start.elapsed(self.clock) {
-            let milliseconds = u64::try_from(passed.as_millis()).unwrap_or(u64::MAX);
-            self.moment = Moment::new(milliseconds).unwrap_or(self.moment);
+        if !self.is_fresh {
+            self.read_clock();
         }
         self.traffic.told(self.moment);
         self.moment
@@ -77,7 +114,10 @@ impl<R: Clock, G: Gate, A: LocalAddresses> Wire for UdpWire<'_, R, G, A> {
     }
 
     fn receive(&mut self, datagram: &mut [u8; 4096]) -> Received {
-        match self.sockets.receive(datagram) {
+        let longest = self.longest_wait();
+        self.is_fresh = false;
+        self.heap.keep();
+        match self.sockets.receive(longest, datagram) {
             Received::Got {
                 address,
                 port,

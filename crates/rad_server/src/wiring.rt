@@ -90,7 +90,7 @@ impl<'a, R: Clock + Net + RandomSource, G: Gate, A> WireMaker<'a, R, G, A> {
     ) -> io::Result<UdpWire<'a, R, G, A>> {
         let polled = PolledSockets::new(self.rt, self.alloc, sockets)?;
         let sockets = WorkerSockets::new(polled, answering);
-        Ok(UdpWire::new(self.rt, self.start, random, sockets))
+        Ok(UdpWire::new(self.rt, self.alloc, self.start, random, sockets))
     }
 
     /// Makes the wire of a lane over these sockets.
@@ -167,12 +167,35 @@ pub(crate) fn make_wires<'a, R: Clock + Net + RandomSource, G: Gate, A>(
         gate,
     };
     let BoundSockets { front, lanes } = sockets;
-    let front = match maker.make_front(front, config.clients()) {
+    let mut front = match maker.make_front(front, config.clients()) {
         Ok(wire) => wire,
         Err(error) => return Err(fault_at(config.listen(), config.listen(), &error, gate)),
     };
-    let lanes = maker.make_lanes(lanes)?;
+    let mut lanes = maker.make_lanes(lanes)?;
+    if set_neighbours(alloc, &mut front, lanes.as_mut_slice()).is_err() {
+        return Err(ServeFault::Memory);
+    }
     Ok(Wires { front, lanes })
+}
+
+/// Gives each worker the notifiers of those that it has work for: the front those of all lanes, and each lane that of
+/// the front.
+///
+/// # Errors
+///
+/// `AllocError` if memory is refused.
+fn set_neighbours<R, G, A>(
+    alloc: Global,
+    front: &mut UdpWire<'_, R, G, A>,
+    lanes: &mut [UdpWire<'_, R, G, A>],
+) -> Result<(), AllocError> {
+    front.set_neighbours(notifiers_of_lanes(alloc, lanes)?);
+    for lane in lanes {
+        let mut others = Vec::with_capacity(alloc, 1)?;
+        others.push(front.notifier()?)?;
+        lane.set_neighbours(others);
+    }
+    Ok(())
 }
 
 /// Returns the notifiers of the workers of these wires and of the reader.

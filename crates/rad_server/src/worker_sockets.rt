@@ -39,6 +39,11 @@ impl<'a, R, G, A> WorkerSockets<'a, R, G, A> {
         self.polled.notifier()
     }
 
+    /// Sets the notifiers of the other workers that the worker has work for.
+    pub(crate) fn set_neighbours(&mut self, others: Vec<Notifier>) {
+        self.polled.set_neighbours(others);
+    }
+
     /// Sends a datagram.
     pub(crate) fn send(&mut self, socket: u16, peer: Endpoint, octets: &[u8]) -> Delivery {
         let socket = match &self.answering {
@@ -52,11 +57,11 @@ impl<'a, R, G, A> WorkerSockets<'a, R, G, A> {
 }
 
 impl<R: Clock, G: Gate, A: LocalAddresses> WorkerSockets<'_, R, G, A> {
-    /// Receives a datagram, and waits for one if there is nothing else to do.
-    pub(crate) fn receive(&mut self, room: &mut [u8; 4096]) -> Received
+    /// Receives a datagram, and waits for one if there is nothing else to do, for at most so many milliseconds.
+    pub(crate) fn receive(&mut self, milliseconds: u64, room: &mut [u8; 4096]) -> Received
         ensures { FitsRoom result }
     {
-        let received = self.polled.receive(room);
+        let received = self.polled.receive(milliseconds, room);
         match &mut self.answering {
             Some(answering) => answering.received(received),
             None => received,
