@@ -151,6 +151,27 @@ class Stage:
         return time.monotonic() - begun, printed.decode().splitlines()[-1], self.proxy.ran.returncode
 
 
+class Wakes:
+    """What wakes.c counts of the program that it is loaded into, of which each receive that finds a datagram takes some milliseconds."""
+
+    def __init__(self, folder, milliseconds=0):
+        self.file = pathlib.Path(folder, "wakes")
+        self.variables = {"LD_PRELOAD": built(folder, "wakes"), "WAKES_FILE": str(self.file), "RECEIVE_MILLISECONDS": str(milliseconds)}
+
+    def counts(self):
+        """How many receives there were, and wakes, and waits that ended without an event, by the millisecond of twenty."""
+        octets = self.file.read_bytes()
+        receives, wakes, *ends = (int.from_bytes(octets[at : at + 8], sys.byteorder) for at in range(0, len(octets), 8))
+        return receives, wakes, ends
+
+    def during(self, seconds):
+        """How many there were of each in so many seconds."""
+        receives, wakes, ends = self.counts()
+        time.sleep(seconds)
+        more_receives, more_wakes, more_ends = self.counts()
+        return more_receives - receives, more_wakes - wakes, [more - end for end, more in zip(ends, more_ends)]
+
+
 def no_wake_is_late(program, folder):
     """Of 100 round trips, one after the other, next to none waits for a worker that nobody woke."""
     with Stage(program, folder) as stage:
@@ -202,6 +223,99 @@ def no_notification_is_lost_before_a_sleep(program, folder):
             return stage.round_trip()
 
         best(lambda: sum(trip() > LATE for _ in range(100)), lambda late: late <= 45)
+
+
+def no_wake_is_lost_where_datagrams_come_together(program, folder):
+    """Of 100 times that four requests come together, the last of them for another home server than the others, next to none has one
+    that is forwarded late, or an answer of the four that come together then."""
+    lanes = [1, 0, 0, 0]
+    with Stage(program, folder, count=2) as stage:
+
+        def is_late():
+            asked = [stage.nas.ask(f"h{lane}") for lane in reversed(lanes)]
+            begun = time.monotonic()
+            came = [stage.came(lane) for lane in lanes]
+            forwarded = time.monotonic() - begun
+            for lane, (packet, sender) in zip(lanes, came):
+                stage.homes[lane].answer(packet, sender)
+            begun = time.monotonic()
+            found = {stage.nas.socket.recv(4096) for _ in asked}
+            hope(found == {answer(each, each[1], b"", SECRET) for each in asked}, "other responses came")
+            return max(forwarded, time.monotonic() - begun) > LATE
+
+        best(lambda: sum(is_late() for _ in range(100)), lambda late: late <= 10)
+
+
+def requests_that_come_together_wake_a_lane_once_for_eight(program, folder):
+    """While 24 requests wait, of which the front takes one in three milliseconds, their lane, which sleeps after each, is woken for
+    the first one, once for eight of the others, and at the end."""
+    wakes = Wakes(folder, milliseconds=3)
+    with Stage(program, folder, variables=wakes.variables) as stage:
+        stage.round_trip()
+
+        def woken():
+            _, before, _ = wakes.counts()
+            asked = [stage.nas.ask() for _ in range(24)]
+            came = [stage.came() for _ in asked]
+            _, after, _ = wakes.counts()
+            for packet, sender in came:
+                stage.homes[0].answer(packet, sender)
+            for _ in asked:
+                stage.nas.socket.recv(4096)
+            time.sleep(0.1)
+            return after - before
+
+        best(woken, lambda count: 3 <= count <= 8)
+
+
+def an_idle_worker_looks_again_after_twenty_milliseconds(program, folder):
+    """Each of nine workers that have nothing to do ends 40 to 60 waits a second."""
+    wakes = Wakes(folder)
+    with Stage(program, folder, count=8, variables=wakes.variables) as stage:
+        stage.round_trip()
+
+        def each_second():
+            _, _, ends = wakes.during(2)
+            return sum(ends) / 2 / 9
+
+        best(each_second, lambda ends: 40 <= ends <= 60)
+
+
+def idle_lanes_wake_together_and_receive_nothing(program, folder):
+    """However the last datagrams came, most waits of sixteen lanes that have nothing to do end within four milliseconds of twenty.
+    A wait that ends so is followed by no receive."""
+    chance = random.Random(1)
+    wakes = Wakes(folder)
+    with Stage(program, folder, count=16, variables=wakes.variables) as stage:
+
+        def together():
+            for lane in range(16):
+                time.sleep(chance.uniform(0, 0.02))
+                stage.round_trip(lane)
+            time.sleep(0.2)
+            receives, _, ends = wakes.during(1)
+            hope(receives == 0, "receives:", receives)
+            return max(sum((ends + ends)[at : at + 4]) for at in range(20)) / sum(ends)
+
+        best(together, lambda part: part >= 0.7)
+
+
+def heaps_grow_by_large_pieces(program, folder):
+    """Of 1000 requests, each of which is kept, at most 40 have the memory of the program grow."""
+    with Stage(program, folder) as stage:
+
+        def memory():
+            lines = pathlib.Path(f"/proc/{stage.proxy.ran.pid}/maps").read_text().splitlines()
+            ranges = [line.split()[0].split("-") for line in lines if " rw-p " in line]
+            return sum(int(end, 16) - int(begin, 16) for begin, end in ranges)
+
+        def grown():
+            stage.round_trip()
+            return memory()
+
+        sizes = [grown() for _ in range(1000)]
+        growths = sum(later > earlier for earlier, later in zip(sizes, sizes[1:]))
+        hope(growths <= 40, "it grew", growths, "times")
 
 
 def resendings_come_at_their_moment(program, folder):
@@ -580,7 +694,9 @@ def starts_beside_a_full_pipe(program, folder):
 
 TESTS = [
     no_wake_is_late, no_wake_is_late_at_any_port, no_wake_is_late_at_any_lane, no_wake_is_lost_while_a_worker_works,
-    no_notification_is_lost_before_a_sleep, resendings_come_at_their_moment, probes_come_at_their_moments, ten_idle_seconds_cost_little, ends_at_once_where_nothing_is_left,
+    no_notification_is_lost_before_a_sleep, no_wake_is_lost_where_datagrams_come_together,
+    requests_that_come_together_wake_a_lane_once_for_eight, an_idle_worker_looks_again_after_twenty_milliseconds,
+    idle_lanes_wake_together_and_receive_nothing, heaps_grow_by_large_pieces, resendings_come_at_their_moment, probes_come_at_their_moments, ten_idle_seconds_cost_little, ends_at_once_where_nothing_is_left,
     lingers_for_a_home_that_is_silent, ends_as_the_last_answer_comes, state_and_drain_tell_each_lane, counts_of_two_lanes,
     counts_of_sixty_four_lanes, counters_are_replaced, reports_come_each_second, sends_that_fail_are_counted, faults_are_counted, each_event_has_its_level,
     what_is_refused_is_told, serves_beside_a_full_pipe, starts_beside_a_full_pipe, serves_though_its_log_has_no_reader,

@@ -81,16 +81,14 @@ impl<'a, R, G, A> UdpWire<'a, R, G, A> {
         }
     }
 
-    /// Reads the clock. If that fails, the moment stays.
-    fn read_clock(&mut self)
+    /// Reads the clock. Returns `None` if that fails.
+    fn read_clock(&self) -> Option<Moment>
     where
         R: Clock,
     {
-        if let Ok(passed) = self.start.elapsed(self.clock) {
-            let milliseconds = u64::try_from(passed.as_millis()).unwrap_or(u64::MAX);
-            self.moment = Moment::new(milliseconds).unwrap_or(self.moment);
-            self.is_fresh = true;
-        }
+        let passed = self.start.elapsed(self.clock).ok()?;
+        let milliseconds = u64::try_from(passed.as_millis()).unwrap_or(u64::MAX);
+        Moment::new(milliseconds)
     }
 }
 
@@ -99,7 +97,10 @@ impl<R: Clock, G: Gate, A: LocalAddresses> Wire for UdpWire<'_, R, G, A> {
 
     fn now(&mut self) -> Moment {
         if !self.is_fresh {
-            self.read_clock();
+            if let Some(moment) = self.read_clock() {
+                self.moment = moment;
+                self.is_fresh = true;
+            }
         }
         self.traffic.told(self.moment);
         self.moment
@@ -116,7 +117,6 @@ impl<R: Clock, G: Gate, A: LocalAddresses> Wire for UdpWire<'_, R, G, A> {
     fn receive(&mut self, datagram: &mut [u8; 4096]) -> Received {
         let longest = self.longest_wait();
         self.is_fresh = false;
-        self.heap.keep();
         match self.sockets.receive(longest, datagram) {
             Received::Got {
                 address,
@@ -124,6 +124,7 @@ impl<R: Clock, G: Gate, A: LocalAddresses> Wire for UdpWire<'_, R, G, A> {
                 socket,
                 count,
             } => {
+                self.heap.count_datagram();
                 self.traffic
                     .arrived(socket, address, port, &datagram[..count]);
                 Received::Got {

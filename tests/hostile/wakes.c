@@ -1,0 +1,71 @@
+/*
+ * Counts how often the program that it is loaded into (LD_PRELOAD) calls the system. The file WAKES_FILE has as machine's numbers of 64
+ * bits: the receives, the wakes of a worker by another one, which write 8 octets, and of the waits that end without an event how many
+ * end in each millisecond of twenty. Each receive that finds a datagram takes RECEIVE_MILLISECONDS.
+ */
+#define _GNU_SOURCE
+#include <dlfcn.h>
+#include <fcntl.h>
+#include <stdatomic.h>
+#include <stdint.h>
+#include <stdlib.h>
+#include <sys/epoll.h>
+#include <sys/mman.h>
+#include <sys/socket.h>
+#include <time.h>
+#include <unistd.h>
+
+#define APART 20
+
+static struct {
+    _Atomic int64_t receives, wakes, ends[APART];
+} *kept;
+static useconds_t slow;
+
+__attribute__((constructor)) static void begin(void)
+{
+    const char *name = getenv("WAKES_FILE"), *text = getenv("RECEIVE_MILLISECONDS");
+    int file = name ? open(name, O_CREAT | O_RDWR | O_TRUNC | O_CLOEXEC, 0600) : -1;
+    void *shared = MAP_FAILED;
+    if (file >= 0 && ftruncate(file, sizeof *kept) == 0) {
+        shared = mmap(NULL, sizeof *kept, PROT_READ | PROT_WRITE, MAP_SHARED, file, 0);
+    }
+    if (shared == MAP_FAILED) {
+        _exit(127);
+    }
+    close(file);
+    slow = 1000 * (useconds_t)strtol(text ? text : "0", NULL, 10);
+    kept = shared;
+}
+
+ssize_t recvfrom(int socket, void *room, size_t size, int flags, struct sockaddr *from, socklen_t *length)
+{
+    ssize_t (*receive)(int, void *, size_t, int, struct sockaddr *, socklen_t *) = dlsym(RTLD_NEXT, "recvfrom");
+    atomic_fetch_add(&kept->receives, 1);
+    ssize_t count = receive(socket, room, size, flags, from, length);
+    if (count >= 0 && slow) {
+        usleep(slow);
+    }
+    return count;
+}
+
+ssize_t write(int file, const void *octets, size_t size)
+{
+    ssize_t (*give)(int, const void *, size_t) = dlsym(RTLD_NEXT, "write");
+    if (kept && size == sizeof(uint64_t)) {
+        atomic_fetch_add(&kept->wakes, 1);
+    }
+    return give(file, octets, size);
+}
+
+int epoll_wait(int poll, struct epoll_event *events, int room, int milliseconds)
+{
+    int (*await)(int, struct epoll_event *, int, int) = dlsym(RTLD_NEXT, "epoll_wait");
+    int count = await(poll, events, room, milliseconds);
+    if (count == 0) {
+        struct timespec now;
+        clock_gettime(CLOCK_MONOTONIC, &now);
+        atomic_fetch_add(&kept->ends[now.tv_nsec / 1000000 % APART], 1);
+    }
+    return count;
+}
