@@ -301,7 +301,7 @@ def idle_lanes_wake_together_and_receive_nothing(program, folder):
 
 
 def heaps_grow_by_large_pieces(program, folder):
-    """Of 1000 requests, each of which is kept, at most 40 have the memory of the program grow."""
+    """Of 1000 requests, each of which is kept, at most 24 have the memory of the program grow."""
     with Stage(program, folder) as stage:
 
         def memory():
@@ -315,7 +315,7 @@ def heaps_grow_by_large_pieces(program, folder):
 
         sizes = [grown() for _ in range(1000)]
         growths = sum(later > earlier for earlier, later in zip(sizes, sizes[1:]))
-        hope(growths <= 40, "it grew", growths, "times")
+        hope(growths <= 24, "it grew", growths, "times")
 
 
 def resendings_come_at_their_moment(program, folder):
