@@ -3,6 +3,7 @@ RT ?= rt
 export RT
 
 PROGRAM = crates/rad_proxy/out/rad_proxy
+AUDITOR = crates/rad_audit/out/rad_audit
 SIMULATION = crates/rad_simulation/out/rad_simulation
 EXAMPLE = examples/one-request-answered.replay
 
@@ -29,10 +30,12 @@ IS_NEW = test -f $(STAMP) && \
 	test -z "$$(find crates/*/src crates/*/specs crates/*/proofs crates.txt $(KIT)bin -newer $(STAMP) -print -quit)"
 IS_BUILT = test -x $(PROGRAM) && $(IS_NEW)
 
-# Proves and builds the program, over what earlier checks kept, and runs it as stored.
+# Proves and builds the program and the auditor, over what earlier checks kept, and runs the one as stored and the other over the
+# example.
 build:
 	@mkdir -p out && touch out/rad_proxy.begun
 	@cd crates/rad_proxy && python3 ../../tests/progress.py ../../out/build.txt $(RT) run < stdin
+	@cd crates/rad_audit && python3 ../../tests/progress.py ../../out/build-audit.txt $(RT) run -- ../../examples/one-home.toml ../../examples/one-home.jsonl
 	@mv out/rad_proxy.begun $(STAMP)
 
 # Shows how the example's request is answered: by the program, where it is built, and else by a run that is not proved.
@@ -103,6 +106,7 @@ bench-queue:
 # Where `make install` puts things. DESTDIR stands before each of them.
 VERSION = 0.1.0
 PREFIX ?= /usr/local
+BINDIR ?= $(PREFIX)/bin
 SBINDIR ?= $(PREFIX)/sbin
 LIBEXECDIR ?= $(PREFIX)/libexec
 MANDIR ?= $(PREFIX)/share/man
@@ -122,13 +126,16 @@ MANY = -e 's,@of@, %i,' -e 's,@config@,%i,g' -e 's,@runtime@,rad_proxy-%i,'
 
 .PHONY: install uninstall manual deb service
 
-# Installs the program that `make build` left, the scripts of the service, the units, the manual, the pages and the examples. The
-# configuration is the operator's: $(SYSCONFDIR)/rad_proxy is made, and nothing is put there.
+# Installs the program and the auditor that `make build` left, the scripts of the service, the units, the manual, the pages and the
+# examples. The configuration is the operator's: $(SYSCONFDIR)/rad_proxy is made, and nothing is put there.
 install:
-	@test -x $(PROGRAM) || { echo "there is no $(PROGRAM): run make build first" >&2; exit 1; }
-	install -d $(DESTDIR)$(SBINDIR) $(DESTDIR)$(LIBEXECDIR)/rad_proxy $(DESTDIR)$(UNITDIR) $(DESTDIR)$(SYSUSERSDIR)
-	install -d $(DESTDIR)$(MANDIR)/man8 $(DESTDIR)$(MANDIR)/man5 $(DESTDIR)$(DOCDIR)/docs $(DESTDIR)$(SYSCONFDIR)/rad_proxy
+	@for program in $(PROGRAM) $(AUDITOR); do \
+		test -x $$program || { echo "there is no $$program: run make build first" >&2; exit 1; }; \
+	done
+	install -d $(DESTDIR)$(BINDIR) $(DESTDIR)$(SBINDIR) $(DESTDIR)$(LIBEXECDIR)/rad_proxy $(DESTDIR)$(UNITDIR) $(DESTDIR)$(SYSUSERSDIR)
+	install -d $(DESTDIR)$(MANDIR)/man8 $(DESTDIR)$(MANDIR)/man5 $(DESTDIR)$(MANDIR)/man1 $(DESTDIR)$(DOCDIR)/docs $(DESTDIR)$(SYSCONFDIR)/rad_proxy
 	install -m 755 $(PROGRAM) $(DESTDIR)$(SBINDIR)/rad_proxy
+	install -m 755 $(AUDITOR) $(DESTDIR)$(BINDIR)/rad_audit
 	sed $(FOLDERS) packaging/rad_proxyctl.in > $(DESTDIR)$(SBINDIR)/rad_proxyctl
 	sed $(FOLDERS) packaging/serve.in > $(DESTDIR)$(LIBEXECDIR)/rad_proxy/serve
 	chmod 755 $(DESTDIR)$(SBINDIR)/rad_proxyctl $(DESTDIR)$(LIBEXECDIR)/rad_proxy/serve
@@ -140,26 +147,27 @@ install:
 	install -m 644 packaging/sysusers.conf $(DESTDIR)$(SYSUSERSDIR)/rad_proxy.conf
 	install -m 644 man/man8/rad_proxy.8 man/man8/rad_proxyctl.8 $(DESTDIR)$(MANDIR)/man8
 	install -m 644 man/man5/rad_proxy.toml.5 $(DESTDIR)$(MANDIR)/man5
+	install -m 644 man/man1/rad_audit.1 $(DESTDIR)$(MANDIR)/man1
 	install -m 644 README.md SECURITY.md CHANGELOG.md LICENSE $(DESTDIR)$(DOCDIR)
 	cp -R docs examples $(DESTDIR)$(DOCDIR)
 	chmod -R u=rwX,go=rX $(DESTDIR)$(DOCDIR)
 
 # Takes away what `make install` put, and leaves the configuration.
 uninstall:
-	rm -f $(DESTDIR)$(SBINDIR)/rad_proxy $(DESTDIR)$(SBINDIR)/rad_proxyctl
+	rm -f $(DESTDIR)$(SBINDIR)/rad_proxy $(DESTDIR)$(SBINDIR)/rad_proxyctl $(DESTDIR)$(BINDIR)/rad_audit
 	test ! -d $(DESTDIR)$(UNITDIR) || (cd $(DESTDIR)$(UNITDIR) && rm -f $(UNITS))
 	rm -f $(DESTDIR)$(SYSUSERSDIR)/rad_proxy.conf $(DESTDIR)$(MANDIR)/man8/rad_proxy.8
-	rm -f $(DESTDIR)$(MANDIR)/man8/rad_proxyctl.8 $(DESTDIR)$(MANDIR)/man5/rad_proxy.toml.5
+	rm -f $(DESTDIR)$(MANDIR)/man8/rad_proxyctl.8 $(DESTDIR)$(MANDIR)/man5/rad_proxy.toml.5 $(DESTDIR)$(MANDIR)/man1/rad_audit.1
 	rm -rf $(DESTDIR)$(LIBEXECDIR)/rad_proxy $(DESTDIR)$(DOCDIR)
 
 # Looks at the manual and at the scripts of packaging/: mandoc and shellcheck have to find nothing.
 manual:
-	mandoc -T lint -W warning man/man8/rad_proxy.8 man/man8/rad_proxyctl.8 man/man5/rad_proxy.toml.5
+	mandoc -T lint -W warning man/man8/rad_proxy.8 man/man8/rad_proxyctl.8 man/man5/rad_proxy.toml.5 man/man1/rad_audit.1
 	shellcheck packaging/serve.in packaging/rad_proxyctl.in packaging/deb packaging/try-deb packaging/try-deb-inside \
 		packaging/try-alerts packaging/try-alerts-inside packaging/try-package packaging/try-service \
 		packaging/debian/postinst packaging/debian/prerm packaging/debian/postrm
 
-# A Debian package of the program that `make build` left, in out/.
+# A Debian package of the programs that `make build` left, in out/.
 deb:
 	@VERSION=$(VERSION) packaging/deb
 

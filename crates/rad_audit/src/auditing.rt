@@ -1,0 +1,311 @@
+//! The audit of files.
+
+ghost use Rattle.std.specs.Prelude.{◌≡◌, ◌↔◌, ◌<◌, ◌^◌, IfOk, IsTrue, find, option_copied, option_map};
+ghost use Rattle.std.specs.Str.{bytes_eq};
+ghost use Rattle.rad_realms.specs.Realm.{client_of};
+ghost use Rattle.rad_audit.specs.Lines.{IsFront};
+ghost use Rattle.rad_audit.specs.Statuses.{status_at};
+ghost use Rattle.rad_audit.specs.declared.printing.Findings.{Findings as TheFindings};
+
+use crate::faults::Fault;
+use crate::line_room::{LineRoom, Piece};
+use crate::printing::{Findings, GapLine, LaneLine, LaneName, Place, Report, TornLine, WrongLine};
+use crate::runs::Runs;
+use crate::taking::{Taken, judge_stray, take_entry};
+use ledger_lines::{Begin, End, Line, LineFault, MOST_LINE_OCTETS, Room, read_line};
+use rad_auth::Secret;
+use rad_ledger::{Entry, Reason};
+use rad_realms::{Config, Home};
+use std::alloc::{AllocError, Global};
+use std::fs;
+use std::io::{BufRead, BufReader, Write};
+use std::rt::Files;
+
+/// How many octets of a file are read at once.
+const READ_OCTETS: usize = 262_144;
+
+/// Audits the ledgers in these files, in this order, and prints what it finds. Returns the status.
+///
+/// # Errors
+///
+/// `File` if a file can't be read, `Output` if nothing more can be printed, `Memory` if a growth is refused.
+pub fn audit_files<R: Files, W: Write>(
+    rt: &R,
+    alloc: Global,
+    config: &Config,
+    files: &[String],
+    output: &mut W,
+) -> Result<u8, Fault>
+where
+    R::File: Drop,
+    ensures { IfOk result (λ status. (found : TheFindings) × (status ≡ status_at found)) }
+{
+    let report = Report {
+        output,
+        findings: Findings {
+            wrong: false,
+            gap: false,
+        },
+    };
+    let Ok(mut audit) = Audit::new(alloc, config, report) else {
+        return Err(Fault::Memory);
+    };
+    for path in files.iter() {
+        let path = path.as_str();
+        let file = match fs::open(rt, path) {
+            Ok(file) => file,
+            Err(error) => return Err(Fault::of_file(alloc, path, &error)),
+        };
+        let Ok(mut reader) = BufReader::with_capacity(alloc, READ_OCTETS, file) else {
+            return Err(Fault::Memory);
+        };
+        audit.read_file(path, &mut reader)?;
+    }
+    audit.end()
+}
+
+/// A line that is no line of a ledger, kept until the next one shows whether it was cut short.
+#[derive(Drop)]
+struct Held {
+    octets: Vec<u8>,
+    /// Its number in the file, if there is such a line.
+    line: Option<u64>,
+}
+
+/// What an audit keeps from line to line.
+#[derive(Drop)]
+struct Audit<'a, W> {
+    alloc: Global,
+    config: &'a Config,
+    room: Room,
+    line: LineRoom,
+    held: Held,
+    runs: Runs,
+    report: Report<'a, W>,
+}
+
+impl<'a, W: Write> Audit<'a, W> {
+    fn new(
+        alloc: Global,
+        config: &'a Config,
+        report: Report<'a, W>,
+    ) -> Result<Audit<'a, W>, AllocError> {
+        Ok(Audit {
+            alloc,
+            config,
+            room: Room::new(alloc)?,
+            line: LineRoom::new(alloc)?,
+            held: Held {
+                octets: Vec::with_capacity(alloc, MOST_LINE_OCTETS)?,
+                line: None,
+            },
+            runs: Runs::new(alloc),
+            report,
+        })
+    }
+
+    /// Reads the lines of a file.
+    fn read_file<R: BufRead>(&mut self, file: &str, reader: &mut R) -> Result<(), Fault> {
+        for line in 1..u64::MAX {
+            let place = Place { file, line };
+            let piece = match self.line.read(reader) {
+                Ok(piece) => piece,
+                Err(error) => return Err(Fault::of_file(self.alloc, file, &error)),
+            };
+            self.settle(file)?;
+            match piece {
+                Piece::Whole => self.take(place)?,
+                Piece::TooLong => self.report.wrong(not_an_entry(place))?,
+                Piece::Unended => return self.report.torn(TornLine { place }),
+                Piece::End => return Ok(()),
+            }
+        }
+        Ok(())
+    }
+
+    /// Tells of the line before, if it was no line of a ledger.
+    fn settle(&mut self, file: &str) -> Result<(), Fault> {
+        let Some(line) = self.held.line else {
+            return Ok(());
+        };
+        self.held.line = None;
+        let place = Place { file, line };
+        if is_front(self.held.octets.as_slice(), self.line.as_slice()) {
+            self.report.torn(TornLine { place })
+        } else {
+            self.report.wrong(not_an_entry(place))
+        }
+    }
+
+    /// Takes the line that was read.
+    fn take(&mut self, place: Place<'_>) -> Result<(), Fault> {
+        if self.take_read(place)? {
+            Ok(())
+        } else {
+            self.hold(place.line)
+        }
+    }
+
+    /// Takes the line that was read, if it is a line of a ledger. Returns whether it is.
+    #[tactic(auto, using(crate::proofs::Entries::serial_of_line))]
+    fn take_read(&mut self, place: Place<'_>) -> Result<bool, Fault> {
+        let (alloc, config) = (self.alloc, self.config);
+        let line = match read_line(alloc, self.line.as_slice(), &mut self.room) {
+            Ok(line) => line,
+            Err(LineFault::NotALine) => return Ok(false),
+            Err(LineFault::OutOfMemory) => return Err(Fault::Memory),
+        };
+        match &line {
+            Line::Entry(entry) => {
+                let (runs, report) = (&mut self.runs, &mut self.report);
+                count_entry(alloc, config, runs, report, place, entry)?;
+            }
+            Line::Begin(begin) => take_begin(alloc, &mut self.runs, begin)?,
+            Line::End(end) => take_end(&mut self.runs, &mut self.report, place, end)?,
+        }
+        Ok(true)
+    }
+
+    /// Keeps the line until the next one is read.
+    fn hold(&mut self, line: u64) -> Result<(), Fault> {
+        self.held.octets.clear();
+        if self
+            .held
+            .octets
+            .extend_from_slice(self.line.as_slice())
+            .is_err()
+        {
+            return Err(Fault::Memory);
+        }
+        self.held.line = Some(line);
+        Ok(())
+    }
+
+    /// Prints what each lane of each run has, and returns the status.
+    fn end(self) -> Result<u8, Fault>
+        ensures { IfOk result (λ status. (found : TheFindings) × (status ≡ status_at found)) }
+    {
+        let Audit { runs, report, .. } = self;
+        let mut report = report;
+        for run in runs.as_slice().iter() {
+            for lane in run.lanes.iter() {
+                report.lane(LaneLine::of(run.run, lane))?;
+            }
+        }
+        Ok(report.findings.status())
+    }
+}
+
+/// A file begins.
+fn take_begin(alloc: Global, runs: &mut Runs, begin: &Begin<'_>) -> Result<(), Fault> {
+    match runs.begin(alloc, begin) {
+        Ok(()) => Ok(()),
+        Err(_) => Err(Fault::Memory),
+    }
+}
+
+/// Whether octets are the front of longer ones.
+fn is_front(front: &[u8], next: &[u8]) -> bool
+    ensures { IsTrue result ↔ IsFront front.now next.now }
+{
+    front.len() < next.len() && next.starts_with(front)
+}
+
+/// Returns what is printed of a line that is no line of a ledger.
+fn not_an_entry(place: Place<'_>) -> WrongLine<'_> {
+    WrongLine {
+        place,
+        reason: Reason::NotEntry,
+    }
+}
+
+/// Counts an entry, or tells what is wrong with it.
+fn count_entry<W: Write>(
+    alloc: Global,
+    config: &Config,
+    runs: &mut Runs,
+    report: &mut Report<'_, W>,
+    place: Place<'_>,
+    entry: &Entry<'_>,
+) -> Result<(), Fault>
+    requires { entry.now.serial < 2 ^ 63 }
+{
+    let home = secret_of_home(config, entry.home);
+    let client = secret_of_client(config, entry.client);
+    let lane = match runs.lane(entry.run, entry.lane) {
+        Some(lane) if lane.home.as_str() == entry.home => lane,
+        _ => {
+            return match judge_stray(alloc, entry, home, client) {
+                Ok(reason) => report.wrong(WrongLine { place, reason }),
+                Err(_) => Err(Fault::Memory),
+            };
+        }
+    };
+    match take_entry(alloc, entry, home, client, &mut lane.tally) {
+        Ok(Taken::Wrong(reason)) => report.wrong(WrongLine { place, reason }),
+        Ok(Taken::Counted(gap)) => {
+            if home.is_none() {
+                lane.not_judged = lane.not_judged.saturating_add(1);
+            }
+            match gap {
+                Some(gap) => {
+                    let name = LaneName::of(entry.run, lane);
+                    report.gap(GapLine { place, name, gap })
+                }
+                None => Ok(()),
+            }
+        }
+        Err(_) => Err(Fault::Memory),
+    }
+}
+
+/// Returns the secret of the home server with this name, if the configuration has it.
+fn secret_of_home<'a>(config: &'a Config, name: &str) -> Option<&'a Secret>
+    ensures { option_copied result ≡ option_map (λ h. h.secret) (find (λ h. bytes_eq h.name name.now) config.now.homes) }
+{
+    match home_of(config, name) {
+        Some(home) => Some(home.secret()),
+        None => None,
+    }
+}
+
+/// Returns the home server with this name, if the configuration has it.
+fn home_of<'a>(config: &'a Config, name: &str) -> Option<&'a Home>
+    ensures { option_copied result ≡ find (λ h. bytes_eq h.name name.now) config.now.homes }
+{
+    config
+        .homes()
+        .iter()
+        .find(|home: &&Home| home.name() == name)
+}
+
+/// Returns the secret of the client at this address, if the configuration has it.
+fn secret_of_client(config: &Config, address: [u8; 4]) -> Option<&Secret>
+    ensures { option_copied result ≡ option_map (λ c. c.secret) (client_of config.now address) }
+{
+    match config.client_of(address) {
+        Some(client) => Some(client.secret()),
+        None => None,
+    }
+}
+
+/// A run ends.
+fn take_end<W: Write>(
+    runs: &mut Runs,
+    report: &mut Report<'_, W>,
+    place: Place<'_>,
+    end: &End<'_>,
+) -> Result<(), Fault> {
+    for count in end.lanes.iter() {
+        let Some(lane) = runs.lane(end.run, count.lane) else {
+            let reason = Reason::UnknownLane;
+            report.wrong(WrongLine { place, reason })?;
+            continue;
+        };
+        if let Some(gap) = lane.tally.end(count.entries) {
+            let name = LaneName::of(end.run, lane);
+            report.gap(GapLine { place, name, gap })?;
+        }
+    }
+    Ok(())
+}
