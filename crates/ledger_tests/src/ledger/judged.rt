@@ -13,34 +13,32 @@ const HOME: &[u8] = b"home-secret";
 
 const CLIENT: &[u8] = b"nas-secret";
 
-/// An entry, with what it is judged by.
+/// The secrets that an entry is judged under.
 #[derive(Drop)]
-struct Judged<'a> {
-    entry: Entry<'a>,
+struct Secrets {
     home: Secret,
     client: Secret,
 }
 
-impl<'a> Judged<'a> {
-    fn of(entry: Entry<'a>) -> Result<Judged<'a>, Fail> {
-        Ok(Judged {
-            entry,
+impl Secrets {
+    fn new() -> Result<Secrets, Fail> {
+        Ok(Secrets {
             home: Secret::new(HOME)?,
             client: Secret::new(CLIENT)?,
         })
     }
 
-    /// Whether this is the reason that is told of another entry, whose lane has this next serial.
-    fn tells<R: Abort + AllocGlobal>(
+    /// Compares the reason that is told of an entry, whose lane has this next serial.
+    fn tell<R: Abort + AllocGlobal>(
         &self,
         rt: &R,
-        entry: Entry<'_>,
+        entry: &Entry<'_>,
         next: Option<u64>,
         wanted: Option<Reason>,
     ) -> Result<(), Fail> {
         let told = judge(
             rt.alloc(),
-            &entry,
+            entry,
             Some(&self.home),
             Some(&self.client),
             next,
@@ -48,56 +46,57 @@ impl<'a> Judged<'a> {
         same(rt, told, wanted);
         Ok(())
     }
+
+    /// Judges an entry that is right, and what becomes of it if one thing is changed.
+    fn tell_each<R: Abort + AllocGlobal>(&self, rt: &R, right: Entry<'_>) -> Result<(), Fail> {
+        let next = Some(right.serial);
+        let above = right.serial.checked_add(1);
+        self.tell(rt, &right, next, None)?;
+        self.tell(rt, &right, None, Some(Reason::UnknownLane))?;
+        self.tell(rt, &right, above, Some(Reason::SerialNotAbove))?;
+        let sent = right.response;
+        self.tell(rt, &Entry { sent, ..right }, next, Some(Reason::WrongSent))?;
+        let number = right.number ^ 1;
+        self.tell(
+            rt,
+            &Entry { number, ..right },
+            next,
+            Some(Reason::WrongSent),
+        )?;
+        let reply = right.response;
+        self.tell(
+            rt,
+            &Entry { reply, ..right },
+            next,
+            Some(Reason::WrongReply),
+        )?;
+        let response = right.reply;
+        self.tell(
+            rt,
+            &Entry { response, ..right },
+            next,
+            Some(Reason::WrongResponse),
+        )?;
+        let Some((_, response)) = right.response.split_first() else {
+            return Err(Fail::from("a response"));
+        };
+        self.tell(
+            rt,
+            &Entry { response, ..right },
+            next,
+            Some(Reason::NoPacket),
+        )
+    }
 }
 
 #[test]
 fn an_entry_is_right_and_each_change_is_told(rt: HostRuntime) -> Result<(), Fail> {
+    let secrets = Secrets::new()?;
     let mut room = Room::new(rt.alloc())?;
-    let line = read_line(rt.alloc(), &ENTRY_LINE, &mut room);
-    let Ok(Line::Entry(entry)) = &line else {
-        return Err(Fail::from("an entry"));
-    };
-    let judged = Judged::of(*entry)?;
-    let right = judged.entry;
-    let next = Some(right.serial);
-    judged.tells(&rt, right, next, None)?;
-    judged.tells(&rt, right, None, Some(Reason::UnknownLane))?;
-    judged.tells(
-        &rt,
-        right,
-        Some(right.serial + 1),
-        Some(Reason::SerialNotAbove),
-    )?;
-    let sent = right.response;
-    judged.tells(&rt, Entry { sent, ..right }, next, Some(Reason::WrongSent))?;
-    let reply = right.response;
-    judged.tells(
-        &rt,
-        Entry { reply, ..right },
-        next,
-        Some(Reason::WrongReply),
-    )?;
-    let response = right.reply;
-    judged.tells(
-        &rt,
-        Entry { response, ..right },
-        next,
-        Some(Reason::WrongResponse),
-    )?;
-    let response = &right.response[1..];
-    judged.tells(
-        &rt,
-        Entry { response, ..right },
-        next,
-        Some(Reason::NoPacket),
-    )?;
-    let number = right.number ^ 1;
-    judged.tells(
-        &rt,
-        Entry { number, ..right },
-        next,
-        Some(Reason::WrongSent),
-    )
+    match read_line(rt.alloc(), &ENTRY_LINE, &mut room) {
+        Ok(Line::Entry(entry)) => secrets.tell_each(&rt, entry),
+        _ => Err(Fail::from("an entry")),
+    }
 }
 
 #[test]
