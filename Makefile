@@ -3,6 +3,7 @@ RT ?= rt
 export RT
 
 PROGRAM = crates/rad_proxy/out/rad_proxy
+AUDITOR = crates/rad_audit/out/rad_audit
 SIMULATION = crates/rad_simulation/out/rad_simulation
 EXAMPLE = examples/one-request-answered.replay
 
@@ -29,10 +30,12 @@ IS_NEW = test -f $(STAMP) && \
 	test -z "$$(find crates/*/src crates/*/specs crates/*/proofs crates.txt $(KIT)bin -newer $(STAMP) -print -quit)"
 IS_BUILT = test -x $(PROGRAM) && $(IS_NEW)
 
-# Proves and builds the program, over what earlier checks kept, and runs it as stored.
+# Proves and builds the program and the auditor, over what earlier checks kept, and runs the one as stored and the other over the
+# example.
 build:
 	@mkdir -p out && touch out/rad_proxy.begun
 	@cd crates/rad_proxy && python3 ../../tests/progress.py ../../out/build.txt $(RT) run < stdin
+	@cd crates/rad_audit && python3 ../../tests/progress.py ../../out/build-audit.txt $(RT) run -- ../../examples/one-home.toml ../../examples/one-home.jsonl
 	@mv out/rad_proxy.begun $(STAMP)
 
 # Shows how the example's request is answered: by the program, where it is built, and else by a run that is not proved.
@@ -78,6 +81,7 @@ soak:
 	@status=0; \
 	python3 tests/hostile/soak.py $(PROGRAM) --seconds $(SECONDS) $(SEED) || status=1; \
 	python3 tests/hostile/memory.py $(PROGRAM) --seconds $(SECONDS) || status=1; \
+	KILLS=50 SEED=$(SEED) python3 tests/hostile/ledger_files.py $(PROGRAM) a_killed_run_is_open || status=1; \
 	exit $$status
 
 # Measures the program that was built, a bare relay, and radsecproxy and FreeRADIUS where they are installed; docs/performance.md
@@ -103,6 +107,7 @@ bench-queue:
 # Where `make install` puts things. DESTDIR stands before each of them.
 VERSION = 0.1.0
 PREFIX ?= /usr/local
+BINDIR ?= $(PREFIX)/bin
 SBINDIR ?= $(PREFIX)/sbin
 LIBEXECDIR ?= $(PREFIX)/libexec
 MANDIR ?= $(PREFIX)/share/man
@@ -111,11 +116,12 @@ UNITDIR ?= $(PREFIX)/lib/systemd/system
 SYSUSERSDIR ?= $(PREFIX)/lib/sysusers.d
 SYSCONFDIR ?= /etc
 RUNDIR ?= /run
+STATEDIR ?= /var/lib
 DESTDIR ?=
 
 # What is made of the sources of packaging/: the folders, and for the unit the configuration's name.
 FOLDERS = -e 's,@sbindir@,$(SBINDIR),g' -e 's,@libexecdir@,$(LIBEXECDIR),g' -e 's,@sysconfdir@,$(SYSCONFDIR),g' \
-	-e 's,@rundir@,$(RUNDIR),g'
+	-e 's,@rundir@,$(RUNDIR),g' -e 's,@statedir@,$(STATEDIR),g'
 ONE = -e 's,@of@,,' -e 's,@config@,rad_proxy,g' -e 's,@runtime@,rad_proxy,'
 UNITS = rad_proxy.service rad_proxy@.service rad_proxy-metrics.socket rad_proxy-metrics@.service
 MANY = -e 's,@of@, %i,' -e 's,@config@,%i,g' -e 's,@runtime@,rad_proxy-%i,'
@@ -125,10 +131,13 @@ MANY = -e 's,@of@, %i,' -e 's,@config@,%i,g' -e 's,@runtime@,rad_proxy-%i,'
 # Installs the program that `make build` left, the scripts of the service, the units, the manual, the pages and the examples. The
 # configuration is the operator's: $(SYSCONFDIR)/rad_proxy is made, and nothing is put there.
 install:
-	@test -x $(PROGRAM) || { echo "there is no $(PROGRAM): run make build first" >&2; exit 1; }
-	install -d $(DESTDIR)$(SBINDIR) $(DESTDIR)$(LIBEXECDIR)/rad_proxy $(DESTDIR)$(UNITDIR) $(DESTDIR)$(SYSUSERSDIR)
-	install -d $(DESTDIR)$(MANDIR)/man8 $(DESTDIR)$(MANDIR)/man5 $(DESTDIR)$(DOCDIR)/docs $(DESTDIR)$(SYSCONFDIR)/rad_proxy
+	@for program in $(PROGRAM) $(AUDITOR); do \
+		test -x $$program || { echo "there is no $$program: run make build first" >&2; exit 1; }; \
+	done
+	install -d $(DESTDIR)$(BINDIR) $(DESTDIR)$(SBINDIR) $(DESTDIR)$(LIBEXECDIR)/rad_proxy $(DESTDIR)$(UNITDIR) $(DESTDIR)$(SYSUSERSDIR)
+	install -d $(DESTDIR)$(MANDIR)/man8 $(DESTDIR)$(MANDIR)/man5 $(DESTDIR)$(MANDIR)/man1 $(DESTDIR)$(DOCDIR)/docs $(DESTDIR)$(SYSCONFDIR)/rad_proxy
 	install -m 755 $(PROGRAM) $(DESTDIR)$(SBINDIR)/rad_proxy
+	install -m 755 $(AUDITOR) $(DESTDIR)$(BINDIR)/rad_audit
 	sed $(FOLDERS) packaging/rad_proxyctl.in > $(DESTDIR)$(SBINDIR)/rad_proxyctl
 	sed $(FOLDERS) packaging/serve.in > $(DESTDIR)$(LIBEXECDIR)/rad_proxy/serve
 	chmod 755 $(DESTDIR)$(SBINDIR)/rad_proxyctl $(DESTDIR)$(LIBEXECDIR)/rad_proxy/serve
@@ -140,21 +149,22 @@ install:
 	install -m 644 packaging/sysusers.conf $(DESTDIR)$(SYSUSERSDIR)/rad_proxy.conf
 	install -m 644 man/man8/rad_proxy.8 man/man8/rad_proxyctl.8 $(DESTDIR)$(MANDIR)/man8
 	install -m 644 man/man5/rad_proxy.toml.5 $(DESTDIR)$(MANDIR)/man5
+	install -m 644 man/man1/rad_audit.1 $(DESTDIR)$(MANDIR)/man1
 	install -m 644 README.md SECURITY.md CHANGELOG.md LICENSE $(DESTDIR)$(DOCDIR)
 	cp -R docs examples $(DESTDIR)$(DOCDIR)
 	chmod -R u=rwX,go=rX $(DESTDIR)$(DOCDIR)
 
 # Takes away what `make install` put, and leaves the configuration.
 uninstall:
-	rm -f $(DESTDIR)$(SBINDIR)/rad_proxy $(DESTDIR)$(SBINDIR)/rad_proxyctl
+	rm -f $(DESTDIR)$(SBINDIR)/rad_proxy $(DESTDIR)$(SBINDIR)/rad_proxyctl $(DESTDIR)$(BINDIR)/rad_audit
 	test ! -d $(DESTDIR)$(UNITDIR) || (cd $(DESTDIR)$(UNITDIR) && rm -f $(UNITS))
 	rm -f $(DESTDIR)$(SYSUSERSDIR)/rad_proxy.conf $(DESTDIR)$(MANDIR)/man8/rad_proxy.8
-	rm -f $(DESTDIR)$(MANDIR)/man8/rad_proxyctl.8 $(DESTDIR)$(MANDIR)/man5/rad_proxy.toml.5
+	rm -f $(DESTDIR)$(MANDIR)/man8/rad_proxyctl.8 $(DESTDIR)$(MANDIR)/man5/rad_proxy.toml.5 $(DESTDIR)$(MANDIR)/man1/rad_audit.1
 	rm -rf $(DESTDIR)$(LIBEXECDIR)/rad_proxy $(DESTDIR)$(DOCDIR)
 
 # Looks at the manual and at the scripts of packaging/: mandoc and shellcheck have to find nothing.
 manual:
-	mandoc -T lint -W warning man/man8/rad_proxy.8 man/man8/rad_proxyctl.8 man/man5/rad_proxy.toml.5
+	mandoc -T lint -W warning man/man8/rad_proxy.8 man/man8/rad_proxyctl.8 man/man5/rad_proxy.toml.5 man/man1/rad_audit.1
 	shellcheck packaging/serve.in packaging/rad_proxyctl.in packaging/deb packaging/try-deb packaging/try-deb-inside \
 		packaging/try-alerts packaging/try-alerts-inside packaging/try-package packaging/try-service \
 		packaging/debian/postinst packaging/debian/prerm packaging/debian/postrm

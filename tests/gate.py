@@ -4,7 +4,8 @@ tests expect, as another implementation makes them; a thousand seeds of the simu
 that it built: over the rows and the examples, with growths refused in turn, with spoiled datagrams, with standard descriptors
 that are closed, at several addresses, with a flooded source port, with home servers that are killed or not there, with output
 that nobody reads, by when it does what it has to do, by the scripts of the service, over UDP and a network that loses, and by
-what memory it has after a load and after the same load again.
+what memory it has after a load and after the same load again. Last come the auditor of ledgers, over ledgers that Python makes, and
+lines of one that are spoiled.
 
 usage: gate.py PROGRAM
 
@@ -55,6 +56,10 @@ SCRIPTS = {
     "soak": ("hostile/soak.py", "PROGRAM"),
     "memory": ("hostile/memory.py", "PROGRAM"),
     "locks": ("hostile/locks.py", "PROGRAM"),
+    "ledger": ("ledger.py", "--check"),
+    "ledger-files": ("hostile/ledger_files.py", "PROGRAM"),
+    "audits": ("audits.py", "crates/rad_audit/out/rad_audit"),
+    "spoiled-ledgers": ("hostile/spoiled_ledgers.py", "crates/rad_audit/out/rad_audit"),
 }
 COUNTS = re.compile(r"(\d+) passed, (\d+) failed")
 

@@ -210,11 +210,26 @@ def of_services():
     }
 
 
-MADE = {
-    "auth_tests": of_auth_tests(),
-    "test_octets": {**of_nas(), **of_lanes(), **of_desks(), **of_services()},
-    "lane_tests": sums_of_lanes(),
-}
+def of_ledgers():
+    """Lines of a ledger, without their line ends. The module that makes them takes its packets from this one, so it is read here."""
+    import ledger
+
+    run = ledger.Run(0xA0B1C2D3E4F50617, [ledger.Lane(2, "h3", b"home-secret", serial=5, record=300)])
+    begin, entry = run.begin(), run.entry(status=3, more=FROM_NAS)
+    binary = run.entry(user=b"bob@\xff", session=b"\xfe", status=None)
+    lines = {"BEGIN_LINE": begin, "ENTRY_LINE": entry, "BINARY_LINE": binary, "END_LINE": run.end()}
+    return {name: ledger.text([line])[:-1].encode() for name, line in lines.items()}
+
+
+def made():
+    """What the tests of each crate expect, by the names that it has there."""
+    return {
+        "auth_tests": of_auth_tests(),
+        "ledger_tests": of_ledgers(),
+        "test_octets": {**of_nas(), **of_lanes(), **of_desks(), **of_services()},
+        "lane_tests": sums_of_lanes(),
+    }
+
 
 SUM = re.compile(r"const (\w+): u64 = 0x([0-9a-f_]+);")
 ARRAY = re.compile(r"const (\w+): \[u8; \d+\] = \[((?:\s*0x[0-9a-f]{2},?)+)\s*\];")
@@ -244,14 +259,14 @@ def standing():
 
 def check():
     """Compares what stands with what is made, each way, and says where they differ."""
-    made = {(crate, name): octets for crate, arrays in MADE.items() for name, octets in arrays.items()}
+    expected = {(crate, name): octets for crate, arrays in made().items() for name, octets in arrays.items()}
     found = standing()
-    lacking = sorted(made.keys() - {key for key, _, _ in found})
-    wrong = [(file, key) for key, file, octets in found if made.get(key) != octets]
+    lacking = sorted(expected.keys() - {key for key, _, _ in found})
+    wrong = [(file, key) for key, file, octets in found if expected.get(key) != octets]
     for crate, name in lacking:
         print(f"{crate}: no test has {name}")
     for file, key in wrong:
-        print(f"{file}: {key[1]} is {'not what is made here' if key in made else 'not made here'}")
+        print(f"{file}: {key[1]} is {'not what is made here' if key in expected else 'not made here'}")
     failed = len(lacking) + len(wrong)
     print(f"{len(found) - len(wrong)} passed, {failed} failed")
     return 1 if failed else 0
@@ -260,11 +275,12 @@ def check():
 def main(words):
     if words == ["--check"]:
         return check()
+    all_made = made()
     crate, names = (words[0], words[1:]) if words else (None, [])
-    if crate not in [None, *MADE] or any(name not in MADE[crate] for name in names):
+    if crate not in [None, *all_made] or any(name not in all_made[crate] for name in names):
         print(__doc__.strip(), file=sys.stderr)
         return 2
-    for of, arrays in MADE.items():
+    for of, arrays in all_made.items():
         for name, octets in arrays.items():
             if crate in (None, of) and (not names or name in names):
                 print(f"// {of}\n{as_written(name, octets)}\n")

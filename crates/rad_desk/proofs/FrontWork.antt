@@ -13,7 +13,7 @@ use Rattle.rad_lane.specs.declared.outgoing.Outgoing.{Outgoing}
 use Rattle.rad_desk.specs.declared.inlet.Inlet.{Inlet}
 use Rattle.rad_desk.specs.declared.wire.Delivery.{Delivery}
 use Rattle.rad_desk.specs.Inlet.{taken, SameInlet}
-use Rattle.rad_desk.specs.Traffic.{Event, arrived, departed, told, endpoint, noted}
+use Rattle.rad_desk.specs.Traffic.{Event, arrived, departed, handed, told, endpoint, noted}
 use Rattle.rad_desk.specs.Calls.{Passes, IsQuiet, IsSent}
 use Rattle.rad_desk.specs.Once.{IsAnswerTo, AnswersWhatCame, GoesBack, SendsBack, AnswerGoes, SendsAnAnswer, HandsOne, Hands, Part, quiet, back, given, events_of, IsRight, given_in, given_by, EachGave, WorksInFront}
 use Rattle.rad_desk.proofs.CallsJoined.{passes_none, passes_join, passes_widen, passes_after}
@@ -183,20 +183,21 @@ pub answer_after : (socket : ℕ) (from : Endpoint) (asked : Incoming) (moment :
 answer_after socket from asked moment octets answers =
     passes_after (IsSent socket from octets) (SendsAnAnswer socket from asked) (told moment) (answered socket from asked moment octets answers)
 
--- A look at an inlet that gave nothing, and at one that gave a response, which was sent.
+-- A look at an inlet that gave nothing, and at one that gave a response, which was handed over and sent.
 pub hands_none : (was is : Inlet) → SameInlet was is → taken is ≡ taken was → (old new : Option (List Event)) → new ≡ old → Passes (Hands was is) old new
 hands_none was is same took old new none = passes_none (Hands was is) old new (same, inl (took, refl)) none
 
-pub hands_one : (was is : Inlet) (outgoing : Outgoing) (octets : List ℕ) → SameInlet was is → taken is ≡ taken was ++ outgoing ∷ [] → octets ≡ outgoing.reply.response → (old new : Option (List Event)) → Passes (IsSent 0 (endpoint outgoing.client outgoing.port) octets) old new → Passes (Hands was is) old new
+pub hands_one : (was is : Inlet) (outgoing : Outgoing) (octets : List ℕ) → SameInlet was is → taken is ≡ taken was ++ outgoing ∷ [] → octets ≡ outgoing.reply.response → (old mid new : Option (List Event)) → mid ≡ noted old (handed outgoing) → Passes (IsSent 0 (endpoint outgoing.client outgoing.port) octets) mid new → Passes (Hands was is) old new
 hands_one was is outgoing octets same took response =
-    passes_widen (IsSent 0 (endpoint outgoing.client outgoing.port) octets) (Hands was is)
-    (λ events sent. (
+    passes_after (IsSent 0 (endpoint outgoing.client outgoing.port) octets) (Hands was is) (handed outgoing)
+    (λ then sent. (
       same,
       inr (record {
         outgoing = outgoing;
         delivery = sent.delivery;
         took = took;
-        is = sent.is ∙ ap (λ l. departed 0 (endpoint outgoing.client outgoing.port) l sent.delivery ∷ []) response;
+        is = ap (λ l. handed outgoing ∷ l)
+            (sent.is ∙ ap (λ l. departed 0 (endpoint outgoing.client outgoing.port) l sent.delivery ∷ []) response);
       }),
     ))
 

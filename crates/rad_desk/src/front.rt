@@ -24,7 +24,7 @@ const LISTEN: u16 = 0;
 
 /// Serves the clients for at most `turns` turns, or until the gate stops the worker. In each turn it receives once. It
 /// passes a request to its lane, and answers a Status-Server; to a repeat of an answered request it sends the response
-/// again. Then it takes at most one response from each inlet, and sends it.
+/// again. Then it takes at most one response from each inlet, hands it over to the ledger, and sends it.
 ///
 /// If a send fails, that datagram is lost. A failed receive does not end the worker.
 pub fn front_worker<W: Wire, G: Gate>(
@@ -62,8 +62,8 @@ pub fn front_worker<W: Wire, G: Gate>(
     shift.tally
 }
 
-/// Does one turn, and returns whether the worker goes on. A response that an inlet gives in the turn is sent before the
-/// turn ends, even if the gate stops the worker.
+/// Does one turn, and returns whether the worker goes on. A response that an inlet gives in the turn is handed over and
+/// sent before the turn ends, even if the gate stops the worker.
 fn take_turn<W: Wire, G: Gate>(
     rt: &impl Wait,
     alloc: Global,
@@ -195,7 +195,7 @@ fn fits(incoming: &Incoming<'_>, datagram: &Datagram) -> bool
     }
 }
 
-/// Takes at most one response from each inlet, sends it, and returns whether the worker goes on.
+/// Takes at most one response from each inlet, hands it over, sends it, and returns whether the worker goes on.
 fn hand_out<W: Wire, G: Gate>(inlets: &mut [Inlet], wire: &mut W, shift: &mut Shift<'_, G>) -> bool
     ensures works { (config : Configuration) → Passes (WorksInFront config inlets.old inlets.new) (W.log wire.old) (W.log wire.new) }
     ensures turns { shift.new.tally.turns ≡ shift.old.tally.turns }
@@ -209,7 +209,8 @@ fn hand_out<W: Wire, G: Gate>(inlets: &mut [Inlet], wire: &mut W, shift: &mut Sh
     true
 }
 
-/// Takes a response, if there is one, and sends it.
+/// Takes a response, if there is one, hands it over to the ledger, and then sends it.
+#[tactic(auto, using(crate::proofs::FrontWork::hands_one))]
 fn take<W: Wire, G: Gate>(inlet: &mut Inlet, wire: &mut W, shift: &mut Shift<'_, G>)
     ensures hands { Passes (Hands inlet.old inlet.new) (W.log wire.old) (W.log wire.new) }
     ensures turns { shift.new.tally.turns ≡ shift.old.tally.turns }
@@ -223,6 +224,7 @@ fn take<W: Wire, G: Gate>(inlet: &mut Inlet, wire: &mut W, shift: &mut Shift<'_,
         address: outgoing.client,
         port: outgoing.port,
     };
+    wire.hand_over(&outgoing);
     shift.send(wire, LISTEN, to, outgoing.reply.response());
     shift.note(Note::Took(inlet.lane(), outgoing.serial));
 }

@@ -48,4 +48,4 @@ pub use report::{LaneEnd, Report, Rest};
 pub use spent::{Session, Spent};
 pub use standing::Standing;
 pub use tally::Tally;
-pub use wire::{Delivery, Received, Traffic, Wire};
+pub use wire::{Delivery, Ledger, Received, Traffic, Wire};

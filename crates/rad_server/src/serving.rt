@@ -15,7 +15,7 @@ use crate::threads::work;
 use crate::wiring::{Wires, make_reader, make_wires, notifiers_of};
 use crate::working::Service;
 use rad_console::{EndLine, ListeningLine, close};
-use rad_desk::{Gate, OpenFault, Wire, open};
+use rad_desk::{Gate, Ledger, OpenFault, Wire, open};
 use rad_realms::Config;
 use std::alloc::Global;
 use std::io::{Read, Write};
@@ -31,18 +31,19 @@ use std::time::Clock;
 /// If the reader reads from a descriptor, so that a read may wait, a worker that ends by itself ends that wait. If the
 /// writer writes to a descriptor, so that a write may wait, the input is watched during the wait. From the end of the
 /// input on the lanes are drained, and the writer is waited for no longer than `linger`. If all addresses of the
-/// machine are served, `addresses` says which these are.
+/// machine are served, `addresses` says which these are. Each response is handed over to the ledger, if there is one.
 ///
 /// # Errors
 ///
 /// `Listen` or `LaneSocket` if a socket can't be bound or set up, `InputWait` if a wait for the reader can't be set up,
 /// and otherwise as [`serve`].
-pub fn run<R, A, G, I, O>(
+pub fn run<R, A, G, L, I, O>(
     rt: &R,
     addresses: &A,
     alloc: Global,
     config: &Config,
     gate: &G,
+    ledger: Option<L>,
     reader: I,
     writer: O,
     descriptors: Descriptors,
@@ -51,6 +52,7 @@ where
     R: Clock + Net + RandomSource + Threads + Wait + Sync,
     A: LocalAddresses + Sync,
     G: Gate + Sync,
+    L: Ledger + Send + Drop,
     I: Read + Drop,
     O: Write + Drop,
     ensures { IfOk result (IsEndOf (length config.now.homes)) }
@@ -60,7 +62,7 @@ where
     output.add(&ListeningLine { endpoint: listen })?;
     let sockets = BoundSockets::bind(rt, addresses, alloc, config, gate)?;
     sockets.tell(gate);
-    let wires = make_wires(rt, addresses, alloc, config, gate, sockets)?;
+    let wires = make_wires(rt, addresses, alloc, config, gate, sockets, ledger)?;
     let reader = make_reader(rt, alloc, reader, descriptors.input)?;
     let Ok(notifiers) = notifiers_of(alloc, &wires, &reader) else {
         return Err(ServeFault::Memory);

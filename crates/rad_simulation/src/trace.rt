@@ -3,6 +3,7 @@
 use crate::chance::Chance;
 use crate::events::{Came, DownBy, Event, Gone, Mail, Sign};
 use rad_desk::{Call, Delivery, Gate, Go, Note, Received, Spent, UpReason, Wire, Worker};
+use rad_lane::Outgoing;
 use rad_realms::Endpoint;
 use rad_tables::Moment;
 use std::alloc::Global;
@@ -242,4 +243,6 @@ impl<'a> Wire for TraceWire<'a> {
             Delivery::Fault
         }
     }
+
+    fn hand_over(&mut self, _outgoing: &Outgoing) {}
 }

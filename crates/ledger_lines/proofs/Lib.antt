@@ -1,0 +1,5 @@
+pub mod Lines
+pub mod Found
+pub mod Parts
+pub mod Lists
+pub mod Types

@@ -1,0 +1,164 @@
+-- What texts and numbers at the keys of a line show of its parts.
+use Rattle.std.proofs.Common.{◌≡◌, ◌≢◌, ℕ, ◌*◌, ◌<◌, ◌≤◌, ◌^◌, List, length, codes, Option, Some, None, Result, Ok, Err, MatchResult, refl, sym, ap, ◌∙◌, subst, arith, inl, inr}
+use Rattle.std.specs.Prelude.{IsSomeAnd, ⊤}
+use Rattle.std.specs.Int.{w64, from_be_bytes}
+use Rattle.std.specs.Str.{IsUtf8}
+use Rattle.json.specs.Json.{Json, string, document}
+use Rattle.json.specs.Find.{get, as_str}
+use Rattle.json.specs.Strict.{HasUniqueKeys}
+use Rattle.json.specs.declared.error.Error.{Error}
+use Rattle.json.specs.declared.error.Error.TheVariants.{Invalid, OutOfMemory, TooLong, DuplicateKey}
+use Rattle.hex.specs.Hex.{decode_sized}
+use Rattle.hex.proofs.HexLemmas.{decode_sized-ok, decode_sized-twice}
+use Rattle.hex.specs.declared.error.FromHexError.{FromHexError}
+use Rattle.rad_realms.specs.Address.{address_in}
+use Rattle.ledger_lines.specs.Lines.{Denies, HasText, HasNumber, HasOctets, HasArray, HasRun, HasTime, IsTime, HasClient, MayHaveNumber, MayHaveWords, IsValue}
+use Rattle.ledger_lines.specs.declared.faults.LineFault.{LineFault}
+use Rattle.ledger_lines.proofs.Lines.{denied}
+use Rattle.ledger_lines.proofs.Found.{differ, same_some, string_by, TextThere, NumberThere, OctetsThere, narrower, too_large, none_below}
+
+-- ---- the value of a line
+
+module _ (octets : List ℕ) where
+  abbrev pub ValueThere : Type 0
+  ValueThere = (v : Json) × IsValue octets v
+
+  pub is_value : (text : List ℕ) (v : Json) → text ≡ octets → IsUtf8 octets → document text ≡ Some v → HasUniqueKeys v → IsValue octets v
+  is_value text v e u d once = record { characters = u; read = ap document (sym e) ∙ d; once = once }
+
+  pub no_utf8 : ¬ IsUtf8 octets → ¬ ValueThere
+  no_utf8 n p = n p.1.characters
+
+  pub no_value : {V : Type 0} (text : List ℕ) (result : Result V Error) (e : Error) → result ≡ Err e → text ≡ octets → (result ≡ Err Invalid → document text ≡ None) → (result ≡ Err DuplicateKey → IsSomeAnd (document text) (λ j. ¬ HasUniqueKeys j)) → result ≢ Err TooLong → e ≢ OutOfMemory → ¬ ValueThere
+  no_value text result Invalid is same i d t o p = differ (document octets) p.0 (sym (ap document (sym same) ∙ i is)) p.1.read
+  no_value text result OutOfMemory is same i d t o p = o refl
+  no_value text result TooLong is same i d t o p = t is
+  no_value text result DuplicateKey is same i d t o p =
+      subst (λ r. IsSomeAnd r (λ j. ¬ HasUniqueKeys j)) (ap document same ∙ p.1.read) (d is) p.1.once
+
+-- ---- arrays of octets
+
+sized : (r : Result (List ℕ) FromHexError) (out : List ℕ) (result : Result ⊤ FromHexError) → MatchResult r (λ bytes. (result ≡ Ok tt) × (out ≡ bytes)) (λ e. result ≡ Err e) → result ≡ Ok tt → r ≡ Ok out
+sized (Ok bytes) out result m ok = ap Ok (sym m.1)
+sized (Err e) out result m ok = absurd (subst (λ r. MatchResult r (λ _. ⊥) (λ _. ⊤)) (sym m ∙ ok) tt)
+
+written : (r : Result (List ℕ) FromHexError) (out bytes : List ℕ) (result : Result ⊤ FromHexError) → MatchResult r (λ bytes. (result ≡ Ok tt) × (out ≡ bytes)) (λ e. result ≡ Err e) → r ≡ Ok bytes → result ≡ Ok tt
+written (Ok xs) out bytes result m is = m.0
+written (Err e) out bytes result m is = absurd (subst (λ r. MatchResult r (λ _. ⊥) (λ _. ⊤)) is tt)
+
+module _ (key : List ℕ) (count : ℕ) (value : Json) where
+  abbrev pub ArrayThere : Type 0
+  ArrayThere = (octets : List ℕ) × HasArray key count value octets
+
+  module _ (digits out : List ℕ) (result : Result ⊤ FromHexError) (t : HasText key value digits) (m : MatchResult (decode_sized digits count) (λ bytes. (result ≡ Ok tt) × (out ≡ bytes)) (λ e. result ≡ Err e)) where
+    pub array_found : result ≡ Ok tt → HasArray key count value out
+    array_found ok =
+        let is : decode_sized digits count ≡ Ok out = sized (decode_sized digits count) out result m ok in
+        let long : length digits ≡ 2 * count = decode_sized-ok digits count out is in
+        record { digits = digits; there = t; long = long; are = sym (decode_sized-twice digits count long) ∙ is }
+
+    pub no_array : (e : FromHexError) → result ≡ Err e → ¬ ArrayThere
+    no_array e err (octets, h) =
+        let same : digits ≡ h.digits = same_some digits h.digits (ap as_str (same_some (string digits) (string h.digits) (sym t ∙ h.there))) in
+        let is : decode_sized digits count ≡ Ok octets = ap (λ s. decode_sized s count) same ∙ decode_sized-twice h.digits count h.long ∙ h.are in
+        subst (λ r. MatchResult r (λ _. ⊥) (λ _. ⊤)) (sym err ∙ written (decode_sized digits count) out octets result m is) tt
+
+  pub no_array_text : (fault : LineFault) → Denies fault (TextThere key value) → Denies fault ArrayThere
+  no_array_text fault d = denied (TextThere key value) ArrayThere (λ p. (p.1.digits, p.1.there)) fault d
+
+-- ---- runs, moments, addresses
+
+module _ (value : Json) where
+  abbrev pub RunThere : Type 0
+  RunThere = (run : ℕ) × HasRun value run
+
+  pub run_found : (octets : List ℕ) (run : ℕ) → HasArray (codes "run") 8 value octets → run ≡ from_be_bytes w64 octets → HasRun value run
+  run_found octets run h e = record { octets = octets; there = h; are = sym e }
+
+  pub no_run : ¬ ArrayThere (codes "run") 8 value → ¬ RunThere
+  no_run n p = n (p.1.octets, p.1.there)
+
+  pub no_run_text : (fault : LineFault) → Denies fault (TextThere (codes "run") value) → Denies fault RunThere
+  no_run_text fault d = denied (TextThere (codes "run") value) RunThere (λ p. (p.1.there.digits, p.1.there.there)) fault d
+
+  abbrev pub TimeThere : Type 0
+  TimeThere = (time : List ℕ) × HasTime value time
+
+  pub time_found : (time : List ℕ) → HasText (codes "time") value time → IsTime time → HasTime value time
+  time_found time t is = record { there = t; is = is }
+
+  pub no_time : (time : List ℕ) → HasText (codes "time") value time → ¬ IsTime time → ¬ TimeThere
+  no_time time t n (other, h) =
+      n (subst IsTime (same_some other time (ap as_str (same_some (string other) (string time) (sym h.there ∙ t)))) h.is)
+
+  pub no_time_text : (fault : LineFault) → Denies fault (TextThere (codes "time") value) → Denies fault TimeThere
+  no_time_text fault d = denied (TextThere (codes "time") value) TimeThere (λ p. (p.0, p.1.there)) fault d
+
+  abbrev pub ClientThere : Type 0
+  ClientThere = (client : List ℕ) × HasClient value client
+
+  pub client_found : (text client : List ℕ) → HasText (codes "client") value text → Some client ≡ address_in text → HasClient value client
+  client_found text client t e = record { text = text; there = t; is = sym e }
+
+  pub no_client : (text : List ℕ) → HasText (codes "client") value text → None ≡ address_in text → ¬ ClientThere
+  no_client text t n (client, h) =
+      let same : text ≡ h.text = same_some text h.text (ap as_str (same_some (string text) (string h.text) (sym t ∙ h.there))) in
+      differ (address_in text) client n (ap address_in same ∙ h.is)
+
+  pub no_client_text : (fault : LineFault) → Denies fault (TextThere (codes "client") value) → Denies fault ClientThere
+  no_client_text fault d = denied (TextThere (codes "client") value) ClientThere (λ p. (p.1.text, p.1.there)) fault d
+
+-- ---- what may be there or not
+
+module _ (key other : List ℕ) (value : Json) where
+  abbrev pub WordsThere : Type 0
+  WordsThere = (words : Option (List ℕ)) × MayHaveWords key other value words
+
+  pub words_none : None ≡ get key value → None ≡ get other value → MayHaveWords key other value None
+  words_none a b = (sym a, sym b)
+
+  pub words_text : (found : Json) (text : List ℕ) → Some found ≡ get key value → Some text ≡ as_str found → None ≡ get other value → MayHaveWords key other value (Some text)
+  words_text found text a t b = inl (sym a ∙ ap Some (string_by found text (sym t)), sym b)
+
+  pub words_octets : (octets : List ℕ) → None ≡ get key value → HasOctets other value octets → MayHaveWords key other value (Some octets)
+  words_octets octets a h = inr (sym a, h)
+
+  pub two_words : (a b : Json) → Some a ≡ get key value → Some b ≡ get other value → ¬ WordsThere
+  two_words a b e f (None, w) = differ (get key value) a (sym w.0) (sym e)
+  two_words a b e f (Some octets, inl w) = differ (get other value) b (sym w.1) (sym f)
+  two_words a b e f (Some octets, inr w) = differ (get key value) a (sym w.0) (sym e)
+
+  pub no_words : (found : Json) → Some found ≡ get key value → None ≡ as_str found → ¬ WordsThere
+  no_words found e n (None, w) = differ (get key value) found (sym w.0) (sym e)
+  no_words found e n (Some octets, inl w) = differ (as_str found) octets n (ap as_str (same_some found (string octets) (e ∙ w.0)))
+  no_words found e n (Some octets, inr w) = differ (get key value) found (sym w.0) (sym e)
+
+  octets_of : None ≡ get key value → (b : Json) → Some b ≡ get other value → WordsThere → OctetsThere other value
+  octets_of a b f (None, w) = absurd (differ (get other value) b (sym w.1) (sym f))
+  octets_of a b f (Some octets, inl w) = absurd (differ (get other value) b (sym w.1) (sym f))
+  octets_of a b f (Some octets, inr w) = (octets, w.1)
+
+  pub no_words_octets : (fault : LineFault) (b : Json) → None ≡ get key value → Some b ≡ get other value → Denies fault (OctetsThere other value) → Denies fault WordsThere
+  no_words_octets fault b a f d = denied (OctetsThere other value) WordsThere (octets_of a b f) fault d
+
+module _ (value : Json) where
+  abbrev pub StatusThere : Type 0
+  StatusThere = (status : Option ℕ) × MayHaveNumber (codes "status") (2 ^ 32) value status
+
+  pub status_none : None ≡ get (codes "status") value → MayHaveNumber (codes "status") (2 ^ 32) value None
+  status_none e = sym e
+
+  pub status_found : (n m : ℕ) → HasNumber (codes "status") (2 ^ 64) value n → m ≡ n → n < 2 ^ 32 → MayHaveNumber (codes "status") (2 ^ 32) value (Some m)
+  status_found n m h e l = narrower (codes "status") value (2 ^ 32) n m h e l
+
+  number_of : (found : Json) → Some found ≡ get (codes "status") value → StatusThere → NumberThere (codes "status") value (2 ^ 32)
+  number_of found f (None, n) = absurd (differ (get (codes "status") value) found (sym n) (sym f))
+  number_of found f (Some its, h) = (its, h)
+
+  pub no_status : (found : Json) (n : ℕ) → Some found ≡ get (codes "status") value → HasNumber (codes "status") (2 ^ 64) value n → 2 ^ 32 ≤ n → ¬ StatusThere
+  no_status found n f h l p = too_large (codes "status") value (2 ^ 32) n h l (number_of found f p)
+
+  pub no_status_number : (fault : LineFault) (found : Json) → Some found ≡ get (codes "status") value → Denies fault (NumberThere (codes "status") value (2 ^ 64)) → Denies fault StatusThere
+  no_status_number fault found f d =
+      denied (NumberThere (codes "status") value (2 ^ 32)) StatusThere (number_of found f) fault
+      (none_below (codes "status") value (2 ^ 32) (omega arith) fault d)

@@ -1,0 +1,75 @@
+-- Which line a value is, by its type; and which line octets are.
+use Rattle.std.proofs.Common.{◌≡◌, ◌≢◌, ℕ, ◌<◌, ◌≤◌, List, length, get_or, codes, sym, ap, ◌∙◌, subst, arith}
+use Rattle.json.specs.Json.{Json, string}
+use Rattle.json.specs.Find.{as_str}
+use Rattle.ledger_lines.specs.Lines.{Denies, HasText, IsLine, IsLineOf, IsValue}
+use Rattle.ledger_lines.specs.declared.faults.LineFault.{LineFault}
+use Rattle.ledger_lines.specs.declared.reading.Line.{Line}
+use Rattle.ledger_lines.specs.declared.reading.Line.TheVariants.{Begin as begins, Entry as enters, End as ends}
+use Rattle.ledger_lines.proofs.Lines.{denied, IsEntryThere, IsBeginThere, IsEndThere}
+use Rattle.ledger_lines.proofs.Found.{same_some, TextThere}
+use Rattle.ledger_lines.proofs.Parts.{ValueThere}
+
+module _ (value : Json) (fault : LineFault) where
+  abbrev pub LineThere : Type 0
+  LineThere = (line : Line) × IsLineOf value line
+
+  type_of : LineThere → TextThere (codes "type") value
+  type_of (begins b, p) = (codes "begin", p.type_is)
+  type_of (enters e, p) = (codes "entry", p.type_is)
+  type_of (ends e, p) = (codes "end", p.type_is)
+
+  pub no_type : Denies fault (TextThere (codes "type") value) → Denies fault LineThere
+  no_type d = denied (TextThere (codes "type") value) LineThere type_of fault d
+
+  module _ (text : List ℕ) (there : HasText (codes "type") value text) where
+    one_type : (other : List ℕ) → HasText (codes "type") value other → text ≡ other
+    one_type other also = same_some text other (ap as_str (same_some (string text) (string other) (sym there ∙ also)))
+
+    entry_in : text ≡ codes "entry" → LineThere → IsEntryThere value fault
+    entry_in e (begins b, p) = absurd (omega (arith, ap (λ xs. get_or xs 0 0) (sym e ∙ one_type (codes "begin") p.type_is)))
+    entry_in e (enters x, p) = (x, p)
+    entry_in e (ends x, p) = absurd (omega (arith, ap length (sym e ∙ one_type (codes "end") p.type_is)))
+
+    pub entry_denied : text ≡ codes "entry" → Denies fault (IsEntryThere value fault) → Denies fault LineThere
+    entry_denied e d = denied (IsEntryThere value fault) LineThere (entry_in e) fault d
+
+    begin_in : text ≡ codes "begin" → LineThere → IsBeginThere value fault
+    begin_in e (begins x, p) = (x, p)
+    begin_in e (enters x, p) = absurd (omega (arith, ap (λ xs. get_or xs 0 0) (sym e ∙ one_type (codes "entry") p.type_is)))
+    begin_in e (ends x, p) = absurd (omega (arith, ap length (sym e ∙ one_type (codes "end") p.type_is)))
+
+    pub begin_denied : text ≡ codes "begin" → Denies fault (IsBeginThere value fault) → Denies fault LineThere
+    begin_denied e d = denied (IsBeginThere value fault) LineThere (begin_in e) fault d
+
+    end_in : text ≡ codes "end" → LineThere → IsEndThere value fault
+    end_in e (begins x, p) = absurd (omega (arith, ap length (sym e ∙ one_type (codes "begin") p.type_is)))
+    end_in e (enters x, p) = absurd (omega (arith, ap length (sym e ∙ one_type (codes "entry") p.type_is)))
+    end_in e (ends x, p) = (x, p)
+
+    pub end_denied : text ≡ codes "end" → Denies fault (IsEndThere value fault) → Denies fault LineThere
+    end_denied e d = denied (IsEndThere value fault) LineThere (end_in e) fault d
+
+    pub other_denied : text ≢ codes "entry" → text ≢ codes "begin" → text ≢ codes "end" → ¬ LineThere
+    other_denied n b e (begins x, p) = b (one_type (codes "begin") p.type_is)
+    other_denied n b e (enters x, p) = n (one_type (codes "entry") p.type_is)
+    other_denied n b e (ends x, p) = e (one_type (codes "end") p.type_is)
+
+module _ (octets : List ℕ) (fault : LineFault) where
+  abbrev pub IsLineThere : Type 0
+  IsLineThere = (line : Line) × IsLine octets line
+
+  pub too_long : 65536 < length octets → ¬ IsLineThere
+  too_long long p = omega (arith, long, p.1.most)
+
+  pub no_value_no_line : Denies fault (ValueThere octets) → Denies fault IsLineThere
+  no_value_no_line d = denied (ValueThere octets) IsLineThere (λ p. (p.1.value, p.1.its_value)) fault d
+
+  module _ (value : Json) (its : IsValue octets value) where
+    pub no_line : Denies fault (LineThere value fault) → Denies fault IsLineThere
+    no_line d =
+        denied (LineThere value fault) IsLineThere
+        (λ p. (p.0, subst (λ v. IsLineOf v p.0) (same_some p.1.value value (sym p.1.its_value.read ∙ its.read)) p.1.is)) fault d
+
+    pub is_line : (line : Line) → length octets ≤ 65536 → IsLineOf value line → IsLine octets line
+    is_line line most is = record { most = most; value = value; its_value = its; is = is }

@@ -1,0 +1,14 @@
+use Rattle.ledger_lines.specs.Lines.{IsLaneStart}
+use Rattle.ledger_lines.proofs.Lists.{each_next, each_all, each_denied}
+use Rattle.ledger_lines.proofs.reading.starts_of.Goals as goal
+
+pub loop-value-preserved : goal.loop-value-preserved
+loop-value-preserved c =
+    each_next IsLaneStart c.args.values.now c.loop-value.value-index c.value-item.result c.loop-value.starts.items _ _ c.loop-value-test.true c.value-item.is c.loop-value.invariant c.in_ok-start_of.ensures
+    c.in_ok-push.ensures.pushed
+
+pub returns-in_err-start_of : goal.returns-in_err-start_of
+returns-in_err-start_of c = each_denied IsLaneStart _ c.args.values.now c.loop-value.value-index c.value-item.result c.loop-value-test.true c.value-item.is c.in_err-start_of.ensures
+
+pub returns : goal.returns
+returns c = each_all IsLaneStart c.args.values.now c.loop-value.value-index c.loop-value.starts.items c.loop-value-test.false c.loop-value.invariant

@@ -1,0 +1,199 @@
+-- Lines of a ledger (own): objects of JSON (RFC 8259), with their keys in any order, each once.
+use Rattle.std.specs.Prelude.{◌≡◌, ℕ, ◌<◌, ◌≤◌, ◌*◌, ◌^◌, ◌+◌, List, [], ◌∷◌, length, get_or, codes, Bool, option_copied, IsTrue, cond, ◌==◌, Option, Some, None, Ok, ◌⊎◌, ⊤}
+use Rattle.std.specs.Int.{w64, from_be_bytes}
+use Rattle.std.specs.Char.{is_ascii_digit}
+use Rattle.std.specs.Str.{IsUtf8}
+use Rattle.std.specs.Str.Parse.{IsNumeral, digits_value, without_leading_plus}
+use Rattle.json.specs.Json.{Json, null, boolean, string, number, array, object, Items, no_items, item, document}
+use Rattle.json.specs.Find.{get}
+use Rattle.json.specs.Strict.{keys, HasUniqueKeys}
+use Rattle.hex.specs.Hex.{decode_of}
+use Rattle.rad_realms.specs.Address.{address_in}
+use Rattle.rad_ledger.specs.declared.entry.Entry.{Entry}
+use Rattle.ledger_lines.specs.declared.begin.Begin.{Begin}
+use Rattle.ledger_lines.specs.declared.begin.End.{End}
+use Rattle.ledger_lines.specs.declared.begin.LaneStart.{LaneStart}
+use Rattle.ledger_lines.specs.declared.begin.LaneCount.{LaneCount}
+use Rattle.ledger_lines.specs.declared.faults.LineFault.{LineFault}
+use Rattle.ledger_lines.specs.declared.faults.LineFault.TheVariants.{NotALine, OutOfMemory}
+use Rattle.ledger_lines.specs.declared.reading.Line.{Line}
+use Rattle.ledger_lines.specs.declared.reading.Line.TheVariants.{Begin as begins, Entry as enters, End as ends}
+
+-- A fault tells that nothing is there, where it is not want of memory.
+abbrev pub Denies : LineFault → Type 0 → Type 0
+Denies NotALine there = ¬ there
+Denies OutOfMemory there = ⊤
+
+-- What an object has at a key: nothing; a text; a whole number below this limit, without sign, point or exponent (JSON has no plus
+-- before a number); octets, as hexadecimal digits.
+abbrev pub Lacks : List ℕ → Json → Type 0
+Lacks key value = get key value ≡ None
+
+abbrev pub HasText : List ℕ → Json → List ℕ → Type 0
+HasText key value text = get key value ≡ Some (string text)
+
+pub record HasNumber (key : List ℕ) (limit : ℕ) (value : Json) (its : ℕ) : Type 0 where
+  pub digits : List ℕ
+  pub there : get key value ≡ Some (number digits)
+  pub numeral : IsNumeral 10 (without_leading_plus digits)
+  pub its_digits : digits_value 10 (without_leading_plus digits) ≡ its
+  pub below : its < limit
+
+pub record HasOctets (key : List ℕ) (value : Json) (octets : List ℕ) : Type 0 where
+  pub digits : List ℕ
+  pub there : HasText key value digits
+  pub are : decode_of digits ≡ Ok octets
+
+-- What may be there or not: a number, and octets that are a text under one key, or digits under another.
+abbrev pub MayHaveNumber : List ℕ → ℕ → Json → Option ℕ → Type 0
+MayHaveNumber key limit value None = Lacks key value
+MayHaveNumber key limit value (Some its) = HasNumber key limit value its
+
+abbrev pub MayHaveWords : List ℕ → List ℕ → Json → Option (List ℕ) → Type 0
+MayHaveWords key other value None = Lacks key value × Lacks other value
+MayHaveWords key other value (Some octets) = (HasText key value octets × Lacks other value) ⊎ (Lacks key value × HasOctets other value octets)
+
+-- An object of so many members. No key stands in it twice (`IsValue`), so it has no others than as many that it is known to have.
+abbrev pub HasMembers : ℕ → Json → Type 0
+HasMembers count null = ⊥
+HasMembers count (boolean b) = ⊥
+HasMembers count (number digits) = ⊥
+HasMembers count (string text) = ⊥
+HasMembers count (array items) = ⊥
+HasMembers count (object members) = length (keys members) ≡ count
+
+-- One where an object has this key, and else none.
+abbrev pub one_if : Option Json → ℕ
+one_if None = 0
+one_if (Some found) = 1
+
+abbrev pub one_at : List ℕ → Json → ℕ
+one_at key value = one_if (get key value)
+
+-- A moment, as `2026-01-31T23:59:59.999Z`: a digit where the form has `d`, and else what the form has.
+abbrev pub has_form : ℕ → ℕ → Bool
+has_form form octet = cond (form == 100) (is_ascii_digit octet) (octet == form)
+
+pub record IsTime (text : List ℕ) : Type 0 where
+  pub long : length text ≡ 24
+  pub formed : (place : ℕ) → place < 24 → IsTrue (has_form (get_or (codes "dddd-dd-ddTdd:dd:dd.dddZ") place 0) (get_or text place 0))
+
+-- So many octets, as twice as many digits.
+pub record HasArray (key : List ℕ) (count : ℕ) (value : Json) (octets : List ℕ) : Type 0 where
+  pub digits : List ℕ
+  pub there : HasText key value digits
+  pub long : length digits ≡ 2 * count
+  pub are : decode_of digits ≡ Ok octets
+
+-- A run's name: a number of eight octets.
+pub record HasRun (value : Json) (run : ℕ) : Type 0 where
+  pub octets : List ℕ
+  pub there : HasArray (codes "run") 8 value octets
+  pub are : from_be_bytes w64 octets ≡ run
+
+pub record HasTime (value : Json) (time : List ℕ) : Type 0 where
+  pub there : HasText (codes "time") value time
+  pub is : IsTime time
+
+-- A client's address, and a request's Authenticator.
+pub record HasClient (value : Json) (client : List ℕ) : Type 0 where
+  pub text : List ℕ
+  pub there : HasText (codes "client") value text
+  pub is : address_in text ≡ Some client
+
+abbrev pub HasAuthenticator : Json → List ℕ → Type 0
+HasAuthenticator value octets = HasArray (codes "authenticator") 16 value octets
+
+-- How many members an entry has: fourteen, and those that it may lack.
+abbrev pub members_of_entry : Json → ℕ
+members_of_entry value =
+    14 + one_at (codes "realm") value + one_at (codes "realm_octets") value + one_at (codes "session") value
+    + one_at (codes "session_octets") value + one_at (codes "status") value
+
+pub record IsEntry (value : Json) (e : Entry) : Type 0 where
+  pub its_members : HasMembers (members_of_entry value) value
+  pub type_is : HasText (codes "type") value (codes "entry")
+  pub run : HasRun value e.run
+  pub time : HasTime value e.time.now
+  pub home : HasText (codes "home") value e.home.now
+  pub lane : HasNumber (codes "lane") (2 ^ 16) value e.lane
+  pub serial : HasNumber (codes "serial") (2 ^ 63) value e.serial
+  pub record_is : HasNumber (codes "record") (2 ^ 64) value e.number
+  pub client : HasClient value e.client
+  pub port : HasNumber (codes "port") (2 ^ 16) value e.port
+  pub identifier : HasNumber (codes "identifier") (2 ^ 8) value e.identifier
+  pub authenticator : HasAuthenticator value e.authenticator
+  pub sent : HasOctets (codes "sent") value e.sent.now
+  pub reply : HasOctets (codes "reply") value e.reply.now
+  pub response : HasOctets (codes "response") value e.response.now
+  pub realm : MayHaveWords (codes "realm") (codes "realm_octets") value (option_copied e.realm)
+  pub session : MayHaveWords (codes "session") (codes "session_octets") value (option_copied e.session)
+  pub status : MayHaveNumber (codes "status") (2 ^ 32) value e.status
+
+-- The values of a list, in order, each of which is what stands at its place.
+abbrev pub AreEach : {X : Type 0} → (Json → X → Type 0) → Items → List X → Type 0
+AreEach Is no_items [] = ⊤
+AreEach Is no_items (x ∷ xs) = ⊥
+AreEach Is (item value values) [] = ⊥
+AreEach Is (item value values) (x ∷ xs) = Is value x × AreEach Is values xs
+
+abbrev pub as_items : Json → Option Items
+as_items null = None
+as_items (boolean b) = None
+as_items (number digits) = None
+as_items (string text) = None
+as_items (array items) = Some items
+as_items (object ms) = None
+
+abbrev pub HasList : Json → Items → Type 0
+HasList value items = get (codes "lanes") value ≡ Some (array items)
+
+pub record HasLanes {X : Type 0} (Is : Json → X → Type 0) (value : Json) (lanes : List X) : Type 0 where
+  pub items : Items
+  pub there : HasList value items
+  pub are : AreEach Is items lanes
+
+pub record IsLaneStart (value : Json) (start : LaneStart) : Type 0 where
+  pub its_members : HasMembers 3 value
+  pub lane : HasNumber (codes "lane") (2 ^ 16) value start.lane
+  pub home : HasText (codes "home") value start.home.now
+  pub serial : HasNumber (codes "serial") (2 ^ 63) value start.serial
+
+pub record IsLaneCount (value : Json) (count : LaneCount) : Type 0 where
+  pub its_members : HasMembers 2 value
+  pub lane : HasNumber (codes "lane") (2 ^ 16) value count.lane
+  pub entries : HasNumber (codes "entries") (2 ^ 64) value count.entries
+
+pub record IsBegin (value : Json) (begin : Begin) : Type 0 where
+  pub its_members : HasMembers 6 value
+  pub type_is : HasText (codes "type") value (codes "begin")
+  pub run : HasRun value begin.run
+  pub time : HasTime value begin.time.now
+  pub version : HasText (codes "version") value begin.version.now
+  pub file : HasNumber (codes "file") (2 ^ 64) value begin.file
+  pub lanes : HasLanes IsLaneStart value begin.lanes.items
+
+pub record IsEnd (value : Json) (end : End) : Type 0 where
+  pub its_members : HasMembers 4 value
+  pub type_is : HasText (codes "type") value (codes "end")
+  pub run : HasRun value end.run
+  pub time : HasTime value end.time.now
+  pub lanes : HasLanes IsLaneCount value end.lanes.items
+
+abbrev pub IsLineOf : Json → Line → Type 0
+IsLineOf value (begins begin) = IsBegin value begin
+IsLineOf value (enters entry) = IsEntry value entry
+IsLineOf value (ends end) = IsEnd value end
+
+-- Octets that are a value, in which no object has a key twice.
+pub record IsValue (octets : List ℕ) (value : Json) : Type 0 where
+  pub characters : IsUtf8 octets
+  pub read : document octets ≡ Some value
+  pub once : HasUniqueKeys value
+
+-- Octets that are a line of a ledger, of at most so many.
+pub record IsLine (octets : List ℕ) (line : Line) : Type 0 where
+  pub most : length octets ≤ 65536
+  pub value : Json
+  pub its_value : IsValue octets value
+  pub is : IsLineOf value line

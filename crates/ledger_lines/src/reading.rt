@@ -1,0 +1,283 @@
+//! Lines of a ledger, as they are read.
+
+ghost use Rattle.std.specs.Prelude.{◌≡◌, ◌++◌, [], ◌∷◌, IfErr, List, MatchResult, OnOk, codes};
+ghost use Rattle.json.specs.Value.{items_view, value_view};
+ghost use Rattle.ledger_lines.specs.declared.begin.Begin.{Begin as TheBegin};
+ghost use Rattle.ledger_lines.specs.declared.begin.End.{End as TheEnd};
+ghost use Rattle.ledger_lines.specs.declared.begin.LaneStart.{LaneStart as TheStart};
+ghost use Rattle.ledger_lines.specs.declared.begin.LaneCount.{LaneCount as TheCount};
+ghost use Rattle.rad_ledger.specs.declared.entry.Entry.{Entry as TheEntry};
+ghost use Rattle.ledger_lines.specs.declared.faults.LineFault.TheVariants.{OutOfMemory};
+ghost use Rattle.ledger_lines.specs.declared.reading.Line.{Line as TheLine};
+ghost use Rattle.ledger_lines.specs.Lines.{AreEach, Denies, HasLanes, HasText, IsBegin, IsEnd, IsEntry, IsLaneCount, IsLaneStart, IsLine, IsLineOf};
+
+use crate::begin::{Begin, End, LaneCount, LaneStart};
+use crate::faults::LineFault;
+use crate::values::{
+    authenticator_at, client_at, has_members, lanes_at, members_of_entry, number_at, octet_at,
+    octets_at, read_value, run_at, serial_at, short_at, status_at, text_at, time_at, words_at,
+};
+use json::{Scratch, Value};
+use rad_ledger::Entry;
+use std::alloc::{AllocError, Global};
+
+/// The most octets of a line.
+pub const MOST_LINE_OCTETS: usize = 65_536;
+
+/// A line of a ledger.
+#[derive(Drop)]
+pub enum Line<'a> {
+    /// It names a run, and begins a file.
+    Begin(Begin<'a>),
+    Entry(Entry<'a>),
+    /// It ends a run.
+    End(End<'a>),
+}
+
+/// What a line is read with: it is used again for each line.
+#[derive(Drop)]
+pub struct Room {
+    scratch: Scratch<Global>,
+    octets: Octets,
+}
+
+/// Where the octets go that a line has as digits.
+#[derive(Drop)]
+struct Octets {
+    sent: Vec<u8>,
+    reply: Vec<u8>,
+    response: Vec<u8>,
+    realm: Vec<u8>,
+    session: Vec<u8>,
+}
+
+impl Room {
+    /// Room for a line of at most [`MOST_LINE_OCTETS`].
+    ///
+    /// # Errors
+    ///
+    /// Where memory is refused.
+    pub fn new(alloc: Global) -> Result<Room, AllocError> {
+        let mut scratch = Scratch::new(alloc);
+        scratch.reserve(MOST_LINE_OCTETS)?;
+        Ok(Room {
+            scratch,
+            octets: Octets {
+                sent: Vec::new(alloc),
+                reply: Vec::new(alloc),
+                response: Vec::new(alloc),
+                realm: Vec::new(alloc),
+                session: Vec::new(alloc),
+            },
+        })
+    }
+}
+
+/// Reads a line, without its line end: an object of the keys of its kind, each once and in any order.
+///
+/// # Errors
+///
+/// `NotALine` where it is none, `OutOfMemory` where memory was refused.
+#[tactic(auto, using(crate::proofs::Types::too_long, crate::proofs::Types::no_value_no_line, crate::proofs::Types::no_line, crate::proofs::Types::is_line))]
+pub fn read_line<'a>(
+    alloc: Global,
+    octets: &'a [u8],
+    room: &'a mut Room,
+) -> Result<Line<'a>, LineFault>
+    ensures { MatchResult result (λ line. IsLine octets.now line) (λ fault. Denies fault ((line : TheLine) × IsLine octets.now line)) }
+{
+    if octets.len() > MOST_LINE_OCTETS {
+        return Err(LineFault::NotALine);
+    }
+    let Room {
+        scratch,
+        octets: digits,
+    } = room;
+    let value = read_value(alloc, octets, scratch)?;
+    line_of(alloc, &value, digits)
+}
+
+/// The line that a value is.
+#[tactic(auto, using(crate::proofs::Types::no_type, crate::proofs::Types::entry_denied, crate::proofs::Types::begin_denied, crate::proofs::Types::end_denied, crate::proofs::Types::other_denied))]
+fn line_of<'a>(
+    alloc: Global,
+    value: &Value<'a>,
+    room: &'a mut Octets,
+) -> Result<Line<'a>, LineFault>
+    ensures { MatchResult result (λ line. IsLineOf (value_view value.now) line) (λ fault. Denies fault ((line : TheLine) × IsLineOf (value_view value.now) line)) }
+{
+    match text_at(value, "type")? {
+        "entry" => Ok(Line::Entry(entry_of(alloc, value, room)?)),
+        "begin" => Ok(Line::Begin(begin_of(alloc, value)?)),
+        "end" => Ok(Line::End(end_of(alloc, value)?)),
+        _ => Err(LineFault::NotALine),
+    }
+}
+
+/// The entry that a value is.
+#[tactic(auto, using(crate::proofs::Lines::entry_members))]
+fn entry_of<'a>(
+    alloc: Global,
+    value: &Value<'a>,
+    room: &'a mut Octets,
+) -> Result<Entry<'a>, LineFault>
+    requires { HasText (codes "type") (value_view value.now) (codes "entry") }
+    ensures { MatchResult result (λ entry. IsEntry (value_view value.now) entry) (λ fault. Denies fault ((entry : TheEntry) × IsEntry (value_view value.now) entry)) }
+{
+    if !has_members(value, members_of_entry(value)) {
+        return Err(LineFault::NotALine);
+    }
+    let Octets {
+        sent,
+        reply,
+        response,
+        realm,
+        session,
+    } = room;
+    let run = run_at(value)?;
+    let time = time_at(value)?;
+    let home = text_at(value, "home")?;
+    let lane = short_at(value, "lane")?;
+    let serial = serial_at(value, "serial")?;
+    let number = number_at(value, "record")?;
+    let client = client_at(value)?;
+    let port = short_at(value, "port")?;
+    let identifier = octet_at(value, "identifier")?;
+    let authenticator = authenticator_at(value)?;
+    let sent = octets_at(alloc, value, "sent", sent)?;
+    let reply = octets_at(alloc, value, "reply", reply)?;
+    let response = octets_at(alloc, value, "response", response)?;
+    let realm = words_at(alloc, value, "realm", "realm_octets", realm)?;
+    let session = words_at(alloc, value, "session", "session_octets", session)?;
+    let status = status_at(value)?;
+    Ok(Entry {
+        run,
+        time,
+        home,
+        lane,
+        serial,
+        number,
+        client,
+        port,
+        identifier,
+        authenticator,
+        sent,
+        reply,
+        response,
+        realm,
+        session,
+        status,
+    })
+}
+
+/// The first line of a file that a value is.
+#[tactic(auto, using(crate::proofs::Lines::begin_members, crate::proofs::Lines::begin_run, crate::proofs::Lines::begin_time, crate::proofs::Lines::begin_version, crate::proofs::Lines::begin_file, crate::proofs::Lines::begin_lanes))]
+fn begin_of<'a>(alloc: Global, value: &Value<'a>) -> Result<Begin<'a>, LineFault>
+    requires { HasText (codes "type") (value_view value.now) (codes "begin") }
+    ensures { MatchResult result (λ begin. IsBegin (value_view value.now) begin) (λ fault. Denies fault ((begin : TheBegin) × IsBegin (value_view value.now) begin)) }
+{
+    if !has_members(value, 6) {
+        return Err(LineFault::NotALine);
+    }
+    Ok(Begin {
+        run: run_at(value)?,
+        time: time_at(value)?,
+        version: text_at(value, "version")?,
+        file: number_at(value, "file")?,
+        lanes: starts_at(alloc, value)?,
+    })
+}
+
+/// The lanes of the first line of a file.
+#[tactic(auto, using(crate::proofs::Lists::lanes_found, crate::proofs::Lists::no_list_of_lanes, crate::proofs::Lists::no_lanes_in))]
+fn starts_at<'a>(alloc: Global, value: &Value<'a>) -> Result<Vec<LaneStart<'a>>, LineFault>
+    ensures { MatchResult result (λ lanes. HasLanes IsLaneStart (value_view value.now) lanes.items) (λ fault. Denies fault ((lanes : List TheStart) × HasLanes IsLaneStart (value_view value.now) lanes)) }
+{
+    starts_of(alloc, lanes_at(value)?)
+}
+
+/// The lanes that these values are.
+fn starts_of<'a>(alloc: Global, values: &[Value<'a>]) -> Result<Vec<LaneStart<'a>>, LineFault>
+    ensures { MatchResult result (λ lanes. AreEach IsLaneStart (items_view values.now) lanes.items) (λ fault. Denies fault ((lanes : List TheStart) × AreEach IsLaneStart (items_view values.now) lanes)) }
+{
+    let mut starts = Vec::with_capacity(alloc, values.len())?;
+    for value in values {
+        push(&mut starts, start_of(value)?)?;
+    }
+    Ok(starts)
+}
+
+/// The lane that a value of that list is.
+#[tactic(auto, using(crate::proofs::Lines::start_members, crate::proofs::Lines::start_lane, crate::proofs::Lines::start_home, crate::proofs::Lines::start_serial))]
+fn start_of<'a>(value: &Value<'a>) -> Result<LaneStart<'a>, LineFault>
+    ensures { MatchResult result (λ start. IsLaneStart (value_view value.now) start) (λ fault. Denies fault ((start : TheStart) × IsLaneStart (value_view value.now) start)) }
+{
+    if !has_members(value, 3) {
+        return Err(LineFault::NotALine);
+    }
+    Ok(LaneStart {
+        lane: short_at(value, "lane")?,
+        home: text_at(value, "home")?,
+        serial: serial_at(value, "serial")?,
+    })
+}
+
+/// The end line that a value is.
+#[tactic(auto, using(crate::proofs::Lines::end_members, crate::proofs::Lines::end_run, crate::proofs::Lines::end_time, crate::proofs::Lines::end_lanes))]
+fn end_of<'a>(alloc: Global, value: &Value<'a>) -> Result<End<'a>, LineFault>
+    requires { HasText (codes "type") (value_view value.now) (codes "end") }
+    ensures { MatchResult result (λ end. IsEnd (value_view value.now) end) (λ fault. Denies fault ((end : TheEnd) × IsEnd (value_view value.now) end)) }
+{
+    if !has_members(value, 4) {
+        return Err(LineFault::NotALine);
+    }
+    Ok(End {
+        run: run_at(value)?,
+        time: time_at(value)?,
+        lanes: counts_at(alloc, value)?,
+    })
+}
+
+/// The lanes of an end line.
+#[tactic(auto, using(crate::proofs::Lists::lanes_found, crate::proofs::Lists::no_list_of_lanes, crate::proofs::Lists::no_lanes_in))]
+fn counts_at(alloc: Global, value: &Value<'_>) -> Result<Vec<LaneCount>, LineFault>
+    ensures { MatchResult result (λ lanes. HasLanes IsLaneCount (value_view value.now) lanes.items) (λ fault. Denies fault ((lanes : List TheCount) × HasLanes IsLaneCount (value_view value.now) lanes)) }
+{
+    counts_of(alloc, lanes_at(value)?)
+}
+
+/// The lanes that these values count.
+fn counts_of(alloc: Global, values: &[Value<'_>]) -> Result<Vec<LaneCount>, LineFault>
+    ensures { MatchResult result (λ lanes. AreEach IsLaneCount (items_view values.now) lanes.items) (λ fault. Denies fault ((lanes : List TheCount) × AreEach IsLaneCount (items_view values.now) lanes)) }
+{
+    let mut counts = Vec::with_capacity(alloc, values.len())?;
+    for value in values {
+        push(&mut counts, count_of(value)?)?;
+    }
+    Ok(counts)
+}
+
+/// The lane that a value of that list counts.
+#[tactic(auto, using(crate::proofs::Lines::count_members, crate::proofs::Lines::count_lane, crate::proofs::Lines::count_entries))]
+fn count_of(value: &Value<'_>) -> Result<LaneCount, LineFault>
+    ensures { MatchResult result (λ count. IsLaneCount (value_view value.now) count) (λ fault. Denies fault ((count : TheCount) × IsLaneCount (value_view value.now) count)) }
+{
+    if !has_members(value, 2) {
+        return Err(LineFault::NotALine);
+    }
+    Ok(LaneCount {
+        lane: short_at(value, "lane")?,
+        entries: number_at(value, "entries")?,
+    })
+}
+
+/// Puts a value behind the others.
+fn push<T: Drop>(list: &mut Vec<T>, value: T) -> Result<(), LineFault>
+    ensures pushed { OnOk result (list.new.items ≡ list.old.items ++ value ∷ []) }
+    ensures refused { IfErr result (λ fault. fault ≡ OutOfMemory) }
+{
+    match list.push(value) {
+        Ok(()) => Ok(()),
+        Err(_) => Err(LineFault::OutOfMemory),
+    }
+}

@@ -1,0 +1,291 @@
+//! What a line has at its keys.
+
+ghost use Rattle.std.specs.Prelude.{◌≡◌, ◌↔◌, ◌^◌, ℕ, List, Option, codes, ◌≤◌, MatchResult, IsTrue, option_copied, option_map};
+ghost use Rattle.json.specs.Json.{Items, Json};
+ghost use Rattle.json.specs.Value.{items_view, value_view};
+ghost use Rattle.ledger_lines.specs.Lines.{as_items, Denies, HasAuthenticator, HasClient, HasList, HasMembers, HasNumber, HasOctets, HasRun, HasText, HasTime, has_form, IsTime, IsValue, MayHaveNumber, MayHaveWords, members_of_entry as the_members_of_entry, one_at as the_one_at};
+
+use crate::faults::LineFault;
+use hex::FromHexError;
+use json::{Error, Scratch, Value};
+use rad_realms::read_address;
+use std::alloc::Global;
+
+/// The value that these octets are, where no object in it has a key twice.
+#[tactic(auto, using(crate::proofs::Parts::is_value, crate::proofs::Parts::no_utf8, crate::proofs::Parts::no_value))]
+pub(crate) fn read_value<'a>(
+    alloc: Global,
+    octets: &'a [u8],
+    scratch: &'a mut Scratch<Global>,
+) -> Result<Value<'a>, LineFault>
+    ensures { MatchResult result (λ value. IsValue octets.now (value_view value)) (λ fault. Denies fault ((value : Json) × IsValue octets.now value)) }
+{
+    let Ok(text) = str::from_utf8(octets) else {
+        return Err(LineFault::NotALine);
+    };
+    match Value::parse_strict(alloc, text, scratch) {
+        Ok(value) => Ok(value),
+        Err(Error::OutOfMemory) => Err(LineFault::OutOfMemory),
+        Err(_) => Err(LineFault::NotALine),
+    }
+}
+
+/// Whether a value is an object of so many members.
+#[tactic(auto, using(crate::proofs::Lists::length_keys))]
+pub(crate) fn has_members(value: &Value<'_>, count: usize) -> bool
+    ensures { IsTrue result ↔ HasMembers count (value_view value.now) }
+{
+    match value {
+        Value::Object(members) => members.len() == count,
+        _ => false,
+    }
+}
+
+/// How many members an entry has, with those that it may lack.
+pub(crate) fn members_of_entry(value: &Value<'_>) -> usize
+    ensures { result ≡ the_members_of_entry (value_view value.now) }
+{
+    14 + one_at(value, "realm")
+        + one_at(value, "realm_octets")
+        + one_at(value, "session")
+        + one_at(value, "session_octets")
+        + one_at(value, "status")
+}
+
+/// One where an object has this key, and else none.
+#[tactic(auto, using(crate::proofs::Lists::one_of, crate::proofs::Lists::none_of))]
+fn one_at(value: &Value<'_>, key: &str) -> usize
+    ensures is { result ≡ the_one_at key.now (value_view value.now) }
+    ensures most { result ≤ 1 }
+{
+    match value.get(key) {
+        Some(_) => 1,
+        None => 0,
+    }
+}
+
+/// The text at a key.
+#[tactic(auto, using(crate::proofs::Found::text_found, crate::proofs::Found::no_text, crate::proofs::Found::no_text_there))]
+pub(crate) fn text_at<'a>(value: &Value<'a>, key: &str) -> Result<&'a str, LineFault>
+    ensures { MatchResult result (λ text. HasText key.now (value_view value.now) text.now) (λ fault. Denies fault ((text : List ℕ) × HasText key.now (value_view value.now) text)) }
+{
+    let Some(found) = value.get(key) else {
+        return Err(LineFault::NotALine);
+    };
+    match found.as_str() {
+        Some(text) => Ok(text),
+        None => Err(LineFault::NotALine),
+    }
+}
+
+/// The number at a key, below 2^64.
+#[tactic(auto, using(crate::proofs::Found::number_found, crate::proofs::Found::no_number, crate::proofs::Found::no_number_there))]
+pub(crate) fn number_at(value: &Value<'_>, key: &str) -> Result<u64, LineFault>
+    ensures { MatchResult result (λ its. HasNumber key.now (2 ^ 64) (value_view value.now) its) (λ fault. Denies fault ((its : ℕ) × HasNumber key.now (2 ^ 64) (value_view value.now) its)) }
+{
+    let Some(found) = value.get(key) else {
+        return Err(LineFault::NotALine);
+    };
+    match found.as_u64() {
+        Some(number) => Ok(number),
+        None => Err(LineFault::NotALine),
+    }
+}
+
+/// The number at a key, below 2^63.
+#[tactic(auto, using(crate::proofs::Found::narrower, crate::proofs::Found::too_large, crate::proofs::Found::none_below))]
+pub(crate) fn serial_at(value: &Value<'_>, key: &str) -> Result<u64, LineFault>
+    ensures { MatchResult result (λ its. HasNumber key.now (2 ^ 63) (value_view value.now) its) (λ fault. Denies fault ((its : ℕ) × HasNumber key.now (2 ^ 63) (value_view value.now) its)) }
+{
+    let number = number_at(value, key)?;
+    if number < 1 << 63 {
+        Ok(number)
+    } else {
+        Err(LineFault::NotALine)
+    }
+}
+
+/// The number at a key, below 2^16.
+#[tactic(auto, using(crate::proofs::Found::narrower, crate::proofs::Found::too_large, crate::proofs::Found::none_below))]
+pub(crate) fn short_at(value: &Value<'_>, key: &str) -> Result<u16, LineFault>
+    ensures { MatchResult result (λ its. HasNumber key.now (2 ^ 16) (value_view value.now) its) (λ fault. Denies fault ((its : ℕ) × HasNumber key.now (2 ^ 16) (value_view value.now) its)) }
+{
+    match u16::try_from(number_at(value, key)?) {
+        Ok(number) => Ok(number),
+        Err(_) => Err(LineFault::NotALine),
+    }
+}
+
+/// The number at a key, below 2^8.
+#[tactic(auto, using(crate::proofs::Found::narrower, crate::proofs::Found::too_large, crate::proofs::Found::none_below))]
+pub(crate) fn octet_at(value: &Value<'_>, key: &str) -> Result<u8, LineFault>
+    ensures { MatchResult result (λ its. HasNumber key.now (2 ^ 8) (value_view value.now) its) (λ fault. Denies fault ((its : ℕ) × HasNumber key.now (2 ^ 8) (value_view value.now) its)) }
+{
+    match u8::try_from(number_at(value, key)?) {
+        Ok(number) => Ok(number),
+        Err(_) => Err(LineFault::NotALine),
+    }
+}
+
+/// The octets whose digits stand at a key, in this room.
+#[tactic(auto, using(crate::proofs::Found::octets_found, crate::proofs::Found::no_octets, crate::proofs::Found::no_octets_text))]
+pub(crate) fn octets_at<'r>(
+    alloc: Global,
+    value: &Value<'_>,
+    key: &str,
+    room: &'r mut Vec<u8>,
+) -> Result<&'r [u8], LineFault>
+    ensures { MatchResult result (λ octets. HasOctets key.now (value_view value.now) octets.now) (λ fault. Denies fault ((octets : List ℕ) × HasOctets key.now (value_view value.now) octets)) }
+{
+    let digits = text_at(value, key)?;
+    match hex::decode(alloc, digits) {
+        Ok(octets) => {
+            *room = octets;
+            Ok(room.as_slice())
+        }
+        Err(FromHexError::OutOfMemory) => Err(LineFault::OutOfMemory),
+        Err(_) => Err(LineFault::NotALine),
+    }
+}
+
+/// A run's name: sixteen hexadecimal digits.
+#[tactic(auto, using(crate::proofs::Parts::array_found, crate::proofs::Parts::run_found, crate::proofs::Parts::no_run, crate::proofs::Parts::no_run_text))]
+pub(crate) fn run_at(value: &Value<'_>) -> Result<u64, LineFault>
+    ensures { MatchResult result (λ run. HasRun (value_view value.now) run) (λ fault. Denies fault ((run : ℕ) × HasRun (value_view value.now) run)) }
+{
+    let mut octets = [0; 8];
+    match hex::decode_to_slice(text_at(value, "run")?, &mut octets) {
+        Ok(()) => Ok(u64::from_be_bytes(octets)),
+        Err(_) => Err(LineFault::NotALine),
+    }
+}
+
+/// A request's Authenticator: thirty-two hexadecimal digits.
+#[tactic(auto, using(crate::proofs::Parts::array_found, crate::proofs::Parts::no_array, crate::proofs::Parts::no_array_text))]
+pub(crate) fn authenticator_at(value: &Value<'_>) -> Result<[u8; 16], LineFault>
+    ensures { MatchResult result (λ octets. HasAuthenticator (value_view value.now) octets) (λ fault. Denies fault ((octets : List ℕ) × HasAuthenticator (value_view value.now) octets)) }
+{
+    let mut octets = [0; 16];
+    match hex::decode_to_slice(text_at(value, "authenticator")?, &mut octets) {
+        Ok(()) => Ok(octets),
+        Err(_) => Err(LineFault::NotALine),
+    }
+}
+
+/// The moment of a line.
+#[tactic(auto, using(crate::proofs::Parts::time_found, crate::proofs::Parts::no_time, crate::proofs::Parts::no_time_text))]
+pub(crate) fn time_at<'a>(value: &Value<'a>) -> Result<&'a str, LineFault>
+    ensures { MatchResult result (λ time. HasTime (value_view value.now) time.now) (λ fault. Denies fault ((time : List ℕ) × HasTime (value_view value.now) time)) }
+{
+    let time = text_at(value, "time")?;
+    if is_time(time.as_bytes()) {
+        Ok(time)
+    } else {
+        Err(LineFault::NotALine)
+    }
+}
+
+/// The form of a moment: `d` stands for a digit.
+const FORM: [u8; 24] = *b"dddd-dd-ddTdd:dd:dd.dddZ";
+
+/// A moment of the form `2026-01-31T23:59:59.999Z`.
+fn is_time(octets: &[u8]) -> bool
+    ensures { IsTrue result ↔ IsTime octets.now }
+{
+    if octets.len() != 24 {
+        return false;
+    }
+    for place in 0..24 {
+        if !fits(FORM[place], octets[place]) {
+            return false;
+        }
+    }
+    true
+}
+
+/// Whether an octet stands where the form of a moment has this one: `d` for a digit.
+fn fits(form: u8, octet: u8) -> bool
+    ensures { result ≡ has_form form octet }
+{
+    if form == b'd' {
+        octet.is_ascii_digit()
+    } else {
+        octet == form
+    }
+}
+
+/// The client's address.
+#[tactic(auto, using(crate::proofs::Parts::client_found, crate::proofs::Parts::no_client, crate::proofs::Parts::no_client_text))]
+pub(crate) fn client_at(value: &Value<'_>) -> Result<[u8; 4], LineFault>
+    ensures { MatchResult result (λ client. HasClient (value_view value.now) client) (λ fault. Denies fault ((client : List ℕ) × HasClient (value_view value.now) client)) }
+{
+    match read_address(text_at(value, "client")?) {
+        Some(client) => Ok(client),
+        None => Err(LineFault::NotALine),
+    }
+}
+
+/// A realm or a session: none, a text at the one key, or octets that are no text at the other, in this room.
+#[tactic(auto, using(crate::proofs::Parts::words_none, crate::proofs::Parts::words_text, crate::proofs::Parts::words_octets, crate::proofs::Parts::two_words, crate::proofs::Parts::no_words, crate::proofs::Parts::no_words_octets))]
+pub(crate) fn words_at<'a>(
+    alloc: Global,
+    value: &Value<'a>,
+    key: &str,
+    other: &str,
+    room: &'a mut Vec<u8>,
+) -> Result<Option<&'a [u8]>, LineFault>
+    ensures { MatchResult result (λ words. MayHaveWords key.now other.now (value_view value.now) (option_copied words)) (λ fault. Denies fault ((words : Option (List ℕ)) × MayHaveWords key.now other.now (value_view value.now) words)) }
+{
+    let Some(found) = value.get(key) else {
+        if value.get(other).is_none() {
+            return Ok(None);
+        }
+        return Ok(Some(octets_at(alloc, value, other, room)?));
+    };
+    if value.get(other).is_some() {
+        return Err(LineFault::NotALine);
+    }
+    match found.as_str() {
+        Some(text) => Ok(Some(text.as_bytes())),
+        None => Err(LineFault::NotALine),
+    }
+}
+
+/// An Acct-Status-Type, where there is one.
+#[tactic(auto, using(crate::proofs::Parts::status_none, crate::proofs::Parts::status_found, crate::proofs::Parts::no_status, crate::proofs::Parts::no_status_number))]
+pub(crate) fn status_at(value: &Value<'_>) -> Result<Option<u32>, LineFault>
+    ensures { MatchResult result (λ status. MayHaveNumber (codes "status") (2 ^ 32) (value_view value.now) status) (λ fault. Denies fault ((status : Option ℕ) × MayHaveNumber (codes "status") (2 ^ 32) (value_view value.now) status)) }
+{
+    if value.get("status").is_none() {
+        return Ok(None);
+    }
+    match u32::try_from(number_at(value, "status")?) {
+        Ok(status) => Ok(Some(status)),
+        Err(_) => Err(LineFault::NotALine),
+    }
+}
+
+/// The values of the list of lanes.
+#[tactic(auto, using(crate::proofs::Lists::list_found, crate::proofs::Lists::no_list, crate::proofs::Lists::no_list_there))]
+pub(crate) fn lanes_at<'v, 'a>(value: &'v Value<'a>) -> Result<&'v [Value<'a>], LineFault>
+    ensures { MatchResult result (λ values. HasList (value_view value.now) (items_view values.now)) (λ fault. Denies fault ((items : Items) × HasList (value_view value.now) items)) }
+{
+    let Some(found) = value.get("lanes") else {
+        return Err(LineFault::NotALine);
+    };
+    match items_of(found) {
+        Some(values) => Ok(values),
+        None => Err(LineFault::NotALine),
+    }
+}
+
+/// The values of a list.
+fn items_of<'v, 'a>(value: &'v Value<'a>) -> Option<&'v [Value<'a>]>
+    ensures { option_map (λ values. items_view values.now) result ≡ as_items (value_view value.now) }
+{
+    if let Value::Array(values) = value {
+        Some(values.as_slice())
+    } else {
+        None
+    }
+}

@@ -1,0 +1,6 @@
+//! What no contract says of a ledger: that its lines are those of another implementation, and that calls succeed.
+
+mod comparing;
+mod judged;
+mod lines;
+mod vectors;

@@ -1,0 +1,51 @@
+//! The faults that end the program.
+
+use crate::shown::Word;
+use rad_realms::ConfigFault;
+use std::alloc::Global;
+use std::io::{Error, ErrorKind};
+use thiserror::Error as FaultError;
+
+/// Why the program ends early. Its `Display` is the line for standard error.
+#[derive(Debug, Drop, FaultError)]
+pub enum Fault {
+    #[error("usage: rad_audit CONFIG FILE..")]
+    Usage,
+    /// The file can't be read, or is a configuration that is too long.
+    #[error("file: {0}")]
+    File(Word),
+    #[error("configuration: {0}")]
+    Configuration(ConfigFault),
+    #[error("memory: refused")]
+    Memory,
+    /// Standard output takes nothing more. Nobody is told.
+    #[error("output: failed")]
+    Output,
+}
+
+impl Fault {
+    ghost use Rattle.std.specs.Prelude.{◌≡◌};
+    ghost use Rattle.rad_audit.specs.Faults.{status_of};
+
+    /// The status that the program ends with.
+    pub fn status(&self) -> u8
+        ensures { result ≡ status_of self.now }
+    {
+        match self {
+            Fault::Usage => 1,
+            Fault::Configuration(_) => 2,
+            Fault::File(_) | Fault::Memory | Fault::Output => 4,
+        }
+    }
+
+    /// The fault of a file of this path that can't be read.
+    pub fn of_file(alloc: Global, path: &str, error: &Error) -> Fault {
+        if error.kind() == ErrorKind::OutOfMemory {
+            return Fault::Memory;
+        }
+        match Word::new(alloc, path) {
+            Ok(path) => Fault::File(path),
+            Err(_) => Fault::Memory,
+        }
+    }
+}

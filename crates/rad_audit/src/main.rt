@@ -1,0 +1,97 @@
+//! Audits ledgers of rad_proxy: reads their lines, in the order of the files, and prints what is wrong with them, what is missing, and
+//! how much of each lane of each run is there. What is right is said in `rad_ledger`, and what a line is in `ledger_lines`.
+#![tactic(auto)]
+
+mod auditing;
+mod faults;
+mod line_room;
+mod printing;
+mod runs;
+mod shown;
+mod words;
+
+use auditing::audit_files;
+use faults::Fault;
+use rad_console::{read_at_most, read_configuration};
+use rad_realms::Config;
+use std::alloc::{AllocGlobal, Global};
+use std::env::{self, Env};
+use std::fs;
+use std::io::{self, BufWriter, Error, ErrorKind, Print, Write};
+use std::process::ExitCode;
+use std::rt::{Files, Runtime};
+use words::{Words, read_words};
+
+/// The most octets of a configuration's file.
+const MOST_FILE_OCTETS: u64 = 1_048_576;
+
+fn main(rt: HostRuntime) -> ExitCode {
+    let status = match obey_words(&rt) {
+        Ok(status) => status,
+        Err(fault) => {
+            if !matches!(fault, Fault::Output) {
+                let _ = eprintln!(rt; "{fault}");
+            }
+            fault.status()
+        }
+    };
+    ExitCode::from(status)
+}
+
+/// Does what the words ask for, and gives the status.
+fn obey_words<R: Runtime + AllocGlobal>(rt: &R) -> Result<u8, Fault>
+where
+    R::File: Drop,
+{
+    let alloc = rt.alloc();
+    let arguments = read_arguments(rt)?;
+    let words = read_words(alloc, arguments.as_slice())?;
+    let config = load(rt, alloc, words.config.as_str())?;
+    let Ok(mut output) = BufWriter::new(alloc, io::writer(rt)) else {
+        return Err(Fault::Memory);
+    };
+    let audited = audit_files(rt, alloc, &config, words.files.as_slice(), &mut output);
+    if output.flush().is_err() {
+        return Err(Fault::Output);
+    }
+    audited
+}
+
+/// Reads the configuration in a file.
+fn load<R: Files>(rt: &R, alloc: Global, path: &str) -> Result<Config, Fault>
+where
+    R::File: Drop,
+{
+    let file = match fs::open(rt, path) {
+        Ok(file) => file,
+        Err(error) => return Err(Fault::of_file(alloc, path, &error)),
+    };
+    let text = match read_at_most(alloc, file, MOST_FILE_OCTETS) {
+        Ok(text) => text,
+        Err(error) => return Err(Fault::of_file(alloc, path, &error)),
+    };
+    match read_configuration(alloc, text.as_slice()) {
+        Ok(config) => Ok(config),
+        Err(fault) => Err(Fault::Configuration(fault)),
+    }
+}
+
+/// The words that the program was called with, with its own name first.
+fn read_arguments<R: Env + AllocGlobal>(rt: &R) -> Result<Vec<String>, Fault> {
+    let arguments = match env::args(rt) {
+        Ok(arguments) => arguments,
+        Err(error) => return Err(fault_of_words(&error)),
+    };
+    match arguments.collect(rt.alloc()) {
+        Ok(words) => Ok(words),
+        Err(_) => Err(Fault::Memory),
+    }
+}
+
+/// The fault of words that can't be had.
+fn fault_of_words(error: &Error) -> Fault {
+    match error.kind() {
+        ErrorKind::OutOfMemory => Fault::Memory,
+        _ => Fault::Usage,
+    }
+}

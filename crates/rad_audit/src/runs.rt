@@ -1,0 +1,98 @@
+//! What is known of each run and lane.
+
+use crate::shown::Word;
+use ledger_lines::{Begin, LaneStart};
+use rad_ledger::Tally;
+use std::alloc::{AllocError, Global};
+
+/// A lane of a run.
+#[derive(Drop)]
+pub struct Lane {
+    /// Its number.
+    pub number: u16,
+    /// The home server's name.
+    pub home: Word,
+    /// Its entries that are right.
+    pub tally: Tally,
+    /// How many of them were not judged, since the configuration lacks the home server.
+    pub not_judged: u64,
+}
+
+/// A run, with its lanes.
+#[derive(Drop)]
+pub struct Run {
+    /// What names it.
+    pub run: u64,
+    pub lanes: Vec<Lane>,
+}
+
+/// The runs, in the order in which the files name them.
+#[derive(Drop)]
+pub struct Runs {
+    runs: Vec<Run>,
+    /// The place of the run that was asked for last.
+    last: usize,
+}
+
+impl Runs {
+    pub fn new(alloc: Global) -> Runs {
+        Runs {
+            runs: Vec::new(alloc),
+            last: 0,
+        }
+    }
+
+    pub fn as_slice(&self) -> &[Run] {
+        self.runs.as_slice()
+    }
+
+    /// A file begins with this line. The run is known from its first file on.
+    ///
+    /// # Errors
+    ///
+    /// Where memory is refused; the run is not known then.
+    pub fn begin(&mut self, alloc: Global, begin: &Begin<'_>) -> Result<(), AllocError> {
+        if self.place_of(begin.run).is_some() {
+            return Ok(());
+        }
+        let mut lanes = Vec::with_capacity(alloc, begin.lanes.len())?;
+        for start in begin.lanes.iter() {
+            push(&mut lanes, lane_of(alloc, start)?)?;
+        }
+        let run = begin.run;
+        push(&mut self.runs, Run { run, lanes })
+    }
+
+    /// The place of a run.
+    fn place_of(&self, run: u64) -> Option<usize> {
+        if self.runs.get(self.last).is_some_and(|last| last.run == run) {
+            return Some(self.last);
+        }
+        self.runs.iter().position(|known| known.run == run)
+    }
+
+    /// The lane of this number of a run that names it.
+    pub fn lane(&mut self, run: u64, number: u16) -> Option<&mut Lane> {
+        let place = self.place_of(run)?;
+        self.last = place;
+        let run = self.runs.get_mut(place)?;
+        run.lanes.iter_mut().find(|lane| lane.number == number)
+    }
+}
+
+fn lane_of(alloc: Global, start: &LaneStart<'_>) -> Result<Lane, AllocError> {
+    Ok(Lane {
+        number: start.lane,
+        home: Word::new(alloc, start.home)?,
+        tally: Tally::new(start.serial),
+        not_judged: 0,
+    })
+}
+
+/// Puts a value behind the others.
+fn push<T: Drop>(list: &mut Vec<T>, value: T) -> Result<(), AllocError> {
+    match list.push(value) {
+        Ok(()) => Ok(()),
+        Err(_) => Err(AllocError),
+    }
+}

@@ -1,0 +1,73 @@
+//! The words that the program is called with.
+
+use crate::faults::Fault;
+use clap::error::ErrorKind;
+use clap::{Arg, ArgAction, ArgMatches, Command};
+use std::alloc::{AllocError, Global};
+
+/// The files to read.
+#[derive(Drop)]
+pub struct Words {
+    /// The configuration's.
+    pub config: String,
+    /// The ledgers', in the order in which they are read.
+    pub files: Vec<String>,
+}
+
+/// The files that the words name. The first word is the program's name.
+///
+/// # Errors
+///
+/// `Usage` for words of another form, `Memory` where a growth was refused.
+pub fn read_words(alloc: Global, words: &[String]) -> Result<Words, Fault> {
+    let Ok(command) = command(alloc) else {
+        return Err(Fault::Memory);
+    };
+    let matches = match command.try_get_matches_from(words) {
+        Ok(matches) => matches,
+        Err(error) => {
+            return match error.kind() {
+                ErrorKind::OutOfMemory => Err(Fault::Memory),
+                _ => Err(Fault::Usage),
+            };
+        }
+    };
+    words_of(alloc, &matches)
+}
+
+/// The files that the words that were matched name.
+fn words_of(alloc: Global, matches: &ArgMatches) -> Result<Words, Fault> {
+    let (Some(config), Some(files)) = (matches.get_str("CONFIG"), matches.get_strs("FILE")) else {
+        return Err(Fault::Usage);
+    };
+    let mut owned = Vec::new(alloc);
+    for file in files {
+        if owned.push(owned_word(alloc, file)?).is_err() {
+            return Err(Fault::Memory);
+        }
+    }
+    Ok(Words {
+        config: owned_word(alloc, config)?,
+        files: owned,
+    })
+}
+
+/// A word of its own.
+fn owned_word(alloc: Global, word: &str) -> Result<String, Fault> {
+    match String::from_str(alloc, word) {
+        Ok(word) => Ok(word),
+        Err(_) => Err(Fault::Memory),
+    }
+}
+
+/// The words that the program takes.
+fn command<'a>(alloc: Global) -> Result<Command<'a>, AllocError> {
+    let config = Arg::new(alloc, "CONFIG")
+        .required(true)
+        .action(ArgAction::Set);
+    let files = Arg::new(alloc, "FILE")
+        .required(true)
+        .num_args(1..)
+        .action(ArgAction::Append);
+    Command::new(alloc, "rad_audit").arg(config)?.arg(files)
+}

@@ -1,0 +1,51 @@
+-- A tally that is whole is over all that an outlet was given, and over nothing else.
+use Rattle.std.proofs.Common.{◌≡◌, ◌↔◌, ℕ, ◌+◌, ◌<◌, List, ◌∷◌, length, refl, sym, ap, ◌∙◌, subst, arith, Some, length-append, get_or, inl, inr}
+use Rattle.std.specs.Prelude.{IfSome}
+use Rattle.std.specs.List.{range_with_len}
+use Rattle.std.proofs.lemmas.List.{length-map}
+use Rattle.std.proofs.lemmas.List.FromFn.{get_or-range_with_len}
+use Rattle.std.proofs.Math.Seq.{get_or-append_seam}
+use Rattle.rad_lane.specs.declared.outgoing.Outgoing.{Outgoing}
+use Rattle.rad_ledger.specs.Counting.{GoOnFrom, IsFirstGap, Tells}
+use Rattle.rad_ledger.specs.Outlets.{serials_of, AreAllGiven}
+use Rattle.rad_ledger.specs.declared.tally.Tally.{Tally}
+use Rattle.rad_ledger.specs.declared.tally.Gap.{Gap}
+use Rattle.rad_ledger.specs.declared.tally.Verdict.{Verdict}
+use Rattle.rad_ledger.specs.declared.tally.Verdict.TheVariants.{Whole, Open, Missing}
+
+-- where the serials go on, there is no gap between them
+no_gap : (first : ℕ) (serials : List ℕ) (gap : Gap) → GoOnFrom first serials → IsFirstGap first serials gap → ⊥
+no_gap first serials gap e g =
+    let n : ℕ = length g.before in
+    let within : n < length serials = omega (arith, ap length g.split, length-append g.before ((gap.last + 1) ∷ g.after)) in
+    let there : get_or serials n 0 ≡ gap.last + 1 = ap (λ xs. get_or xs n 0) g.split ∙ get_or-append_seam g.before (gap.last + 1) g.after 0 in
+    let wanted : get_or serials n 0 ≡ first + n = ap (λ xs. get_or xs n 0) e ∙ get_or-range_with_len first (length serials) n 0 within in
+    omega (arith, there, wanted, g.from, g.some)
+
+module _ (tally : Tally) (given : List Outgoing) (from_zero : tally.first ≡ 0) where
+  long : length (serials_of given) ≡ length given
+  long = length-map given (λ r. r.serial)
+
+  pub whole_is_all : Tells tally (serials_of given) Whole → AreAllGiven tally given
+  whole_is_all w = record {
+    counted = w.ended ∙ ap Some (omega (arith, w.all, from_zero, long));
+    in_order = w.goes_on ∙ ap (λ n. range_with_len n (length (serials_of given))) from_zero ∙ ap (range_with_len 0) long;
+  }
+
+  module _ (a : AreAllGiven tally given) where
+    goes_on : GoOnFrom tally.first (serials_of given)
+    goes_on = a.in_order ∙ ap (range_with_len 0) (sym long) ∙ ap (λ n. range_with_len n (length (serials_of given))) (sym from_zero)
+
+    same_count : (count : ℕ) → tally.end ≡ Some count → count ≡ length given
+    same_count count ended = subst (λ o. IfSome o (λ n. count ≡ n)) (sym ended ∙ a.counted) refl
+
+    pub all_is_whole : (verdict : Verdict) → Tells tally (serials_of given) verdict → verdict ≡ Whole
+    all_is_whole Whole t = refl
+    all_is_whole Open t =
+        let less : length given < tally.first + length (serials_of given) = subst (λ o. IfSome o (λ n. n < tally.first + length (serials_of given))) a.counted t.unended in
+        absurd (omega (arith, less, from_zero, long))
+    all_is_whole (Missing gap) (inl g) = absurd (no_gap tally.first (serials_of given) gap goes_on g)
+    all_is_whole (Missing gap) (inr cut) = absurd (omega (arith, same_count cut.count cut.ended, cut.from, cut.to, cut.some, from_zero, long))
+
+  pub whole_exactly : (verdict : Verdict) → Tells tally (serials_of given) verdict → (verdict ≡ Whole) ↔ AreAllGiven tally given
+  whole_exactly verdict t = (λ e. whole_is_all (subst (λ v. Tells tally (serials_of given) v) e t), λ a. all_is_whole a verdict t)

@@ -1,0 +1,4 @@
+pub mod Judging
+pub mod Counting
+pub mod Outlets
+pub mod Printed

@@ -1,0 +1,160 @@
+//! What is wrong with an entry.
+
+ghost use Rattle.std.specs.Prelude.{◌≡◌, ◌↔◌, option_copied, MatchOption, IfOk, IsTrue};
+ghost use Rattle.rad_auth.specs.Answers.{Answers};
+ghost use Rattle.rad_auth.specs.declared.mark.Mark.{Mark as TheMark};
+ghost use Rattle.rad_ledger.specs.Judging.{ArePacketsRight, IsInPlace, IsReply, IsSent, IsWrong, IsWrongPacket, JudgesReply, head_of as the_head_of, mark_of as the_mark_of};
+
+use crate::entry::Entry;
+use crate::packets::{ends_with_mark, whole_packet};
+use crate::reason::Reason;
+use rad_auth::{
+    ACCOUNTING_REQUEST, ACCOUNTING_RESPONSE, Mark, Reply, ReplyFault, RequestHead, Secret,
+    check_request, one_response, refused_or_answered, respond,
+};
+use rad_packet::PacketRef;
+use std::alloc::{AllocError, Global};
+
+/// The first thing that is wrong with an entry, where there is one: by its packets, under the secrets that are known, and by its
+/// place, where `next` is the least serial that its lane has not had, of a lane that the run names. It hashes each packet once.
+///
+/// # Errors
+///
+/// Where memory is refused.
+#[tactic(auto, using(crate::proofs::Judged::packets_first))]
+pub fn judge(
+    alloc: Global,
+    entry: &Entry<'_>,
+    home: Option<&Secret>,
+    client: Option<&Secret>,
+    next: Option<u64>,
+) -> Result<Option<Reason>, AllocError>
+    ensures { IfOk result (λ wrong. MatchOption wrong (ArePacketsRight entry.now (option_copied home.entry) (option_copied client.entry) × IsInPlace entry.now.serial next) (λ reason. IsWrong entry.now (option_copied home.entry) (option_copied client.entry) next reason)) }
+{
+    if let Some(reason) = judge_packets(alloc, entry, home, client)? {
+        return Ok(Some(reason));
+    }
+    match next {
+        None => Ok(Some(Reason::UnknownLane)),
+        Some(least) if entry.serial < least => Ok(Some(Reason::SerialNotAbove)),
+        Some(_) => Ok(None),
+    }
+}
+
+/// The first thing that is wrong with the packets of an entry.
+#[tactic(auto, using(crate::proofs::Judged::sent_is_none, crate::proofs::Judged::reply_is_none, crate::proofs::Judged::response_is_none, crate::proofs::Judged::are_packets, crate::proofs::Judged::not_judged, crate::proofs::Judged::judged))]
+fn judge_packets(
+    alloc: Global,
+    entry: &Entry<'_>,
+    home: Option<&Secret>,
+    client: Option<&Secret>,
+) -> Result<Option<Reason>, AllocError>
+    ensures { IfOk result (λ wrong. MatchOption wrong (ArePacketsRight entry.now (option_copied home.entry) (option_copied client.entry)) (λ reason. IsWrongPacket entry.now (option_copied home.entry) (option_copied client.entry) reason)) }
+{
+    let Some(sent) = whole_packet(entry.sent) else {
+        return Ok(Some(Reason::NoPacket));
+    };
+    let Some(reply) = whole_packet(entry.reply) else {
+        return Ok(Some(Reason::NoPacket));
+    };
+    let Some(_) = whole_packet(entry.response) else {
+        return Ok(Some(Reason::NoPacket));
+    };
+    let Some(home) = home else {
+        return Ok(None);
+    };
+    if !is_sent(&sent, mark_of(entry), home) {
+        return Ok(Some(Reason::WrongSent));
+    }
+    judge_reply(
+        alloc,
+        head_of(entry),
+        &sent,
+        &reply,
+        entry.response,
+        home,
+        client,
+    )
+}
+
+/// The mark that an entry's request went out with.
+fn mark_of(entry: &Entry<'_>) -> Mark
+    ensures { result ≡ the_mark_of entry.now }
+{
+    Mark {
+        lane: entry.lane,
+        number: entry.number,
+    }
+}
+
+/// The head of an entry's request.
+fn head_of(entry: &Entry<'_>) -> RequestHead
+    ensures { result ≡ the_head_of entry.now }
+{
+    RequestHead {
+        identifier: entry.identifier,
+        authenticator: entry.authenticator,
+    }
+}
+
+/// Whether what was sent is right under the home server's secret, and has this mark.
+fn is_sent(sent: &PacketRef<'_>, mark: Mark, home: &Secret) -> bool
+    ensures { IsTrue result ↔ IsSent home.now mark sent.now }
+{
+    sent.code() == ACCOUNTING_REQUEST && check_request(sent, home) && ends_with_mark(sent, mark)
+}
+
+/// What is wrong with the reply or the response, where nothing is with what was sent.
+#[tactic(auto, using(crate::proofs::Replies::is_reply, crate::proofs::Replies::is_response, crate::proofs::Replies::is_no_response))]
+fn judge_reply(
+    alloc: Global,
+    head: RequestHead,
+    sent: &PacketRef<'_>,
+    reply: &PacketRef<'_>,
+    response: &[u8],
+    home: &Secret,
+    client: Option<&Secret>,
+) -> Result<Option<Reason>, AllocError>
+    requires { (mark : TheMark) × IsSent home.now mark sent.now }
+    ensures { IfOk result (λ wrong. JudgesReply home.now (option_copied client.entry) head sent.now reply.now response.now wrong) }
+{
+    let Some(client) = client else {
+        return match response_after(alloc, head, sent, reply, home, home)? {
+            Some(_) => Ok(None),
+            None => Ok(Some(Reason::WrongReply)),
+        };
+    };
+    one_response();
+    match response_after(alloc, head, sent, reply, client, home)? {
+        None => Ok(Some(Reason::WrongReply)),
+        Some(made) if made.response() == response => Ok(None),
+        Some(_) => Ok(Some(Reason::WrongResponse)),
+    }
+}
+
+/// The response to a request of this head after a reply to what was sent. There is none where the reply is not right.
+#[tactic(auto, using(crate::proofs::Replies::other_code, crate::proofs::Replies::other_identifier, crate::proofs::Replies::refused, crate::proofs::Replies::made_for))]
+fn response_after(
+    alloc: Global,
+    head: RequestHead,
+    sent: &PacketRef<'_>,
+    reply: &PacketRef<'_>,
+    client: &Secret,
+    home: &Secret,
+) -> Result<Option<Reply>, AllocError>
+    requires { (mark : TheMark) × IsSent home.now mark sent.now }
+    ensures { IfOk result (λ made. MatchOption made (¬ IsReply home.now sent.now reply.now) (λ r. Answers head sent.now reply.now client.now home.now r.response)) }
+{
+    if reply.code() != ACCOUNTING_RESPONSE {
+        return Ok(None);
+    }
+    if reply.identifier() != sent.identifier() {
+        return Ok(None);
+    }
+    refused_or_answered();
+    match respond(alloc, head, sent, reply, client, home) {
+        Ok(made) => Ok(Some(made)),
+        Err(ReplyFault::OutOfMemory) => Err(AllocError),
+        Err(_) => Ok(None),
+    }
+}

@@ -1,0 +1,41 @@
+//! What is wrong with a line.
+
+use std::fmt;
+
+/// What is wrong with a line. The first reason in this order is told.
+#[derive(Clone, Copy, Debug, PartialEq, Eq)]
+pub enum Reason {
+    /// It is no entry, and no other line of a ledger.
+    NotEntry,
+    /// What was sent, the reply or the response is no packet.
+    NoPacket,
+    /// What was sent is not right under the home server's secret, or has not the mark of its lane and number.
+    WrongSent,
+    /// The reply is not right for what was sent.
+    WrongReply,
+    /// The response is not the reply less the mark, or is not right for the request under the client's secret.
+    WrongResponse,
+    /// The serial is not above the last one.
+    SerialNotAbove,
+    /// The run does not name the lane.
+    UnknownLane,
+}
+
+impl fmt::Display for Reason {
+    ghost use Rattle.std.specs.Prelude.{Some};
+    ghost use Rattle.rad_ledger.specs.Printed.{reason_text};
+
+    ghost output = { λ reason. Some (reason_text reason) };
+
+    fn fmt<W: fmt::Write>(&self, f: &mut fmt::Formatter<W>) -> fmt::Result {
+        match self {
+            Reason::NotEntry => f.write_str("NotEntry"),
+            Reason::NoPacket => f.write_str("NoPacket"),
+            Reason::WrongSent => f.write_str("WrongSent"),
+            Reason::WrongReply => f.write_str("WrongReply"),
+            Reason::WrongResponse => f.write_str("WrongResponse"),
+            Reason::SerialNotAbove => f.write_str("SerialNotAbove"),
+            Reason::UnknownLane => f.write_str("UnknownLane"),
+        }
+    }
+}
