@@ -1,6 +1,6 @@
 -- What passed in a call, put together from what passed in its parts.
 use Rattle.std.proofs.Common.{◌≡◌, ℕ, List, [], ◌∷◌, ◌++◌, Option, refl, ap, ◌∙◌}
-use Rattle.rad_desk.specs.Traffic.{Event, arrived, departed, handed, told, drew, noted, logged}
+use Rattle.rad_desk.specs.Traffic.{Event, arrived, departed, told, drew, noted, logged}
 use Rattle.rad_desk.specs.Calls.{Passes, IsQuiet}
 
 logged-append : (log : Option (List Event)) (first then : List Event) → logged (logged log first) then ≡ logged log (first ++ then)
@@ -11,7 +11,6 @@ pub quiet_append : (first then : List Event) → IsQuiet first → IsQuiet then 
 quiet_append [] then a b = b
 quiet_append (arrived socket peer octets ∷ first) then a b = quiet_append first then a b
 quiet_append (departed socket peer octets delivery ∷ first) then a b = absurd a
-quiet_append (handed outgoing ∷ first) then a b = absurd a
 quiet_append (told moment ∷ first) then a b = quiet_append first then a b
 quiet_append (drew octets ∷ first) then a b = quiet_append first then a b
 

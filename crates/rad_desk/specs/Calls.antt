@@ -2,7 +2,7 @@
 use Rattle.std.specs.Prelude.{◌≡◌, ⊤, ℕ, List, [], ◌∷◌, Option}
 use Rattle.rad_realms.specs.declared.reading.address.Endpoint.{Endpoint}
 use Rattle.rad_desk.specs.declared.wire.Delivery.{Delivery}
-use Rattle.rad_desk.specs.Traffic.{Event, arrived, departed, handed, told, drew, logged}
+use Rattle.rad_desk.specs.Traffic.{Event, arrived, departed, told, drew, logged}
 
 -- Exactly these events passed, and they satisfy `Right`.
 pub record Passes (Right : List Event → Type 0) (old new : Option (List Event)) : Type 0 where
@@ -10,12 +10,11 @@ pub record Passes (Right : List Event → Type 0) (old new : Option (List Event)
   pub passed : new ≡ logged old events
   pub right : Right events
 
--- Nothing was sent, and nothing was handed over.
+-- Nothing was sent.
 abbrev pub IsQuiet : List Event → Type 0
 IsQuiet [] = ⊤
 IsQuiet (arrived socket peer octets ∷ more) = IsQuiet more
 IsQuiet (departed socket peer octets delivery ∷ more) = ⊥
-IsQuiet (handed outgoing ∷ more) = ⊥
 IsQuiet (told moment ∷ more) = IsQuiet more
 IsQuiet (drew octets ∷ more) = IsQuiet more
 

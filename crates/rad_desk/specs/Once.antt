@@ -1,6 +1,5 @@
 -- What the front does (own), as its wire sees it. It is a sequence of parts. Each part sends nothing, or answers the
--- datagram that came right before it, or hands over and sends what an inlet gave. What each inlet gave is handed over
--- once and sent once, in order.
+-- datagram that came right before it, or sends what an inlet gave. What each inlet gave is sent once, in order.
 use Rattle.std.specs.Prelude.{◌≡◌, ◌+◌, ◌<◌, ◌==◌, ⊤, ℕ, List, [], ◌∷◌, ◌++◌, ◌⊎◌, length, All, cond, Ok}
 use Rattle.std.specs.List.{flat_map}
 use Rattle.rad_packet.specs.Packet.{identifier_of, authenticator_of}
@@ -17,7 +16,7 @@ use Rattle.rad_desk.specs.declared.inlet.Inlet.{Inlet}
 use Rattle.rad_desk.specs.declared.wire.Delivery.{Delivery}
 use Rattle.rad_desk.specs.Departures.{AcceptsLawfully, IsVerifiedResponse}
 use Rattle.rad_desk.specs.Inlet.{taken, SameInlet}
-use Rattle.rad_desk.specs.Traffic.{Event, arrived, departed, handed, told, endpoint}
+use Rattle.rad_desk.specs.Traffic.{Event, arrived, departed, told, endpoint}
 use Rattle.rad_desk.specs.Calls.{IsQuiet}
 
 -- The octets answer a request again (RFC 2866 section 4.2). A lawful book gave them as the answer to this request, a
@@ -52,21 +51,20 @@ pub record AnswersWhatCame (config : Configuration) (from : Endpoint) (question 
 
 -- A part of the work: `quiet`, in which these events passed and nothing was sent; `back`, in which a datagram was
 -- received on a socket, from this address and port, the moment was read, and these octets were sent back; or `given`,
--- in which the response was handed over and sent that the inlet at this place gave.
+-- in which the response was sent that the inlet at this place gave.
 pub data Part : Type 0 where
   quiet : List Event → Part
   back : ℕ → Endpoint → List ℕ → ℕ → List ℕ → Delivery → Part
   given : ℕ → Outgoing → Delivery → Part
 
 -- An answer is sent back from the socket that received the question, to the address and port that the question came
--- from. A response is handed over, and then sent from the first socket, to its client and port. No other part hands
--- anything over: so what was handed over is what the inlets gave, each once and in order.
+-- from. A response is sent from the first socket, to its client and port.
 abbrev pub events_of : Part → List Event
 events_of (quiet events) = events
 events_of (back socket from question moment octets delivery) =
     arrived socket from question ∷ told moment ∷ departed socket from octets delivery ∷ []
 events_of (given place outgoing delivery) =
-    handed outgoing ∷ departed 0 (endpoint outgoing.client outgoing.port) outgoing.reply.response delivery ∷ []
+    departed 0 (endpoint outgoing.client outgoing.port) outgoing.reply.response delivery ∷ []
 
 -- A datagram was received, the moment was read, and an answer to the datagram was sent back.
 pub record GoesBack (config : Configuration) (events : List Event) : Type 0 where
@@ -94,7 +92,7 @@ pub record AnswerGoes (socket : ℕ) (from : Endpoint) (asked : Incoming) (event
 abbrev pub SendsAnAnswer : ℕ → Endpoint → Incoming → List Event → Type 0
 SendsAnAnswer socket from asked events = IsQuiet events ⊎ AnswerGoes socket from asked events
 
--- The inlet gave one response, and that was handed over and then sent, and nothing else passed.
+-- The inlet gave one response, and that was sent, and nothing else passed.
 pub record HandsOne (old new : Inlet) (events : List Event) : Type 0 where
   pub outgoing : Outgoing
   pub delivery : Delivery

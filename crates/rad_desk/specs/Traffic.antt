@@ -1,8 +1,6 @@
--- What passed over a wire (own): the datagrams received and sent, the responses handed over, the moments read and the
--- octets drawn, in order.
+-- What passed over a wire (own): the datagrams received and sent, the moments read and the octets drawn, in order.
 use Rattle.std.specs.Prelude.{◌≡◌, ℕ, ◌≤◌, List, [], ◌∷◌, ◌++◌, take, Option, Some, None}
 use Rattle.rad_realms.specs.declared.reading.address.Endpoint.{Endpoint}
-use Rattle.rad_lane.specs.declared.outgoing.Outgoing.{Outgoing}
 use Rattle.rad_desk.specs.declared.wire.Delivery.{Delivery}
 use Rattle.rad_desk.specs.declared.wire.Passing.{Passing}
 use Rattle.rad_desk.specs.declared.wire.Passing.TheVariants.{Arrived, Departed, Told, Drew}
@@ -14,8 +12,6 @@ pub data Event : Type 0 where
   arrived : ℕ → Endpoint → List ℕ → Event
   -- A datagram was given to this socket, to be sent to this address and port, with this outcome.
   departed : ℕ → Endpoint → List ℕ → Delivery → Event
-  -- This response was handed over to the ledger.
-  handed : Outgoing → Event
   -- The moment was read.
   told : ℕ → Event
   -- Random octets were drawn.

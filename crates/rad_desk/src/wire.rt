@@ -2,9 +2,8 @@
 
 ghost use Rattle.std.specs.Prelude.{◌≡◌, List, [], ◌∷◌, ◌++◌, Option, None};
 ghost use Rattle.std.specs.Borrow.{ftrue};
-ghost use Rattle.rad_desk.specs.Traffic.{Event, event, arrived, departed, handed, told, drew, endpoint, noted, Receives};
+ghost use Rattle.rad_desk.specs.Traffic.{Event, event, arrived, departed, told, drew, endpoint, noted, Receives};
 
-use rad_lane::Outgoing;
 use rad_realms::Endpoint;
 use rad_tables::Moment;
 use std::marker::Model;
@@ -38,7 +37,7 @@ pub enum Delivery {
     Fault,
 }
 
-/// The sockets of a worker, its clock and its random octets, and the ledger.
+/// The sockets of a worker, its clock and its random octets.
 ///
 /// A wire may keep a log. Contracts see all that passed over such a wire so far, in order. They say nothing of what
 /// passes over a wire without a log.
@@ -60,20 +59,6 @@ pub trait Wire {
     /// Sends a datagram from a socket to an IPv4 address and a UDP port.
     fn send(&mut self, socket: u16, address: [u8; 4], port: u16, octets: &[u8]) -> Delivery
         ensures { log self.new ≡ noted (log self.old) (departed socket (endpoint address port) octets.now result) };
-
-    /// Hands a response over to the ledger. The front does so right before it sends the response's datagram. It must not
-    /// wait for anything.
-    fn hand_over(&mut self, outgoing: &Outgoing)
-        ensures { log self.new ≡ noted (log self.old) (handed outgoing.now) };
-}
-
-/// What keeps evidence of the responses that are handed over to it.
-pub trait Ledger {
-    /// From now on responses may come.
-    fn begin(&mut self);
-
-    /// Keeps a response. It takes no memory and waits for nothing.
-    fn keep(&mut self, outgoing: &Outgoing);
 }
 
 /// The log of a wire: all that passed over it so far. Only clauses see it, and it takes no memory.
@@ -133,13 +118,6 @@ impl Traffic {
         *self = Traffic::with(self, &passing, octets);
     }
 
-    /// Adds that this response was handed over.
-    pub fn handed(&mut self, outgoing: &Outgoing)
-        ensures { self.new.passed ≡ self.old.passed ++ handed outgoing.now ∷ [] }
-    {
-        *self = Traffic::with_response(self, outgoing);
-    }
-
     /// Adds that this moment was read.
     pub fn told(&mut self, moment: Moment)
         ensures { self.new.passed ≡ self.old.passed ++ told moment ∷ [] }
@@ -157,13 +135,6 @@ impl Traffic {
     /// Returns the log with one more event.
     fn with(_before: &Traffic, _passing: &Passing, _octets: &[u8]) -> Traffic
         ensures { result.passed ≡ _before.now.passed ++ event _passing.now _octets.now ∷ [] }
-    {
-        Traffic {}
-    }
-
-    /// Returns the log with one more response that was handed over.
-    fn with_response(_before: &Traffic, _outgoing: &Outgoing) -> Traffic
-        ensures { result.passed ≡ _before.now.passed ++ handed _outgoing.now ∷ [] }
     {
         Traffic {}
     }

@@ -3,7 +3,6 @@
 use crate::chance::Chance;
 use crate::events::{Came, DownBy, Event, Gone, Mail, Sign};
 use rad_desk::{Call, Delivery, Gate, Go, Note, Received, Spent, UpReason, Wire, Worker};
-use rad_lane::Outgoing;
 use rad_realms::Endpoint;
 use rad_tables::Moment;
 use std::alloc::Global;
@@ -243,6 +242,4 @@ impl<'a> Wire for TraceWire<'a> {
             Delivery::Fault
         }
     }
-
-    fn hand_over(&mut self, _outgoing: &Outgoing) {}
 }

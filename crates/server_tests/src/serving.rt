@@ -4,8 +4,7 @@ use crate::comparing::holds;
 use crate::gates::Open;
 use crate::streams::{Narrow, Slow};
 use rad_console::EndLine;
-use rad_desk::{Gate, Ledger};
-use rad_lane::Outgoing;
+use rad_desk::Gate;
 use rad_realms::read_config;
 use rad_server::{Descriptors, LocalAddresses, RuntimeAddresses, ServeFault, run};
 use std::alloc::Global;
@@ -42,17 +41,7 @@ name = "example.org"
 home = "h1"
 "#;
 
-/// A ledger that keeps nothing.
-#[derive(Drop)]
-struct Forgetful;
-
-impl Ledger for Forgetful {
-    fn begin(&mut self) {}
-
-    fn keep(&mut self, _outgoing: &Outgoing) {}
-}
-
-/// Serves the configuration of a text over UDP, with a ledger that keeps nothing, and returns how that ends.
+/// Serves the configuration of a text over UDP, and returns how that ends.
 pub fn ran<R, A, G, I, O>(
     rt: &R,
     addresses: &A,
@@ -77,7 +66,6 @@ where
         alloc,
         &config,
         gate,
-        Some(Forgetful),
         reader,
         writer,
         descriptors,

@@ -4,7 +4,6 @@ ghost use Rattle.std.specs.Prelude.{Some, IsSome};
 
 use rad_console::EndLine;
 use rad_desk::{Delivery, Gate, Received, Traffic, Wire};
-use rad_lane::Outgoing;
 use rad_realms::{Endpoint, read_config};
 use rad_server::{Notifiers, ServeFault, Wires, serve};
 use rad_tables::Moment;
@@ -100,10 +99,6 @@ impl<R: Clock> Wire for Scripted<'_, R> {
         self.traffic
             .departed(socket, address, port, octets, Delivery::Sent);
         Delivery::Sent
-    }
-
-    fn hand_over(&mut self, outgoing: &Outgoing) {
-        self.traffic.handed(outgoing);
     }
 }
 

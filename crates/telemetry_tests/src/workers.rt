@@ -7,7 +7,6 @@ use crate::comparing::holds;
 use crate::packets::SHORT;
 use crate::shared::{MemoryLog, NAS, Setup, Still};
 use rad_desk::{Delivery, Received, Traffic, Wire, front_worker, open};
-use rad_lane::Outgoing;
 use rad_realms::{Config, Endpoint};
 use rad_tables::Moment;
 use rad_telemetry::{LevelFilter, Telemetry};
@@ -84,10 +83,6 @@ impl Wire for Scripted<'_> {
         self.traffic
             .departed(socket, address, port, octets, Delivery::Sent);
         Delivery::Sent
-    }
-
-    fn hand_over(&mut self, outgoing: &Outgoing) {
-        self.traffic.handed(outgoing);
     }
 }
 

@@ -4,7 +4,6 @@ ghost use Rattle.std.specs.Prelude.{◌≡◌, Some};
 
 use super::test_desk::{RANDOM, at};
 use rad_desk::{Delivery, Received, Traffic, Wire};
-use rad_lane::Outgoing;
 use rad_realms::Endpoint;
 use rad_tables::Moment;
 use std::alloc::Global;
@@ -151,9 +150,5 @@ impl Wire for MemoryWire {
         self.traffic
             .departed(socket, address, port, octets, delivery);
         delivery
-    }
-
-    fn hand_over(&mut self, outgoing: &Outgoing) {
-        self.traffic.handed(outgoing);
     }
 }
