@@ -5,8 +5,7 @@ ghost use Rattle.std.specs.Prelude.{Some};
 use crate::local_addresses::LocalAddresses;
 use crate::notifying::Notifier;
 use crate::worker_sockets::WorkerSockets;
-use rad_desk::{Delivery, Gate, Ledger, Received, Traffic, Wire};
-use rad_lane::Outgoing;
+use rad_desk::{Delivery, Gate, Received, Traffic, Wire};
 use rad_realms::Endpoint;
 use rad_tables::Moment;
 use rand::Rng;
@@ -14,38 +13,35 @@ use rand::rngs::StdRng;
 use std::alloc::AllocError;
 use std::time::{Clock, Instant};
 
-/// The sockets of a worker, with its clock and its random octets, and the ledger, if it has one.
+/// The sockets of a worker, with its clock and its random octets.
 ///
 /// A receive waits for at most 20 milliseconds. In the turn after a send it does not wait at all, since there may be
 /// more to send. Whoever has work for the worker ends the wait by a notification.
 #[derive(Drop)]
-pub(crate) struct UdpWire<'a, R, G, A, L> {
+pub(crate) struct UdpWire<'a, R, G, A> {
     clock: &'a R,
     start: Instant,
     /// The last moment that was returned.
     moment: Moment,
     random: StdRng,
     sockets: WorkerSockets<'a, R, G, A>,
-    ledger: Option<L>,
     traffic: Traffic,
 }
 
-impl<'a, R, G, A, L> UdpWire<'a, R, G, A, L> {
-    /// Makes a wire over these sockets, whose moments count from `start`. What is handed over goes to the ledger.
+impl<'a, R, G, A> UdpWire<'a, R, G, A> {
+    /// Makes a wire over these sockets, whose moments count from `start`.
     pub(crate) fn new(
         clock: &'a R,
         start: Instant,
         random: StdRng,
         sockets: WorkerSockets<'a, R, G, A>,
-        ledger: Option<L>,
-    ) -> UdpWire<'a, R, G, A, L> {
+    ) -> UdpWire<'a, R, G, A> {
         UdpWire {
             clock,
             start,
             moment: Moment::new(0).unwrap(),
             random,
             sockets,
-            ledger,
             traffic: Traffic::new(),
         }
     }
@@ -60,7 +56,7 @@ impl<'a, R, G, A, L> UdpWire<'a, R, G, A, L> {
     }
 }
 
-impl<R: Clock, G: Gate, A: LocalAddresses, L: Ledger> Wire for UdpWire<'_, R, G, A, L> {
+impl<R: Clock, G: Gate, A: LocalAddresses> Wire for UdpWire<'_, R, G, A> {
     ghost log = { λ w. Some w.traffic.passed };
 
     fn now(&mut self) -> Moment {
@@ -109,12 +105,5 @@ impl<R: Clock, G: Gate, A: LocalAddresses, L: Ledger> Wire for UdpWire<'_, R, G,
         self.traffic
             .departed(socket, address, port, octets, delivery);
         delivery
-    }
-
-    fn hand_over(&mut self, outgoing: &Outgoing) {
-        if let Some(ledger) = &mut self.ledger {
-            ledger.keep(outgoing);
-        }
-        self.traffic.handed(outgoing);
     }
 }

@@ -12,7 +12,7 @@ use crate::polling::PolledSockets;
 use crate::sockets::{BoundSockets, lane_fault};
 use crate::wires::UdpWire;
 use crate::worker_sockets::WorkerSockets;
-use rad_desk::{Gate, Ledger};
+use rad_desk::Gate;
 use rad_realms::{Client, Config};
 use rand::rngs::StdRng;
 use rand::{Rng, make_rng};
@@ -42,28 +42,23 @@ struct WireMaker<'a, R, G, A> {
 }
 
 impl<'a, R: Clock + Net + RandomSource, G: Gate, A> WireMaker<'a, R, G, A> {
-    /// Makes the wire of the front over these sockets, which these clients see as one, with this ledger. All sockets are
-    /// bound, so the ledger begins.
+    /// Makes the wire of the front over these sockets, which these clients see as one.
     ///
     /// # Errors
     ///
     /// The system's error, and `OutOfMemory` if memory is refused.
-    fn make_front<L: Ledger + Drop>(
+    fn make_front(
         &self,
         sockets: ClientSockets,
         clients: &[Client],
-        mut ledger: Option<L>,
-    ) -> io::Result<UdpWire<'a, R, G, A, L>> {
-        if let Some(ledger) = &mut ledger {
-            ledger.begin();
-        }
+    ) -> io::Result<UdpWire<'a, R, G, A>> {
         let ClientSockets { sockets, known } = sockets;
         let mut random: StdRng = make_rng(self.rt)?;
         let answering = match known {
             Some(known) => Some(self.answer(clients, known, random.next_u64())?),
             None => None,
         };
-        self.make(random, sockets, answering, ledger)
+        self.make(random, sockets, answering)
     }
 
     /// Makes what answers each datagram from the front's socket that it came to.
@@ -87,16 +82,15 @@ impl<'a, R: Clock + Net + RandomSource, G: Gate, A> WireMaker<'a, R, G, A> {
     /// # Errors
     ///
     /// The system's error, and `OutOfMemory` if memory is refused.
-    fn make<L: Drop>(
+    fn make(
         &self,
         random: StdRng,
         sockets: Vec<UdpSocket>,
         answering: Option<Answering<'a, R, G, A>>,
-        ledger: Option<L>,
-    ) -> io::Result<UdpWire<'a, R, G, A, L>> {
+    ) -> io::Result<UdpWire<'a, R, G, A>> {
         let polled = PolledSockets::new(self.rt, self.alloc, sockets)?;
         let sockets = WorkerSockets::new(polled, answering);
-        Ok(UdpWire::new(self.rt, self.start, random, sockets, ledger))
+        Ok(UdpWire::new(self.rt, self.start, random, sockets))
     }
 
     /// Makes the wire of a lane over these sockets.
@@ -105,11 +99,11 @@ impl<'a, R: Clock + Net + RandomSource, G: Gate, A> WireMaker<'a, R, G, A> {
     ///
     /// `LaneSocket` if the system refuses the poll of the sockets or the random octets, which is reported to the gate,
     /// and `Memory` if a growth is refused.
-    fn make_lane<L: Drop>(
+    fn make_lane(
         &self,
         lane: usize,
         sockets: Vec<UdpSocket>,
-    ) -> Result<UdpWire<'a, R, G, A, L>, ServeFault> {
+    ) -> Result<UdpWire<'a, R, G, A>, ServeFault> {
         match self.make_over(sockets) {
             Ok(wire) => Ok(wire),
             Err(error) => Err(lane_fault(lane, &error, self.gate)),
@@ -121,8 +115,8 @@ impl<'a, R: Clock + Net + RandomSource, G: Gate, A> WireMaker<'a, R, G, A> {
     /// # Errors
     ///
     /// The system's error, and `OutOfMemory` if memory is refused.
-    fn make_over<L: Drop>(&self, sockets: Vec<UdpSocket>) -> io::Result<UdpWire<'a, R, G, A, L>> {
-        self.make(make_rng(self.rt)?, sockets, None, None)
+    fn make_over(&self, sockets: Vec<UdpSocket>) -> io::Result<UdpWire<'a, R, G, A>> {
+        self.make(make_rng(self.rt)?, sockets, None)
     }
 
     /// Makes the wires of the lanes over these sockets, in order.
@@ -130,10 +124,10 @@ impl<'a, R: Clock + Net + RandomSource, G: Gate, A> WireMaker<'a, R, G, A> {
     /// # Errors
     ///
     /// `LaneSocket` for the first lane whose wire can't be made, and `Memory` if a growth is refused.
-    fn make_lanes<L: Drop>(
+    fn make_lanes(
         &self,
         lanes: Vec<Vec<UdpSocket>>,
-    ) -> Result<Vec<UdpWire<'a, R, G, A, L>>, ServeFault> {
+    ) -> Result<Vec<UdpWire<'a, R, G, A>>, ServeFault> {
         let Ok(mut wires) = Vec::with_capacity(self.alloc, lanes.len()) else {
             return Err(ServeFault::Memory);
         };
@@ -147,22 +141,21 @@ impl<'a, R: Clock + Net + RandomSource, G: Gate, A> WireMaker<'a, R, G, A> {
     }
 }
 
-/// Makes the wires over these sockets of a configuration, that of the front with this ledger. Their moments count from now. An address that this machine
+/// Makes the wires over these sockets of a configuration. Their moments count from now. An address that this machine
 /// gets later, and what the system refuses, is reported to the gate.
 ///
 /// # Errors
 ///
 /// `Listen` or `LaneSocket` if the system refuses a wire, `Memory` if a growth is refused, and `Clock` if the clock
 /// fails.
-pub(crate) fn make_wires<'a, R: Clock + Net + RandomSource, G: Gate, A, L: Ledger + Drop>(
+pub(crate) fn make_wires<'a, R: Clock + Net + RandomSource, G: Gate, A>(
     rt: &'a R,
     addresses: &'a A,
     alloc: Global,
     config: &Config,
     gate: &'a G,
     sockets: BoundSockets,
-    ledger: Option<L>,
-) -> Result<Wires<UdpWire<'a, R, G, A, L>>, ServeFault> {
+) -> Result<Wires<UdpWire<'a, R, G, A>>, ServeFault> {
     let Ok(start) = Instant::now(rt) else {
         return Err(ServeFault::Clock);
     };
@@ -174,7 +167,7 @@ pub(crate) fn make_wires<'a, R: Clock + Net + RandomSource, G: Gate, A, L: Ledge
         gate,
     };
     let BoundSockets { front, lanes } = sockets;
-    let front = match maker.make_front(front, config.clients(), ledger) {
+    let front = match maker.make_front(front, config.clients()) {
         Ok(wire) => wire,
         Err(error) => return Err(fault_at(config.listen(), config.listen(), &error, gate)),
     };
@@ -187,9 +180,9 @@ pub(crate) fn make_wires<'a, R: Clock + Net + RandomSource, G: Gate, A, L: Ledge
 /// # Errors
 ///
 /// `AllocError` if memory is refused.
-pub(crate) fn notifiers_of<R, G, A, L: Drop, I: Read + Drop>(
+pub(crate) fn notifiers_of<R, G, A, I: Read + Drop>(
     alloc: Global,
-    wires: &Wires<UdpWire<'_, R, G, A, L>>,
+    wires: &Wires<UdpWire<'_, R, G, A>>,
     reader: &Interruptible<I>,
 ) -> Result<Notifiers, AllocError> {
     let lanes = notifiers_of_lanes(alloc, wires.lanes.as_slice())?;
@@ -207,9 +200,9 @@ pub(crate) fn notifiers_of<R, G, A, L: Drop, I: Read + Drop>(
 /// # Errors
 ///
 /// `AllocError` if memory is refused.
-fn notifiers_of_lanes<R, G, A, L>(
+fn notifiers_of_lanes<R, G, A>(
     alloc: Global,
-    wires: &[UdpWire<'_, R, G, A, L>],
+    wires: &[UdpWire<'_, R, G, A>],
 ) -> Result<Vec<Notifier>, AllocError> {
     let mut notifiers = Vec::with_capacity(alloc, wires.len())?;
     for wire in wires {
