@@ -44,9 +44,9 @@ module _ (config : Configuration) where
     work = works_append config old mid new first then a.work b.work;
     kept =
         b.kept
-            ∙ ap (λ k. kept_with k (responses_of b.work.parts)) a.kept
-            ∙ kept-append before (responses_of a.work.parts) (responses_of b.work.parts)
-            ∙ ap (λ l. kept_with before l) (sym (responses_append config old mid new first then a.work b.work));
+        ∙ ap (λ k. kept_with k (responses_of b.work.parts)) a.kept
+        ∙ kept-append before (responses_of a.work.parts) (responses_of b.work.parts)
+        ∙ ap (λ l. kept_with before l) (sym (responses_append config old mid new first then a.work b.work));
   }
 
   pub over_join : (old mid new : List Inlet) (before between after : Option (List Outgoing)) (since amid until : Option (List Event)) → Passes (HandsOver config old mid before between) since amid → Passes (HandsOver config mid new between after) amid until → Passes (HandsOver config old new before after) since until

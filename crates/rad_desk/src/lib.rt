@@ -43,7 +43,7 @@ pub use gate::{Call, Gate, Go, Note, Repeat, UpReason, Worker};
 pub use hearing::{DeskFault, Told};
 pub use inlet::Inlet;
 pub use lanes::lane_worker;
-pub use ledger::{Ledger, NoLedger};
+pub use ledger::{Handed, Ledger, NoLedger};
 pub use marks::count_marks;
 pub use proxy::{Proxy, open};
 pub use report::{LaneEnd, Report, Rest};

@@ -1,8 +1,10 @@
 //! The front's end of the buffer.
 
+ghost use Rattle.std.specs.Prelude.{◌≡◌, Some};
+
 use crate::counts::TakenCounts;
 use crate::parcel::{ParcelHead, pack};
-use rad_desk::Ledger;
+use rad_desk::{Handed, Ledger};
 use rad_lane::Outgoing;
 use rad_telemetry::LedgerState;
 use rtrb::Producer;
@@ -21,17 +23,23 @@ pub struct LedgerInlet<'a, R> {
     pub(crate) buffer: Producer<u8, Global>,
     pub(crate) taken: Arc<TakenCounts>,
     pub(crate) state: Arc<LedgerState>,
+    /// What was handed over so far, also what was dropped.
+    pub(crate) handed: Handed,
 }
 
 impl<R: Clock> LedgerInlet<'_, R> {
     /// Returns the time, in milliseconds since 1970. It is the last one if the clock can't be read.
-    fn read_time(&mut self) -> u64 {
+    fn read_time(&mut self) -> u64
+        ensures { self.new.handed ≡ self.old.handed }
+    {
         self.time = time_since_1970(self.clock).unwrap_or(self.time);
         self.time
     }
 }
 
 impl<R: Clock> Ledger for LedgerInlet<'_, R> {
+    ghost kept = { λ inlet. Some inlet.handed.responses };
+
     fn begin(&mut self) {
         self.state.begin();
     }
@@ -51,6 +59,7 @@ impl<R: Clock> Ledger for LedgerInlet<'_, R> {
         } else {
             self.state.count_dropped();
         }
+        self.handed.add(outgoing);
     }
 }
 

@@ -8,6 +8,7 @@ use crate::inlet::{LedgerInlet, time_since_1970};
 use crate::parcel::MOST;
 use crate::run_names::RunNames;
 use crate::writer::LedgerWriter;
+use rad_desk::Handed;
 use rad_realms::Config;
 use rad_telemetry::{LedgerFault, LedgerState, Log, log_ledger_fault};
 use rtrb::RingBuffer;
@@ -88,6 +89,7 @@ pub fn open_ledger<'a, R: Clock + RandomSource>(
         buffer: producer,
         taken,
         state: Arc::try_clone(&state)?,
+        handed: Handed::new(),
     };
     Ok(OpenedLedger {
         inlet,

@@ -1,4 +1,4 @@
-use Rattle.std.proofs.Common.{refl, ◌∙◌}
+use Rattle.std.proofs.Common.{◌∙◌}
 use Rattle.rad_desk.proofs.HandOver.{over_none, over_join, works_handing}
 use Rattle.rad_desk.proofs.front.front_worker_with.Goals as goal
 
