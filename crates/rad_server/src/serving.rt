@@ -68,7 +68,9 @@ where
     let Ok(notifiers) = notifiers_of(alloc, &wires, &reader) else {
         return Err(ServeFault::Memory);
     };
-    serve_over(rt, alloc, config, wires, &notifiers, gate, ledger, reader, output)
+    serve_over(
+        rt, alloc, config, wires, &notifiers, gate, ledger, reader, output,
+    )
 }
 
 /// Serves a configuration over these wires until the reader ends. Then it drains the lanes, waits until they are done
@@ -107,7 +109,9 @@ where
     ensures { IfOk result (IsEndOf (length config.now.homes)) }
 {
     let output = open_output(alloc, config, writer, Descriptors::none())?;
-    serve_over(rt, alloc, config, wires, notifiers, gate, ledger, reader, output)
+    serve_over(
+        rt, alloc, config, wires, notifiers, gate, ledger, reader, output,
+    )
 }
 
 /// Makes the output for this writer, with room for the answer to a command.

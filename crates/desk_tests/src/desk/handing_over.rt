@@ -1,12 +1,14 @@
 //! Tests of what the front hands over to a ledger: each response, in order, and before it is sent. A contract can't say
 //! that it is handed over before it is sent, since a wire and a ledger have a list each.
 
+ghost use Rattle.std.specs.Prelude.{◌≡◌, Some};
+
 use super::comparing::same;
 use super::memory::MemoryWire;
 use super::playing::{CLIENT, Event};
 use super::test_desk::TWO_HOMES;
 use super::test_proxy::{TestProxy, tally};
-use rad_desk::{Delivery, Ledger, Received, Tally, Told, Wire, front_worker_with};
+use rad_desk::{Delivery, Handed, Ledger, Received, Tally, Told, Wire, front_worker_with};
 use rad_lane::{Outgoing, Taken};
 use rad_realms::Endpoint;
 use rad_tables::Moment;
@@ -89,14 +91,17 @@ impl<'a> SeenList<'a> {
     }
 }
 
-/// A ledger in memory.
+/// A ledger in memory, which contracts see as a list too.
 #[derive(Drop)]
 struct MemoryLedger<'a> {
     handed: SeenList<'a>,
     serials: Vec<u64>,
+    list: Handed,
 }
 
 impl Ledger for MemoryLedger<'_> {
+    ghost kept = { λ ledger. Some ledger.list.responses };
+
     fn keep(&mut self, outgoing: &Outgoing) {
         let client = Endpoint {
             address: outgoing.client,
@@ -104,6 +109,7 @@ impl Ledger for MemoryLedger<'_> {
         };
         self.handed.add(client, outgoing.reply.response());
         let _ = self.serials.push(outgoing.serial);
+        self.list.add(outgoing);
     }
 }
 
@@ -221,6 +227,7 @@ fn each_response_is_handed_over_and_then_sent(rt: HostRuntime) -> Result<(), Fai
     let mut ledger = MemoryLedger {
         handed: SeenList::new(alloc, &counter),
         serials: Vec::new(alloc),
+        list: Handed::new(),
     };
     let mut wire = NumberedWire {
         wire: MemoryWire::new(alloc),
