@@ -1,7 +1,7 @@
 //! Tests of what the front hands over to a ledger: each response, in order, and before it is sent. A contract can't say
 //! that it is handed over before it is sent, since a wire and a ledger have a list each.
 
-ghost use Rattle.std.specs.Prelude.{◌≡◌, Some};
+ghost use Rattle.std.specs.Prelude.{Some};
 
 use super::comparing::same;
 use super::memory::MemoryWire;
