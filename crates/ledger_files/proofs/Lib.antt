@@ -1,1 +1,3 @@
+mod Dates
+mod Years
 mod Zeros

@@ -3,7 +3,7 @@ use Rattle.std.specs.Prelude.{◌≡◌, ℕ, zero, suc, ◌+◌, ◌-◌, ◌%�
 use Rattle.ledger_files.specs.declared.utc.Date.{Date}
 
 -- A year that 4 divides has a leap day, but of those that 100 divides only the ones that 400 divides.
-abbrev pub leap_day : ℕ → ℕ
+unfoldable pub leap_day : ℕ → ℕ
 leap_day year = if year % 4 == 0 && (not (year % 100 == 0) || year % 400 == 0) then 1 else 0
 
 -- The days of the years before this one.
