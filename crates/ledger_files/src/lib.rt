@@ -5,4 +5,4 @@ mod file_name;
 mod utc;
 
 pub use file_name::FileName;
-pub use utc::{Date, UtcTime, date_of, day_of};
+pub use utc::{Date, DayTime, UtcTime, date_of, day_of};

@@ -2,7 +2,7 @@
 
 ghost use Rattle.std.specs.Prelude.{◌≡◌, ◌/◌, ◌^◌, ◌<◌, Some};
 ghost use Rattle.ledger_files.specs.Calendar.{IsDateOf};
-ghost use Rattle.ledger_files.specs.Moments.{IsTimeOf, time_text};
+ghost use Rattle.ledger_files.specs.Moments.{IsTimeOf, date_text, day_time_text, moment_text};
 
 use std::fmt;
 
@@ -34,14 +34,20 @@ pub struct Date {
     pub day: u64,
 }
 
-/// A moment in UTC. It is printed as RFC 3339 has it, with three digits for the milliseconds.
+/// A time of a day.
 #[derive(Clone, Copy, Debug, PartialEq, Eq)]
-pub struct UtcTime {
-    pub date: Date,
+pub struct DayTime {
     pub hour: u64,
     pub minute: u64,
     pub second: u64,
     pub millisecond: u64,
+}
+
+/// A moment in UTC. It is printed as RFC 3339 has it, with three digits for the milliseconds.
+#[derive(Clone, Copy, Debug, PartialEq, Eq)]
+pub struct UtcTime {
+    pub date: Date,
+    pub time: DayTime,
 }
 
 /// Returns the number of the day of a moment in milliseconds since 1970, counted from 1970-01-01. A day begins at
@@ -93,26 +99,44 @@ impl UtcTime {
         let passed = milliseconds % DAY;
         UtcTime {
             date: date_of(day_of(milliseconds)),
-            hour: passed / 3_600_000,
-            minute: passed / 60_000 % 60,
-            second: passed / 1000 % 60,
-            millisecond: passed % 1000,
+            time: DayTime {
+                hour: passed / 3_600_000,
+                minute: passed / 60_000 % 60,
+                second: passed / 1000 % 60,
+                millisecond: passed % 1000,
+            },
         }
     }
 }
 
-impl fmt::Display for UtcTime {
-    ghost output = { λ time. Some (time_text time) };
+impl fmt::Display for Date {
+    ghost output = { λ date. Some (date_text date) };
 
     fn fmt<W: fmt::Write>(&self, f: &mut fmt::Formatter<W>) -> fmt::Result {
-        let Date { year, month, day } = self.date;
-        let hour = self.hour;
-        let minute = self.minute;
-        let second = self.second;
-        let millisecond = self.millisecond;
-        write!(
-            f,
-            "{year:04}-{month:02}-{day:02}T{hour:02}:{minute:02}:{second:02}.{millisecond:03}Z"
-        )
+        let Date { year, month, day } = *self;
+        write!(f, "{year:04}-{month:02}-{day:02}")
+    }
+}
+
+impl fmt::Display for DayTime {
+    ghost output = { λ time. Some (day_time_text time) };
+
+    fn fmt<W: fmt::Write>(&self, f: &mut fmt::Formatter<W>) -> fmt::Result {
+        let DayTime {
+            hour,
+            minute,
+            second,
+            millisecond,
+        } = *self;
+        write!(f, "{hour:02}:{minute:02}:{second:02}.{millisecond:03}")
+    }
+}
+
+impl fmt::Display for UtcTime {
+    ghost output = { λ moment. Some (moment_text moment) };
+
+    fn fmt<W: fmt::Write>(&self, f: &mut fmt::Formatter<W>) -> fmt::Result {
+        let UtcTime { date, time } = *self;
+        write!(f, "{date}T{time}Z")
     }
 }
