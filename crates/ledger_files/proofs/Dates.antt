@@ -1,12 +1,9 @@
 -- The day of the calendar, by years that begin on March 1.
 use Rattle.std.proofs.Common.{◌≡◌, ℕ, zero, suc, ◌+◌, ◌-◌, ◌*◌, ◌/◌, ◌%◌, ◌<◌, ◌≤◌, min, ◌⊎◌, ⊎_elim, inl, inr, sym, subst, arith}
-use Rattle.std.proofs.lemmas.Bool.{cases_order}
 use Rattle.ledger_files.specs.Calendar.{leap_day, days_before_year, IsDateOf}
 use Rattle.ledger_files.specs.declared.utc.Date.{Date}
+use Rattle.ledger_files.proofs.Orders.{below_or_not}
 use Rattle.ledger_files.proofs.Years.{leap_days_step, next_year, days_before, days_before_1970}
-
-below_or_not : (a b : ℕ) → (a < b) ⊎ (b ≤ a)
-below_or_not a b = ⊎_elim (λ (e : a ≡ b). inr (omega arith)) (λ o. ⊎_elim (λ l. inl l) (λ (l : b < a). inr (omega arith)) o) (cases_order a b)
 
 -- How the days since 0000-03-01 are told apart into 400, 100 and four years, one year, and days.
 pub record IsSplit (days cycle century four year rest : ℕ) : Type 0 where

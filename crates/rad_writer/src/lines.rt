@@ -3,7 +3,7 @@
 use crate::counts::TakenCounts;
 use crate::entry_buffer::Parcel;
 use crate::run_names::RunNames;
-use crate::utc::UtcTime;
+use ledger_files::UtcTime;
 use ledger_lines::{Begin, End, LaneCount, LaneStart, write_begin, write_end, write_entry};
 use rad_lane::session_of;
 use rad_ledger::Entry;
@@ -30,7 +30,7 @@ pub(crate) fn entry_line(
     out: Vec<u8>,
 ) -> Result<Vec<u8>, AllocError> {
     let head = parcel.head;
-    let time = UtcTime(head.time);
+    let time = UtcTime::of(head.time);
     let time = format!(in alloc; "{time}")?;
     let packet = read(parcel.sent).ok();
     let entry = Entry {
@@ -90,7 +90,7 @@ pub(crate) fn begin_line(
     next: &[u64],
     out: Vec<u8>,
 ) -> Result<Vec<u8>, AllocError> {
-    let time = UtcTime(time);
+    let time = UtcTime::of(time);
     let time = format!(in alloc; "{time}")?;
     let mut lanes = Vec::with_capacity(alloc, names.homes.len())?;
     for (lane, home) in names.homes.iter().enumerate() {
@@ -130,7 +130,7 @@ pub(crate) fn end_line(
     taken: &TakenCounts,
     out: Vec<u8>,
 ) -> Result<Vec<u8>, AllocError> {
-    let time = UtcTime(time);
+    let time = UtcTime::of(time);
     let time = format!(in alloc; "{time}")?;
     let mut lanes = Vec::with_capacity(alloc, names.homes.len())?;
     for lane in 0..names.homes.len() {

@@ -1,13 +1,13 @@
 //! Opening a ledger: the buffer, and the thread that writes what passes through it.
 
-use crate::batch::Batch;
 use crate::counts::TakenCounts;
-use crate::disk::LedgerDisk;
 use crate::entry_buffer::EntryBuffer;
+use crate::filling::{LINE, new_batch};
 use crate::inlet::{LedgerInlet, time_since_1970};
 use crate::parcel::MOST;
 use crate::run_names::RunNames;
 use crate::writer::LedgerWriter;
+use ledger_files::LedgerDisk;
 use rad_realms::Config;
 use rad_telemetry::{LedgerFault, LedgerState, Log, log_ledger_fault};
 use rtrb::RingBuffer;
@@ -76,7 +76,8 @@ pub fn open_ledger<'a, R: Clock + RandomSource>(
         folder,
         names: RunNames::new(alloc, draw_name(rt), config.homes())?,
         entries: EntryBuffer::new(alloc, consumer)?,
-        batch: Batch::new(alloc)?,
+        batch: new_batch(alloc)?,
+        room: Vec::with_capacity(alloc, LINE)?,
         next,
         taken: Arc::try_clone(&taken)?,
         state: Arc::try_clone(&state)?,

@@ -1,7 +1,7 @@
 //! The files of a ledger, on the disks of a runtime.
 
-use crate::disk::LedgerDisk;
-use rad_telemetry::{LedgerFault, system_number};
+use ledger_files::{DiskFault, LedgerDisk};
+use rad_telemetry::system_number;
 use std::fs::{self, Files, OpenFile, OpenOptions, Permissions};
 use std::io::{ErrorKind, Write};
 use std::os::unix::fs::{MetadataExt, OpenOptionsExt, PermissionsExt};
@@ -39,7 +39,7 @@ impl<R: Files<File = F>, F: Drop> RuntimeDisk<R, F> {
 
 impl<R: Files<File = F>, F: Write + OpenFile + Drop> LedgerDisk for RuntimeDisk<R, F> {
     /// The file has its mode whatever the umask.
-    fn create(&mut self, path: String) -> Result<(), LedgerFault> {
+    fn create(&mut self, path: String) -> Result<(), DiskFault> {
         let opened = OpenOptions::new()
             .write(true)
             .create_new(true)
@@ -47,14 +47,14 @@ impl<R: Files<File = F>, F: Write + OpenFile + Drop> LedgerDisk for RuntimeDisk<
             .open(&self.rt, path.as_str());
         let file = match opened {
             Ok(file) => file,
-            Err(error) => return Err(LedgerFault::Create(system_number(&error))),
+            Err(error) => return Err(DiskFault::Create(system_number(&error))),
         };
         if let Err(error) = file.set_permissions(Permissions::from_mode(MODE)) {
-            return Err(LedgerFault::Create(system_number(&error)));
+            return Err(DiskFault::Create(system_number(&error)));
         }
         let found = match file.metadata() {
             Ok(found) => found,
-            Err(error) => return Err(LedgerFault::Create(system_number(&error))),
+            Err(error) => return Err(DiskFault::Create(system_number(&error))),
         };
         let _ = self.sync();
         self.open = Some(OpenedFile {
@@ -79,33 +79,33 @@ impl<R: Files<File = F>, F: Write + OpenFile + Drop> LedgerDisk for RuntimeDisk<
         }
     }
 
-    fn check_place(&self) -> Result<(), LedgerFault> {
+    fn check_place(&self) -> Result<(), DiskFault> {
         let Some(open) = &self.open else {
-            return Err(LedgerFault::Gone);
+            return Err(DiskFault::Gone);
         };
         match fs::symlink_metadata(&self.rt, open.path.as_str()) {
             Ok(found) if found.dev() == open.device && found.ino() == open.inode => Ok(()),
-            _ => Err(LedgerFault::Gone),
+            _ => Err(DiskFault::Gone),
         }
     }
 
-    fn write(&mut self, octets: &[u8]) -> Result<usize, LedgerFault> {
+    fn write(&mut self, octets: &[u8]) -> Result<usize, DiskFault> {
         let Some(open) = &mut self.open else {
-            return Err(LedgerFault::Gone);
+            return Err(DiskFault::Gone);
         };
         match open.file.write(octets) {
-            Ok(0) => Err(LedgerFault::Write(0)),
+            Ok(0) => Err(DiskFault::Write(0)),
             Ok(count) => {
                 open.size = open.size.saturating_add(count as u64);
                 open.is_unsynced = true;
-                Ok(count)
+                Ok(count.min(octets.len()))
             }
             Err(error) if error.kind() == ErrorKind::Interrupted => Ok(0),
-            Err(error) => Err(LedgerFault::Write(system_number(&error))),
+            Err(error) => Err(DiskFault::Write(system_number(&error))),
         }
     }
 
-    fn sync(&mut self) -> Result<(), LedgerFault> {
+    fn sync(&mut self) -> Result<(), DiskFault> {
         let Some(open) = &mut self.open else {
             return Ok(());
         };
@@ -117,7 +117,7 @@ impl<R: Files<File = F>, F: Write + OpenFile + Drop> LedgerDisk for RuntimeDisk<
                 open.is_unsynced = false;
                 Ok(())
             }
-            Err(error) => Err(LedgerFault::Sync(system_number(&error))),
+            Err(error) => Err(DiskFault::Sync(system_number(&error))),
         }
     }
 }

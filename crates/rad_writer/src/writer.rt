@@ -1,15 +1,15 @@
 //! The thread that writes the entries to files.
 
-use crate::batch::Batch;
 use crate::counts::TakenCounts;
-use crate::disk::LedgerDisk;
 use crate::entry_buffer::EntryBuffer;
-use crate::file_name::FileName;
+use crate::faults::ledger_fault;
+use crate::filling::fill;
 use crate::inlet::time_since_1970;
 use crate::lines::{begin_line, end_line};
-use crate::pending::Pending;
 use crate::run_names::RunNames;
-use crate::utc::day_of;
+use ledger_files::{
+    Batch, DiskFault, FileName, LedgerDisk, OpenFile, Pending, day_of, is_next_due,
+};
 use rad_telemetry::{LedgerFault, LedgerState};
 use std::alloc::{AllocError, Global};
 use std::sync::{Arc, Wait};
@@ -24,9 +24,6 @@ const AGAIN: u64 = 1000;
 /// How many milliseconds after a sync the next one is due. A round is late by at most its own writes and [`PAUSE`].
 const SYNC: u64 = 900;
 
-/// The most octets of a file before the line that ends the run: 256 MiB less 64 KiB.
-const MOST: u64 = 268_369_920;
-
 /// What the thread that writes a ledger has, before it is started.
 #[derive(Drop)]
 pub struct LedgerWriter {
@@ -34,6 +31,8 @@ pub struct LedgerWriter {
     pub(crate) names: RunNames,
     pub(crate) entries: EntryBuffer,
     pub(crate) batch: Batch,
+    /// Where the line of each entry is made.
+    pub(crate) room: Vec<u8>,
     /// The serial behind the last entry of each lane that was written.
     pub(crate) next: Vec<u64>,
     pub(crate) taken: Arc<TakenCounts>,
@@ -71,8 +70,8 @@ impl LedgerWriter {
             disk,
             number: 0,
             day: 0,
-            first: Pending::new(alloc),
-            last: Pending::new(alloc),
+            first: Pending::new(Vec::new(alloc)),
+            last: Pending::new(Vec::new(alloc)),
             is_failing: false,
             synced: Instant::now(rt).ok(),
         };
@@ -86,6 +85,22 @@ impl LedgerWriter {
             let pause = if session.is_failing { AGAIN } else { PAUSE };
             session.writer.state.sleep(rt, pause);
         }
+    }
+
+    /// Counts the lines that are written whole, and puts the serial behind each one into `next` at the place of its
+    /// lane. It returns how many that are.
+    fn pass_lines(&mut self) -> u64 {
+        let mut count = 0u64;
+        for _ in 0..self.batch.count() {
+            let Some(head) = self.batch.pass_line() else {
+                break;
+            };
+            if let Some(serial) = self.next.get_mut(usize::from(head.lane)) {
+                *serial = head.serial.saturating_add(1);
+            }
+            count = count.saturating_add(1);
+        }
+        count
     }
 }
 
@@ -150,32 +165,46 @@ impl<R: Clock, D: LedgerDisk + Drop> Session<'_, R, D> {
                 names,
                 entries,
                 batch,
+                room,
                 ..
             } = &mut self.writer;
-            if batch.fill(self.alloc, names, entries, self.day).is_err() {
+            if fill(batch, room, self.alloc, names, entries, self.day).is_err() {
                 return Err(LedgerFault::Memory);
             }
         }
-        self.writer.state.set_oldest(self.writer.batch.oldest());
+        self.writer.state.set_oldest(self.oldest());
         Ok(())
     }
 
     /// Begins the next file if there is none, if the entries are of a later day, or if the file would have too many
     /// octets.
     fn have_file(&mut self) -> Result<(), LedgerFault> {
-        let day = self.day_now();
-        let left = self.writer.batch.left();
-        let is_full = self.disk.size().saturating_add(left) > MOST;
-        let is_due = !self.disk.is_open() || day > self.day || is_full;
-        if is_due && self.first.is_done() {
+        let open = if self.disk.is_open() {
+            Some(OpenFile {
+                size: self.disk.size(),
+                day: self.day,
+            })
+        } else {
+            None
+        };
+        let left = self.writer.batch.left() as u64;
+        if is_next_due(open, self.day_now(), left) && self.first.is_done() {
             self.begin_file()?;
         }
         Ok(())
     }
 
+    /// Returns when the first entry was handed over whose line is not written whole.
+    fn oldest(&self) -> Option<u64> {
+        match self.writer.batch.oldest() {
+            Some(head) => Some(head.time),
+            None => None,
+        }
+    }
+
     /// Returns the number of the day of the first entry that waits, or of now if there is none.
     fn day_now(&self) -> u64 {
-        let now = match self.writer.batch.oldest() {
+        let now = match self.oldest() {
             Some(oldest) => Some(oldest),
             None => time_since_1970(self.rt),
         };
@@ -194,14 +223,11 @@ impl<R: Clock, D: LedgerDisk + Drop> Session<'_, R, D> {
         let Ok(line) = self.first_line(now) else {
             return Err(LedgerFault::Memory);
         };
-        self.disk.create(path)?;
+        self.disk.create(path).map_err(ledger_fault)?;
         self.number = self.number.saturating_add(1);
         self.day = self.day.max(self.day_now());
-        self.first = Pending {
-            octets: line,
-            done: 0,
-        };
-        self.last.done = 0;
+        self.first = Pending::new(line);
+        self.last.begin_again();
         self.writer.batch.begin_line_again();
         Ok(())
     }
@@ -230,7 +256,7 @@ impl<R: Clock, D: LedgerDisk + Drop> Session<'_, R, D> {
 
     /// Makes the line that ends the run, if there is to be one and it is not made yet.
     fn make_last_line(&mut self) -> Result<(), LedgerFault> {
-        if !self.writer.state.is_clean() || !self.last.octets.is_empty() {
+        if !self.writer.state.is_clean() || !self.last.is_empty() {
             return Ok(());
         }
         let now = time_since_1970(self.rt).unwrap_or(0);
@@ -243,30 +269,30 @@ impl<R: Clock, D: LedgerDisk + Drop> Session<'_, R, D> {
         );
         match line {
             Ok(line) => {
-                self.last.octets = line;
+                self.last = Pending::new(line);
                 Ok(())
             }
             Err(AllocError) => Err(LedgerFault::Memory),
         }
     }
 
-    /// Writes the line that begins the file, the lines of entries and the line that ends the run, as far as they are
-    /// not written, if the file is still at its path.
+    /// Writes what is not written, if there is anything.
     fn write_pending(&mut self) -> Result<(), LedgerFault> {
         if self.first.is_done() && self.writer.batch.is_done() && self.last.is_done() {
             return Ok(());
         }
+        self.write_lines().map_err(ledger_fault)
+    }
+
+    /// Writes the line that begins the file, the lines of entries and the line that ends the run, as far as they are
+    /// not written, if the file is still at its path.
+    fn write_lines(&mut self) -> Result<(), DiskFault> {
         self.disk.check_place()?;
         self.first.write(&mut self.disk)?;
-        let LedgerWriter {
-            batch,
-            next,
-            state,
-            ..
-        } = &mut self.writer;
-        let (count, outcome) = batch.write(&mut self.disk, next.as_mut_slice());
-        state.count_written(count);
-        state.set_oldest(batch.oldest());
+        let outcome = self.writer.batch.write(&mut self.disk);
+        let count = self.writer.pass_lines();
+        self.writer.state.count_written(count);
+        self.writer.state.set_oldest(self.oldest());
         outcome?;
         self.last.write(&mut self.disk)
     }
@@ -285,6 +311,6 @@ impl<R: Clock, D: LedgerDisk + Drop> Session<'_, R, D> {
             return Ok(());
         }
         self.synced = now;
-        self.disk.sync()
+        self.disk.sync().map_err(ledger_fault)
     }
 }

@@ -1,7 +1,6 @@
 //! A disk in memory, some of whose steps fail.
 
-use rad_telemetry::LedgerFault;
-use rad_writer::LedgerDisk;
+use ledger_files::{DiskFault, LedgerDisk};
 use std::alloc::Global;
 use std::cell::Cell;
 
@@ -47,10 +46,10 @@ pub struct MemoryDisk<'a> {
 }
 
 impl LedgerDisk for MemoryDisk<'_> {
-    fn create(&mut self, path: String) -> Result<(), LedgerFault> {
+    fn create(&mut self, path: String) -> Result<(), DiskFault> {
         if self.refused > 0 {
             self.refused = self.refused.saturating_sub(1);
-            return Err(LedgerFault::Create(13));
+            return Err(DiskFault::Create(13));
         }
         self.written.add(self.alloc, path.as_bytes());
         self.written.add(self.alloc, b"\n");
@@ -66,14 +65,14 @@ impl LedgerDisk for MemoryDisk<'_> {
         self.size.unwrap_or(0)
     }
 
-    fn check_place(&self) -> Result<(), LedgerFault> {
+    fn check_place(&self) -> Result<(), DiskFault> {
         Ok(())
     }
 
-    fn write(&mut self, octets: &[u8]) -> Result<usize, LedgerFault> {
+    fn write(&mut self, octets: &[u8]) -> Result<usize, DiskFault> {
         let count = octets.len().min(self.most).min(self.room);
         if count == 0 {
-            return Err(LedgerFault::Write(28));
+            return Err(DiskFault::Write(28));
         }
         self.room = self.room.saturating_sub(count);
         self.written
@@ -82,7 +81,7 @@ impl LedgerDisk for MemoryDisk<'_> {
         Ok(count)
     }
 
-    fn sync(&mut self) -> Result<(), LedgerFault> {
+    fn sync(&mut self) -> Result<(), DiskFault> {
         Ok(())
     }
 }

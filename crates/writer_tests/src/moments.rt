@@ -1,7 +1,7 @@
 //! Tests of the moments of lines. Python's datetime made the expected texts.
 
 use crate::comparing::{holds, same};
-use rad_writer::{UtcTime, day_of};
+use ledger_files::{UtcTime, day_of};
 use std::alloc::{AllocError, AllocGlobal};
 
 /// Moments in milliseconds since 1970, and how each is printed.
@@ -19,7 +19,7 @@ const MOMENTS: [(u64, &str); 8] = [
 #[test]
 fn moments_are_printed(rt: HostRuntime) -> Result<(), AllocError> {
     for (milliseconds, wanted) in MOMENTS {
-        let moment = UtcTime(milliseconds);
+        let moment = UtcTime::of(milliseconds);
         let text = format!(in rt.alloc(); "{moment}")?;
         holds(&rt, text.as_str() == wanted);
     }
