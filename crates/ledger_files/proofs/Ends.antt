@@ -41,26 +41,26 @@ holds_none new eo ee ew es = record {
   some = omega arith;
   start = es ∙ ap (λ n. length (concat (take n []))) (sym ew) }
 
-pub holds_same : (old new : Batch) (lines : List (List ℕ)) → new.octets.items ≡ old.octets.items → new.ends.items ≡ old.ends.items → new.whole ≡ old.whole → new.start ≡ old.start → HoldsLines old lines → HoldsLines new lines
-holds_same old new lines eo ee ew es h = record {
+pub holds_same : (old new : Batch) (lines : List (List ℕ)) → HoldsLines old lines → new.octets.items ≡ old.octets.items → new.ends.items ≡ old.ends.items → new.whole ≡ old.whole → new.start ≡ old.start → HoldsLines new lines
+holds_same old new lines h eo ee ew es = record {
   octets = eo ∙ h.octets;
   count = ap length ee ∙ h.count;
   ends = λ k l. ap (λ xs. get_or xs k 0) ee ∙ h.ends k l;
   some = omega (arith, h.some);
   start = es ∙ h.start ∙ ap (λ n. length (concat (take n lines))) (sym ew) }
 
-pub holds_more : (old new : Batch) (line : List ℕ) (lines : List (List ℕ)) → new.octets.items ≡ old.octets.items ++ line → new.ends.items ≡ old.ends.items ++ length (old.octets.items ++ line) ∷ []
-    → new.whole ≡ old.whole → new.start ≡ old.start → HoldsLines old lines → HoldsLines new (lines ++ line ∷ [])
-holds_more old new line lines eo ee ew es h = record {
+pub holds_more : (old new : Batch) (line : List ℕ) (lines : List (List ℕ)) → HoldsLines old lines → new.octets.items ≡ old.octets.items ++ line → new.ends.items ≡ old.ends.items ++ length (old.octets.items ++ line) ∷ []
+    → new.whole ≡ old.whole → new.start ≡ old.start → HoldsLines new (lines ++ line ∷ [])
+holds_more old new line lines h eo ee ew es = record {
   octets = eo ∙ joined old.octets.items line lines h.octets;
   count = omega (arith, ap length ee, length-append old.ends.items (length (old.octets.items ++ line) ∷ []), length-append lines (line ∷ []), h.count);
   ends = λ k l. ap (λ xs. get_or xs k 0) ee ∙ ends_with old.octets.items old.ends.items line lines h.octets h.count h.ends k l;
   some = omega (arith, length-append lines (line ∷ []), h.some);
   start = es ∙ h.start ∙ start_stays lines line old.whole h.some ∙ ap (λ n. length (concat (take n (lines ++ line ∷ [])))) (sym ew) }
 
-pub holds_passed : (old new : Batch) (lines : List (List ℕ)) → new.octets.items ≡ old.octets.items → new.ends.items ≡ old.ends.items → old.whole < length old.ends.items
-    → new.whole ≡ old.whole + 1 → new.start ≡ get_or old.ends.items old.whole 0 → HoldsLines old lines → HoldsLines new lines
-holds_passed old new lines eo ee l ew es h = record {
+pub holds_passed : (old new : Batch) (lines : List (List ℕ)) → HoldsLines old lines → new.octets.items ≡ old.octets.items → new.ends.items ≡ old.ends.items → old.whole < length old.ends.items
+    → new.whole ≡ old.whole + 1 → new.start ≡ get_or old.ends.items old.whole 0 → HoldsLines new lines
+holds_passed old new lines h eo ee l ew es = record {
   octets = eo ∙ h.octets;
   count = ap length ee ∙ h.count;
   ends = λ k l. ap (λ xs. get_or xs k 0) ee ∙ h.ends k l;

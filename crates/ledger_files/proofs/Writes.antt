@@ -41,4 +41,6 @@ writes_begin before octets done = sym (rw (no_range octets done) (wrote_nothing 
 pub writes_go_on : (before here after : Option (List File)) (octets : List ℕ) (done at count : ℕ) → done ≤ at
     → here ≡ wrote before (slice_range octets done at) → after ≡ wrote here (take count (drop at octets)) → after ≡ wrote before (slice_range octets done (at + count))
 writes_go_on before here after octets done at count l e f =
-    f ∙ (rw e (wrote_both before (slice_range octets done at) (take count (drop at octets))) ∙ ap (wrote before) (range_goes_on octets done at count l))
+    f ∙ ap (λ d. wrote d (take count (drop at octets))) e
+    ∙ wrote_both before (slice_range octets done at) (take count (drop at octets))
+    ∙ ap (wrote before) (range_goes_on octets done at count l)

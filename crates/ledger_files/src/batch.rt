@@ -1,7 +1,7 @@
 //! The lines of entries that are put together before they are written.
 
-ghost use Rattle.std.specs.Prelude.{◌≡◌, ◌↔◌, ◌+◌, ◌-◌, ◌≤◌, ◌<◌, ℕ, List, [], ◌∷◌, ◌++◌, length, vec_len, slice_index, slice_get, slice_range, IsTrue, IfOk, OnOk, MatchResult, MatchOption, Some};
-ghost use Rattle.ledger_files.specs.Batches.{HoldsLines};
+ghost use Rattle.std.specs.Prelude.{◌≡◌, ◌↔◌, ◌+◌, ◌-◌, ◌≤◌, ◌<◌, ℕ, List, [], ◌∷◌, ◌++◌, length, vec_len, slice_index, slice_range, IsTrue, IfOk, OnOk, MatchResult, MatchOption};
+ghost use Rattle.ledger_files.specs.Batches.{HoldsLines, IsHeadOf};
 ghost use Rattle.ledger_files.specs.Files.{wrote};
 
 use crate::disk::{DiskFault, LedgerDisk};
@@ -40,6 +40,7 @@ impl Batch {
     /// # Errors
     ///
     /// `AllocError` if memory is refused.
+    #[tactic(auto, using(crate::proofs::Ends::holds_none))]
     pub fn new(alloc: Global, octets: usize, lines: usize) -> Result<Batch, AllocError>
         ensures { IfOk result (λ batch. HoldsLines batch []) }
     {
@@ -83,12 +84,16 @@ impl Batch {
 
     /// Returns what the first line is of that is not written whole.
     pub fn oldest(&self) -> Option<LineHead>
-        ensures { result ≡ slice_get self.now.heads.items self.now.whole }
+        ensures { MatchOption result (self.now.whole ≡ vec_len self.now.ends) (λ head. IsHeadOf self.now head) }
     {
-        self.heads.get(self.whole).copied()
+        if self.whole == self.ends.len() {
+            return None;
+        }
+        Some(self.heads[self.whole])
     }
 
     /// Removes all lines.
+    #[tactic(auto, using(crate::proofs::Ends::holds_none))]
     pub fn clear(&mut self)
         ensures { HoldsLines self.new [] }
     {
@@ -105,6 +110,7 @@ impl Batch {
     /// # Errors
     ///
     /// `AllocError` if memory is refused. The lines stay as they are.
+    #[tactic(auto, using(crate::proofs::Ends::holds_same, crate::proofs::Ends::holds_more))]
     pub fn add(&mut self, head: LineHead, line: &[u8]) -> Result<(), AllocError>
         ensures { (lines : List (List ℕ)) → HoldsLines self.old lines → MatchResult result (λ _. HoldsLines self.new (lines ++ line.now ∷ [])) (λ _. HoldsLines self.new lines) }
     {
@@ -121,6 +127,7 @@ impl Batch {
     /// # Errors
     ///
     /// That of [`write_rest`]. What was written before counts as written.
+    #[tactic(auto, using(crate::proofs::Ends::holds_same))]
     pub fn write<D: LedgerDisk>(&mut self, disk: &mut D) -> Result<(), DiskFault>
         ensures lines { (lines : List (List ℕ)) → HoldsLines self.old lines → HoldsLines self.new lines }
         ensures written { (self.old.done ≤ self.new.done) × (D.files disk.new ≡ wrote (D.files disk.old) (slice_range self.old.octets.items self.old.done self.new.done)) }
@@ -132,10 +139,11 @@ impl Batch {
     }
 
     /// Counts the next line as written whole, if it is, and returns what it is of.
+    #[tactic(auto, using(crate::proofs::Ends::holds_same, crate::proofs::Ends::holds_passed))]
     pub fn pass_line(&mut self) -> Option<LineHead>
         ensures lines { (lines : List (List ℕ)) → HoldsLines self.old lines → HoldsLines self.new lines }
         ensures done { self.new.done ≡ self.old.done }
-        ensures passed { MatchOption result (self.new.whole ≡ self.old.whole) (λ head. (self.new.whole ≡ self.old.whole + 1) × (slice_get self.old.heads.items self.old.whole ≡ Some head) × (slice_index self.old.ends.items self.old.whole ≤ self.old.done)) }
+        ensures passed { MatchOption result (self.new.whole ≡ self.old.whole) (λ head. (self.new.whole ≡ self.old.whole + 1) × IsHeadOf self.old head × (slice_index self.old.ends.items self.old.whole ≤ self.old.done)) }
         ensures rest { MatchOption result (self.old.whole < vec_len self.old.ends → self.old.done < slice_index self.old.ends.items self.old.whole) (λ _. Unit {0}) }
     {
         if self.whole == self.ends.len() {
@@ -152,6 +160,7 @@ impl Batch {
     }
 
     /// Has the first line that is not written whole be written again from its start, to another file.
+    #[tactic(auto, using(crate::proofs::Ends::holds_same))]
     pub fn begin_line_again(&mut self)
         ensures lines { (lines : List (List ℕ)) → HoldsLines self.old lines → HoldsLines self.new lines }
         ensures done { (self.new.done ≡ self.old.start) × (self.new.whole ≡ self.old.whole) }

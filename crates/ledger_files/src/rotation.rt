@@ -20,9 +20,7 @@ pub fn is_next_due(open: Option<OpenFile>, day: u64, octets: u64) -> bool
     ensures { IsTrue result ↔ IsNextDue open day octets }
 {
     match open {
-        Some(file) => {
-            day > file.day || octets > MOST_OCTETS || file.size > MOST_OCTETS - octets
-        }
+        Some(file) => day > file.day || file.size.saturating_add(octets) > MOST_OCTETS,
         None => true,
     }
 }

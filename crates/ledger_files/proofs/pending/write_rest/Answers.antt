@@ -1,4 +1,4 @@
-use Rattle.std.proofs.Common.{arith, length-drop, refl}
+use Rattle.std.proofs.Common.{arith, length-drop}
 use Rattle.ledger_files.proofs.Writes.{writes_begin, writes_go_on}
 use Rattle.ledger_files.proofs.pending.write_rest.Goals as goal
 
@@ -11,7 +11,7 @@ loop-init g c = record {
 pub returns-then-at-octets-clause-written : goal.returns-then-at-octets-clause-written
 returns-then-at-octets-clause-written g c =
     let i = c.loop.invariant in
-    (omega (arith, i.from), (omega (arith, c.if-at-octets.true), writes_go_on _ _ _ c.args.octets.now c.args.done c.loop.at c.in-Ok.count i.from i.written c.in-Ok.ensures.1))
+    (omega (arith, i.from), omega (arith, c.if-at-octets.true), writes_go_on _ _ _ c.args.octets.now c.args.done c.loop.at c.in-Ok.count i.from i.written c.in-Ok.ensures.1)
 
 pub loop-preserved : goal.loop-preserved
 loop-preserved g c =
