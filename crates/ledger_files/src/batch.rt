@@ -1,8 +1,6 @@
 //! The lines of entries that are put together before they are written.
 
-ghost use Rattle.std.specs.Prelude.{◌≡◌, ◌↔◌, ◌+◌, ◌-◌, ◌≤◌, ◌<◌, ℕ, List, [], ◌∷◌, ◌++◌, length, vec_len, slice_index, slice_range, IsTrue, IfOk, OnOk, MatchResult, MatchOption};
-ghost use Rattle.ledger_files.specs.Batches.{HoldsLines, IsHeadOf};
-ghost use Rattle.ledger_files.specs.Files.{wrote};
+ghost use Rattle.std.specs.Prelude.{◌≡◌, ◌≤◌, vec_len};
 
 use crate::disk::{DiskFault, LedgerDisk};
 use crate::pending::write_rest;
@@ -35,6 +33,10 @@ pub struct Batch {
 }
 
 impl Batch {
+    ghost use Rattle.std.specs.Prelude.{◌≡◌, ◌↔◌, ◌+◌, ◌-◌, ◌≤◌, ◌<◌, ℕ, List, [], ◌∷◌, ◌++◌, vec_len, slice_index, slice_range, IsTrue, IfOk, OnOk, MatchResult, MatchOption};
+    ghost use Rattle.ledger_files.specs.Batches.{HoldsLines, IsHeadOf};
+    ghost use Rattle.ledger_files.specs.Files.{wrote};
+
     /// Makes an empty batch, with room for so many octets and lines.
     ///
     /// # Errors
@@ -127,7 +129,6 @@ impl Batch {
     /// # Errors
     ///
     /// That of [`write_rest`]. What was written before counts as written.
-    #[tactic(auto, using(crate::proofs::Ends::holds_same))]
     pub fn write<D: LedgerDisk>(&mut self, disk: &mut D) -> Result<(), DiskFault>
         ensures lines { (lines : List (List ℕ)) → HoldsLines self.old lines → HoldsLines self.new lines }
         ensures written { (self.old.done ≤ self.new.done) × (D.files disk.new ≡ wrote (D.files disk.old) (slice_range self.old.octets.items self.old.done self.new.done)) }
@@ -160,7 +161,6 @@ impl Batch {
     }
 
     /// Has the first line that is not written whole be written again from its start, to another file.
-    #[tactic(auto, using(crate::proofs::Ends::holds_same))]
     pub fn begin_line_again(&mut self)
         ensures lines { (lines : List (List ℕ)) → HoldsLines self.old lines → HoldsLines self.new lines }
         ensures done { (self.new.done ≡ self.old.start) × (self.new.whole ≡ self.old.whole) }

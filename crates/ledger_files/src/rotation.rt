@@ -16,10 +16,10 @@ pub struct OpenFile {
 }
 
 /// Returns whether the next file is to be begun before so many octets of entries of this day are written.
-pub fn is_next_due(open: Option<OpenFile>, day: u64, octets: u64) -> bool
-    ensures { IsTrue result ↔ IsNextDue open day octets }
+pub fn is_next_due(opened: Option<OpenFile>, day: u64, octets: u64) -> bool
+    ensures { IsTrue result ↔ IsNextDue opened day octets }
 {
-    match open {
+    match opened {
         Some(file) => day > file.day || file.size.saturating_add(octets) > MOST_OCTETS,
         None => true,
     }
