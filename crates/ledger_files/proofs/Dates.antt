@@ -42,25 +42,25 @@ last_is_leap days cycle century four year rest s e =
     let three : year ≡ 3 = whole_year year rest s.short_year s.most_years e in
     let short : century < 3 → 1461 * four + 1460 < 36524 = λ l. let k : 1461 * four + 365 * year + rest < 36524 = s.short_century l in omega arith in
     ⊎_elim
-        (λ (l : four < 24).
-            let next_by_4 : suc n / 4 ≡ 100 * cycle + 25 * century + four + 1 = omega arith in
-            let next_by_100 : suc n / 100 ≡ 4 * cycle + century = omega arith in
-            let next_by_400 : suc n / 400 ≡ cycle = omega arith in
-            omega (arith, leap_days_step n))
-        (λ (k : century ≡ 3).
-            ⊎_elim
-                (λ (l : four < 24).
-                    let next_by_4 : suc n / 4 ≡ 100 * cycle + 25 * century + four + 1 = omega arith in
-                    let next_by_100 : suc n / 100 ≡ 4 * cycle + century = omega arith in
-                    let next_by_400 : suc n / 400 ≡ cycle = omega arith in
-                    omega (arith, leap_days_step n))
-                (λ (l : 24 ≤ four).
-                    let next_by_4 : suc n / 4 ≡ 100 * cycle + 100 = omega arith in
-                    let next_by_100 : suc n / 100 ≡ 4 * cycle + 4 = omega arith in
-                    let next_by_400 : suc n / 400 ≡ cycle + 1 = omega arith in
-                    omega (arith, leap_days_step n))
-                (below_or_not four 24))
-        (whole_century century four short s.most_centuries s.most_fours)
+    (λ (l : four < 24).
+    let next_by_4 : suc n / 4 ≡ 100 * cycle + 25 * century + four + 1 = omega arith in
+    let next_by_100 : suc n / 100 ≡ 4 * cycle + century = omega arith in
+    let next_by_400 : suc n / 400 ≡ cycle = omega arith in
+    omega (arith, leap_days_step n))
+    (λ (k : century ≡ 3).
+    ⊎_elim
+    (λ (l : four < 24).
+    let next_by_4 : suc n / 4 ≡ 100 * cycle + 25 * century + four + 1 = omega arith in
+    let next_by_100 : suc n / 100 ≡ 4 * cycle + century = omega arith in
+    let next_by_400 : suc n / 400 ≡ cycle = omega arith in
+    omega (arith, leap_days_step n))
+    (λ (l : 24 ≤ four).
+    let next_by_4 : suc n / 4 ≡ 100 * cycle + 100 = omega arith in
+    let next_by_100 : suc n / 100 ≡ 4 * cycle + 4 = omega arith in
+    let next_by_400 : suc n / 400 ≡ cycle + 1 = omega arith in
+    omega (arith, leap_days_step n))
+    (below_or_not four 24))
+    (whole_century century four short s.most_centuries s.most_fours)
 
 -- From March to December.
 abbrev AsLate : ℕ → ℕ → ℕ → ℕ → Type 0
@@ -113,9 +113,9 @@ below_ten P p0 p1 p2 p3 p4 p5 p6 p7 p8 p9 (suc (suc (suc (suc (suc (suc (suc (su
 pub late : (days year rest place : ℕ) → days_before_year year + leap_day year + rest ≡ days + 719469 → place < 10 → AsLate days year rest place
 late days year rest place h l =
     below_ten (AsLate days year rest)
-        (late_0 days year rest h) (late_1 days year rest h) (late_2 days year rest h) (late_3 days year rest h) (late_4 days year rest h)
-        (late_5 days year rest h) (late_6 days year rest h) (late_7 days year rest h) (late_8 days year rest h) (late_9 days year rest h)
-        place l
+    (late_0 days year rest h) (late_1 days year rest h) (late_2 days year rest h) (late_3 days year rest h) (late_4 days year rest h)
+    (late_5 days year rest h) (late_6 days year rest h) (late_7 days year rest h) (late_8 days year rest h) (late_9 days year rest h)
+    place l
 
 -- January and February.
 abbrev AsEarly : ℕ → ℕ → ℕ → ℕ → Type 0
@@ -144,5 +144,11 @@ early days year rest place h most leap l e = ⊎_elim
 pub split : (days century year : ℕ) → let in_cycle = days % 146097 in century ≡ min (in_cycle / 36524) 3 → let in_century = in_cycle - century * 36524 in year ≡ min (in_century % 1461 / 365) 3
     → IsSplit days (days / 146097) century (in_century / 1461) year (in_century % 1461 - year * 365)
 split days century year ec ey = record {
-  whole = omega arith; most_centuries = omega arith; most_fours = omega arith; most_years = omega arith; most_days = omega arith;
-  short_year = omega arith; short_century = omega arith }
+  whole = omega arith;
+  most_centuries = omega arith;
+  most_fours = omega arith;
+  most_years = omega arith;
+  most_days = omega arith;
+  short_year = omega arith;
+  short_century = omega arith;
+}

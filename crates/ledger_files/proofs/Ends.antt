@@ -18,15 +18,15 @@ pub ends_with : (octets ends line : List ℕ) (lines : List (List ℕ)) → octe
     → AreEnds (ends ++ length (octets ++ line) ∷ []) (lines ++ line ∷ [])
 ends_with octets ends line lines e n before k l = ⊎_elim
     (λ (low : k < length lines).
-        get_or_append_left ends (length (octets ++ line) ∷ []) 0 k (omega arith)
-        ∙ before k low
-        ∙ ap (λ xs. length (concat xs)) (sym (take-append-le (k + 1) lines (line ∷ []) (omega arith))))
+    get_or_append_left ends (length (octets ++ line) ∷ []) 0 k (omega arith)
+    ∙ before k low
+    ∙ ap (λ xs. length (concat xs)) (sym (take-append-le (k + 1) lines (line ∷ []) (omega arith))))
     (λ (high : length lines ≤ k).
-        let last : k ≡ length ends = omega (arith, length-append lines (line ∷ [])) in
-        ap (λ i. get_or (ends ++ length (octets ++ line) ∷ []) i 0) last
-        ∙ get_or-append_seam ends (length (octets ++ line)) [] 0
-        ∙ ap length (joined octets line lines e)
-        ∙ ap (λ xs. length (concat xs)) (sym (take_all (k + 1) (lines ++ line ∷ []) (omega (arith, length-append lines (line ∷ []))))))
+    let last : k ≡ length ends = omega (arith, length-append lines (line ∷ [])) in
+    ap (λ i. get_or (ends ++ length (octets ++ line) ∷ []) i 0) last
+    ∙ get_or-append_seam ends (length (octets ++ line)) [] 0
+    ∙ ap length (joined octets line lines e)
+    ∙ ap (λ xs. length (concat xs)) (sym (take_all (k + 1) (lines ++ line ∷ []) (omega (arith, length-append lines (line ∷ []))))))
     (below_or_not k (length lines))
 
 pub start_stays : (lines : List (List ℕ)) (line : List ℕ) (whole : ℕ) → whole ≤ length lines
@@ -39,7 +39,8 @@ holds_none new eo ee ew es = record {
   count = ap length ee;
   ends = λ k l. absurd (omega arith);
   some = omega arith;
-  start = es ∙ ap (λ n. length (concat (take n []))) (sym ew) }
+  start = es ∙ ap (λ n. length (concat (take n []))) (sym ew);
+}
 
 pub holds_same : (old new : Batch) (lines : List (List ℕ)) → HoldsLines old lines → new.octets.items ≡ old.octets.items → new.ends.items ≡ old.ends.items → new.whole ≡ old.whole → new.start ≡ old.start → HoldsLines new lines
 holds_same old new lines h eo ee ew es = record {
@@ -47,7 +48,8 @@ holds_same old new lines h eo ee ew es = record {
   count = ap length ee ∙ h.count;
   ends = λ k l. ap (λ xs. get_or xs k 0) ee ∙ h.ends k l;
   some = omega (arith, h.some);
-  start = es ∙ h.start ∙ ap (λ n. length (concat (take n lines))) (sym ew) }
+  start = es ∙ h.start ∙ ap (λ n. length (concat (take n lines))) (sym ew);
+}
 
 pub holds_more : (old new : Batch) (line : List ℕ) (lines : List (List ℕ)) → HoldsLines old lines → new.octets.items ≡ old.octets.items ++ line → new.ends.items ≡ old.ends.items ++ length (old.octets.items ++ line) ∷ []
     → new.whole ≡ old.whole → new.start ≡ old.start → HoldsLines new (lines ++ line ∷ [])
@@ -56,7 +58,8 @@ holds_more old new line lines h eo ee ew es = record {
   count = omega (arith, ap length ee, length-append old.ends.items (length (old.octets.items ++ line) ∷ []), length-append lines (line ∷ []), h.count);
   ends = λ k l. ap (λ xs. get_or xs k 0) ee ∙ ends_with old.octets.items old.ends.items line lines h.octets h.count h.ends k l;
   some = omega (arith, length-append lines (line ∷ []), h.some);
-  start = es ∙ h.start ∙ start_stays lines line old.whole h.some ∙ ap (λ n. length (concat (take n (lines ++ line ∷ [])))) (sym ew) }
+  start = es ∙ h.start ∙ start_stays lines line old.whole h.some ∙ ap (λ n. length (concat (take n (lines ++ line ∷ [])))) (sym ew);
+}
 
 pub holds_passed : (old new : Batch) (lines : List (List ℕ)) → HoldsLines old lines → new.octets.items ≡ old.octets.items → new.ends.items ≡ old.ends.items → old.whole < length old.ends.items
     → new.whole ≡ old.whole + 1 → new.start ≡ get_or old.ends.items old.whole 0 → HoldsLines new lines
@@ -65,4 +68,5 @@ holds_passed old new lines h eo ee l ew es = record {
   count = ap length ee ∙ h.count;
   ends = λ k l. ap (λ xs. get_or xs k 0) ee ∙ h.ends k l;
   some = omega (arith, h.count);
-  start = es ∙ h.ends old.whole (omega (arith, h.count)) ∙ ap (λ n. length (concat (take n lines))) (sym ew) }
+  start = es ∙ h.ends old.whole (omega (arith, h.count)) ∙ ap (λ n. length (concat (take n lines))) (sym ew);
+}

@@ -39,8 +39,8 @@ pub leap_days_step : (n : ℕ) → leap_day (suc n) + n / 4 + n / 400 + suc n / 
 unfolding leap_day
 leap_days_step n =
     together (n / 4) (suc n / 4) (n / 100) (suc n / 100) (n / 400) (suc n / 400) (suc n % 4) (suc n % 100) (suc n % 400)
-        (suc n % 4 == 0) (suc n % 100 == 0) (suc n % 400 == 0) (steps_by_4 n) (steps_by_100 n) (steps_by_400 n)
-        (λ e. omega arith) (λ e. omega arith)
+    (suc n % 4 == 0) (suc n % 100 == 0) (suc n % 400 == 0) (steps_by_4 n) (steps_by_100 n) (steps_by_400 n)
+    (λ e. omega arith) (λ e. omega arith)
 
 pub next_year : (n : ℕ) → days_before_year (suc n) ≡ days_before_year n + 365 + leap_day n
 unfolding days_before_year

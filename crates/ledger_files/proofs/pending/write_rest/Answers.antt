@@ -7,7 +7,8 @@ pub loop-init : goal.loop-init
 loop-init g c = record {
   from = omega arith;
   within = c.requires;
-  written = writes_begin (g.D.LedgerDisk.files c.args.disk.now) c.args.octets.now c.args.done }
+  written = writes_begin (g.D.LedgerDisk.files c.args.disk.now) c.args.octets.now c.args.done;
+}
 
 pub returns-then-at-octets-clause-written : goal.returns-then-at-octets-clause-written
 returns-then-at-octets-clause-written g c =
@@ -23,4 +24,5 @@ loop-preserved g c =
     record {
       from = omega (arith, i.from);
       within = omega (arith, i.within, n, length-drop c.loop.at c.args.octets.now);
-      written = writes_go_on _ _ _ c.args.octets.now c.args.done c.loop.at c.in-Ok.count i.from i.written w }
+      written = writes_go_on _ _ _ c.args.octets.now c.args.done c.loop.at c.in-Ok.count i.from i.written w;
+    }
