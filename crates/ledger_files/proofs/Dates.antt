@@ -1,9 +1,8 @@
 -- The day of the calendar, by years that begin on March 1.
 use Rattle.std.proofs.Common.{◌≡◌, ℕ, zero, suc, ◌+◌, ◌-◌, ◌*◌, ◌/◌, ◌%◌, ◌<◌, ◌≤◌, min, ◌⊎◌, ⊎_elim, inl, inr, sym, subst, arith}
 use Rattle.ledger_files.specs.Calendar.{leap_day, days_before_year, IsDateOf}
-use Rattle.ledger_files.specs.declared.utc.Date.{Date}
 use Rattle.ledger_files.proofs.Orders.{below_or_not}
-use Rattle.ledger_files.proofs.Years.{leap_days_step, next_year, days_before, days_before_1970}
+use Rattle.ledger_files.proofs.Years.{leap_days_step, days_before, days_before_1970}
 
 -- How the days since 0000-03-01 are told apart into 400, 100 and four years, one year, and days.
 pub record IsSplit (days cycle century four year rest : ℕ) : Type 0 where

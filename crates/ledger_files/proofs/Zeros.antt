@@ -1,5 +1,5 @@
 -- What a hole with a width and the flag 0 writes.
-use Rattle.std.proofs.Common.{◌≡◌, ℕ, ◌-◌, ◌^◌, false, List, [], ◌++◌, length, replicate, refl, sym, ap, arith, append-nil}
+use Rattle.std.proofs.Common.{◌≡◌, ℕ, ◌-◌, ◌^◌, false, List, [], append-nil}
 use Rattle.std.proofs.Math.Nat.{sub-zero}
 use Rattle.std.specs.Fmt.{padded_integral, format_spec, char_count}
 use Rattle.ledger_files.specs.Moments.{with_zeros}

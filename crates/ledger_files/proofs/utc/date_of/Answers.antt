@@ -1,7 +1,6 @@
 use Rattle.std.proofs.Common.{◌≡◌, ℕ, suc, ◌+◌, ◌-◌, ◌*◌, ◌/◌, ◌%◌, refl, arith}
-use Rattle.ledger_files.specs.Calendar.{leap_day, days_before_year}
 use Rattle.ledger_files.proofs.Years.{next_year}
-use Rattle.ledger_files.proofs.Dates.{IsSplit, split, march_first, last_is_leap, late, early}
+use Rattle.ledger_files.proofs.Dates.{split, march_first, last_is_leap, late, early}
 use Rattle.ledger_files.proofs.utc.date_of.Goals as goal
 
 pub returns-then-place-lt10 : goal.returns-then-place-lt10
