@@ -31,7 +31,6 @@ pub(crate) fn read_value<'a>(
 }
 
 /// Whether a value is an object of so many members.
-#[tactic(auto, using(crate::proofs::Lists::length_keys))]
 pub(crate) fn has_members(value: &Value<'_>, count: usize) -> bool
     ensures { IsTrue result ↔ HasMembers count (value_view value.now) }
 {
