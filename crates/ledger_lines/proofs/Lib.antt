@@ -2,4 +2,5 @@ pub mod Lines
 pub mod Found
 pub mod Parts
 pub mod Lists
+pub mod Pairs
 pub mod Types
