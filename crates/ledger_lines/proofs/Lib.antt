@@ -3,4 +3,5 @@ pub mod Found
 pub mod Parts
 pub mod Lists
 pub mod Pairs
+pub mod Worth
 pub mod Types
