@@ -1,1 +1,5 @@
-pub mod Faults
+pub mod Lines
+pub mod Printed
+pub mod Shown
+pub mod Statuses
+pub mod Taking

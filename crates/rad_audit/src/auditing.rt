@@ -1,12 +1,18 @@
 //! The audit of files.
 
+ghost use Rattle.std.specs.Prelude.{◌≡◌, ◌↔◌, IfOk, IsTrue};
+ghost use Rattle.rad_audit.specs.Lines.{IsFront};
+ghost use Rattle.rad_audit.specs.Statuses.{status_at};
+ghost use Rattle.rad_audit.specs.declared.printing.Findings.{Findings as TheFindings};
+
 use crate::faults::Fault;
 use crate::line_room::{LineRoom, Piece};
-use crate::printing::{Findings, Place, Report};
+use crate::printing::{Findings, GapLine, LaneLine, LaneName, Place, Report, TornLine, WrongLine};
 use crate::runs::Runs;
+use crate::taking::{Taken, judge_stray, take_entry};
 use ledger_lines::{Begin, End, Line, LineFault, MOST_LINE_OCTETS, Room, read_line};
 use rad_auth::Secret;
-use rad_ledger::{Entry, Reason, judge};
+use rad_ledger::{Entry, Reason};
 use rad_realms::{Config, Home};
 use std::alloc::{AllocError, Global};
 use std::fs;
@@ -16,11 +22,11 @@ use std::rt::Files;
 /// How many octets of a file are read at once.
 const READ_OCTETS: usize = 262_144;
 
-/// Audits the ledgers in these files, in this order, and prints what it finds. It gives the status.
+/// Audits the ledgers in these files, in this order, and prints what it finds. Returns the status.
 ///
 /// # Errors
 ///
-/// `File` where a file can't be read, `Output` where nothing more can be printed, `Memory` where a growth was refused.
+/// `File` if a file can't be read, `Output` if nothing more can be printed, `Memory` if a growth is refused.
 pub fn audit_files<R: Files, W: Write>(
     rt: &R,
     alloc: Global,
@@ -30,6 +36,7 @@ pub fn audit_files<R: Files, W: Write>(
 ) -> Result<u8, Fault>
 where
     R::File: Drop,
+    ensures { IfOk result (λ status. (found : TheFindings) × (status ≡ status_at found)) }
 {
     let report = Report {
         output,
@@ -55,11 +62,11 @@ where
     audit.end()
 }
 
-/// A line that was no line of a ledger, until the next one shows whether it is its front.
+/// A line that is no line of a ledger, kept until the next one shows whether it was cut short.
 #[derive(Drop)]
 struct Held {
     octets: Vec<u8>,
-    /// Its number in the file, where there is one.
+    /// Its number in the file, if there is such a line.
     line: Option<u64>,
 }
 
@@ -106,26 +113,25 @@ impl<'a, W: Write> Audit<'a, W> {
             self.settle(file)?;
             match piece {
                 Piece::Whole => self.take(place)?,
-                Piece::TooLong => self.report.wrong(place, Reason::NotEntry)?,
-                Piece::Unended => return self.report.torn(place),
+                Piece::TooLong => self.report.wrong(not_an_entry(place))?,
+                Piece::Unended => return self.report.torn(TornLine { place }),
                 Piece::End => return Ok(()),
             }
         }
         Ok(())
     }
 
-    /// Tells of the line before, where it was no line of a ledger: torn where it is the front of this one, which is longer.
+    /// Tells of the line before, if it was no line of a ledger.
     fn settle(&mut self, file: &str) -> Result<(), Fault> {
         let Some(line) = self.held.line else {
             return Ok(());
         };
         self.held.line = None;
         let place = Place { file, line };
-        let (front, next) = (self.held.octets.as_slice(), self.line.as_slice());
-        if front.len() < next.len() && next.starts_with(front) {
-            self.report.torn(place)
+        if is_front(self.held.octets.as_slice(), self.line.as_slice()) {
+            self.report.torn(TornLine { place })
         } else {
-            self.report.wrong(place, Reason::NotEntry)
+            self.report.wrong(not_an_entry(place))
         }
     }
 
@@ -138,7 +144,7 @@ impl<'a, W: Write> Audit<'a, W> {
         }
     }
 
-    /// Takes the line that was read, where it is a line of a ledger. It answers whether it is.
+    /// Takes the line that was read, if it is a line of a ledger. Returns whether it is.
     fn take_read(&mut self, place: Place<'_>) -> Result<bool, Fault> {
         let (alloc, config) = (self.alloc, self.config);
         let line = match read_line(alloc, self.line.as_slice(), &mut self.room) {
@@ -148,14 +154,8 @@ impl<'a, W: Write> Audit<'a, W> {
         };
         match &line {
             Line::Entry(entry) => {
-                take_entry(
-                    alloc,
-                    config,
-                    &mut self.runs,
-                    &mut self.report,
-                    place,
-                    entry,
-                )?;
+                let (runs, report) = (&mut self.runs, &mut self.report);
+                count_entry(alloc, config, runs, report, place, entry)?;
             }
             Line::Begin(begin) => take_begin(alloc, &mut self.runs, begin)?,
             Line::End(end) => take_end(&mut self.runs, &mut self.report, place, end)?,
@@ -178,13 +178,15 @@ impl<'a, W: Write> Audit<'a, W> {
         Ok(())
     }
 
-    /// Prints what each lane of each run has, and gives the status.
-    fn end(self) -> Result<u8, Fault> {
+    /// Prints what each lane of each run has, and returns the status.
+    fn end(self) -> Result<u8, Fault>
+        ensures { IfOk result (λ status. (found : TheFindings) × (status ≡ status_at found)) }
+    {
         let Audit { runs, report, .. } = self;
         let mut report = report;
         for run in runs.as_slice().iter() {
             for lane in run.lanes.iter() {
-                report.lane(run, lane)?;
+                report.lane(LaneLine::of(run.run, lane))?;
             }
         }
         Ok(report.findings.status())
@@ -199,8 +201,23 @@ fn take_begin(alloc: Global, runs: &mut Runs, begin: &Begin<'_>) -> Result<(), F
     }
 }
 
-/// An entry: it counts where nothing is wrong with it.
-fn take_entry<W: Write>(
+/// Whether octets are the front of longer ones.
+fn is_front(front: &[u8], next: &[u8]) -> bool
+    ensures { IsTrue result ↔ IsFront front.now next.now }
+{
+    front.len() < next.len() && next.starts_with(front)
+}
+
+/// Returns what is printed of a line that is no line of a ledger.
+fn not_an_entry(place: Place<'_>) -> WrongLine<'_> {
+    WrongLine {
+        place,
+        reason: Reason::NotEntry,
+    }
+}
+
+/// Counts an entry, or tells what is wrong with it.
+fn count_entry<W: Write>(
     alloc: Global,
     config: &Config,
     runs: &mut Runs,
@@ -209,41 +226,35 @@ fn take_entry<W: Write>(
     entry: &Entry<'_>,
 ) -> Result<(), Fault> {
     let home = secret_of_home(config, entry.home);
-    let client = match config.client_of(entry.client) {
-        Some(client) => Some(client.secret()),
-        None => None,
-    };
+    let client = secret_of_client(config, entry.client);
     let lane = match runs.lane(entry.run, entry.lane) {
-        Some(lane) if lane.home.as_str() == entry.home => Some(lane),
-        _ => None,
+        Some(lane) if lane.home.as_str() == entry.home => lane,
+        _ => {
+            return match judge_stray(alloc, entry, home, client) {
+                Ok(reason) => report.wrong(WrongLine { place, reason }),
+                Err(_) => Err(Fault::Memory),
+            };
+        }
     };
-    let next = match &lane {
-        Some(lane) => Some(lane.tally.next()),
-        None => None,
-    };
-    let Ok(wrong) = judge(alloc, entry, home, client, next) else {
-        return Err(Fault::Memory);
-    };
-    if let Some(reason) = wrong {
-        return report.wrong(place, reason);
-    }
-    let Some(lane) = lane else {
-        return Ok(());
-    };
-    let gap = match lane.tally.take(entry.serial) {
-        Ok(gap) => gap,
-        Err(reason) => return report.wrong(place, reason),
-    };
-    if home.is_none() {
-        lane.not_judged = lane.not_judged.saturating_add(1);
-    }
-    match gap {
-        Some(gap) => report.gap(place, entry.run, lane, gap),
-        None => Ok(()),
+    match take_entry(alloc, entry, home, client, &mut lane.tally) {
+        Ok(Taken::Wrong(reason)) => report.wrong(WrongLine { place, reason }),
+        Ok(Taken::Counted(gap)) => {
+            if home.is_none() {
+                lane.not_judged = lane.not_judged.saturating_add(1);
+            }
+            match gap {
+                Some(gap) => {
+                    let name = LaneName::of(entry.run, lane);
+                    report.gap(GapLine { place, name, gap })
+                }
+                None => Ok(()),
+            }
+        }
+        Err(_) => Err(Fault::Memory),
     }
 }
 
-/// The secret of the home server of this name.
+/// Returns the secret of the home server with this name, if the configuration has it.
 fn secret_of_home<'a>(config: &'a Config, name: &str) -> Option<&'a Secret> {
     match config
         .homes()
@@ -251,6 +262,14 @@ fn secret_of_home<'a>(config: &'a Config, name: &str) -> Option<&'a Secret> {
         .find(|home: &&Home| home.name() == name)
     {
         Some(home) => Some(home.secret()),
+        None => None,
+    }
+}
+
+/// Returns the secret of the client at this address, if the configuration has it.
+fn secret_of_client(config: &Config, address: [u8; 4]) -> Option<&Secret> {
+    match config.client_of(address) {
+        Some(client) => Some(client.secret()),
         None => None,
     }
 }
@@ -264,11 +283,13 @@ fn take_end<W: Write>(
 ) -> Result<(), Fault> {
     for count in end.lanes.iter() {
         let Some(lane) = runs.lane(end.run, count.lane) else {
-            report.wrong(place, Reason::UnknownLane)?;
+            let reason = Reason::UnknownLane;
+            report.wrong(WrongLine { place, reason })?;
             continue;
         };
         if let Some(gap) = lane.tally.end(count.entries) {
-            report.gap(place, end.run, lane, gap)?;
+            let name = LaneName::of(end.run, lane);
+            report.gap(GapLine { place, name, gap })?;
         }
     }
     Ok(())

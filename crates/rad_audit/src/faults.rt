@@ -18,16 +18,16 @@ pub enum Fault {
     Configuration(ConfigFault),
     #[error("memory: refused")]
     Memory,
-    /// Standard output takes nothing more. Nobody is told.
+    /// Standard output takes nothing more. Its line is not printed.
     #[error("output: failed")]
     Output,
 }
 
 impl Fault {
     ghost use Rattle.std.specs.Prelude.{◌≡◌};
-    ghost use Rattle.rad_audit.specs.Faults.{status_of};
+    ghost use Rattle.rad_audit.specs.Statuses.{status_of};
 
-    /// The status that the program ends with.
+    /// Returns the status that the program ends with.
     pub fn status(&self) -> u8
         ensures { result ≡ status_of self.now }
     {
@@ -38,8 +38,10 @@ impl Fault {
         }
     }
 
-    /// The fault of a file of this path that can't be read.
-    pub fn of_file(alloc: Global, path: &str, error: &Error) -> Fault {
+    /// Returns the fault of a file of this path that can't be read.
+    pub fn of_file(alloc: Global, path: &str, error: &Error) -> Fault
+        ensures { status_of result ≡ 4 }
+    {
         if error.kind() == ErrorKind::OutOfMemory {
             return Fault::Memory;
         }

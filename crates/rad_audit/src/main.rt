@@ -1,5 +1,5 @@
 //! Audits ledgers of rad_proxy: reads their lines, in the order of the files, and prints what is wrong with them, what is missing, and
-//! how much of each lane of each run is there. What is right is said in `rad_ledger`, and what a line is in `ledger_lines`.
+//! how much of each lane of each run is there. `ledger_lines` says what a line is, and `rad_ledger` what is right.
 #![tactic(auto)]
 
 mod auditing;
@@ -8,7 +8,13 @@ mod line_room;
 mod printing;
 mod runs;
 mod shown;
+mod taking;
 mod words;
+
+ghost use Rattle.std.specs.Prelude.{◌≡◌, ◌≤◌, ℕ, List, length, IfOk, Ok};
+ghost use Rattle.rad_console.specs.Configurations.{ReadsOctets};
+ghost use Rattle.rad_audit.specs.Statuses.{status_at};
+ghost use Rattle.rad_audit.specs.declared.printing.Findings.{Findings as TheFindings};
 
 use auditing::audit_files;
 use faults::Fault;
@@ -38,10 +44,11 @@ fn main(rt: HostRuntime) -> ExitCode {
     ExitCode::from(status)
 }
 
-/// Does what the words ask for, and gives the status.
+/// Does what the words ask for, and returns the status.
 fn obey_words<R: Runtime + AllocGlobal>(rt: &R) -> Result<u8, Fault>
 where
     R::File: Drop,
+    ensures { IfOk result (λ status. (found : TheFindings) × (status ≡ status_at found)) }
 {
     let alloc = rt.alloc();
     let arguments = read_arguments(rt)?;
@@ -61,6 +68,7 @@ where
 fn load<R: Files>(rt: &R, alloc: Global, path: &str) -> Result<Config, Fault>
 where
     R::File: Drop,
+    ensures { IfOk result (λ config. (text : List ℕ) × (length text ≤ MOST_FILE_OCTETS) × ReadsOctets text (Ok config)) }
 {
     let file = match fs::open(rt, path) {
         Ok(file) => file,
@@ -76,7 +84,7 @@ where
     }
 }
 
-/// The words that the program was called with, with its own name first.
+/// Returns the words that the program was called with, its own name first.
 fn read_arguments<R: Env + AllocGlobal>(rt: &R) -> Result<Vec<String>, Fault> {
     let arguments = match env::args(rt) {
         Ok(arguments) => arguments,
@@ -88,7 +96,7 @@ fn read_arguments<R: Env + AllocGlobal>(rt: &R) -> Result<Vec<String>, Fault> {
     }
 }
 
-/// The fault of words that can't be had.
+/// Returns the fault of words that can't be read.
 fn fault_of_words(error: &Error) -> Fault {
     match error.kind() {
         ErrorKind::OutOfMemory => Fault::Memory,

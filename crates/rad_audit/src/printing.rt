@@ -1,10 +1,14 @@
-//! The lines that are printed.
+//! The printed lines.
+
+ghost use Rattle.std.specs.Prelude.{◌≡◌, ◌↔◌, IsOk, IfErr};
+ghost use Rattle.rad_audit.specs.declared.faults.Fault.TheVariants.{Output};
+ghost use Rattle.rad_audit.specs.Statuses.{is_missing as the_is_missing};
 
 use crate::faults::Fault;
-use crate::runs::{Lane, Run};
+use crate::runs::Lane;
 use crate::shown::Shown;
 use rad_ledger::{Gap, Reason, Verdict};
-use std::fmt::{self, Display};
+use std::fmt;
 use std::io::Write;
 
 /// Where a line stands.
@@ -15,27 +19,65 @@ pub struct Place<'a> {
     pub line: u64,
 }
 
-impl Display for Place<'_> {
-    fn fmt<W: fmt::Write>(&self, f: &mut fmt::Formatter<W>) -> fmt::Result {
-        let (file, line) = (Shown(self.file), self.line);
-        write!(f, "{file}:{line}")
-    }
+/// A lane of a run.
+#[derive(Clone, Copy)]
+pub struct LaneName<'a> {
+    /// The name of the run.
+    pub run: u64,
+    /// The number of the lane.
+    pub number: u16,
+    /// The home server's name.
+    pub home: &'a str,
 }
 
-/// How bad what was found is.
+/// A line that is wrong.
+#[derive(Clone, Copy)]
+pub struct WrongLine<'a> {
+    pub place: Place<'a>,
+    pub reason: Reason,
+}
+
+/// A line that was cut short.
+#[derive(Clone, Copy)]
+pub struct TornLine<'a> {
+    pub place: Place<'a>,
+}
+
+/// A line before which entries are missing.
+#[derive(Clone, Copy)]
+pub struct GapLine<'a> {
+    pub place: Place<'a>,
+    pub name: LaneName<'a>,
+    pub gap: Gap,
+}
+
+/// The line of what a lane of a run has.
+#[derive(Clone, Copy)]
+pub struct LaneLine<'a> {
+    pub name: LaneName<'a>,
+    /// The serial of the first response that is looked for.
+    pub first: u64,
+    /// How many entries are right.
+    pub entries: u64,
+    /// How many of these were not judged.
+    pub not_judged: u64,
+    pub verdict: Verdict,
+}
+
+/// What was found so far.
 #[derive(Clone, Copy, Debug, Default, PartialEq, Eq)]
 pub struct Findings {
     /// Whether a line was wrong.
     pub wrong: bool,
-    /// Whether anything is missing.
+    /// Whether a response is missing.
     pub gap: bool,
 }
 
 impl Findings {
     ghost use Rattle.std.specs.Prelude.{◌≡◌};
-    ghost use Rattle.rad_audit.specs.Faults.{status_at};
+    ghost use Rattle.rad_audit.specs.Statuses.{status_at};
 
-    /// The status that the program ends with.
+    /// Returns the status that the program ends with.
     pub fn status(&self) -> u8
         ensures { result ≡ status_at self.now }
     {
@@ -49,6 +91,43 @@ impl Findings {
     }
 }
 
+impl<'a> LaneName<'a> {
+    ghost use Rattle.std.specs.Prelude.{◌≡◌, string_bytes};
+
+    /// Returns the name of this lane of a run.
+    pub fn of(run: u64, lane: &'a Lane) -> LaneName<'a>
+        ensures run { (result.run ≡ run) × (result.number ≡ lane.now.number) }
+        ensures home { result.home.now ≡ string_bytes lane.now.home.0 }
+    {
+        LaneName {
+            run,
+            number: lane.number,
+            home: lane.home.as_str(),
+        }
+    }
+}
+
+impl<'a> LaneLine<'a> {
+    ghost use Rattle.std.specs.Prelude.{◌≡◌, ℕ, List, string_bytes};
+    ghost use Rattle.rad_ledger.specs.Counting.{Counts, Tells};
+
+    /// Returns the line of this lane of a run.
+    pub fn of(run: u64, lane: &'a Lane) -> LaneLine<'a>
+        ensures name { (result.name.run ≡ run) × (result.name.number ≡ lane.now.number) }
+        ensures home { result.name.home.now ≡ string_bytes lane.now.home.0 }
+        ensures counts { (result.first ≡ lane.now.tally.first) × (result.entries ≡ lane.now.tally.entries) × (result.not_judged ≡ lane.now.not_judged) }
+        ensures verdict { (serials : List ℕ) → Counts lane.now.tally serials → Tells lane.now.tally serials result.verdict }
+    {
+        LaneLine {
+            name: LaneName::of(run, lane),
+            first: lane.tally.first(),
+            entries: lane.tally.entries(),
+            not_judged: lane.not_judged,
+            verdict: lane.tally.verdict(),
+        }
+    }
+}
+
 /// Where lines are printed, and what they told so far.
 #[derive(Drop)]
 pub struct Report<'a, W> {
@@ -57,59 +136,143 @@ pub struct Report<'a, W> {
 }
 
 impl<W: Write> Report<'_, W> {
-    /// A line is wrong.
-    pub fn wrong(&mut self, place: Place<'_>, reason: Reason) -> Result<(), Fault> {
+    ghost use Rattle.std.specs.Prelude.{◌||◌, true};
+
+    /// Tells of a line that is wrong.
+    ///
+    /// # Errors
+    ///
+    /// `Output` if it can't be printed. This is so of each of these calls.
+    pub fn wrong(&mut self, line: WrongLine<'_>) -> Result<(), Fault>
+        ensures { self.new.findings ≡ record self.old.findings { wrong = true } }
+    {
         self.findings.wrong = true;
-        written(writeln!(self.output, "{place}: {reason}"))
+        written(writeln!(self.output, "{line}"))
     }
 
-    /// A line was cut short.
-    pub fn torn(&mut self, place: Place<'_>) -> Result<(), Fault> {
-        written(writeln!(self.output, "{place}: torn"))
+    /// Tells of a line that was cut short. That is no fault.
+    pub fn torn(&mut self, line: TornLine<'_>) -> Result<(), Fault>
+        ensures { self.new.findings ≡ self.old.findings }
+    {
+        written(writeln!(self.output, "{line}"))
     }
 
-    /// Entries are missing before a line.
-    pub fn gap(&mut self, place: Place<'_>, run: u64, lane: &Lane, gap: Gap) -> Result<(), Fault> {
+    /// Tells of responses that are missing.
+    pub fn gap(&mut self, line: GapLine<'_>) -> Result<(), Fault>
+        ensures { self.new.findings ≡ record self.old.findings { gap = true } }
+    {
         self.findings.gap = true;
-        let name = LaneName { run, lane };
-        written(writeln!(self.output, "{place}: {name} {gap}"))
+        written(writeln!(self.output, "{line}"))
     }
 
-    /// What a lane of a run has.
-    pub fn lane(&mut self, run: &Run, lane: &Lane) -> Result<(), Fault> {
-        let verdict = lane.tally.verdict();
-        if matches!(verdict, Verdict::Missing(_)) {
+    /// Tells what a lane of a run has.
+    pub fn lane(&mut self, line: LaneLine<'_>) -> Result<(), Fault>
+        ensures { self.new.findings ≡ record self.old.findings { gap = self.old.findings.gap || the_is_missing line.verdict } }
+    {
+        if is_missing(line.verdict) {
             self.findings.gap = true;
         }
-        let name = LaneName { run: run.run, lane };
-        let (first, entries) = (lane.tally.first(), lane.tally.entries());
-        let not_judged = lane.not_judged;
-        written(writeln!(
-            self.output,
-            "{name} from {first} entries {entries} not judged {not_judged} {verdict}"
-        ))
+        written(writeln!(self.output, "{line}"))
     }
 }
 
-/// What was written, or the fault that it was not.
-fn written<E: Drop>(writing: Result<(), E>) -> Result<(), Fault> {
+/// Whether a response is missing.
+fn is_missing(verdict: Verdict) -> bool
+    ensures { result ≡ the_is_missing verdict }
+{
+    matches!(verdict, Verdict::Missing(_))
+}
+
+/// Returns the fault of a line that can't be printed.
+fn written<E: Drop>(writing: Result<(), E>) -> Result<(), Fault>
+    ensures ok { IsOk result ↔ IsOk writing }
+    ensures fault { IfErr result (λ fault. fault ≡ Output) }
+{
     match writing {
         Ok(()) => Ok(()),
         Err(_) => Err(Fault::Output),
     }
 }
 
-/// A lane of a run.
-#[derive(Clone, Copy)]
-struct LaneName<'a> {
-    run: u64,
-    lane: &'a Lane,
+impl fmt::Display for Place<'_> {
+    ghost use Rattle.std.specs.Prelude.{Some};
+    ghost use Rattle.rad_audit.specs.Printed.{place_text};
+
+    ghost output = { λ place. Some (place_text place) };
+
+    fn fmt<W: fmt::Write>(&self, f: &mut fmt::Formatter<W>) -> fmt::Result {
+        let file = Shown(self.file);
+        let line = self.line;
+        write!(f, "{file}:{line}")
+    }
 }
 
-impl Display for LaneName<'_> {
+impl fmt::Display for LaneName<'_> {
+    ghost use Rattle.std.specs.Prelude.{Some};
+    ghost use Rattle.rad_audit.specs.Printed.{name_text};
+
+    ghost output = { λ name. Some (name_text name) };
+
     fn fmt<W: fmt::Write>(&self, f: &mut fmt::Formatter<W>) -> fmt::Result {
         let run = self.run;
-        let (number, home) = (self.lane.number, &self.lane.home);
+        let number = self.number;
+        let home = Shown(self.home);
         write!(f, "run {run:016x} lane {number} {home}")
+    }
+}
+
+impl fmt::Display for WrongLine<'_> {
+    ghost use Rattle.std.specs.Prelude.{Some};
+    ghost use Rattle.rad_audit.specs.Printed.{wrong_line};
+
+    ghost output = { λ line. Some (wrong_line line) };
+
+    fn fmt<W: fmt::Write>(&self, f: &mut fmt::Formatter<W>) -> fmt::Result {
+        let place = self.place;
+        let reason = self.reason;
+        write!(f, "{place}: {reason}")
+    }
+}
+
+impl fmt::Display for TornLine<'_> {
+    ghost use Rattle.std.specs.Prelude.{Some};
+    ghost use Rattle.rad_audit.specs.Printed.{torn_line};
+
+    ghost output = { λ line. Some (torn_line line) };
+
+    fn fmt<W: fmt::Write>(&self, f: &mut fmt::Formatter<W>) -> fmt::Result {
+        let place = self.place;
+        write!(f, "{place}: torn")
+    }
+}
+
+impl fmt::Display for GapLine<'_> {
+    ghost use Rattle.std.specs.Prelude.{Some};
+    ghost use Rattle.rad_audit.specs.Printed.{gap_line};
+
+    ghost output = { λ line. Some (gap_line line) };
+
+    fn fmt<W: fmt::Write>(&self, f: &mut fmt::Formatter<W>) -> fmt::Result {
+        let place = self.place;
+        let name = self.name;
+        let gap = self.gap;
+        write!(f, "{place}: {name} {gap}")
+    }
+}
+
+impl fmt::Display for LaneLine<'_> {
+    ghost use Rattle.std.specs.Prelude.{Some};
+    ghost use Rattle.rad_audit.specs.Printed.{lane_line};
+
+    ghost output = { λ line. Some (lane_line line) };
+
+    fn fmt<W: fmt::Write>(&self, f: &mut fmt::Formatter<W>) -> fmt::Result {
+        let name = self.name;
+        let first = self.first;
+        let entries = self.entries;
+        let not_judged = self.not_judged;
+        let verdict = self.verdict;
+        write!(f, "{name} from {first} entries {entries} ")?;
+        write!(f, "not judged {not_judged} {verdict}")
     }
 }

@@ -14,11 +14,11 @@ pub struct Words {
     pub files: Vec<String>,
 }
 
-/// The files that the words name. The first word is the program's name.
+/// Returns the files that the words name. The first word is the program's name.
 ///
 /// # Errors
 ///
-/// `Usage` for words of another form, `Memory` where a growth was refused.
+/// `Usage` for words of any other form, `Memory` if a growth is refused.
 pub fn read_words(alloc: Global, words: &[String]) -> Result<Words, Fault> {
     let Ok(command) = command(alloc) else {
         return Err(Fault::Memory);
@@ -35,7 +35,7 @@ pub fn read_words(alloc: Global, words: &[String]) -> Result<Words, Fault> {
     words_of(alloc, &matches)
 }
 
-/// The files that the words that were matched name.
+/// Returns the files that the matched words name.
 fn words_of(alloc: Global, matches: &ArgMatches) -> Result<Words, Fault> {
     let (Some(config), Some(files)) = (matches.get_str("CONFIG"), matches.get_strs("FILE")) else {
         return Err(Fault::Usage);
@@ -52,7 +52,7 @@ fn words_of(alloc: Global, matches: &ArgMatches) -> Result<Words, Fault> {
     })
 }
 
-/// A word of its own.
+/// Copies a word.
 fn owned_word(alloc: Global, word: &str) -> Result<String, Fault> {
     match String::from_str(alloc, word) {
         Ok(word) => Ok(word),
@@ -60,7 +60,7 @@ fn owned_word(alloc: Global, word: &str) -> Result<String, Fault> {
     }
 }
 
-/// The words that the program takes.
+/// Returns the words that the program takes.
 fn command<'a>(alloc: Global) -> Result<Command<'a>, AllocError> {
     let config = Arg::new(alloc, "CONFIG")
         .required(true)

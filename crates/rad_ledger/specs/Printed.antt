@@ -1,7 +1,11 @@
--- What is wrong with a line, as it is printed (own).
-use Rattle.std.specs.Prelude.{ℕ, List, codes}
+-- What is wrong with a line, and what the entries of a lane show, as they are printed (own).
+use Rattle.std.specs.Prelude.{ℕ, List, ◌++◌, codes}
+use Rattle.std.specs.Fmt.{decimal}
 use Rattle.rad_ledger.specs.declared.reason.Reason.{Reason}
 use Rattle.rad_ledger.specs.declared.reason.Reason.TheVariants.{NotEntry, NoPacket, WrongSent, WrongReply, WrongResponse, SerialNotAbove, UnknownLane}
+use Rattle.rad_ledger.specs.declared.tally.Gap.{Gap}
+use Rattle.rad_ledger.specs.declared.tally.Verdict.{Verdict}
+use Rattle.rad_ledger.specs.declared.tally.Verdict.TheVariants.{Whole, Open, Missing}
 
 abbrev pub reason_text : Reason → List ℕ
 reason_text NotEntry = codes "NotEntry"
@@ -11,3 +15,11 @@ reason_text WrongReply = codes "WrongReply"
 reason_text WrongResponse = codes "WrongResponse"
 reason_text SerialNotAbove = codes "SerialNotAbove"
 reason_text UnknownLane = codes "UnknownLane"
+
+abbrev pub gap_text : Gap → List ℕ
+gap_text gap = codes "gap " ++ decimal gap.first ++ codes " to " ++ decimal gap.last
+
+abbrev pub verdict_text : Verdict → List ℕ
+verdict_text Whole = codes "whole"
+verdict_text Open = codes "open"
+verdict_text (Missing gap) = gap_text gap

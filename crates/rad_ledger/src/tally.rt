@@ -173,6 +173,11 @@ impl Tally {
 }
 
 impl fmt::Display for Gap {
+    ghost use Rattle.std.specs.Prelude.{Some};
+    ghost use Rattle.rad_ledger.specs.Printed.{gap_text};
+
+    ghost output = { λ gap. Some (gap_text gap) };
+
     fn fmt<W: fmt::Write>(&self, f: &mut fmt::Formatter<W>) -> fmt::Result {
         let (first, last) = (self.first, self.last);
         write!(f, "gap {first} to {last}")
@@ -180,6 +185,11 @@ impl fmt::Display for Gap {
 }
 
 impl fmt::Display for Verdict {
+    ghost use Rattle.std.specs.Prelude.{Some};
+    ghost use Rattle.rad_ledger.specs.Printed.{verdict_text};
+
+    ghost output = { λ verdict. Some (verdict_text verdict) };
+
     fn fmt<W: fmt::Write>(&self, f: &mut fmt::Formatter<W>) -> fmt::Result {
         match self {
             Verdict::Whole => f.write_str("whole"),

@@ -1,0 +1,35 @@
+-- The printed lines, without their line feeds (own).
+use Rattle.std.specs.Prelude.{ℕ, ◌^◌, ◌-◌, false, List, [], ◌++◌, codes}
+use Rattle.std.specs.Fmt.{decimal, digits, format_spec, padded_integral}
+use Rattle.rad_ledger.specs.Printed.{gap_text, reason_text, verdict_text}
+use Rattle.rad_audit.specs.Shown.{word_text}
+use Rattle.rad_audit.specs.declared.printing.Place.{Place}
+use Rattle.rad_audit.specs.declared.printing.LaneName.{LaneName}
+use Rattle.rad_audit.specs.declared.printing.WrongLine.{WrongLine}
+use Rattle.rad_audit.specs.declared.printing.TornLine.{TornLine}
+use Rattle.rad_audit.specs.declared.printing.GapLine.{GapLine}
+use Rattle.rad_audit.specs.declared.printing.LaneLine.{LaneLine}
+
+abbrev pub place_text : Place → List ℕ
+place_text place = word_text place.file.now ++ codes ":" ++ decimal place.line
+
+-- The name of a run: sixteen hexadecimal digits, zeros before the others.
+abbrev pub run_text : ℕ → List ℕ
+run_text run = padded_integral (format_spec 32 0 4 16 (2 ^ 64 - 1)) false [] (digits 16 false run)
+
+abbrev pub name_text : LaneName → List ℕ
+name_text name = codes "run " ++ run_text name.run ++ codes " lane " ++ decimal name.number ++ codes " " ++ word_text name.home.now
+
+abbrev pub wrong_line : WrongLine → List ℕ
+wrong_line line = place_text line.place ++ codes ": " ++ reason_text line.reason
+
+abbrev pub torn_line : TornLine → List ℕ
+torn_line line = place_text line.place ++ codes ": torn"
+
+abbrev pub gap_line : GapLine → List ℕ
+gap_line line = place_text line.place ++ codes ": " ++ name_text line.name ++ codes " " ++ gap_text line.gap
+
+abbrev pub lane_line : LaneLine → List ℕ
+lane_line line =
+    (name_text line.name ++ codes " from " ++ decimal line.first ++ codes " entries " ++ decimal line.entries ++ codes " ")
+    ++ (codes "not judged " ++ decimal line.not_judged ++ codes " " ++ verdict_text line.verdict)
