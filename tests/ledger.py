@@ -1,5 +1,5 @@
 #!/usr/bin/env python3
-"""Makes ledgers as `run` writes them, by Python's hashlib and json alone.
+"""Makes ledgers, by Python's hashlib and json alone.
 
 usage: ledger.py            writes the ledgers that stand in the repository
        ledger.py --check    compares those that stand there with those made here

@@ -8,6 +8,7 @@ use Rattle.rad_audit.specs.declared.printing.LaneName.{LaneName}
 use Rattle.rad_audit.specs.declared.printing.WrongLine.{WrongLine}
 use Rattle.rad_audit.specs.declared.printing.TornLine.{TornLine}
 use Rattle.rad_audit.specs.declared.printing.GapLine.{GapLine}
+use Rattle.rad_audit.specs.declared.printing.LaneCounts.{LaneCounts}
 use Rattle.rad_audit.specs.declared.printing.LaneLine.{LaneLine}
 
 abbrev pub place_text : Place → List ℕ
@@ -29,7 +30,10 @@ torn_line line = place_text line.place ++ codes ": torn"
 abbrev pub gap_line : GapLine → List ℕ
 gap_line line = place_text line.place ++ codes ": " ++ name_text line.name ++ codes " " ++ gap_text line.gap
 
+abbrev pub counts_text : LaneCounts → List ℕ
+counts_text counts =
+    (codes "from " ++ decimal counts.first ++ codes " entries " ++ decimal counts.entries ++ codes " ")
+    ++ (codes "not judged " ++ decimal counts.not_judged ++ codes " " ++ verdict_text counts.verdict)
+
 abbrev pub lane_line : LaneLine → List ℕ
-lane_line line =
-    (name_text line.name ++ codes " from " ++ decimal line.first ++ codes " entries " ++ decimal line.entries ++ codes " ")
-    ++ (codes "not judged " ++ decimal line.not_judged ++ codes " " ++ verdict_text line.verdict)
+lane_line line = name_text line.name ++ codes " " ++ counts_text line.counts

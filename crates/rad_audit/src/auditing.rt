@@ -1,6 +1,8 @@
 //! The audit of files.
 
-ghost use Rattle.std.specs.Prelude.{◌≡◌, ◌↔◌, IfOk, IsTrue};
+ghost use Rattle.std.specs.Prelude.{◌≡◌, ◌↔◌, ◌<◌, ◌^◌, IfOk, IsTrue, find, option_copied, option_map};
+ghost use Rattle.std.specs.Str.{bytes_eq};
+ghost use Rattle.rad_realms.specs.Realm.{client_of};
 ghost use Rattle.rad_audit.specs.Lines.{IsFront};
 ghost use Rattle.rad_audit.specs.Statuses.{status_at};
 ghost use Rattle.rad_audit.specs.declared.printing.Findings.{Findings as TheFindings};
@@ -224,7 +226,9 @@ fn count_entry<W: Write>(
     report: &mut Report<'_, W>,
     place: Place<'_>,
     entry: &Entry<'_>,
-) -> Result<(), Fault> {
+) -> Result<(), Fault>
+    requires { entry.now.serial < 2 ^ 63 }
+{
     let home = secret_of_home(config, entry.home);
     let client = secret_of_client(config, entry.client);
     let lane = match runs.lane(entry.run, entry.lane) {
@@ -255,19 +259,29 @@ fn count_entry<W: Write>(
 }
 
 /// Returns the secret of the home server with this name, if the configuration has it.
-fn secret_of_home<'a>(config: &'a Config, name: &str) -> Option<&'a Secret> {
-    match config
-        .homes()
-        .iter()
-        .find(|home: &&Home| home.name() == name)
-    {
+fn secret_of_home<'a>(config: &'a Config, name: &str) -> Option<&'a Secret>
+    ensures { option_copied result ≡ option_map (λ h. h.secret) (find (λ h. bytes_eq h.name name.now) config.now.homes) }
+{
+    match home_of(config, name) {
         Some(home) => Some(home.secret()),
         None => None,
     }
 }
 
+/// Returns the home server with this name, if the configuration has it.
+fn home_of<'a>(config: &'a Config, name: &str) -> Option<&'a Home>
+    ensures { option_copied result ≡ find (λ h. bytes_eq h.name name.now) config.now.homes }
+{
+    config
+        .homes()
+        .iter()
+        .find(|home: &&Home| home.name() == name)
+}
+
 /// Returns the secret of the client at this address, if the configuration has it.
-fn secret_of_client(config: &Config, address: [u8; 4]) -> Option<&Secret> {
+fn secret_of_client(config: &Config, address: [u8; 4]) -> Option<&Secret>
+    ensures { option_copied result ≡ option_map (λ c. c.secret) (client_of config.now address) }
+{
     match config.client_of(address) {
         Some(client) => Some(client.secret()),
         None => None,

@@ -1,4 +1,4 @@
-//! The lines of a file, in a room of fixed size.
+//! Reading the lines of a file into a room of fixed size.
 
 use ledger_lines::MOST_LINE_OCTETS;
 use std::alloc::{AllocError, Global};
@@ -7,32 +7,35 @@ use std::io::{BufRead, Read, Result};
 /// What was read of a file.
 #[derive(Clone, Copy, Debug, PartialEq, Eq)]
 pub enum Piece {
-    /// A line that its line end ended.
+    /// A line with its line feed.
     Whole,
-    /// A line that is longer than any of a ledger. Of it the front is there.
+    /// A line that is longer than a line of a ledger can be. The room has its front.
     TooLong,
-    /// The last line, which has no line end.
+    /// The last line, which has no line feed.
     Unended,
     /// No line is left.
     End,
 }
 
-/// The line that was read last, without its line end.
+/// The line that was read last, without its line feed.
 #[derive(Drop)]
 pub struct LineRoom {
     octets: Vec<u8>,
 }
 
 impl LineRoom {
+    /// Allocates the room.
+    ///
     /// # Errors
     ///
-    /// Where memory is refused.
+    /// `AllocError` if memory is refused.
     pub fn new(alloc: Global) -> std::result::Result<LineRoom, AllocError> {
         Ok(LineRoom {
             octets: Vec::with_capacity(alloc, MOST_LINE_OCTETS + 1)?,
         })
     }
 
+    /// Returns the line.
     pub fn as_slice(&self) -> &[u8] {
         self.octets.as_slice()
     }
@@ -41,7 +44,7 @@ impl LineRoom {
     ///
     /// # Errors
     ///
-    /// The reader's own.
+    /// The reader's own error.
     pub fn read<R: BufRead>(&mut self, reader: &mut R) -> Result<Piece> {
         self.octets.clear();
         let count = read_front(reader, &mut self.octets)?;
@@ -59,7 +62,7 @@ impl LineRoom {
     }
 }
 
-/// Reads a line up to its line end, and no more of it than a line may have.
+/// Reads a line with its line feed, and at most one octet more than a line of a ledger can have.
 fn read_front<R: BufRead>(reader: &mut R, octets: &mut Vec<u8>) -> Result<usize> {
     reader
         .by_ref()
@@ -67,7 +70,7 @@ fn read_front<R: BufRead>(reader: &mut R, octets: &mut Vec<u8>) -> Result<usize>
         .read_until(b'\n', octets)
 }
 
-/// Reads a line to its end, and keeps nothing of it.
+/// Reads the rest of a line, and keeps nothing of it.
 fn skip_line<R: BufRead>(reader: &mut R) -> Result<Piece> {
     for _ in 0..u64::MAX {
         let buffer = reader.fill_buf()?;

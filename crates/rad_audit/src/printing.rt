@@ -55,6 +55,12 @@ pub struct GapLine<'a> {
 #[derive(Clone, Copy)]
 pub struct LaneLine<'a> {
     pub name: LaneName<'a>,
+    pub counts: LaneCounts,
+}
+
+/// What a lane of a run has.
+#[derive(Clone, Copy)]
+pub struct LaneCounts {
     /// The serial of the first response that is looked for.
     pub first: u64,
     /// How many entries are right.
@@ -115,15 +121,17 @@ impl<'a> LaneLine<'a> {
     pub fn of(run: u64, lane: &'a Lane) -> LaneLine<'a>
         ensures name { (result.name.run ≡ run) × (result.name.number ≡ lane.now.number) }
         ensures home { result.name.home.now ≡ string_bytes lane.now.home.0 }
-        ensures counts { (result.first ≡ lane.now.tally.first) × (result.entries ≡ lane.now.tally.entries) × (result.not_judged ≡ lane.now.not_judged) }
-        ensures verdict { (serials : List ℕ) → Counts lane.now.tally serials → Tells lane.now.tally serials result.verdict }
+        ensures counts { (result.counts.first ≡ lane.now.tally.first) × (result.counts.entries ≡ lane.now.tally.entries) × (result.counts.not_judged ≡ lane.now.not_judged) }
+        ensures verdict { (serials : List ℕ) → Counts lane.now.tally serials → Tells lane.now.tally serials result.counts.verdict }
     {
         LaneLine {
             name: LaneName::of(run, lane),
-            first: lane.tally.first(),
-            entries: lane.tally.entries(),
-            not_judged: lane.not_judged,
-            verdict: lane.tally.verdict(),
+            counts: LaneCounts {
+                first: lane.tally.first(),
+                entries: lane.tally.entries(),
+                not_judged: lane.not_judged,
+                verdict: lane.tally.verdict(),
+            },
         }
     }
 }
@@ -167,9 +175,9 @@ impl<W: Write> Report<'_, W> {
 
     /// Tells what a lane of a run has.
     pub fn lane(&mut self, line: LaneLine<'_>) -> Result<(), Fault>
-        ensures { self.new.findings ≡ record self.old.findings { gap = self.old.findings.gap || the_is_missing line.verdict } }
+        ensures { self.new.findings ≡ record self.old.findings { gap = self.old.findings.gap || the_is_missing line.entry.counts.verdict } }
     {
-        if is_missing(line.verdict) {
+        if is_missing(line.counts.verdict) {
             self.findings.gap = true;
         }
         written(writeln!(self.output, "{line}"))
@@ -268,11 +276,23 @@ impl fmt::Display for LaneLine<'_> {
 
     fn fmt<W: fmt::Write>(&self, f: &mut fmt::Formatter<W>) -> fmt::Result {
         let name = self.name;
+        let counts = self.counts;
+        write!(f, "{name} {counts}")
+    }
+}
+
+impl fmt::Display for LaneCounts {
+    ghost use Rattle.std.specs.Prelude.{Some};
+    ghost use Rattle.rad_audit.specs.Printed.{counts_text};
+
+    ghost output = { λ counts. Some (counts_text counts) };
+
+    fn fmt<W: fmt::Write>(&self, f: &mut fmt::Formatter<W>) -> fmt::Result {
         let first = self.first;
         let entries = self.entries;
         let not_judged = self.not_judged;
         let verdict = self.verdict;
-        write!(f, "{name} from {first} entries {entries} ")?;
+        write!(f, "from {first} entries {entries} ")?;
         write!(f, "not judged {not_judged} {verdict}")
     }
 }

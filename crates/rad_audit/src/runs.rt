@@ -1,4 +1,4 @@
-//! What is known of each run and lane.
+//! What is known of each run and its lanes.
 
 use crate::shown::Word;
 use ledger_lines::{Begin, LaneStart};
@@ -8,20 +8,19 @@ use std::alloc::{AllocError, Global};
 /// A lane of a run.
 #[derive(Drop)]
 pub struct Lane {
-    /// Its number.
     pub number: u16,
     /// The home server's name.
     pub home: Word,
-    /// Its entries that are right.
+    /// The entries that are right.
     pub tally: Tally,
-    /// How many of them were not judged, since the configuration lacks the home server.
+    /// How many of these were not judged, because the configuration does not have the home server.
     pub not_judged: u64,
 }
 
 /// A run, with its lanes.
 #[derive(Drop)]
 pub struct Run {
-    /// What names it.
+    /// Its name.
     pub run: u64,
     pub lanes: Vec<Lane>,
 }
@@ -30,7 +29,7 @@ pub struct Run {
 #[derive(Drop)]
 pub struct Runs {
     runs: Vec<Run>,
-    /// The place of the run that was asked for last.
+    /// The place of the run that was last asked for.
     last: usize,
 }
 
@@ -46,11 +45,11 @@ impl Runs {
         self.runs.as_slice()
     }
 
-    /// A file begins with this line. The run is known from its first file on.
+    /// Adds the run that the first line of a file names, if it is not known yet.
     ///
     /// # Errors
     ///
-    /// Where memory is refused; the run is not known then.
+    /// `AllocError` if memory is refused. The run is then not known.
     pub fn begin(&mut self, alloc: Global, begin: &Begin<'_>) -> Result<(), AllocError> {
         if self.place_of(begin.run).is_some() {
             return Ok(());
@@ -63,7 +62,7 @@ impl Runs {
         push(&mut self.runs, Run { run, lanes })
     }
 
-    /// The place of a run.
+    /// Returns the place of a run.
     fn place_of(&self, run: u64) -> Option<usize> {
         if self.runs.get(self.last).is_some_and(|last| last.run == run) {
             return Some(self.last);
@@ -71,7 +70,7 @@ impl Runs {
         self.runs.iter().position(|known| known.run == run)
     }
 
-    /// The lane of this number of a run that names it.
+    /// Returns the lane of this number, if there is such a run and it has one.
     pub fn lane(&mut self, run: u64, number: u16) -> Option<&mut Lane> {
         let place = self.place_of(run)?;
         self.last = place;
@@ -80,6 +79,7 @@ impl Runs {
     }
 }
 
+/// Returns the lane that a line names, with no entry yet.
 fn lane_of(alloc: Global, start: &LaneStart<'_>) -> Result<Lane, AllocError> {
     Ok(Lane {
         number: start.lane,
@@ -89,7 +89,7 @@ fn lane_of(alloc: Global, start: &LaneStart<'_>) -> Result<Lane, AllocError> {
     })
 }
 
-/// Puts a value behind the others.
+/// Adds a value at the end.
 fn push<T: Drop>(list: &mut Vec<T>, value: T) -> Result<(), AllocError> {
     match list.push(value) {
         Ok(()) => Ok(()),

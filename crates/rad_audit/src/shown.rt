@@ -1,5 +1,8 @@
 //! Words as they are printed.
 
+ghost use Rattle.std.specs.Fmt.{WritesOnOk};
+ghost use Rattle.rad_audit.specs.Shown.{word_text};
+
 use std::alloc::{AllocError, Global};
 use std::fmt;
 
@@ -27,12 +30,19 @@ impl fmt::Display for Shown<'_> {
     ghost output = { λ word. Some (word_text word.0.now) };
 
     fn fmt<W: fmt::Write>(&self, f: &mut fmt::Formatter<W>) -> fmt::Result {
-        for character in self.0.chars() {
-            let character = ShownCharacter(character);
-            write!(f, "{character}")?;
-        }
-        Ok(())
+        write_word(f, self.0)
     }
+}
+
+/// Writes a word, one character after the other.
+fn write_word<W: fmt::Write>(f: &mut fmt::Formatter<W>, word: &str) -> fmt::Result
+    ensures { WritesOnOk W.write_str_gives f.old result (word_text word.now) f.new }
+{
+    for character in word.chars() {
+        let character = ShownCharacter(character);
+        write!(f, "{character}")?;
+    }
+    Ok(())
 }
 
 impl fmt::Display for ShownCharacter {

@@ -1,7 +1,7 @@
 use Rattle.std.specs.Fmt.{HasWritten, IsPlainFormatter}
 use Rattle.std.specs.List.{flat_map}
 use Rattle.rad_audit.specs.Shown.{character_text}
-use Rattle.rad_audit.proofs.shown.ShownDisplay.fmt.Given as goal
+use Rattle.rad_audit.proofs.shown.write_word.Given as goal
 
 abbrev pub invariant-loop-character : goal.invariant-loop-character
 invariant-loop-character g l =

@@ -1,0 +1,12 @@
+use Rattle.std.proofs.Common.{sym, ap, ◌∙◌, map-id}
+use Rattle.std.proofs.Output.{has_written_of_eq}
+use Rattle.std.proofs.lemmas.Iterator.{YieldsList-from_chars}
+use Rattle.std.proofs.lemmas.Iterator.Consumers.{YieldsList-end}
+use Rattle.std.specs.List.{flat_map}
+use Rattle.rad_audit.specs.Shown.{character_text}
+use Rattle.rad_audit.proofs.shown.write_word.Goals as goal
+
+pub returns : goal.returns
+returns g c =
+    let end = YieldsList-end (YieldsList-from_chars c.args.word.now c.utf8.word cc) c.loop-character.yielded _ c.loop-character.yielded_by _ _ c.in-None.is c.next.ensures.steps in
+    λ plain ok. has_written_of_eq _ _ _ _ _ (ap (flat_map character_text) (sym (map-id c.loop-character.yielded) ∙ end.0)) (c.loop-character.invariant plain)
