@@ -147,6 +147,7 @@ impl<'a, W: Write> Audit<'a, W> {
     }
 
     /// Takes the line that was read, if it is a line of a ledger. Returns whether it is.
+    #[tactic(auto, using(crate::proofs::Entries::serial_of_line))]
     fn take_read(&mut self, place: Place<'_>) -> Result<bool, Fault> {
         let (alloc, config) = (self.alloc, self.config);
         let line = match read_line(alloc, self.line.as_slice(), &mut self.room) {
