@@ -1,14 +1,14 @@
 -- What a value shows of what stands at a key of an object.
-use Rattle.std.proofs.Common.{◌≡◌, ℕ, ◌<◌, ◌≤◌, ◌^◌, List, Option, Some, None, MatchOption, IfSome, Ok, Err, MatchResult, ok_or, refl, sym, ap, ◌∙◌, subst, arith}
+use Rattle.std.proofs.Common.{◌≡◌, ℕ, ◌<◌, ◌≤◌, ◌^◌, List, Option, Some, None, MatchOption, IfSome, Ok, ok_or, refl, sym, ap, ◌∙◌, subst, arith}
 use Rattle.std.specs.Prelude.{⊤}
 use Rattle.std.specs.Str.Parse.{IsNumeral, digits_value, without_leading_plus, ParsesUnsigned}
 use Rattle.json.specs.Json.{Json, Items, null, boolean, number, string, array, object}
 use Rattle.json.specs.Find.{get, as_str, as_number}
 use Rattle.hex.specs.Hex.{decode_of}
-use Rattle.hex.specs.declared.error.FromHexError.{FromHexError}
 use Rattle.ledger_lines.specs.Lines.{Denies, HasText, HasNumber, HasOctets, as_items}
 use Rattle.ledger_lines.specs.declared.faults.LineFault.{LineFault}
 use Rattle.ledger_lines.proofs.Lines.{denied}
+use Rattle.ledger_lines.proofs.Pairs.{DigitsRead}
 
 abbrev pub nothing : Option ℕ
 nothing = None
@@ -114,10 +114,13 @@ module _ (key : List ℕ) (value : Json) where
   pub octets_found : (digits octets : List ℕ) → HasText key value digits → decode_of digits ≡ Ok octets → HasOctets key value octets
   octets_found digits octets t d = record { digits = digits; there = t; are = d }
 
-  pub no_octets : (digits : List ℕ) (e : FromHexError) → HasText key value digits → decode_of digits ≡ Err e → ¬ OctetsThere
-  no_octets digits e t d (octets, h) =
+  digits_in : (digits : List ℕ) → HasText key value digits → OctetsThere → DigitsRead digits
+  digits_in digits t (octets, h) =
       let same : digits ≡ h.digits = same_some digits h.digits (ap as_str (same_some (string digits) (string h.digits) (sym t ∙ h.there))) in
-      subst (λ r. MatchResult r (λ _. ⊥) (λ _. ⊤)) (sym d ∙ ap decode_of same ∙ h.are) tt
+      (octets, ap decode_of same ∙ h.are)
+
+  pub no_octets : (fault : LineFault) (digits : List ℕ) → HasText key value digits → Denies fault (DigitsRead digits) → Denies fault OctetsThere
+  no_octets fault digits t d = denied (DigitsRead digits) OctetsThere (digits_in digits t) fault d
 
   pub no_octets_text : (fault : LineFault) → Denies fault TextThere → Denies fault OctetsThere
   no_octets_text fault d = denied TextThere OctetsThere (λ p. (p.1.digits, p.1.there)) fault d

@@ -1,6 +1,6 @@
 -- What texts and numbers at the keys of a line show of its parts.
-use Rattle.std.proofs.Common.{◌≡◌, ◌≢◌, ℕ, ◌*◌, ◌<◌, ◌≤◌, ◌^◌, List, length, codes, Option, Some, None, Result, Ok, Err, MatchResult, refl, sym, ap, ◌∙◌, subst, arith, inl, inr}
-use Rattle.std.specs.Prelude.{IsSomeAnd, ⊤}
+use Rattle.std.proofs.Common.{◌≡◌, ◌≢◌, ℕ, ◌*◌, ◌<◌, ◌≤◌, ◌^◌, List, length, codes, Option, Some, None, Result, Ok, Err, refl, sym, ap, ◌∙◌, subst, arith, inl, inr}
+use Rattle.std.specs.Prelude.{IsSomeAnd}
 use Rattle.std.specs.Int.{w64, from_be_bytes}
 use Rattle.std.specs.Str.{IsUtf8}
 use Rattle.json.specs.Json.{Json, string, document}
@@ -8,13 +8,12 @@ use Rattle.json.specs.Find.{get, as_str}
 use Rattle.json.specs.Strict.{HasUniqueKeys}
 use Rattle.json.specs.declared.error.Error.{Error}
 use Rattle.json.specs.declared.error.Error.TheVariants.{Invalid, OutOfMemory, TooLong, DuplicateKey}
-use Rattle.hex.specs.Hex.{decode_sized}
-use Rattle.hex.proofs.HexLemmas.{decode_sized-ok, decode_sized-twice}
-use Rattle.hex.specs.declared.error.FromHexError.{FromHexError}
+use Rattle.hex.specs.Hex.{decode_of}
 use Rattle.rad_realms.specs.Address.{address_in}
 use Rattle.ledger_lines.specs.Lines.{Denies, HasText, HasNumber, HasOctets, HasArray, HasRun, HasTime, IsTime, HasClient, MayHaveNumber, MayHaveWords, IsValue}
 use Rattle.ledger_lines.specs.declared.faults.LineFault.{LineFault}
 use Rattle.ledger_lines.proofs.Lines.{denied}
+use Rattle.ledger_lines.proofs.Pairs.{DigitsRead}
 use Rattle.ledger_lines.proofs.Found.{differ, same_some, string_by, TextThere, NumberThere, OctetsThere, narrower, too_large, none_below}
 
 -- ---- the value of a line
@@ -38,30 +37,18 @@ module _ (octets : List ℕ) where
 
 -- ---- arrays of octets
 
-sized : (r : Result (List ℕ) FromHexError) (out : List ℕ) (result : Result ⊤ FromHexError) → MatchResult r (λ bytes. (result ≡ Ok tt) × (out ≡ bytes)) (λ e. result ≡ Err e) → result ≡ Ok tt → r ≡ Ok out
-sized (Ok bytes) out result m ok = ap Ok (sym m.1)
-sized (Err e) out result m ok = absurd (subst (λ r. MatchResult r (λ _. ⊥) (λ _. ⊤)) (sym m ∙ ok) tt)
-
-written : (r : Result (List ℕ) FromHexError) (out bytes : List ℕ) (result : Result ⊤ FromHexError) → MatchResult r (λ bytes. (result ≡ Ok tt) × (out ≡ bytes)) (λ e. result ≡ Err e) → r ≡ Ok bytes → result ≡ Ok tt
-written (Ok xs) out bytes result m is = m.0
-written (Err e) out bytes result m is = absurd (subst (λ r. MatchResult r (λ _. ⊥) (λ _. ⊤)) is tt)
-
 module _ (key : List ℕ) (count : ℕ) (value : Json) where
   abbrev pub ArrayThere : Type 0
   ArrayThere = (octets : List ℕ) × HasArray key count value octets
 
-  module _ (digits out : List ℕ) (result : Result ⊤ FromHexError) (t : HasText key value digits) (m : MatchResult (decode_sized digits count) (λ bytes. (result ≡ Ok tt) × (out ≡ bytes)) (λ e. result ≡ Err e)) where
-    pub array_found : result ≡ Ok tt → HasArray key count value out
-    array_found ok =
-        let is : decode_sized digits count ≡ Ok out = sized (decode_sized digits count) out result m ok in
-        let long : length digits ≡ 2 * count = decode_sized-ok digits count out is in
-        record { digits = digits; there = t; long = long; are = sym (decode_sized-twice digits count long) ∙ is }
+  module _ (digits : List ℕ) (t : HasText key value digits) where
+    pub array_found : (octets : List ℕ) → length digits ≡ 2 * count → decode_of digits ≡ Ok octets → HasArray key count value octets
+    array_found octets long are = record { digits = digits; there = t; long = long; are = are }
 
-    pub no_array : (e : FromHexError) → result ≡ Err e → ¬ ArrayThere
-    no_array e err (octets, h) =
+    pub no_array : (length digits ≡ 2 * count → ¬ DigitsRead digits) → ¬ ArrayThere
+    no_array n (octets, h) =
         let same : digits ≡ h.digits = same_some digits h.digits (ap as_str (same_some (string digits) (string h.digits) (sym t ∙ h.there))) in
-        let is : decode_sized digits count ≡ Ok octets = ap (λ s. decode_sized s count) same ∙ decode_sized-twice h.digits count h.long ∙ h.are in
-        subst (λ r. MatchResult r (λ _. ⊥) (λ _. ⊤)) (sym err ∙ written (decode_sized digits count) out octets result m is) tt
+        n (ap length same ∙ h.long) (octets, ap decode_of same ∙ h.are)
 
   pub no_array_text : (fault : LineFault) → Denies fault (TextThere key value) → Denies fault ArrayThere
   no_array_text fault d = denied (TextThere key value) ArrayThere (λ p. (p.1.digits, p.1.there)) fault d

@@ -5,6 +5,7 @@
 #![tactic(auto)]
 
 mod begin;
+mod digits;
 mod faults;
 mod reading;
 mod values;

@@ -107,7 +107,7 @@ fn line_of<'a>(
     ensures { MatchResult result (λ line. IsLineOf (value_view value.now) line) (λ fault. Denies fault ((line : TheLine) × IsLineOf (value_view value.now) line)) }
 {
     match text_at(value, "type")? {
-        "entry" => Ok(Line::Entry(entry_of(alloc, value, room)?)),
+        "entry" => Ok(Line::Entry(entry_of(value, room)?)),
         "begin" => Ok(Line::Begin(begin_of(alloc, value)?)),
         "end" => Ok(Line::End(end_of(alloc, value)?)),
         _ => Err(LineFault::NotALine),
@@ -116,11 +116,7 @@ fn line_of<'a>(
 
 /// The entry that a value is.
 #[tactic(auto, using(crate::proofs::Lines::entry_members))]
-fn entry_of<'a>(
-    alloc: Global,
-    value: &Value<'a>,
-    room: &'a mut Octets,
-) -> Result<Entry<'a>, LineFault>
+fn entry_of<'a>(value: &Value<'a>, room: &'a mut Octets) -> Result<Entry<'a>, LineFault>
     requires { HasText (codes "type") (value_view value.now) (codes "entry") }
     ensures { MatchResult result (λ entry. IsEntry (value_view value.now) entry) (λ fault. Denies fault ((entry : TheEntry) × IsEntry (value_view value.now) entry)) }
 {
@@ -144,11 +140,11 @@ fn entry_of<'a>(
     let port = short_at(value, "port")?;
     let identifier = octet_at(value, "identifier")?;
     let authenticator = authenticator_at(value)?;
-    let sent = octets_at(alloc, value, "sent", sent)?;
-    let reply = octets_at(alloc, value, "reply", reply)?;
-    let response = octets_at(alloc, value, "response", response)?;
-    let realm = words_at(alloc, value, "realm", "realm_octets", realm)?;
-    let session = words_at(alloc, value, "session", "session_octets", session)?;
+    let sent = octets_at(value, "sent", sent)?;
+    let reply = octets_at(value, "reply", reply)?;
+    let response = octets_at(value, "response", response)?;
+    let realm = words_at(value, "realm", "realm_octets", realm)?;
+    let session = words_at(value, "session", "session_octets", session)?;
     let status = status_at(value)?;
     Ok(Entry {
         run,

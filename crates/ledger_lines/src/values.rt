@@ -5,8 +5,8 @@ ghost use Rattle.json.specs.Json.{Items, Json};
 ghost use Rattle.json.specs.Value.{items_view, value_view};
 ghost use Rattle.ledger_lines.specs.Lines.{as_items, Denies, HasAuthenticator, HasClient, HasList, HasMembers, HasNumber, HasOctets, HasRun, HasText, HasTime, has_form, IsTime, IsValue, MayHaveNumber, MayHaveWords, members_of_entry as the_members_of_entry, one_at as the_one_at};
 
+use crate::digits::{fill, octets_of};
 use crate::faults::LineFault;
-use hex::FromHexError;
 use json::{Error, Scratch, Value};
 use rad_realms::read_address;
 use std::alloc::Global;
@@ -31,7 +31,6 @@ pub(crate) fn read_value<'a>(
 }
 
 /// Whether a value is an object of so many members.
-#[tactic(auto, using(crate::proofs::Lists::length_keys))]
 pub(crate) fn has_members(value: &Value<'_>, count: usize) -> bool
     ensures { IsTrue result ↔ HasMembers count (value_view value.now) }
 {
@@ -130,7 +129,6 @@ pub(crate) fn octet_at(value: &Value<'_>, key: &str) -> Result<u8, LineFault>
 /// The octets whose digits stand at a key, in this room.
 #[tactic(auto, using(crate::proofs::Found::octets_found, crate::proofs::Found::no_octets, crate::proofs::Found::no_octets_text))]
 pub(crate) fn octets_at<'r>(
-    alloc: Global,
     value: &Value<'_>,
     key: &str,
     room: &'r mut Vec<u8>,
@@ -138,25 +136,20 @@ pub(crate) fn octets_at<'r>(
     ensures { MatchResult result (λ octets. HasOctets key.now (value_view value.now) octets.now) (λ fault. Denies fault ((octets : List ℕ) × HasOctets key.now (value_view value.now) octets)) }
 {
     let digits = text_at(value, key)?;
-    match hex::decode(alloc, digits) {
-        Ok(octets) => {
-            *room = octets;
-            Ok(room.as_slice())
-        }
-        Err(FromHexError::OutOfMemory) => Err(LineFault::OutOfMemory),
-        Err(_) => Err(LineFault::NotALine),
-    }
+    Ok(octets_of(digits.as_bytes(), room)?)
 }
 
 /// A run's name: sixteen hexadecimal digits.
-#[tactic(auto, using(crate::proofs::Parts::array_found, crate::proofs::Parts::run_found, crate::proofs::Parts::no_run, crate::proofs::Parts::no_run_text))]
+#[tactic(auto, using(crate::proofs::Parts::array_found, crate::proofs::Parts::run_found, crate::proofs::Parts::no_run, crate::proofs::Parts::no_array, crate::proofs::Parts::no_run_text))]
 pub(crate) fn run_at(value: &Value<'_>) -> Result<u64, LineFault>
     ensures { MatchResult result (λ run. HasRun (value_view value.now) run) (λ fault. Denies fault ((run : ℕ) × HasRun (value_view value.now) run)) }
 {
+    let digits = text_at(value, "run")?;
     let mut octets = [0; 8];
-    match hex::decode_to_slice(text_at(value, "run")?, &mut octets) {
-        Ok(()) => Ok(u64::from_be_bytes(octets)),
-        Err(_) => Err(LineFault::NotALine),
+    if fill(digits.as_bytes(), &mut octets) {
+        Ok(u64::from_be_bytes(octets))
+    } else {
+        Err(LineFault::NotALine)
     }
 }
 
@@ -165,10 +158,12 @@ pub(crate) fn run_at(value: &Value<'_>) -> Result<u64, LineFault>
 pub(crate) fn authenticator_at(value: &Value<'_>) -> Result<[u8; 16], LineFault>
     ensures { MatchResult result (λ octets. HasAuthenticator (value_view value.now) octets) (λ fault. Denies fault ((octets : List ℕ) × HasAuthenticator (value_view value.now) octets)) }
 {
+    let digits = text_at(value, "authenticator")?;
     let mut octets = [0; 16];
-    match hex::decode_to_slice(text_at(value, "authenticator")?, &mut octets) {
-        Ok(()) => Ok(octets),
-        Err(_) => Err(LineFault::NotALine),
+    if fill(digits.as_bytes(), &mut octets) {
+        Ok(octets)
+    } else {
+        Err(LineFault::NotALine)
     }
 }
 
@@ -228,7 +223,6 @@ pub(crate) fn client_at(value: &Value<'_>) -> Result<[u8; 4], LineFault>
 /// A realm or a session: none, a text at the one key, or octets that are no text at the other, in this room.
 #[tactic(auto, using(crate::proofs::Parts::words_none, crate::proofs::Parts::words_text, crate::proofs::Parts::words_octets, crate::proofs::Parts::two_words, crate::proofs::Parts::no_words, crate::proofs::Parts::no_words_octets))]
 pub(crate) fn words_at<'a>(
-    alloc: Global,
     value: &Value<'a>,
     key: &str,
     other: &str,
@@ -240,7 +234,7 @@ pub(crate) fn words_at<'a>(
         if value.get(other).is_none() {
             return Ok(None);
         }
-        return Ok(Some(octets_at(alloc, value, other, room)?));
+        return Ok(Some(octets_at(value, other, room)?));
     };
     if value.get(other).is_some() {
         return Err(LineFault::NotALine);

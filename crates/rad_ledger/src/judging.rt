@@ -15,12 +15,13 @@ use rad_auth::{
 use rad_packet::PacketRef;
 use std::alloc::{AllocError, Global};
 
-/// The first thing that is wrong with an entry, where there is one: by its packets, under the secrets that are known, and by its
-/// place, where `next` is the least serial that its lane has not had, of a lane that the run names. It hashes each packet once.
+/// Returns the first thing that is wrong with an entry, if anything is. It looks at the packets, under the known secrets,
+/// and then at the serial: `next` is the least serial that the entry's lane can have next, if the run names that lane. It
+/// hashes each packet once.
 ///
 /// # Errors
 ///
-/// Where memory is refused.
+/// `AllocError` if memory is refused.
 #[tactic(auto, using(crate::proofs::Judged::packets_first))]
 pub fn judge(
     alloc: Global,
@@ -41,7 +42,7 @@ pub fn judge(
     }
 }
 
-/// The first thing that is wrong with the packets of an entry.
+/// Returns the first thing that is wrong with the packets of an entry, if anything is.
 #[tactic(auto, using(crate::proofs::Judged::sent_is_none, crate::proofs::Judged::reply_is_none, crate::proofs::Judged::response_is_none, crate::proofs::Judged::are_packets, crate::proofs::Judged::not_judged, crate::proofs::Judged::judged))]
 fn judge_packets(
     alloc: Global,
@@ -77,7 +78,7 @@ fn judge_packets(
     )
 }
 
-/// The mark that an entry's request went out with.
+/// Returns the mark that an entry's request was sent with.
 fn mark_of(entry: &Entry<'_>) -> Mark
     ensures { result ≡ the_mark_of entry.now }
 {
@@ -87,7 +88,7 @@ fn mark_of(entry: &Entry<'_>) -> Mark
     }
 }
 
-/// The head of an entry's request.
+/// Returns the head of an entry's request.
 fn head_of(entry: &Entry<'_>) -> RequestHead
     ensures { result ≡ the_head_of entry.now }
 {
@@ -97,14 +98,14 @@ fn head_of(entry: &Entry<'_>) -> RequestHead
     }
 }
 
-/// Whether what was sent is right under the home server's secret, and has this mark.
+/// Whether a packet is an Accounting-Request that is valid under the home server's secret, with this mark last.
 fn is_sent(sent: &PacketRef<'_>, mark: Mark, home: &Secret) -> bool
     ensures { IsTrue result ↔ IsSent home.now mark sent.now }
 {
     sent.code() == ACCOUNTING_REQUEST && check_request(sent, home) && ends_with_mark(sent, mark)
 }
 
-/// What is wrong with the reply or the response, where nothing is with what was sent.
+/// Returns what is wrong with the reply or the response, if anything is. Nothing is wrong with what was sent.
 #[tactic(auto, using(crate::proofs::Replies::is_reply, crate::proofs::Replies::is_response, crate::proofs::Replies::is_no_response))]
 fn judge_reply(
     alloc: Global,
@@ -132,7 +133,8 @@ fn judge_reply(
     }
 }
 
-/// The response to a request of this head after a reply to what was sent. There is none where the reply is not right.
+/// Returns the response to a request with this head, after a reply to what was sent. There is none if the reply is not
+/// valid.
 #[tactic(auto, using(crate::proofs::Replies::other_code, crate::proofs::Replies::other_identifier, crate::proofs::Replies::refused, crate::proofs::Replies::made_for))]
 fn response_after(
     alloc: Global,

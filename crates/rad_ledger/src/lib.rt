@@ -1,8 +1,8 @@
-//! What an auditor finds wrong with the entries of a ledger: one for each response that the front took.
+//! What is wrong with the entries of a ledger, which has one for each response to a client, and what is missing.
 //!
-//! [`judge`] tells the first thing that is wrong with an [`Entry`], and a [`Tally`] counts those of one lane of a run that are right, in
-//! constant memory. `specs/Judging.antt` says what each reason means, by the definitions of rad_auth, and `specs/Counting.antt` when a
-//! lane's entries are whole.
+//! [`judge`] returns the first thing that is wrong with an [`Entry`]. A [`Tally`] counts the entries of one lane of a run
+//! that are right, in constant memory. `specs/Judging.antt` says what each reason means, by the definitions of
+//! `rad_auth`. `specs/Counting.antt` says when a lane's entries are whole.
 #![tactic(auto)]
 
 mod entry;

@@ -1,4 +1,4 @@
-//! Packets as a ledger has them: whole, and without padding.
+//! Packets as a ledger has them: whole and without padding.
 
 ghost use Rattle.std.specs.Prelude.{◌≡◌, ◌↔◌, ◌++◌, [], ◌∷◌, List, IsTrue, MatchOption};
 ghost use Rattle.rad_packet.specs.Attribute.{Attribute};
@@ -9,7 +9,7 @@ ghost use Rattle.rad_auth.specs.Mark.{EndsWithMark, mark_attribute, mark_value};
 use rad_auth::{MARK_LENGTH, Mark, PROXY_STATE};
 use rad_packet::{AttributeRef, PacketRef, read};
 
-/// The packet that these octets are, where they are one and nothing stands behind it.
+/// Returns the packet that these octets are, if they are one and no octets follow it.
 #[tactic(auto, using(crate::proofs::Whole::refused_is_none, crate::proofs::Whole::padded_is_none, crate::proofs::Whole::same_is_whole, crate::proofs::Whole::same_is_packet))]
 pub fn whole_packet(octets: &[u8]) -> Option<PacketRef<'_>>
     ensures { MatchOption result (¬ IsPacketText octets.now) (λ packet. (packet ≡ octets.now) × IsPacketText octets.now) }
@@ -35,7 +35,7 @@ pub fn ends_with_mark(packet: &PacketRef<'_>, mark: Mark) -> bool
     }
 }
 
-/// The last attribute of a packet.
+/// Returns the last attribute of a packet, if it has any.
 fn last_attribute<'a>(packet: &PacketRef<'a>) -> Option<AttributeRef<'a>>
     ensures { MatchOption result (packet_attributes packet.now ≡ []) (λ a. (before : List Attribute) × (packet_attributes packet.now ≡ before ++ attribute_at a ∷ [])) }
 {
@@ -66,7 +66,7 @@ fn is_mark_value(value: &[u8], mark: Mark) -> bool
     is_same(lane, &mark.lane.to_be_bytes()) && is_same(number, &mark.number.to_be_bytes())
 }
 
-/// Whether octets are these.
+/// Whether octets are the same as others.
 fn is_same(octets: &[u8], others: &[u8]) -> bool
     ensures { IsTrue result ↔ (octets.now ≡ others.now) }
 {

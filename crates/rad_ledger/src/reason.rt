@@ -2,18 +2,18 @@
 
 use std::fmt;
 
-/// What is wrong with a line. The first reason in this order is told.
+/// What is wrong with a line. The first reason in this order counts.
 #[derive(Clone, Copy, Debug, PartialEq, Eq)]
 pub enum Reason {
-    /// It is no entry, and no other line of a ledger.
+    /// It is not a line of a ledger.
     NotEntry,
-    /// What was sent, the reply or the response is no packet.
+    /// What was sent, the reply or the response is not a packet.
     NoPacket,
-    /// What was sent is not right under the home server's secret, or has not the mark of its lane and number.
+    /// What was sent is not valid under the home server's secret, or does not end with the mark of its lane and number.
     WrongSent,
-    /// The reply is not right for what was sent.
+    /// The reply is not valid for what was sent.
     WrongReply,
-    /// The response is not the reply less the mark, or is not right for the request under the client's secret.
+    /// The response is not the reply without the mark, or is not valid for the request under the client's secret.
     WrongResponse,
     /// The serial is not above the last one.
     SerialNotAbove,

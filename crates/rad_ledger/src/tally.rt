@@ -16,7 +16,7 @@ impl Gap {
     ghost use Rattle.std.specs.Prelude.{◌≤◌};
     ghost use Rattle.rad_ledger.specs.Counting.{LeavesGap};
 
-    /// The serials from this one on, up to the other one.
+    /// Returns the serials from `next` on that are below `serial`, if there are any.
     fn between(next: u64, serial: u64) -> Option<Gap>
         requires { next ≤ serial }
         ensures { LeavesGap next serial result }
@@ -34,26 +34,26 @@ impl Gap {
 /// What the entries of a lane show together.
 #[derive(Clone, Copy, Debug, PartialEq, Eq)]
 pub enum Verdict {
-    /// Each response up to the end line's count is there once, in order.
+    /// Each response is there, once and in order, up to the count of the end line.
     Whole,
-    /// Nothing is missing so far, and no end line counts what is there: the run may still go on, or was killed.
+    /// No response is missing so far, and no end line counts them all. The run may still go on, or was killed.
     Open,
-    /// These are missing first.
+    /// These are missing, and none before them.
     Missing(Gap),
 }
 
-/// What is counted of one lane of a run: its entries that are right, in the order of their lines.
+/// What is counted of one lane of a run: the entries that are right, in the order of their lines.
 #[derive(Clone, Copy, Debug, PartialEq, Eq)]
 pub struct Tally {
-    /// The serial that its first entry has, as the first file says.
+    /// The serial with which it begins.
     first: u64,
-    /// The least serial that is above all so far.
+    /// The least serial that is above those of all entries.
     next: u64,
     /// How many entries there are.
     entries: u64,
     /// The first gap between them.
     gap: Option<Gap>,
-    /// How many responses there were in the run, as the end line says.
+    /// How many responses the lane had in the run, if an end line says it.
     end: Option<u64>,
     ghost bounded: { next ≤ 2 ^ 63 },
     ghost counted: { first + entries ≤ next },
@@ -67,7 +67,7 @@ impl Tally {
     ghost use Rattle.rad_ledger.specs.Counting.{Counts, LeavesGap, Tells};
     ghost use Rattle.rad_ledger.specs.Outlets.{AreAllGiven, serials_of};
 
-    /// No entry yet of a lane whose next response has this serial.
+    /// Returns the tally of a lane without entries whose next response has this serial.
     #[tactic(auto, using(crate::proofs::Serials::counts_none))]
     pub fn new(first: u64) -> Tally
         requires { first < 2 ^ 63 }
@@ -83,32 +83,32 @@ impl Tally {
         }
     }
 
-    /// The serial of the first response that is looked for.
+    /// Returns the serial of the first response that is looked for.
     pub fn first(&self) -> u64
         ensures { result ≡ self.now.first }
     {
         self.first
     }
 
-    /// The least serial that the next entry may have.
+    /// Returns the least serial that the next entry can have.
     pub fn next(&self) -> u64
         ensures { result ≡ self.now.next }
     {
         self.next
     }
 
-    /// How many entries there are.
+    /// Returns how many entries there are.
     pub fn entries(&self) -> u64
         ensures { result ≡ self.now.entries }
     {
         self.entries
     }
 
-    /// One entry more, of this serial. It tells the gap before it.
+    /// Counts an entry with this serial, and returns the gap before it, if there is one.
     ///
     /// # Errors
     ///
-    /// `SerialNotAbove` for a serial that is not above the last one, or is 2^63 or more; nothing is counted then.
+    /// `SerialNotAbove` for a serial that is not above the last one, or is 2^63 or more. The entry is not counted then.
     pub fn take(&mut self, serial: u64) -> Result<Option<Gap>, Reason>
         ensures above { OnOk result ((self.old.next ≤ serial) × (serial < 2 ^ 63)) }
         ensures gap { IfOk result (λ gap. LeavesGap self.old.next serial gap) }
@@ -126,7 +126,8 @@ impl Tally {
         Ok(gap)
     }
 
-    /// The end line says that there were so many responses in the run. It tells those that are missing behind the last entry.
+    /// Keeps how many responses the lane had, as an end line says it, and returns the gap after the last entry, if there is
+    /// one.
     #[tactic(auto, using(crate::proofs::Serials::counts_still))]
     pub fn end(&mut self, count: u64) -> Option<Gap>
         ensures gap { self.old.next ≤ count → LeavesGap self.old.next count result }
@@ -142,7 +143,7 @@ impl Tally {
         }
     }
 
-    /// What the entries show together.
+    /// Returns what the entries show together.
     #[tactic(auto, using(crate::proofs::Outlets::whole_exactly))]
     pub fn verdict(&self) -> Verdict
         ensures tells { (serials : List ℕ) → Counts self.now serials → Tells self.now serials result }
@@ -151,7 +152,7 @@ impl Tally {
         self.found()
     }
 
-    /// What was counted shows.
+    /// Finds what the entries show together.
     #[tactic(auto, using(crate::proofs::Serials::tells_gap, crate::proofs::Serials::tells_open, crate::proofs::Serials::tells_less, crate::proofs::Serials::tells_missing))]
     fn found(&self) -> Verdict
         ensures { (serials : List ℕ) → Counts self.now serials → Tells self.now serials result }

@@ -1,4 +1,7 @@
-use Rattle.ledger_lines.specs.Lines.{IsLaneCount}
+use Rattle.std.proofs.Common.{List, rules}
+use Rattle.json.specs.Value.{items_view}
+use Rattle.ledger_lines.specs.Lines.{AreEach, Denies, IsLaneCount}
+use Rattle.ledger_lines.specs.declared.begin.LaneCount.{LaneCount}
 use Rattle.ledger_lines.proofs.Lists.{each_next, each_all, each_denied}
 use Rattle.ledger_lines.proofs.reading.counts_of.Goals as goal
 
@@ -8,7 +11,10 @@ loop-value-preserved c =
     c.in_ok-push.ensures.pushed
 
 pub returns-in_err-count_of : goal.returns-in_err-count_of
-returns-in_err-count_of c = each_denied IsLaneCount _ c.args.values.now c.loop-value.value-index c.value-item.result c.loop-value-test.true c.value-item.is c.in_err-count_of.ensures
+returns-in_err-count_of c =
+    let all : Denies c.in_err-count_of.field-0.0 ((xs : List LaneCount) × AreEach IsLaneCount (items_view c.args.values.now) xs) =
+    each_denied IsLaneCount _ c.args.values.now c.loop-value.value-index c.value-item.result c.loop-value-test.true c.value-item.is c.in_err-count_of.ensures in
+    search (rules, all)
 
 pub returns : goal.returns
 returns c = each_all IsLaneCount c.args.values.now c.loop-value.value-index c.loop-value.counts.items c.loop-value-test.false c.loop-value.invariant

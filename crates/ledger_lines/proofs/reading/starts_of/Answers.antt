@@ -1,4 +1,7 @@
-use Rattle.ledger_lines.specs.Lines.{IsLaneStart}
+use Rattle.std.proofs.Common.{List, rules}
+use Rattle.json.specs.Value.{items_view}
+use Rattle.ledger_lines.specs.Lines.{AreEach, Denies, IsLaneStart}
+use Rattle.ledger_lines.specs.declared.begin.LaneStart.{LaneStart}
 use Rattle.ledger_lines.proofs.Lists.{each_next, each_all, each_denied}
 use Rattle.ledger_lines.proofs.reading.starts_of.Goals as goal
 
@@ -8,7 +11,10 @@ loop-value-preserved c =
     c.in_ok-push.ensures.pushed
 
 pub returns-in_err-start_of : goal.returns-in_err-start_of
-returns-in_err-start_of c = each_denied IsLaneStart _ c.args.values.now c.loop-value.value-index c.value-item.result c.loop-value-test.true c.value-item.is c.in_err-start_of.ensures
+returns-in_err-start_of c =
+    let all : Denies c.in_err-start_of.field-0.0 ((xs : List LaneStart) × AreEach IsLaneStart (items_view c.args.values.now) xs) =
+    each_denied IsLaneStart _ c.args.values.now c.loop-value.value-index c.value-item.result c.loop-value-test.true c.value-item.is c.in_err-start_of.ensures in
+    search (rules, all)
 
 pub returns : goal.returns
 returns c = each_all IsLaneStart c.args.values.now c.loop-value.value-index c.loop-value.starts.items c.loop-value-test.false c.loop-value.invariant
