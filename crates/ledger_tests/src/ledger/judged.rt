@@ -53,51 +53,44 @@ impl<'a> Judged<'a> {
 #[test]
 fn an_entry_is_right_and_each_change_is_told(rt: HostRuntime) -> Result<(), Fail> {
     let mut room = Room::new(rt.alloc())?;
-    let line = read_line(rt.alloc(), &ENTRY_LINE, &mut room);
-    let Ok(Line::Entry(entry)) = &line else {
-        return Err(Fail::from("an entry"));
-    };
-    let judged = Judged::of(*entry)?;
+    match read_line(rt.alloc(), &ENTRY_LINE, &mut room) {
+        Ok(Line::Entry(entry)) => each_change_is_told(&rt, entry),
+        _ => Err(Fail::from("an entry")),
+    }
+}
+
+fn each_change_is_told<R: Abort + AllocGlobal>(rt: &R, entry: Entry<'_>) -> Result<(), Fail> {
+    let judged = Judged::of(entry)?;
     let right = judged.entry;
     let next = Some(right.serial);
-    judged.tells(&rt, right, next, None)?;
-    judged.tells(&rt, right, None, Some(Reason::UnknownLane))?;
+    judged.tells(rt, right, next, None)?;
+    judged.tells(rt, right, None, Some(Reason::UnknownLane))?;
     judged.tells(
-        &rt,
+        rt,
         right,
         Some(right.serial + 1),
         Some(Reason::SerialNotAbove),
     )?;
     let sent = right.response;
-    judged.tells(&rt, Entry { sent, ..right }, next, Some(Reason::WrongSent))?;
+    judged.tells(rt, Entry { sent, ..right }, next, Some(Reason::WrongSent))?;
     let reply = right.response;
-    judged.tells(
-        &rt,
-        Entry { reply, ..right },
-        next,
-        Some(Reason::WrongReply),
-    )?;
+    judged.tells(rt, Entry { reply, ..right }, next, Some(Reason::WrongReply))?;
     let response = right.reply;
     judged.tells(
-        &rt,
+        rt,
         Entry { response, ..right },
         next,
         Some(Reason::WrongResponse),
     )?;
     let response = &right.response[1..];
     judged.tells(
-        &rt,
+        rt,
         Entry { response, ..right },
         next,
         Some(Reason::NoPacket),
     )?;
     let number = right.number ^ 1;
-    judged.tells(
-        &rt,
-        Entry { number, ..right },
-        next,
-        Some(Reason::WrongSent),
-    )
+    judged.tells(rt, Entry { number, ..right }, next, Some(Reason::WrongSent))
 }
 
 #[test]
