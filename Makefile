@@ -81,6 +81,7 @@ soak:
 	@status=0; \
 	python3 tests/hostile/soak.py $(PROGRAM) --seconds $(SECONDS) $(SEED) || status=1; \
 	python3 tests/hostile/memory.py $(PROGRAM) --seconds $(SECONDS) || status=1; \
+	KILLS=50 SEED=$(SEED) python3 tests/hostile/ledger_files.py $(PROGRAM) a_killed_run_is_open || status=1; \
 	exit $$status
 
 # Measures the program that was built, a bare relay, and radsecproxy and FreeRADIUS where they are installed; docs/performance.md
@@ -115,11 +116,12 @@ UNITDIR ?= $(PREFIX)/lib/systemd/system
 SYSUSERSDIR ?= $(PREFIX)/lib/sysusers.d
 SYSCONFDIR ?= /etc
 RUNDIR ?= /run
+STATEDIR ?= /var/lib
 DESTDIR ?=
 
 # What is made of the sources of packaging/: the folders, and for the unit the configuration's name.
 FOLDERS = -e 's,@sbindir@,$(SBINDIR),g' -e 's,@libexecdir@,$(LIBEXECDIR),g' -e 's,@sysconfdir@,$(SYSCONFDIR),g' \
-	-e 's,@rundir@,$(RUNDIR),g'
+	-e 's,@rundir@,$(RUNDIR),g' -e 's,@statedir@,$(STATEDIR),g'
 ONE = -e 's,@of@,,' -e 's,@config@,rad_proxy,g' -e 's,@runtime@,rad_proxy,'
 UNITS = rad_proxy.service rad_proxy@.service rad_proxy-metrics.socket rad_proxy-metrics@.service
 MANY = -e 's,@of@, %i,' -e 's,@config@,%i,g' -e 's,@runtime@,rad_proxy-%i,'

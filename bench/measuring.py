@@ -23,7 +23,7 @@ import time
 from contextlib import ExitStack, contextmanager
 
 import readings
-from proxies import (CLIENT_SECRET, HOME_SECRET, Direct, FreeRadius, RadProxy, Radsecproxy, Relay, Setting, end,
+from proxies import (CLIENT_SECRET, HOME_SECRET, Direct, FreeRadius, RadProxy, Radsecproxy, Relay, Setting, WithLedger, end,
                      end_with_parent)
 
 WINDOWS, RATES = [1, 4, 16, 64, 256], [1000, 5000, 10_000, 20_000, 40_000]
@@ -56,6 +56,7 @@ class Bench:
         self.results = []
         subjects = [Direct(), Relay(work / "relay"), RadProxy(plan.program), Radsecproxy(), FreeRadius()]
         wanted = plan.subjects.split(",") if plan.subjects else [subject.name for subject in subjects]
+        subjects.insert(3, WithLedger(plan.program))
         self.subjects = [subject for subject in subjects if subject.name in wanted and subject.is_there()]
         for subject in subjects:
             if subject.name in wanted and not subject.is_there():
@@ -88,7 +89,7 @@ class Bench:
     @contextmanager
     def serving(self, subject, homes=1, **lane):
         """A proxy before its home servers, once it answers and is warm; its process, None where there is no proxy."""
-        setting = Setting(self.plan.port, self.homes(homes), homes, lane=lane if subject.name == "rad_proxy" else {})
+        setting = Setting(self.plan.port, self.homes(homes), homes, lane=lane if isinstance(subject, RadProxy) else {})
         with ExitStack() as stack, tempfile.TemporaryDirectory(dir=self.work) as folder:
             for port in setting.homes:
                 limit = str(SECONDS_OF_A_HOME + self.plan.seconds + self.plan.long)
@@ -97,7 +98,7 @@ class Bench:
             process = None
             if subject.is_proxy:
                 log = stack.enter_context((pathlib.Path(folder) / "output").open("wb"))
-                pipes = {"stdin": subprocess.PIPE if subject.name == "rad_proxy" else subprocess.DEVNULL}
+                pipes = {"stdin": subprocess.PIPE if isinstance(subject, RadProxy) else subprocess.DEVNULL}
                 words = subject.words(pathlib.Path(folder), setting)
                 process = stack.enter_context(self.started(words, stdout=log, stderr=log, **pipes))
                 wait_until_it_answers(process, self.plan.port)
@@ -216,7 +217,7 @@ class Bench:
 
     def measures(self):
         """Each measure, and of which subjects it is taken."""
-        proxies = [RadProxy.name, Radsecproxy.name, FreeRadius.name]
+        proxies = [RadProxy.name, WithLedger.name, Radsecproxy.name, FreeRadius.name]
         with_relay = [Relay.name, *proxies]
         return {
             "throughput": (self.throughput, [Direct.name, *with_relay]),

@@ -99,6 +99,17 @@ class RadProxy:
         return [str(self.program), "run", str(file)]
 
 
+class WithLedger(RadProxy):
+    """The same while it writes a ledger. It is measured where it is named."""
+
+    name = "rad_proxy with a ledger"
+
+    def words(self, folder, setting):
+        ledger = folder / "ledger"
+        ledger.mkdir()
+        return ["env", f"RAD_PROXY_LEDGER={ledger}", *super().words(folder, setting)]
+
+
 class Radsecproxy:
     """radsecproxy, which logs no request, and watches its home servers by Status-Server too."""
 

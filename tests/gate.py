@@ -58,6 +58,7 @@ SCRIPTS = {
     "locks": ("hostile/locks.py", "PROGRAM"),
     "ledger": ("ledger.py", "--check"),
     "audit-model": ("hostile/audit_model.py", "--check"),
+    "ledger-files": ("hostile/ledger_files.py", "PROGRAM"),
     "audits": ("audits.py", "crates/rad_audit/out/rad_audit"),
     "spoiled-ledgers": ("hostile/spoiled_ledgers.py", "crates/rad_audit/out/rad_audit"),
 }

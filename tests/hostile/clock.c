@@ -1,5 +1,6 @@
 /*
- * Has the clock of the program that it is loaded into (LD_PRELOAD) fail, after CLOCK_CALLS calls that do not.
+ * Has the clock of the program that it is loaded into (LD_PRELOAD) fail, after CLOCK_CALLS calls that do not, and has the time of
+ * day be CLOCK_AHEAD seconds later.
  */
 #define _GNU_SOURCE
 #include <errno.h>
@@ -18,5 +19,10 @@ int clock_gettime(clockid_t clock, struct timespec *moment)
         errno = EINVAL;
         return -1;
     }
-    return (int)syscall(SYS_clock_gettime, clock, moment);
+    int status = (int)syscall(SYS_clock_gettime, clock, moment);
+    const char *ahead = getenv("CLOCK_AHEAD");
+    if (ahead && clock == CLOCK_REALTIME) {
+        moment->tv_sec += strtol(ahead, NULL, 10);
+    }
+    return status;
 }

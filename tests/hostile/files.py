@@ -31,7 +31,7 @@ NOTHING_LEFT = "end: queued 0 outstanding 0 untaken 0"
 FAULT = 'level=warn event=counters-fault reason="{}"'
 LINE = re.compile(r"level=(error|warn|info|debug|trace) event=[a-z-]+( [a-z_]+=(\"[^\"]*\"|[^ \"=]+))*")
 SOON, LATEST = 3.0, 6.0
-UNSET = ("RAD_PROXY_COUNTERS", "RAD_PROXY_LOG", "LD_PRELOAD")
+UNSET = ("RAD_PROXY_COUNTERS", "RAD_PROXY_LEDGER", "RAD_PROXY_LOG", "LD_PRELOAD")
 
 
 class Trial:

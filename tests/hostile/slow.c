@@ -1,12 +1,13 @@
 /*
  * Makes files slow for the program that it is loaded into (LD_PRELOAD), as a busy disk or a server that is away would: each
- * write to standard error takes SLOW_LOG milliseconds, and each opening of a file whose path begins with SLOW_PATH takes
- * SLOW_OPEN milliseconds.
+ * write to standard error takes SLOW_LOG milliseconds. Of a file whose path begins with SLOW_PATH each opening takes SLOW_OPEN
+ * milliseconds, and each write SLOW_WRITE.
  */
 #define _GNU_SOURCE
 #include <dlfcn.h>
 #include <fcntl.h>
 #include <stdarg.h>
+#include <stdio.h>
 #include <stdlib.h>
 #include <string.h>
 #include <time.h>
@@ -25,10 +26,27 @@ static void pause_for(long milliseconds)
     }
 }
 
-static void pause_at(const char *path)
+static int is_slow(const char *path)
 {
     const char *slow = getenv("SLOW_PATH");
-    if (slow && strncmp(path, slow, strlen(slow)) == 0) {
+    return slow && strncmp(path, slow, strlen(slow)) == 0;
+}
+
+static int is_slow_file(int file)
+{
+    char name[64], path[4096];
+    snprintf(name, sizeof name, "/proc/self/fd/%d", file);
+    ssize_t count = readlink(name, path, sizeof path - 1);
+    if (count < 0) {
+        return 0;
+    }
+    path[count] = 0;
+    return is_slow(path);
+}
+
+static void pause_at(const char *path)
+{
+    if (is_slow(path)) {
         pause_for(number_in("SLOW_OPEN"));
     }
 }
@@ -38,6 +56,8 @@ ssize_t write(int file, const void *octets, size_t count)
     ssize_t (*next)(int, const void *, size_t) = dlsym(RTLD_NEXT, "write");
     if (file == STDERR_FILENO) {
         pause_for(number_in("SLOW_LOG"));
+    } else if (getenv("SLOW_WRITE") && is_slow_file(file)) {
+        pause_for(number_in("SLOW_WRITE"));
     }
     return next(file, octets, count);
 }

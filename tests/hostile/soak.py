@@ -9,15 +9,17 @@ or with their ports closed. At the end both sides' logs are compared: each ackno
 its own attributes, under one identifier and one authenticator; first sendings came in the order of acceptance, as far as
 a home server could receive them; each response was right, answered its own request and was what the home server had
 replied. Where a repeat came to its home server as a new request, `span` was over. Then the input ends, and the `end:` line
-and the status have to agree with what the sides know. All of this holds however slow the machine is. The endings:
+and the status have to agree with what the sides know. The program writes a ledger, which audit_model.py has to find whole. All
+of this holds however slow the machine is. The endings:
 
     calm      all is acknowledged
     away      a home server answers nothing any more, and some requests are left over
     drain     the input ends while requests are out; each that was accepted is answered before the program ends
 
-In one of the short runs some hundred growths of the program are refused in its midst; its log has to say so, and all else
-has to hold. The last line is `N passed, M failed`, of acknowledged requests and faults.
+In one of the short runs, which has no ledger, some hundred growths of the program are refused in its midst; its log has to say
+so, and all else has to hold. The last line is `N passed, M failed`, of acknowledged requests and faults.
 """
+import os
 import pathlib
 import random
 import re
@@ -26,10 +28,12 @@ import subprocess
 import sys
 import tempfile
 import time
+import tomllib
 from dataclasses import dataclass
 
 sys.dont_write_bytecode = True
 
+from audit_model import Audit
 from growths import Refuser
 from network import Loop, Network
 from sides import Findings, Home, Nas
@@ -119,7 +123,9 @@ class Soak:
         file = pathlib.Path(folder, "proxy.toml")
         file.write_text(self.configuration())
         with self.log.open("wb") as log:
-            settings = refuser and refuser.settings(REFUSED)
+            self.ledger = pathlib.Path(folder, "ledger")
+            self.ledger.mkdir()
+            settings = refuser.settings(REFUSED) if refuser else os.environ | {"RAD_PROXY_LEDGER": str(self.ledger)}
             self.program = Program(self.loop, [program, "run", str(file)], log, settings)
         self.made, self.credit, self.is_asking, self.began = 0, 0, False, time.monotonic()
 
@@ -243,6 +249,20 @@ class Soak:
         if (line, status) != (wanted_line, wanted_status):
             self.findings.fault(f"it ended in {line!r} with status {status}; wanted {wanted_line!r} and {wanted_status}")
 
+    def audit(self):
+        """What the auditor says of the ledger: each lane is whole, and no acknowledged request is missing."""
+        audit = Audit(tomllib.loads(self.configuration()))
+        for file in sorted(self.ledger.glob("*.jsonl")):
+            audit.read(file.name, file.read_bytes())
+        audit.end()
+        for line in audit.printed:
+            if not line.endswith(" whole"):
+                self.findings.fault(f"the ledger: {line}")
+        entries = sum(lane["entries"] for lanes in audit.runs.values() for lane in lanes)
+        self.findings.counts["entries of its ledger"] = entries
+        if entries < self.findings.counts["acknowledged"] or len(audit.printed) < len(self.homes):
+            self.findings.fault(f"its ledger has {entries} entries")
+
     def compare(self):
         """What both sides' logs show together."""
         counts = self.findings.counts
@@ -256,6 +276,8 @@ class Soak:
                 self.findings.fault(f"{home.name}: requests came from {ports} source ports")
             if self.ending != "away" and sorted(home.sessions) != list(range(len(home.sessions))):
                 self.findings.fault(f"{home.name}: a request was accepted that never came")
+        if not self.refuser:
+            self.audit()
         log = self.log.read_bytes()
         if self.refuser and not (self.refuser.has_refused() and b"OutOfMemory" in log):
             self.findings.fault("no growth was refused, or its log tells of none")

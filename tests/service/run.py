@@ -56,7 +56,7 @@ class Service:
         self.configure()
         installed = str(room / "usr/sbin/rad_proxy")
         self.environment = os.environ | {"RUNTIME_DIRECTORY": str(self.run), "RAD_PROXY_PROGRAM": installed}
-        for name in ("RAD_PROXY_COUNTERS", "RAD_PROXY_LOG", "NOTIFY_SOCKET", "JOURNAL_STREAM"):
+        for name in ("RAD_PROXY_COUNTERS", "RAD_PROXY_LEDGER", "RAD_PROXY_LOG", "NOTIFY_SOCKET", "JOURNAL_STREAM"):
             self.environment.pop(name, None)
         self.started = []
 

@@ -1,5 +1,8 @@
 //! Lines of a ledger, as they are written.
 
+ghost use Rattle.std.specs.Prelude.{◌≡◌, IfOk, OnOk};
+ghost use Rattle.ledger_lines.specs.Written.{HasLineBehind};
+
 use crate::begin::{Begin, End};
 use json::Writer;
 use rad_ledger::Entry;
@@ -10,7 +13,9 @@ use std::alloc::{AllocError, Global};
 /// # Errors
 ///
 /// Where memory is refused.
-pub fn write_begin(alloc: Global, begin: &Begin<'_>, out: Vec<u8>) -> Result<Vec<u8>, AllocError> {
+pub fn write_begin(alloc: Global, begin: &Begin<'_>, out: Vec<u8>) -> Result<Vec<u8>, AllocError>
+    ensures { IfOk result (λ all. HasLineBehind out.items all.items) }
+{
     let mut writer = open_line(alloc, out, "begin", begin.run, begin.time)?;
     text(&mut writer, "version", begin.version)?;
     number(&mut writer, "file", begin.file)?;
@@ -32,7 +37,9 @@ pub fn write_begin(alloc: Global, begin: &Begin<'_>, out: Vec<u8>) -> Result<Vec
 /// # Errors
 ///
 /// Where memory is refused.
-pub fn write_entry(alloc: Global, entry: &Entry<'_>, out: Vec<u8>) -> Result<Vec<u8>, AllocError> {
+pub fn write_entry(alloc: Global, entry: &Entry<'_>, out: Vec<u8>) -> Result<Vec<u8>, AllocError>
+    ensures { IfOk result (λ all. HasLineBehind out.items all.items) }
+{
     let mut writer = open_line(alloc, out, "entry", entry.run, entry.time)?;
     text(&mut writer, "home", entry.home)?;
     number(&mut writer, "lane", u64::from(entry.lane))?;
@@ -66,7 +73,9 @@ pub fn write_entry(alloc: Global, entry: &Entry<'_>, out: Vec<u8>) -> Result<Vec
 /// # Errors
 ///
 /// Where memory is refused.
-pub fn write_end(alloc: Global, end: &End<'_>, out: Vec<u8>) -> Result<Vec<u8>, AllocError> {
+pub fn write_end(alloc: Global, end: &End<'_>, out: Vec<u8>) -> Result<Vec<u8>, AllocError>
+    ensures { IfOk result (λ all. HasLineBehind out.items all.items) }
+{
     let mut writer = open_line(alloc, out, "end", end.run, end.time)?;
     writer.key("lanes")?;
     writer.begin_array()?;
@@ -87,7 +96,9 @@ fn open_line(
     kind: &str,
     run: u64,
     time: &str,
-) -> Result<Writer, AllocError> {
+) -> Result<Writer, AllocError>
+    ensures { IfOk result (λ writer. writer.before ≡ out.items) }
+{
     let mut writer = Writer::new(out);
     writer.begin_object()?;
     text(&mut writer, "type", kind)?;
@@ -97,7 +108,9 @@ fn open_line(
 }
 
 /// Ends a line.
-fn close_line(writer: Writer) -> Result<Vec<u8>, AllocError> {
+fn close_line(writer: Writer) -> Result<Vec<u8>, AllocError>
+    ensures { IfOk result (λ all. HasLineBehind writer.before all.items) }
+{
     let mut writer = writer;
     writer.end_object()?;
     let mut out = writer.into_inner();
@@ -105,17 +118,23 @@ fn close_line(writer: Writer) -> Result<Vec<u8>, AllocError> {
     Ok(out)
 }
 
-fn text(writer: &mut Writer, key: &str, value: &str) -> Result<(), AllocError> {
+fn text(writer: &mut Writer, key: &str, value: &str) -> Result<(), AllocError>
+    ensures { OnOk result (writer.new.before ≡ writer.old.before) }
+{
     writer.key(key)?;
     writer.string(value)
 }
 
-fn number(writer: &mut Writer, key: &str, value: u64) -> Result<(), AllocError> {
+fn number(writer: &mut Writer, key: &str, value: u64) -> Result<(), AllocError>
+    ensures { OnOk result (writer.new.before ≡ writer.old.before) }
+{
     writer.key(key)?;
     writer.u64(value)
 }
 
-fn digits(alloc: Global, writer: &mut Writer, key: &str, octets: &[u8]) -> Result<(), AllocError> {
+fn digits(alloc: Global, writer: &mut Writer, key: &str, octets: &[u8]) -> Result<(), AllocError>
+    ensures { OnOk result (writer.new.before ≡ writer.old.before) }
+{
     let digits = hex::encode(alloc, octets)?;
     text(writer, key, digits.as_str())
 }
@@ -127,7 +146,9 @@ fn words(
     key: &str,
     key_of_octets: &str,
     octets: Option<&[u8]>,
-) -> Result<(), AllocError> {
+) -> Result<(), AllocError>
+    ensures { OnOk result (writer.new.before ≡ writer.old.before) }
+{
     let Some(octets) = octets else {
         return Ok(());
     };

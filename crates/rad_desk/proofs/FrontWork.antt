@@ -16,7 +16,8 @@ use Rattle.rad_desk.specs.Inlet.{taken, SameInlet}
 use Rattle.rad_desk.specs.Traffic.{Event, arrived, departed, told, endpoint, noted}
 use Rattle.rad_desk.specs.Calls.{Passes, IsQuiet, IsSent}
 use Rattle.rad_desk.specs.Once.{IsAnswerTo, AnswersWhatCame, GoesBack, SendsBack, AnswerGoes, SendsAnAnswer, HandsOne, Hands, Part, quiet, back, given, events_of, IsRight, given_in, given_by, EachGave, WorksInFront}
-use Rattle.rad_desk.proofs.CallsJoined.{passes_none, passes_join, passes_widen, passes_after}
+use Rattle.rad_desk.specs.HandOver.{response_of, responses_of}
+use Rattle.rad_desk.proofs.CallsJoined.{passes_none, passes_widen, passes_after}
 
 -- Inlets of the same rings.
 same_refl : (i : Inlet) → SameInlet i i
@@ -99,6 +100,10 @@ module _ (config : Configuration) where
     gave = gave_none [] 0 inlets (λ at from. refl);
   }
 
+  pub responses_none : (inlets : List Inlet) → responses_of (works_none inlets).parts ≡ []
+  unfolding works_none
+  responses_none inlets = refl
+
   -- A part in which no inlet gave anything.
   works_part : (part : Part) (inlets : List Inlet) (events : List Event) → events ≡ events_of part → IsRight config (length inlets) part → ((at : ℕ) → given_in at part ≡ []) → WorksInFront config inlets inlets events
   works_part part inlets events is right none = record {
@@ -108,7 +113,8 @@ module _ (config : Configuration) where
     gave = gave_none (part ∷ []) 0 inlets (λ at from. append-nil (given_in at part) ∙ none at);
   }
 
-  works_append : (old mid new : List Inlet) (first then : List Event) → WorksInFront config old mid first → WorksInFront config mid new then → WorksInFront config old new (first ++ then)
+  -- Two stretches of work.
+  pub works_append : (old mid new : List Inlet) (first then : List Event) → WorksInFront config old mid first → WorksInFront config mid new then → WorksInFront config old new (first ++ then)
   works_append old mid new first then a b = record {
     parts = a.parts ++ b.parts;
     passed = ap (λ l. l ++ then) a.passed ∙ ap (λ l. flat_map events_of a.parts ++ l) b.passed ∙ sym (flat_map-append events_of a.parts b.parts);
@@ -118,22 +124,23 @@ module _ (config : Configuration) where
     gave = gave_append a.parts b.parts 0 old mid new a.gave b.gave;
   }
 
-  -- Two stretches of work.
-  pub works_join : (old mid new : List Inlet) (since between until : Option (List Event)) → Passes (WorksInFront config old mid) since between → Passes (WorksInFront config mid new) between until → Passes (WorksInFront config old new) since until
-  works_join old mid new =
-      passes_join (WorksInFront config old mid) (WorksInFront config mid new) (WorksInFront config old new) (works_append old mid new)
+  pub responses_append : (old mid new : List Inlet) (first then : List Event) (a : WorksInFront config old mid first) (b : WorksInFront config mid new then) → responses_of (works_append old mid new first then a b).parts ≡ responses_of a.parts ++ responses_of b.parts
+  unfolding works_append
+  responses_append old mid new first then a b = flat_map-append response_of a.parts b.parts
 
   -- What a turn takes in, whatever the inlets are.
-  works_taken : (inlets : List Inlet) (events : List Event) → SendsBack config events → WorksInFront config inlets inlets events
+  pub works_taken : (inlets : List Inlet) (events : List Event) → SendsBack config events → WorksInFront config inlets inlets events
   works_taken inlets events (inl none) = works_part (quiet events) inlets events refl none (λ at. refl)
   works_taken inlets events (inr goes) =
       works_part (back goes.socket goes.from goes.question goes.moment goes.octets goes.delivery) inlets events goes.is goes.answers (λ at. refl)
 
-  pub works_by_taking : (inlets : List Inlet) (old new : Option (List Event)) → Passes (SendsBack config) old new → Passes (WorksInFront config inlets inlets) old new
-  works_by_taking inlets = passes_widen (SendsBack config) (WorksInFront config inlets inlets) (works_taken inlets)
+  pub responses_taken : (inlets : List Inlet) (events : List Event) (sends : SendsBack config events) → responses_of (works_taken inlets events sends).parts ≡ []
+  unfolding works_taken works_part
+  responses_taken inlets events (inl none) = refl
+  responses_taken inlets events (inr goes) = refl
 
   -- What a look at the inlet at a place does.
-  works_handed_by : (inlets : List Inlet) (place : ℕ) (other now : Inlet) → place < length inlets → (events : List Event) → SameInlet (get_or inlets place other) now → ((taken now ≡ taken (get_or inlets place other)) × (events ≡ [])) ⊎ HandsOne (get_or inlets place other) now events → WorksInFront config inlets (set inlets place now) events
+  pub works_handed_by : (inlets : List Inlet) (place : ℕ) (other now : Inlet) → place < length inlets → (events : List Event) → SameInlet (get_or inlets place other) now → ((taken now ≡ taken (get_or inlets place other)) × (events ≡ [])) ⊎ HandsOne (get_or inlets place other) now events → WorksInFront config inlets (set inlets place now) events
   works_handed_by inlets place other now within events same (inl none) = record {
     parts = [];
     passed = none.1;
@@ -149,12 +156,13 @@ module _ (config : Configuration) where
         gave = gave_one 0 place place one.outgoing one.delivery inlets other now (omega arith) within same one.took;
       }
 
-  works_handed : (inlets : List Inlet) (place : ℕ) (other now : Inlet) → place < length inlets → (events : List Event) → Hands (get_or inlets place other) now events → WorksInFront config inlets (set inlets place now) events
-  works_handed inlets place other now within events hands = works_handed_by inlets place other now within events hands.0 hands.1
+  pub responses_still : (inlets : List Inlet) (place : ℕ) (other now : Inlet) (within : place < length inlets) (events : List Event) (same : SameInlet (get_or inlets place other) now) (none : (taken now ≡ taken (get_or inlets place other)) × (events ≡ [])) → responses_of (works_handed_by inlets place other now within events same (inl none)).parts ≡ []
+  unfolding works_handed_by
+  responses_still inlets place other now within events same none = refl
 
-  pub works_by_handing : (inlets : List Inlet) (place : ℕ) (other now : Inlet) → place < length inlets → (since until : Option (List Event)) → Passes (Hands (get_or inlets place other) now) since until → Passes (WorksInFront config inlets (set inlets place now)) since until
-  works_by_handing inlets place other now within =
-      passes_widen (Hands (get_or inlets place other) now) (WorksInFront config inlets (set inlets place now)) (works_handed inlets place other now within)
+  pub responses_one : (inlets : List Inlet) (place : ℕ) (other now : Inlet) (within : place < length inlets) (events : List Event) (same : SameInlet (get_or inlets place other) now) (one : HandsOne (get_or inlets place other) now events) → responses_of (works_handed_by inlets place other now within events same (inr one)).parts ≡ one.outgoing ∷ []
+  unfolding works_handed_by
+  responses_one inlets place other now within events same one = refl
 
   -- A datagram came and was taken, and it was answered or not.
   goes_back : (socket : ℕ) (from : Endpoint) (question : List ℕ) (incoming : Incoming) → Takes config from.address from.port question incoming → (then : List Event) → SendsAnAnswer socket from incoming then → SendsBack config (arrived socket from question ∷ then)

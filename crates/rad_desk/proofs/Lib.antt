@@ -10,6 +10,7 @@ pub mod Untouched
 pub mod CallsJoined
 pub mod HomeWork
 pub mod FrontWork
+pub mod HandOver
 pub mod Responses
 pub mod OutletAfterTurn
 pub mod MarksCounted

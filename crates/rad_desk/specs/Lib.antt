@@ -11,6 +11,7 @@ pub mod Traffic
 pub mod Calls
 pub mod Working
 pub mod Once
+pub mod HandOver
 pub mod Turned
 pub mod Printed
 pub mod Spent

@@ -4,10 +4,12 @@ ghost use Rattle.std.specs.Prelude.{◌≡◌, ◌≤◌, IsTrue};
 ghost use Rattle.rad_realms.specs.Configuration.{Configuration};
 ghost use Rattle.rad_desk.specs.Calls.{Passes};
 ghost use Rattle.rad_desk.specs.Once.{WorksInFront, SendsBack, SendsAnAnswer, Hands, Fits};
+ghost use Rattle.rad_desk.specs.HandOver.{KeepsTaken, HandsOver};
 
 use crate::gate::{Call, Gate, Note, Repeat, Worker};
 use crate::handling::{Handled, handle};
 use crate::inlet::Inlet;
+use crate::ledger::{Ledger, NoLedger};
 use crate::marks::count_marks;
 use crate::proxy::Proxy;
 use crate::tally::{Shift, Tally};
@@ -40,6 +42,41 @@ pub fn front_worker<W: Wire, G: Gate>(
     ensures works { Passes (WorksInFront config.now inlets.old inlets.new) (W.log wire.old) (W.log wire.new) }
     ensures turns { result.turns ≤ turns }
 {
+    let mut ledger = NoLedger;
+    front_worker_with(
+        rt,
+        alloc,
+        proxy,
+        config,
+        inlets,
+        wire,
+        &mut ledger,
+        gate,
+        turns,
+    )
+}
+
+/// Serves the clients as [`front_worker`] does, and hands over each response that an inlet gives to a ledger: once, in
+/// the order in which the inlets gave them, and before it is sent.
+///
+/// The contract says which responses the ledger is given and sent, and that the order is the same. That a response is
+/// handed over before its own datagram is sent stands in no contract, since a wire and a ledger have a list each: it is
+/// tested.
+pub fn front_worker_with<W: Wire, L: Ledger, G: Gate>(
+    rt: &impl Wait,
+    alloc: Global,
+    proxy: &Proxy,
+    config: &Config,
+    inlets: &mut [Inlet],
+    wire: &mut W,
+    ledger: &mut L,
+    gate: &G,
+    turns: u64,
+) -> Tally
+    ensures works { Passes (WorksInFront config.now inlets.old inlets.new) (W.log wire.old) (W.log wire.new) }
+    ensures hands_over { Passes (HandsOver config.now inlets.old inlets.new (L.kept ledger.old) (L.kept ledger.new)) (W.log wire.old) (W.log wire.new) }
+    ensures turns { result.turns ≤ turns }
+{
     let mut shift = Shift::new(Worker::Front, gate);
     let mut octets = [0; 4096];
     let mut datagram = Datagram::new();
@@ -52,6 +89,7 @@ pub fn front_worker<W: Wire, G: Gate>(
             config,
             inlets,
             wire,
+            ledger,
             &mut shift,
             &mut octets,
             &mut datagram,
@@ -62,26 +100,27 @@ pub fn front_worker<W: Wire, G: Gate>(
     shift.tally
 }
 
-/// Does one turn, and returns whether the worker goes on. A response that an inlet gives in the turn is sent before the
-/// turn ends, even if the gate stops the worker.
-fn take_turn<W: Wire, G: Gate>(
+/// Does one turn, and returns whether the worker goes on. A response that an inlet gives in the turn is handed over and
+/// sent before the turn ends, even if the gate stops the worker.
+fn take_turn<W: Wire, L: Ledger, G: Gate>(
     rt: &impl Wait,
     alloc: Global,
     proxy: &Proxy,
     config: &Config,
     inlets: &mut [Inlet],
     wire: &mut W,
+    ledger: &mut L,
     shift: &mut Shift<'_, G>,
     octets: &mut [u8; 4096],
     datagram: &mut Datagram,
 ) -> bool
-    ensures works { Passes (WorksInFront config.now inlets.old inlets.new) (W.log wire.old) (W.log wire.new) }
+    ensures hands_over { Passes (HandsOver config.now inlets.old inlets.new (L.kept ledger.old) (L.kept ledger.new)) (W.log wire.old) (W.log wire.new) }
     ensures turns { shift.new.tally.turns ≡ shift.old.tally.turns }
 {
     if !take_in(rt, alloc, proxy, config, wire, shift, octets, datagram) {
         return false;
     }
-    hand_out(inlets, wire, shift)
+    hand_out(inlets, wire, ledger, shift)
 }
 
 /// Receives once, handles what was received, and returns whether the worker goes on.
@@ -195,23 +234,34 @@ fn fits(incoming: &Incoming<'_>, datagram: &Datagram) -> bool
     }
 }
 
-/// Takes at most one response from each inlet, sends it, and returns whether the worker goes on.
-fn hand_out<W: Wire, G: Gate>(inlets: &mut [Inlet], wire: &mut W, shift: &mut Shift<'_, G>) -> bool
-    ensures works { (config : Configuration) → Passes (WorksInFront config inlets.old inlets.new) (W.log wire.old) (W.log wire.new) }
+/// Takes at most one response from each inlet, hands it over, sends it, and returns whether the worker goes on.
+fn hand_out<W: Wire, L: Ledger, G: Gate>(
+    inlets: &mut [Inlet],
+    wire: &mut W,
+    ledger: &mut L,
+    shift: &mut Shift<'_, G>,
+) -> bool
+    ensures hands_over { (config : Configuration) → Passes (HandsOver config inlets.old inlets.new (L.kept ledger.old) (L.kept ledger.new)) (W.log wire.old) (W.log wire.new) }
     ensures turns { shift.new.tally.turns ≡ shift.old.tally.turns }
 {
     for place in 0..inlets.len() {
         if !shift.may(Call::Take) {
             return false;
         }
-        take(&mut inlets[place], wire, shift);
+        take(&mut inlets[place], wire, ledger, shift);
     }
     true
 }
 
-/// Takes a response, if there is one, and sends it.
-fn take<W: Wire, G: Gate>(inlet: &mut Inlet, wire: &mut W, shift: &mut Shift<'_, G>)
+/// Takes a response, if there is one, hands it over to the ledger, and then sends it.
+fn take<W: Wire, L: Ledger, G: Gate>(
+    inlet: &mut Inlet,
+    wire: &mut W,
+    ledger: &mut L,
+    shift: &mut Shift<'_, G>,
+)
     ensures hands { Passes (Hands inlet.old inlet.new) (W.log wire.old) (W.log wire.new) }
+    ensures keeps { KeepsTaken inlet.old inlet.new (L.kept ledger.old) (L.kept ledger.new) }
     ensures turns { shift.new.tally.turns ≡ shift.old.tally.turns }
 {
     let taken = inlet.take();
@@ -223,6 +273,7 @@ fn take<W: Wire, G: Gate>(inlet: &mut Inlet, wire: &mut W, shift: &mut Shift<'_,
         address: outgoing.client,
         port: outgoing.port,
     };
+    ledger.keep(&outgoing);
     shift.send(wire, LISTEN, to, outgoing.reply.response());
     shift.note(Note::Took(inlet.lane(), outgoing.serial));
 }

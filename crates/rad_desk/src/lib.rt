@@ -9,8 +9,8 @@
 //! a ring, and `Outlet` is what was added to the ring, beside the lane's book. `Tells` is hearing the home server.
 //! `Departures` and `Lawful` are what a call through a lock states, `Spent` is what is reported of the request that
 //! marks a home server down, `Standing` is the standing of a lane, and `Marks` is how many Proxy-States of this proxy's
-//! form a request has. `Traffic` is what passes over a wire, `Working` what a lane's worker may send over it, and
-//! `Once` what the front may send.
+//! form a request has. `Traffic` is what passes over a wire, `Working` what a lane's worker may send over it, `Once`
+//! what the front may send, and `HandOver` what the front hands over to a ledger.
 #![tactic(auto)]
 
 mod agreeing;
@@ -25,6 +25,7 @@ mod inlet;
 mod lane_calls;
 mod lanes;
 pub mod laws;
+mod ledger;
 mod marks;
 mod numbered;
 mod proxy;
@@ -37,11 +38,12 @@ mod wire;
 
 pub use closing::CloseFault;
 pub use desk::OpenFault;
-pub use front::front_worker;
+pub use front::{front_worker, front_worker_with};
 pub use gate::{Call, Gate, Go, Note, Repeat, UpReason, Worker};
 pub use hearing::{DeskFault, Told};
 pub use inlet::Inlet;
 pub use lanes::lane_worker;
+pub use ledger::{Handed, Ledger, NoLedger};
 pub use marks::count_marks;
 pub use proxy::{Proxy, open};
 pub use report::{LaneEnd, Report, Rest};

@@ -7,3 +7,4 @@ pub mod HomeNumbers
 pub mod Samples
 pub mod Buckets
 pub mod SocketNumbers
+pub mod LedgerNumbers

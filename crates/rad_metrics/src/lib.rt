@@ -8,8 +8,8 @@
 //! Contracts say what each family is called, what its help text is and how each line is printed, which part of its
 //! [`Reading`] each metric of a home server is, and as which event of a client a note is counted. No contract covers
 //! what is behind a lock or in an atomic, such as a count: tests check it. The definitions are in `specs`: `Families`
-//! and `Samples` define the lines, `ProgramNumbers`, `LimitNumbers`, `ClientEvents`, `HomeNumbers` and `SocketNumbers`
-//! the metrics of each, and `Buckets` the bounds of a histogram.
+//! and `Samples` define the lines, `ProgramNumbers`, `LimitNumbers`, `ClientEvents`, `HomeNumbers`, `SocketNumbers` and
+//! `LedgerNumbers` the metrics of each, and `Buckets` the bounds of a histogram.
 #![tactic(auto)]
 
 mod client_event;
@@ -20,6 +20,8 @@ mod histogram;
 mod home_cells;
 mod home_number;
 mod home_times;
+mod ledger_number;
+mod ledger_reading;
 mod limit_number;
 mod numbers;
 mod program_number;
@@ -37,6 +39,8 @@ pub use client_event::{CLIENT_EVENTS, ClientEvent, ClientFamily};
 pub use draft::Draft;
 pub use family::{Family, Kind};
 pub use home_number::HomeNumber;
+pub use ledger_number::LedgerNumber;
+pub use ledger_reading::LedgerReading;
 pub use limit_number::LimitNumber;
 pub use numbers::Numbers;
 pub use program_number::ProgramNumber;
@@ -46,4 +50,4 @@ pub use socket_number::SocketNumber;
 pub use socket_numbers::SocketReading;
 pub use udp_sockets::{UdpSockets, read_udp_sockets};
 pub use value::Value;
-pub use writing::write_numbers;
+pub use writing::{VERSION, write_ledger, write_numbers};

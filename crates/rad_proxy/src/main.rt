@@ -22,6 +22,7 @@ use rad_metrics::UdpSockets;
 use rad_replay::replay;
 use rad_server::LocalAddresses;
 use rad_telemetry::{Log, ReplaceFile, RuntimeFiles, open_log_if_asked, tell_reason};
+use rad_writer::{LedgerDisk, RuntimeDisk};
 use run_command::serve_file;
 use std::alloc::{AllocGlobal, Global};
 use std::env::{self, Env};
@@ -40,8 +41,9 @@ const LEFT_OVER: u8 = 3;
 
 fn main(rt: HostRuntime) -> ExitCode {
     let files = RuntimeFiles::new(rt);
+    let disk = RuntimeDisk::new(rt);
     let machine = Machine::new(rt);
-    let status = match obey_words(&rt, files, &machine) {
+    let status = match obey_words(&rt, files, disk, &machine) {
         Ok(status) => status,
         Err(fault) => {
             if !matches!(fault, Fault::Output) {
@@ -54,11 +56,12 @@ fn main(rt: HostRuntime) -> ExitCode {
 }
 
 /// Does what the words of the command line ask for, and returns the status.
-fn obey_words<R, F, A>(rt: &R, files: F, machine: &A) -> Result<u8, Fault>
+fn obey_words<R, F, D, A>(rt: &R, files: F, disk: D, machine: &A) -> Result<u8, Fault>
 where
     R: Runtime + AllocGlobal + Net + RandomSource + Threads + Wait + Sync + Copy + Send + 'static,
     R::File: Drop + IntoRawFd,
     F: ReplaceFile + Drop + Send + 'static,
+    D: LedgerDisk + Drop + Send + 'static,
     A: LocalAddresses + UdpSockets + Sync,
 {
     open_standard(rt)?;
@@ -72,7 +75,7 @@ where
             print_counts(rt, alloc, &log, file.as_str())
         }
         Task::Run(file) => {
-            let end = serve_file(rt, files, machine, alloc, file.as_str())?;
+            let end = serve_file(rt, files, disk, machine, alloc, file.as_str())?;
             Ok(status_at(&end))
         }
     }

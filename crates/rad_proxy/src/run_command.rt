@@ -10,9 +10,11 @@ use rad_metrics::UdpSockets;
 use rad_realms::Config;
 use rad_server::{Descriptors, LocalAddresses, ServeFault, run};
 use rad_telemetry::{
-    CounterFile, CounterTexts, ErrorLines, Log, Logged, ReplaceFile, Reporter, StopFlag, Telemetry,
-    ToldStream, find_counter_file, log_fault, open_log, report, start_texts, tell_reason,
+    CounterFile, CounterTexts, ErrorLines, LedgerState, Log, Logged, ReplaceFile, Reporter,
+    StopFlag, Telemetry, ToldStream, find_counter_file, log_fault, open_log, report, start_texts,
+    tell_reason,
 };
+use rad_writer::{LedgerDisk, LedgerInlet, OpenedLedger, find_folder, open_ledger, start_writer};
 use std::alloc::{AllocError, AllocGlobal, Global};
 use std::io::{self, Error, Read, Write};
 use std::net::Net;
@@ -28,6 +30,9 @@ const LAST_TEXT: u64 = 500;
 /// How long it waits for that text and for the log together, in milliseconds.
 const LAST_LINES: u64 = 1000;
 
+/// How long the program waits at its end for the ledger, in milliseconds.
+const LAST_ENTRIES: u64 = 1000;
+
 /// The reason for which a thread can't be started. The system gives one error number for both causes.
 const NO_THREAD: &str = "the system has no thread more, or no memory for one";
 
@@ -39,9 +44,10 @@ const NO_WAIT: &str = "the system can't wait for it";
 /// # Errors
 ///
 /// Those of [`load`] and of [`run`]; `Threads` if a thread that reports or writes can't be started.
-pub fn serve_file<R, F, A>(
+pub fn serve_file<R, F, D, A>(
     rt: &R,
     files: F,
+    disk: D,
     machine: &A,
     alloc: Global,
     path: &str,
@@ -50,18 +56,20 @@ where
     R: Runtime + AllocGlobal + Net + RandomSource + Threads + Wait + Sync + Copy + Send + 'static,
     R::File: Drop,
     F: ReplaceFile + Drop + Send + 'static,
+    D: LedgerDisk + Drop + Send + 'static,
     A: LocalAddresses + UdpSockets + Sync,
 {
     let Ok(log) = open_log(rt, alloc) else {
         return Err(Fault::Memory);
     };
-    serve_logged(rt, files, machine, alloc, path, &log)
+    serve_logged(rt, files, disk, machine, alloc, path, &log)
 }
 
 /// Serves the configuration in a file until standard input ends, with this log.
-fn serve_logged<R, F, A>(
+fn serve_logged<R, F, D, A>(
     rt: &R,
     files: F,
+    disk: D,
     machine: &A,
     alloc: Global,
     path: &str,
@@ -71,16 +79,18 @@ where
     R: Runtime + AllocGlobal + Net + RandomSource + Threads + Wait + Sync + Copy + Send + 'static,
     R::File: Drop,
     F: ReplaceFile + Drop + Send + 'static,
+    D: LedgerDisk + Drop + Send + 'static,
     A: LocalAddresses + UdpSockets + Sync,
 {
     let config = load(rt, alloc, log, path)?;
-    serve_config(rt, files, machine, alloc, &config, log)
+    serve_config(rt, files, disk, machine, alloc, &config, log)
 }
 
 /// Serves a configuration, while other threads write the log and the file of the counters.
-fn serve_config<R, F, A>(
+fn serve_config<R, F, D, A>(
     rt: &R,
     files: F,
+    disk: D,
     machine: &A,
     alloc: Global,
     config: &Config,
@@ -90,6 +100,7 @@ where
     R: Runtime + AllocGlobal + Net + RandomSource + Threads + Wait + Sync + Copy + Send + 'static,
     R::File: Drop,
     F: ReplaceFile + Drop + Send + 'static,
+    D: LedgerDisk + Drop + Send + 'static,
     A: LocalAddresses + UdpSockets + Sync,
 {
     let Ok(file) = find_counter_file(rt, log) else {
@@ -106,8 +117,58 @@ where
         return Err(fault_told(log, ServeFault::Threads));
     }
     let left = if is_reported { Some(&*texts) } else { None };
-    let outcome = serve_told(rt, machine, alloc, config, &telemetry, left, log);
+    let outcome = serve_kept(rt, disk, machine, alloc, config, &telemetry, left, log);
     end_writers(rt, log, &texts);
+    outcome
+}
+
+/// Serves a configuration, while a thread writes the ledger, if there is to be one.
+fn serve_kept<'a, R, D, A>(
+    rt: &'a R,
+    disk: D,
+    machine: &'a A,
+    alloc: Global,
+    config: &'a Config,
+    telemetry: &'a Telemetry<'a, Logged<(), ErrorLines>, R>,
+    texts: Option<&'a CounterTexts>,
+    log: &'a Logged<(), ErrorLines>,
+) -> Result<EndLine, Fault>
+where
+    R: Runtime + AllocGlobal + Net + RandomSource + Threads + Wait + Sync + Copy + Send + 'static,
+    D: LedgerDisk + Drop + Send + 'static,
+    A: LocalAddresses + UdpSockets + Sync,
+{
+    let Ok(folder) = find_folder(rt, log) else {
+        return Err(Fault::Memory);
+    };
+    let Some(folder) = folder else {
+        return serve_told(
+            rt, machine, alloc, config, telemetry, texts, None, None, log,
+        );
+    };
+    let Ok(opened) = open_ledger(rt, alloc, folder, config) else {
+        return Err(Fault::Memory);
+    };
+    let OpenedLedger {
+        inlet,
+        writer,
+        state,
+    } = opened;
+    if !start_writer(rt, alloc, writer, disk) {
+        return Err(fault_told(log, ServeFault::Threads));
+    }
+    let outcome = serve_told(
+        rt,
+        machine,
+        alloc,
+        config,
+        telemetry,
+        texts,
+        Some(inlet),
+        Some(&*state),
+        log,
+    );
+    state.tell_left(log);
     outcome
 }
 
@@ -119,6 +180,8 @@ fn serve_told<'a, R, L, A>(
     config: &'a Config,
     telemetry: &'a Telemetry<'a, L, R>,
     texts: Option<&'a CounterTexts>,
+    inlet: Option<LedgerInlet<'a, R>>,
+    ledger: Option<&'a LedgerState>,
     log: &'a L,
 ) -> Result<EndLine, Fault>
 where
@@ -126,7 +189,7 @@ where
     L: Log + Sync,
     A: LocalAddresses + UdpSockets + Sync,
 {
-    let reporter = telemetry.reporter(texts);
+    let reporter = telemetry.reporter(texts).with_ledger(ledger);
     let service = Service {
         rt,
         machine,
@@ -134,10 +197,11 @@ where
         config,
         telemetry,
         reporter,
+        ledger,
     };
     let reader = ToldStream::new(rt.reader(), "input-fault", log);
     let writer = ToldStream::new(io::writer(rt), "output-fault", log);
-    match serve(service, reader, writer) {
+    match serve(service, inlet, reader, writer) {
         Ok(end) => Ok(end),
         Err(fault) => Err(fault_told(log, fault)),
     }
@@ -200,6 +264,7 @@ struct Service<'a, R, L, A> {
     config: &'a Config,
     telemetry: &'a Telemetry<'a, L, R>,
     reporter: Reporter<'a, L, R>,
+    ledger: Option<&'a LedgerState>,
 }
 
 impl<R, L, A> Clone for Service<'_, R, L, A> {
@@ -211,8 +276,9 @@ impl<R, L, A> Clone for Service<'_, R, L, A> {
 impl<R, L, A> Copy for Service<'_, R, L, A> {}
 
 /// Serves a configuration, while a separate thread reports the counters.
-fn serve<R, L, A, I, O>(
-    service: Service<'_, R, L, A>,
+fn serve<'a, R, L, A, I, O>(
+    service: Service<'a, R, L, A>,
+    inlet: Option<LedgerInlet<'a, R>>,
     reader: I,
     writer: O,
 ) -> Result<EndLine, ServeFault>
@@ -234,7 +300,8 @@ where
             if !start_reporter(scope, service, stop) {
                 return Err(ServeFault::Threads);
             }
-            let end = serve_and_tell(service, reader, writer);
+            let end = serve_and_tell(service, inlet, reader, writer);
+            end_ledger(service, end.is_ok());
             stop.set();
             end
         },
@@ -264,9 +331,26 @@ where
         .is_ok()
 }
 
+/// Lets the thread that writes the ledger, if there is one, write what is left, for at most a second. If the end is clean,
+/// it writes the line that ends the run too.
+fn end_ledger<R: Clock + Wait, L, A>(service: Service<'_, R, L, A>, is_clean: bool) {
+    let Some(ledger) = service.ledger else {
+        return;
+    };
+    if let Ok(start) = Instant::now(service.rt) {
+        ledger.end(
+            service.rt,
+            is_clean,
+            start,
+            Duration::from_millis(LAST_ENTRIES),
+        );
+    }
+}
+
 /// Serves a configuration, and logs it if a worker ended by itself.
-fn serve_and_tell<R, L, A, I, O>(
-    service: Service<'_, R, L, A>,
+fn serve_and_tell<'a, R, L, A, I, O>(
+    service: Service<'a, R, L, A>,
+    inlet: Option<LedgerInlet<'a, R>>,
     reader: I,
     writer: O,
 ) -> Result<EndLine, ServeFault>
@@ -295,6 +379,7 @@ where
         alloc,
         config,
         telemetry,
+        inlet,
         reader,
         writer,
         descriptors,

@@ -15,7 +15,7 @@ use crate::threads::work;
 use crate::wiring::{Wires, make_reader, make_wires, notifiers_of};
 use crate::working::Service;
 use rad_console::{EndLine, ListeningLine, close};
-use rad_desk::{Gate, OpenFault, Wire, open};
+use rad_desk::{Gate, Ledger, OpenFault, Wire, open};
 use rad_realms::Config;
 use std::alloc::Global;
 use std::io::{Read, Write};
@@ -31,18 +31,20 @@ use std::time::Clock;
 /// If the reader reads from a descriptor, so that a read may wait, a worker that ends by itself ends that wait. If the
 /// writer writes to a descriptor, so that a write may wait, the input is watched during the wait. From the end of the
 /// input on the lanes are drained, and the writer is waited for no longer than `linger`. If all addresses of the
-/// machine are served, `addresses` says which these are.
+/// machine are served, `addresses` says which these are. The ledger begins once all sockets are bound, and the front
+/// hands each response over to it before it sends it.
 ///
 /// # Errors
 ///
 /// `Listen` or `LaneSocket` if a socket can't be bound or set up, `InputWait` if a wait for the reader can't be set up,
 /// and otherwise as [`serve`].
-pub fn run<R, A, G, I, O>(
+pub fn run<R, A, G, L, I, O>(
     rt: &R,
     addresses: &A,
     alloc: Global,
     config: &Config,
     gate: &G,
+    ledger: L,
     reader: I,
     writer: O,
     descriptors: Descriptors,
@@ -51,6 +53,7 @@ where
     R: Clock + Net + RandomSource + Threads + Wait + Sync,
     A: LocalAddresses + Sync,
     G: Gate + Sync,
+    L: Ledger + Send + Drop,
     I: Read + Drop,
     O: Write + Drop,
     ensures { IfOk result (IsEndOf (length config.now.homes)) }
@@ -65,15 +68,18 @@ where
     let Ok(notifiers) = notifiers_of(alloc, &wires, &reader) else {
         return Err(ServeFault::Memory);
     };
-    serve_over(rt, alloc, config, wires, &notifiers, gate, reader, output)
+    serve_over(
+        rt, alloc, config, wires, &notifiers, gate, ledger, reader, output,
+    )
 }
 
 /// Serves a configuration over these wires until the reader ends. Then it drains the lanes, waits until they are done
 /// or `linger` has passed, and prints what is left.
 ///
-/// The wires keep a log, so that a contract can say what is sent on them. The notifiers are those of the wires and of
-/// the reader, as far as these have any. The gate is asked before each call of a worker. A worker that ends by itself
-/// stops the others.
+/// The wires keep a log, so that a contract can say what is sent on them. The ledger begins before the workers do, and
+/// the front hands each response over to it before it sends it. The notifiers are those of the wires and of the reader,
+/// as far as these have any. The gate is asked before each call of a worker. A worker that ends by itself stops the
+/// others.
 ///
 /// # Errors
 ///
@@ -81,13 +87,14 @@ where
 /// be started, `Ended` if a worker ends by itself, and `Memory` if a growth is refused. The workers have ended by then.
 /// A fault before the end of the input leaves the lanes as they are. A reader that returns `Interrupted` is read again,
 /// if all workers go on.
-pub fn serve<R, W, G, I, O>(
+pub fn serve<R, W, G, L, I, O>(
     rt: &R,
     alloc: Global,
     config: &Config,
     wires: Wires<W>,
     notifiers: &Notifiers,
     gate: &G,
+    ledger: L,
     reader: I,
     writer: O,
 ) -> Result<EndLine, ServeFault>
@@ -95,13 +102,16 @@ where
     R: Clock + Threads + Wait + Sync,
     W: Wire + Send + Drop,
     G: Gate + Sync,
+    L: Ledger + Send + Drop,
     I: Read + Drop,
     O: Write + Drop,
     requires keeps { (wire : W) → IsSome (W.log wire) }
     ensures { IfOk result (IsEndOf (length config.now.homes)) }
 {
     let output = open_output(alloc, config, writer, Descriptors::none())?;
-    serve_over(rt, alloc, config, wires, notifiers, gate, reader, output)
+    serve_over(
+        rt, alloc, config, wires, notifiers, gate, ledger, reader, output,
+    )
 }
 
 /// Makes the output for this writer, with room for the answer to a command.
@@ -116,13 +126,14 @@ fn open_output<O: Write + Drop>(
 }
 
 /// Serves as `serve` does. What the output already holds is written once all workers have begun.
-fn serve_over<R, W, G, I, O>(
+fn serve_over<R, W, G, L, I, O>(
     rt: &R,
     alloc: Global,
     config: &Config,
     wires: Wires<W>,
     notifiers: &Notifiers,
     gate: &G,
+    mut ledger: L,
     reader: I,
     mut output: Output<O>,
 ) -> Result<EndLine, ServeFault>
@@ -130,6 +141,7 @@ where
     R: Clock + Threads + Wait + Sync,
     W: Wire + Send + Drop,
     G: Gate + Sync,
+    L: Ledger + Send + Drop,
     I: Read + Drop,
     O: Write + Drop,
     requires keeps { (wire : W) → IsSome (W.log wire) }
@@ -149,7 +161,8 @@ where
         proxy: &proxy,
         supervisor: &supervisor,
     };
-    let inlets = work(service, wires, inlets, reader, &mut output)?;
+    ledger.begin();
+    let inlets = work(service, wires, ledger, inlets, reader, &mut output)?;
     let Ok(end) = close(alloc, proxy, inlets) else {
         return Err(ServeFault::Memory);
     };

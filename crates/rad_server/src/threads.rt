@@ -8,17 +8,18 @@ use crate::faults::ServeFault;
 use crate::printing::Output;
 use crate::wiring::Wires;
 use crate::working::Service;
-use rad_desk::{Gate, Inlet, Wire};
+use rad_desk::{Gate, Inlet, Ledger, Wire};
 use std::io::{Read, Write};
 use std::sync::Wait;
 use std::thread::{self, JoinHandle, Scope, Threads};
 use std::time::Clock;
 
 /// Starts a thread for each wire, writes what the output holds once all have begun, and obeys the reader's commands.
-/// Returns the inlets. All threads have ended when it returns.
-pub(crate) fn work<R, W, G, I, O>(
+/// The thread of the front has the ledger. Returns the inlets. All threads have ended when it returns.
+pub(crate) fn work<R, W, G, L, I, O>(
     service: Service<'_, R, G>,
     wires: Wires<W>,
+    ledger: L,
     inlets: Vec<Inlet>,
     reader: I,
     output: &mut Output<O>,
@@ -27,6 +28,7 @@ where
     R: Clock + Threads + Wait + Sync,
     W: Wire + Send + Drop,
     G: Gate + Sync,
+    L: Ledger + Send + Drop,
     I: Read + Drop,
     O: Write + Drop,
     requires keeps { (wire : W) → IsSome (W.log wire) }
@@ -35,16 +37,17 @@ where
         thread::scope_env(),
         service.rt,
         move |scope| -> Result<Vec<Inlet>, ServeFault>
-            requires { IsSync R.row × IsSend W.row × IsSync G.row × ((wire : W) → IsSome (W.log wire)) }
-        { work_in(scope, service, wires, inlets, reader, output) },
+            requires { IsSync R.row × IsSend W.row × IsSync G.row × IsSend L.row × ((wire : W) → IsSome (W.log wire)) }
+        { work_in(scope, service, wires, ledger, inlets, reader, output) },
     )
 }
 
 /// Does the same with threads of this scope.
-fn work_in<'s, E, R, W, G, I, O>(
+fn work_in<'s, E, R, W, G, L, I, O>(
     scope: &Scope<'s, E>,
     service: Service<'s, R, G>,
     wires: Wires<W>,
+    ledger: L,
     inlets: Vec<Inlet>,
     reader: I,
     output: &mut Output<O>,
@@ -53,12 +56,13 @@ where
     R: Clock + Threads + Wait + Sync + 's,
     W: Wire + Send + Drop + 's,
     G: Gate + Sync + 's,
+    L: Ledger + Send + Drop + 's,
     I: Read + Drop,
     O: Write + Drop,
     requires keeps { (wire : W) → IsSome (W.log wire) }
 {
     let Wires { front, lanes } = wires;
-    let front = start_front(scope, service, inlets, front)?;
+    let front = start_front(scope, service, inlets, front, ledger)?;
     let outcome = if start_lanes(scope, service, lanes) {
         attend(service, reader, output)
     } else {
@@ -73,16 +77,18 @@ where
 }
 
 /// Starts the worker of the clients' side, which returns the inlets at its end.
-fn start_front<'s, E, R, W, G>(
+fn start_front<'s, E, R, W, G, L>(
     scope: &Scope<'s, E>,
     service: Service<'s, R, G>,
     inlets: Vec<Inlet>,
     wire: W,
+    ledger: L,
 ) -> Result<JoinHandle<Vec<Inlet>>, ServeFault>
 where
     R: Wait + Sync + 's,
     W: Wire + Send + Drop + 's,
     G: Gate + Sync + 's,
+    L: Ledger + Send + Drop + 's,
     requires keeps { (wire : W) → IsSome (W.log wire) }
 {
     let worker = scope.spawn(
@@ -91,7 +97,8 @@ where
         {
             let mut inlets = inlets;
             let mut wire = wire;
-            service.work_in_front(inlets.as_mut_slice(), &mut wire);
+            let mut ledger = ledger;
+            service.work_in_front(inlets.as_mut_slice(), &mut wire, &mut ledger);
             inlets
         },
     );

@@ -3,10 +3,11 @@
 ghost use Rattle.std.specs.Prelude.{IsSome};
 ghost use Rattle.rad_desk.specs.Calls.{Passes};
 ghost use Rattle.rad_desk.specs.Once.{WorksInFront};
+ghost use Rattle.rad_desk.specs.HandOver.{HandsOver};
 ghost use Rattle.rad_desk.specs.Working.{WorksForHome, WorksOnLane};
 
 use crate::supervising::Supervisor;
-use rad_desk::{Gate, Inlet, Proxy, Wire, Worker, front_worker, lane_worker};
+use rad_desk::{Gate, Inlet, Ledger, Proxy, Wire, Worker, front_worker_with, lane_worker};
 use rad_realms::{Config, Home};
 use std::alloc::{AllocError, Global};
 use std::sync::Wait;
@@ -29,19 +30,26 @@ impl<R, G> Clone for Service<'_, R, G> {
 impl<R, G> Copy for Service<'_, R, G> {}
 
 impl<R: Wait, G: Gate> Service<'_, R, G> {
-    /// Serves the clients until the worker is stopped.
-    pub(crate) fn work_in_front<W: Wire>(self, inlets: &mut [Inlet], wire: &mut W)
+    /// Serves the clients until the worker is stopped, and hands each response over to the ledger.
+    pub(crate) fn work_in_front<W: Wire, L: Ledger>(
+        self,
+        inlets: &mut [Inlet],
+        wire: &mut W,
+        ledger: &mut L,
+    )
         requires { IsSome (W.log wire.old) }
-        ensures { Passes (WorksInFront self.entry.config.now inlets.old inlets.new) (W.log wire.old) (W.log wire.new) }
+        ensures works { Passes (WorksInFront self.entry.config.now inlets.old inlets.new) (W.log wire.old) (W.log wire.new) }
+        ensures hands_over { Passes (HandsOver self.entry.config.now inlets.old inlets.new (L.kept ledger.old) (L.kept ledger.new)) (W.log wire.old) (W.log wire.new) }
     {
         self.supervisor.begin(self.rt);
-        let _ = front_worker(
+        let _ = front_worker_with(
             self.rt,
             self.alloc,
             self.proxy,
             self.config,
             inlets,
             wire,
+            ledger,
             self.supervisor,
             u64::MAX,
         );

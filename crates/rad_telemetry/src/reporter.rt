@@ -7,13 +7,14 @@ use crate::counters::{Counters, Delta};
 use crate::delta_lines::{ClientDelta, CutDelta, FaultDelta, HomeDelta, MarkedDelta};
 use crate::event_kind::{EVENT_KINDS, EventKind};
 use crate::last_realm::LastRealm;
+use crate::ledger_state::LedgerState;
 use crate::metric::{METRICS, Metric};
 use crate::metric_lines::{CounterLine, HelpLine, Labels, TypeLine};
 use crate::stop_flag::StopFlag;
 use crate::workers::{worker_name, worker_of_lane};
 use log::{Log, info, warn};
 use rad_desk::Worker;
-use rad_metrics::{Draft, Numbers, UdpSockets};
+use rad_metrics::{Draft, Numbers, UdpSockets, write_ledger};
 use rad_realms::{Config, Dropped};
 use std::alloc::{AllocError, Global};
 use std::io::{self, Write};
@@ -35,6 +36,8 @@ pub struct Reporter<'a, L, R> {
     pub(crate) log: &'a L,
     /// What takes the texts of the counters, if they go to a file.
     pub(crate) texts: Option<&'a CounterTexts>,
+    /// The ledger, if there is one.
+    pub(crate) ledger: Option<&'a LedgerState>,
 }
 
 impl<L, R> Clone for Reporter<'_, L, R> {
@@ -44,6 +47,13 @@ impl<L, R> Clone for Reporter<'_, L, R> {
 }
 
 impl<L, R> Copy for Reporter<'_, L, R> {}
+
+impl<'a, L, R> Reporter<'a, L, R> {
+    /// Makes a reporter that reports on this ledger too, if there is one.
+    pub fn with_ledger(self, ledger: Option<&'a LedgerState>) -> Reporter<'a, L, R> {
+        Reporter { ledger, ..self }
+    }
+}
 
 /// Reports once a second until the flag is set, and then once more. A text of all numbers is made anew each time, in
 /// the memory of an earlier one. The workers are asked for the standings of their lanes right before, except for the
@@ -68,6 +78,7 @@ where
             stop.wait(rt, ASKED);
         }
         reporter.log_deltas();
+        reporter.log_ledger();
         reporter.leave_text(rt, sockets, &mut draft);
         if is_last {
             return;
@@ -90,6 +101,13 @@ impl<L: Log, R> Reporter<'_, L, R> {
         self.log_deltas_of(Worker::Front);
         for lane in 0..self.config.homes().len() {
             self.log_deltas_of(worker_of_lane(lane));
+        }
+    }
+
+    /// Logs what went wrong with the ledger since the last call.
+    fn log_ledger(&self) {
+        if let Some(ledger) = self.ledger {
+            ledger.tell(self.log);
         }
     }
 
@@ -246,10 +264,15 @@ impl<L: Log, R: Clock> Reporter<'_, L, R> {
         }
     }
 
-    /// Writes all counters, and then all numbers of the clients, the home servers and the sockets.
+    /// Writes all counters, then all numbers of the clients, the home servers and the sockets, and then those of the
+    /// ledger, if there is one.
     fn write_all(&self, draft: &mut Draft) -> io::Result<()> {
         self.write(draft.begin())?;
-        draft.finish(self.config, self.numbers)
+        draft.finish(self.config, self.numbers)?;
+        match self.ledger {
+            Some(ledger) => write_ledger(draft.text(), &ledger.reading(self.numbers.now())),
+            None => Ok(()),
+        }
     }
 }
 

@@ -77,6 +77,7 @@ impl<'a, L: Log, R: Clock> Telemetry<'a, L, R> {
             numbers: &self.numbers,
             log: self.log,
             texts,
+            ledger: None,
         }
     }
 }

@@ -65,6 +65,13 @@ impl WriterState {
         }
     }
 
+    /// Makes the thread sleep for this long, or until there is something to write.
+    pub fn sleep_for<R: Clock + Wait>(&self, rt: &R, longest: Duration) {
+        if self.pending.load(Ordering::SeqCst) == 0 {
+            self.pending.park_timeout(rt, 0, longest);
+        }
+    }
+
     /// Records that the thread has written everything.
     pub fn finish(&self) {
         self.finished.store(1, Ordering::SeqCst);

@@ -1,0 +1,6 @@
+mod Dates
+mod Ends
+mod Orders
+mod Writes
+mod Years
+mod Zeros

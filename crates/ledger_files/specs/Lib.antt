@@ -1,0 +1,6 @@
+pub mod Batches
+pub mod Calendar
+pub mod Files
+pub mod FileNames
+pub mod Moments
+pub mod Rotation

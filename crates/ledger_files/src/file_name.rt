@@ -1,0 +1,25 @@
+//! The names of a ledger's files.
+
+ghost use Rattle.std.specs.Prelude.{Some};
+ghost use Rattle.ledger_files.specs.FileNames.{path_text};
+
+use std::fmt;
+
+/// The path of a file of a ledger: that of its folder, what names the run, and the number of the file in the run.
+#[derive(Clone, Copy)]
+pub struct FileName<'a> {
+    pub folder: &'a str,
+    pub run: u64,
+    pub number: u64,
+}
+
+impl fmt::Display for FileName<'_> {
+    ghost output = { λ name. Some (path_text name.folder.now name.run name.number) };
+
+    fn fmt<W: fmt::Write>(&self, f: &mut fmt::Formatter<W>) -> fmt::Result {
+        let folder = self.folder;
+        let run = self.run;
+        let number = self.number;
+        write!(f, "{folder}/{run:016x}-{number:06}.jsonl")
+    }
+}

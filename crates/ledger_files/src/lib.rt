@@ -1,0 +1,20 @@
+//! What stands in the files of a ledger: their names, the moments in them, and which octets are written to which file.
+//!
+//! A file is named `RUN-NNNNNN.jsonl` ([`FileName`]), and its lines have moments of UTC ([`UtcTime`]). [`Pending`] and
+//! [`Batch`] are lines that are to be written to a [`LedgerDisk`], and how far they are written. [`is_next_due`] says when
+//! the next file is begun.
+#![tactic(auto)]
+
+mod batch;
+mod disk;
+mod file_name;
+mod pending;
+mod rotation;
+mod utc;
+
+pub use batch::{Batch, LineHead};
+pub use disk::{DiskFault, LedgerDisk};
+pub use file_name::FileName;
+pub use pending::{Pending, write_rest};
+pub use rotation::{MOST_OCTETS, OpenFile, is_next_due};
+pub use utc::{Date, DayTime, UtcTime, date_of, day_of};

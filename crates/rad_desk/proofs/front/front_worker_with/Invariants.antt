@@ -1,0 +1,10 @@
+use Rattle.std.proofs.Common.{◌≡◌}
+use Rattle.rad_desk.specs.Calls.{Passes}
+use Rattle.rad_desk.specs.HandOver.{HandsOver}
+use Rattle.rad_desk.proofs.front.front_worker_with.Given as goal
+
+abbrev pub invariant-loop-turn : goal.invariant-loop-turn
+invariant-loop-turn g l = record {
+  hands_over : Passes (HandsOver l.config l.initial.inlets l.inlets (g.L.Ledger.kept l.initial.ledger) (g.L.Ledger.kept l.ledger)) (g.W.Wire.log l.initial.wire) (g.W.Wire.log l.wire);
+  turns : l.shift.tally.turns ≡ l.turn;
+}

@@ -1,0 +1,68 @@
+//! Filling a batch with the lines of the entries that wait.
+
+use crate::entry_buffer::EntryBuffer;
+use crate::lines::entry_line;
+use crate::run_names::RunNames;
+use ledger_files::{Batch, LineHead, day_of};
+use std::alloc::{AllocError, Global};
+use std::mem;
+
+/// How many octets of lines are put together.
+const SIZE: usize = 262_144;
+
+/// The most octets of a line.
+pub(crate) const LINE: usize = 65_536;
+
+/// The most lines that are put together. A line has at least 300 octets.
+const LINES: usize = 1024;
+
+/// Makes an empty batch, with room for its lines.
+///
+/// # Errors
+///
+/// `AllocError` if memory is refused.
+pub(crate) fn new_batch(alloc: Global) -> Result<Batch, AllocError> {
+    Batch::new(alloc, SIZE + LINE, LINES)
+}
+
+/// Replaces the lines, all of which are written, by those of the next entries of one day, the one of this number or
+/// that of the first of them. Each line is made in `room`.
+///
+/// # Errors
+///
+/// `AllocError` if memory is refused. The entry whose line is not made is the next one.
+pub(crate) fn fill(
+    batch: &mut Batch,
+    room: &mut Vec<u8>,
+    alloc: Global,
+    names: &RunNames,
+    entries: &mut EntryBuffer,
+    day: u64,
+) -> Result<(), AllocError> {
+    batch.clear();
+    let mut day = day;
+    for _ in 0..LINES {
+        let Some(parcel) = entries.next() else {
+            return Ok(());
+        };
+        let head = parcel.head;
+        if batch.count() == 0 {
+            day = day.max(day_of(head.time));
+        }
+        if batch.size() >= SIZE || day_of(head.time) > day {
+            return Ok(());
+        }
+        let mut line = mem::replace(room, Vec::new(alloc));
+        line.clear();
+        let line = entry_line(alloc, names, &parcel, line)?;
+        let line_head = LineHead {
+            time: head.time,
+            lane: head.lane,
+            serial: head.serial,
+        };
+        batch.add(line_head, line.as_slice())?;
+        *room = line;
+        entries.pass();
+    }
+    Ok(())
+}

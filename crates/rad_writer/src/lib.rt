@@ -1,0 +1,28 @@
+//! Writing a ledger: the bounded buffer that the front fills, and the thread that writes the files.
+//!
+//! [`open_ledger`] makes the two ends of the buffer. [`LedgerInlet`] is the front's: it copies each response into the
+//! buffer, takes no memory and waits for nobody. [`LedgerWriter`] is that of the thread that writes the entries to files,
+//! in the form of `ledger_lines`, by the rules of `ledger_files`.
+//!
+//! A file is named `RUN-NNNNNN.jsonl`: RUN is what names the run, and NNNNNN the number of the file in the run. The next
+//! one is begun before a file has more than 256 MiB, and at midnight UTC. No file is ever removed or replaced.
+#![tactic(auto)]
+
+mod counts;
+mod entry_buffer;
+mod faults;
+mod filling;
+mod inlet;
+mod lines;
+mod opening;
+mod parcel;
+mod run_names;
+mod runtime_disk;
+mod writer;
+
+pub use counts::TakenCounts;
+pub use inlet::LedgerInlet;
+pub use ledger_files::LedgerDisk;
+pub use opening::{OpenedLedger, find_folder, open_ledger, start_writer};
+pub use runtime_disk::RuntimeDisk;
+pub use writer::LedgerWriter;

@@ -1,0 +1,148 @@
+//! The lines of a ledger, made of what passed through the buffer.
+
+use crate::counts::TakenCounts;
+use crate::entry_buffer::Parcel;
+use crate::run_names::RunNames;
+use ledger_files::UtcTime;
+use ledger_lines::{Begin, End, LaneCount, LaneStart, write_begin, write_end, write_entry};
+use rad_lane::session_of;
+use rad_ledger::Entry;
+use rad_metrics::VERSION;
+use rad_packet::{PacketRef, read};
+use rad_realms::realm_of_packet;
+use std::alloc::{AllocError, Global};
+
+/// The greatest serial of a ledger.
+const GREATEST_SERIAL: u64 = 9_223_372_036_854_775_807;
+
+/// The Type of an Acct-Status-Type (RFC 2866 section 5.1).
+const ACCT_STATUS_TYPE: u8 = 40;
+
+/// Writes the line of a parcel behind what these octets are.
+///
+/// # Errors
+///
+/// `AllocError` if memory is refused.
+pub(crate) fn entry_line(
+    alloc: Global,
+    names: &RunNames,
+    parcel: &Parcel<'_>,
+    out: Vec<u8>,
+) -> Result<Vec<u8>, AllocError> {
+    let head = parcel.head;
+    let time = UtcTime::of(head.time);
+    let time = format!(in alloc; "{time}")?;
+    let packet = read(parcel.sent).ok();
+    let entry = Entry {
+        run: names.run,
+        time: time.as_str(),
+        home: names.home(head.lane),
+        lane: head.lane,
+        serial: head.serial,
+        number: head.number,
+        client: head.client,
+        port: head.port,
+        identifier: head.identifier,
+        authenticator: head.authenticator,
+        sent: parcel.sent,
+        reply: parcel.reply,
+        response: parcel.response,
+        realm: match &packet {
+            Some(packet) => realm_of_packet(packet),
+            None => None,
+        },
+        session: match &packet {
+            Some(packet) => session_of(packet),
+            None => None,
+        },
+        status: match &packet {
+            Some(packet) => status_of(packet),
+            None => None,
+        },
+    };
+    write_entry(alloc, &entry, out)
+}
+
+/// Returns the number in a packet's first Acct-Status-Type (RFC 2866 section 5.1), if it has one of four octets.
+fn status_of(packet: &PacketRef<'_>) -> Option<u32> {
+    for attribute in packet.attributes() {
+        if attribute.kind == ACCT_STATUS_TYPE {
+            return match attribute.value {
+                &[a, b, c, d] => Some(u32::from_be_bytes([a, b, c, d])),
+                _ => None,
+            };
+        }
+    }
+    None
+}
+
+/// Writes the line that begins a file of this number behind what these octets are. The next entry of each lane has the
+/// serial that is in `next` at its place.
+///
+/// # Errors
+///
+/// `AllocError` if memory is refused.
+pub(crate) fn begin_line(
+    alloc: Global,
+    names: &RunNames,
+    time: u64,
+    file: u64,
+    next: &[u64],
+    out: Vec<u8>,
+) -> Result<Vec<u8>, AllocError> {
+    let time = UtcTime::of(time);
+    let time = format!(in alloc; "{time}")?;
+    let mut lanes = Vec::with_capacity(alloc, names.homes.len())?;
+    for (lane, home) in names.homes.iter().enumerate() {
+        lanes.push(LaneStart {
+            lane: u16::try_from(lane).unwrap_or(u16::MAX),
+            home: home.as_str(),
+            serial: serial_at(next, lane),
+        })?;
+    }
+    let begin = Begin {
+        run: names.run,
+        time: time.as_str(),
+        version: VERSION,
+        file,
+        lanes,
+    };
+    write_begin(alloc, &begin, out)
+}
+
+/// Returns a lane's next serial.
+fn serial_at(next: &[u64], lane: usize) -> u64 {
+    match next.get(lane) {
+        Some(serial) => (*serial).min(GREATEST_SERIAL),
+        None => 0,
+    }
+}
+
+/// Writes the line that ends the run behind what these octets are.
+///
+/// # Errors
+///
+/// `AllocError` if memory is refused.
+pub(crate) fn end_line(
+    alloc: Global,
+    names: &RunNames,
+    time: u64,
+    taken: &TakenCounts,
+    out: Vec<u8>,
+) -> Result<Vec<u8>, AllocError> {
+    let time = UtcTime::of(time);
+    let time = format!(in alloc; "{time}")?;
+    let mut lanes = Vec::with_capacity(alloc, names.homes.len())?;
+    for lane in 0..names.homes.len() {
+        lanes.push(LaneCount {
+            lane: u16::try_from(lane).unwrap_or(u16::MAX),
+            entries: taken.of_lane(lane),
+        })?;
+    }
+    let end = End {
+        run: names.run,
+        time: time.as_str(),
+        lanes,
+    };
+    write_end(alloc, &end, out)
+}

@@ -1,0 +1,120 @@
+//! Opening a ledger: the buffer, and the thread that writes what passes through it.
+
+use crate::counts::TakenCounts;
+use crate::entry_buffer::EntryBuffer;
+use crate::filling::{LINE, new_batch};
+use crate::inlet::{LedgerInlet, time_since_1970};
+use crate::parcel::MOST;
+use crate::run_names::RunNames;
+use crate::writer::LedgerWriter;
+use ledger_files::LedgerDisk;
+use rad_desk::Handed;
+use rad_realms::Config;
+use rad_telemetry::{LedgerFault, LedgerState, Log, log_ledger_fault};
+use rtrb::RingBuffer;
+use std::alloc::{AllocError, AllocGlobal, Global};
+use std::env::{self, Env, VarError};
+use std::random::RandomSource;
+use std::sync::{Arc, Wait};
+use std::thread::{self, Threads};
+use std::time::Clock;
+
+/// The environment variable that names the folder of the ledger.
+const LEDGER: &str = "RAD_PROXY_LEDGER";
+
+/// How many octets of entries may wait in the buffer.
+const ROOM: usize = 67_108_864;
+
+/// A ledger that is open: the front's end, the writer's end, and what they and the reporter share.
+#[derive(Drop)]
+pub struct OpenedLedger<'a, R> {
+    pub inlet: LedgerInlet<'a, R>,
+    pub writer: LedgerWriter,
+    pub state: Arc<LedgerState>,
+}
+
+/// Returns the folder that `RAD_PROXY_LEDGER` names in the environment, if any; an empty value names none. If the value
+/// is not UTF-8, it logs `event=ledger-fault` and returns none.
+///
+/// # Errors
+///
+/// `AllocError` if memory is refused.
+pub fn find_folder<R, L>(rt: &R, log: &L) -> Result<Option<String>, AllocError>
+where
+    R: Env + AllocGlobal,
+    L: Log,
+{
+    match env::var(rt, LEDGER) {
+        Ok(folder) if folder.is_empty() => Ok(None),
+        Ok(folder) => Ok(Some(folder)),
+        Err(VarError::NotPresent) => Ok(None),
+        Err(VarError::OutOfMemory) => Err(AllocError),
+        Err(VarError::NotUnicode) => {
+            log_ledger_fault(log, LedgerFault::NoText);
+            Ok(None)
+        }
+    }
+}
+
+/// Opens a ledger of a configuration in this folder, under a name that is drawn now. No file is made yet.
+///
+/// # Errors
+///
+/// `AllocError` if memory is refused.
+pub fn open_ledger<'a, R: Clock + RandomSource>(
+    rt: &'a R,
+    alloc: Global,
+    folder: String,
+    config: &Config,
+) -> Result<OpenedLedger<'a, R>, AllocError> {
+    let lanes = config.homes().len();
+    let taken = Arc::new(alloc, TakenCounts::new(alloc, lanes)?)?;
+    let state = Arc::new(alloc, LedgerState::new())?;
+    let (producer, consumer) = RingBuffer::new(alloc, ROOM)?;
+    let mut next = Vec::with_capacity(alloc, lanes)?;
+    next.resize(lanes, 0)?;
+    let writer = LedgerWriter {
+        folder,
+        names: RunNames::new(alloc, draw_name(rt), config.homes())?,
+        entries: EntryBuffer::new(alloc, consumer)?,
+        batch: new_batch(alloc)?,
+        room: Vec::with_capacity(alloc, LINE)?,
+        next,
+        taken: Arc::try_clone(&taken)?,
+        state: Arc::try_clone(&state)?,
+    };
+    let inlet = LedgerInlet {
+        clock: rt,
+        time: 0,
+        parcel: Vec::with_capacity(alloc, MOST)?,
+        buffer: producer,
+        taken,
+        state: Arc::try_clone(&state)?,
+        handed: Handed::new(),
+    };
+    Ok(OpenedLedger {
+        inlet,
+        writer,
+        state,
+    })
+}
+
+/// Draws what names a run. If the system gives no random octets, it is the time.
+fn draw_name<R: Clock + RandomSource>(rt: &R) -> u64 {
+    let mut random = [0; 8];
+    match rt.fill_bytes(&mut random) {
+        Ok(()) => u64::from_be_bytes(random),
+        Err(_) => time_since_1970(rt).unwrap_or(0),
+    }
+}
+
+/// Starts the thread that writes to this disk, and returns whether that succeeded. No thread joins it: it ends with the program.
+pub fn start_writer<R, D>(rt: &R, alloc: Global, writer: LedgerWriter, disk: D) -> bool
+where
+    R: Clock + Threads + Wait + Copy + Send + 'static,
+    D: LedgerDisk + Drop + Send + 'static,
+{
+    let own = *rt;
+    writer.state.start();
+    thread::spawn(rt, move || writer.write_all(&own, alloc, disk)).is_ok()
+}

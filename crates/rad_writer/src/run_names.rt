@@ -1,0 +1,34 @@
+//! What the lines of a run name: the run and its home servers.
+
+use rad_realms::Home;
+use std::alloc::{AllocError, Global};
+
+/// What names a run, and the names of its home servers in the order of their lanes.
+#[derive(Drop)]
+pub(crate) struct RunNames {
+    pub(crate) run: u64,
+    pub(crate) homes: Vec<String>,
+}
+
+impl RunNames {
+    /// Makes them of a configuration's home servers.
+    ///
+    /// # Errors
+    ///
+    /// `AllocError` if memory is refused.
+    pub(crate) fn new(alloc: Global, run: u64, homes: &[Home]) -> Result<RunNames, AllocError> {
+        let mut names = Vec::with_capacity(alloc, homes.len())?;
+        for home in homes {
+            names.push(String::from_str(alloc, home.name())?)?;
+        }
+        Ok(RunNames { run, homes: names })
+    }
+
+    /// Returns the name of a lane's home server.
+    pub(crate) fn home(&self, lane: u16) -> &str {
+        match self.homes.get(usize::from(lane)) {
+            Some(name) => name.as_str(),
+            None => "",
+        }
+    }
+}

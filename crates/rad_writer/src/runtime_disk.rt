@@ -1,0 +1,123 @@
+//! The files of a ledger, on the disks of a runtime.
+
+use ledger_files::{DiskFault, LedgerDisk};
+use rad_telemetry::system_number;
+use std::fs::{self, Files, OpenFile, OpenOptions, Permissions};
+use std::io::{ErrorKind, Write};
+use std::os::unix::fs::{MetadataExt, OpenOptionsExt, PermissionsExt};
+
+/// Who may read and write a file: its owner may do both, and its group may read it.
+const MODE: u32 = 0o640;
+
+/// The disks of a runtime, and the file that is open.
+#[derive(Drop)]
+pub struct RuntimeDisk<R, F: Drop> {
+    rt: R,
+    open: Option<OpenedFile<F>>,
+}
+
+/// A file that is open, and where it is found again.
+#[derive(Drop)]
+struct OpenedFile<F: Drop> {
+    file: F,
+    path: String,
+    /// The device and the inode, which tell the file from another one at the same path.
+    device: u64,
+    inode: u64,
+    /// How many octets were written to it.
+    size: u64,
+    /// Whether octets were written that are not synced.
+    is_unsynced: bool,
+}
+
+impl<R: Files<File = F>, F: Drop> RuntimeDisk<R, F> {
+    /// Makes a value with no open file.
+    pub fn new(rt: R) -> RuntimeDisk<R, F> {
+        RuntimeDisk { rt, open: None }
+    }
+}
+
+impl<R: Files<File = F>, F: Write + OpenFile + Drop> LedgerDisk for RuntimeDisk<R, F> {
+    /// The file has its mode whatever the umask.
+    fn create(&mut self, path: String) -> Result<(), DiskFault> {
+        let opened = OpenOptions::new()
+            .write(true)
+            .create_new(true)
+            .mode(MODE)
+            .open(&self.rt, path.as_str());
+        let file = match opened {
+            Ok(file) => file,
+            Err(error) => return Err(DiskFault::Create(system_number(&error))),
+        };
+        if let Err(error) = file.set_permissions(Permissions::from_mode(MODE)) {
+            return Err(DiskFault::Create(system_number(&error)));
+        }
+        let found = match file.metadata() {
+            Ok(found) => found,
+            Err(error) => return Err(DiskFault::Create(system_number(&error))),
+        };
+        let _ = self.sync();
+        self.open = Some(OpenedFile {
+            device: found.dev(),
+            inode: found.ino(),
+            file,
+            path,
+            size: 0,
+            is_unsynced: false,
+        });
+        Ok(())
+    }
+
+    fn is_open(&self) -> bool {
+        self.open.is_some()
+    }
+
+    fn size(&self) -> u64 {
+        match &self.open {
+            Some(open) => open.size,
+            None => 0,
+        }
+    }
+
+    fn check_place(&self) -> Result<(), DiskFault> {
+        let Some(open) = &self.open else {
+            return Err(DiskFault::Gone);
+        };
+        match fs::symlink_metadata(&self.rt, open.path.as_str()) {
+            Ok(found) if found.dev() == open.device && found.ino() == open.inode => Ok(()),
+            _ => Err(DiskFault::Gone),
+        }
+    }
+
+    fn write(&mut self, octets: &[u8]) -> Result<usize, DiskFault> {
+        let Some(open) = &mut self.open else {
+            return Err(DiskFault::Gone);
+        };
+        match open.file.write(octets) {
+            Ok(0) => Err(DiskFault::Write(0)),
+            Ok(count) => {
+                open.size = open.size.saturating_add(count as u64);
+                open.is_unsynced = true;
+                Ok(count.min(octets.len()))
+            }
+            Err(error) if error.kind() == ErrorKind::Interrupted => Ok(0),
+            Err(error) => Err(DiskFault::Write(system_number(&error))),
+        }
+    }
+
+    fn sync(&mut self) -> Result<(), DiskFault> {
+        let Some(open) = &mut self.open else {
+            return Ok(());
+        };
+        if !open.is_unsynced {
+            return Ok(());
+        }
+        match open.file.sync_data() {
+            Ok(()) => {
+                open.is_unsynced = false;
+                Ok(())
+            }
+            Err(error) => Err(DiskFault::Sync(system_number(&error))),
+        }
+    }
+}

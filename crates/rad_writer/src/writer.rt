@@ -1,0 +1,316 @@
+//! The thread that writes the entries to files.
+
+use crate::counts::TakenCounts;
+use crate::entry_buffer::EntryBuffer;
+use crate::faults::ledger_fault;
+use crate::filling::fill;
+use crate::inlet::time_since_1970;
+use crate::lines::{begin_line, end_line};
+use crate::run_names::RunNames;
+use ledger_files::{
+    Batch, DiskFault, FileName, LedgerDisk, OpenFile, Pending, day_of, is_next_due,
+};
+use rad_telemetry::{LedgerFault, LedgerState};
+use std::alloc::{AllocError, Global};
+use std::sync::{Arc, Wait};
+use std::time::{Clock, Duration, Instant};
+
+/// How many milliseconds the thread sleeps between two rounds.
+const PAUSE: u64 = 50;
+
+/// How many milliseconds after a fault it tries again.
+const AGAIN: u64 = 1000;
+
+/// How many milliseconds after a sync the next one is due. A round is late by at most its own writes and [`PAUSE`].
+const SYNC: u64 = 900;
+
+/// What the thread that writes a ledger has, before it is started.
+#[derive(Drop)]
+pub struct LedgerWriter {
+    pub(crate) folder: String,
+    pub(crate) names: RunNames,
+    pub(crate) entries: EntryBuffer,
+    pub(crate) batch: Batch,
+    /// Where the line of each entry is made.
+    pub(crate) room: Vec<u8>,
+    /// The serial behind the last entry of each lane that was written.
+    pub(crate) next: Vec<u64>,
+    pub(crate) taken: Arc<TakenCounts>,
+    pub(crate) state: Arc<LedgerState>,
+}
+
+/// A writer at work.
+#[derive(Drop)]
+struct Session<'a, R, D: Drop> {
+    rt: &'a R,
+    alloc: Global,
+    writer: LedgerWriter,
+    disk: D,
+    /// The number of the next file.
+    number: u64,
+    /// The number of the day of the entries in the file.
+    day: u64,
+    /// The line that begins the file.
+    first: Pending,
+    /// The line that ends the run.
+    last: Pending,
+    /// Whether the last round failed.
+    is_failing: bool,
+    /// When the file was synced.
+    synced: Option<Instant>,
+}
+
+impl LedgerWriter {
+    /// Writes the entries as they come, until the ledger is ended. The thread does nothing else.
+    pub fn write_all<R: Clock + Wait, D: LedgerDisk + Drop>(self, rt: &R, alloc: Global, disk: D) {
+        let mut session = Session {
+            rt,
+            alloc,
+            writer: self,
+            disk,
+            number: 0,
+            day: 0,
+            first: Pending::new(Vec::new(alloc)),
+            last: Pending::new(Vec::new(alloc)),
+            is_failing: false,
+            synced: Instant::now(rt).ok(),
+        };
+        for _ in rt.forever() {
+            let is_last = session.writer.state.begin_round();
+            session.do_round(is_last);
+            if is_last {
+                session.writer.state.finish();
+                return;
+            }
+            let pause = if session.is_failing { AGAIN } else { PAUSE };
+            session.writer.state.sleep(rt, pause);
+        }
+    }
+
+    /// Counts the lines that are written whole, and puts the serial behind each one into `next` at the place of its
+    /// lane. It returns how many that are.
+    fn pass_lines(&mut self) -> u64 {
+        let mut count = 0u64;
+        for _ in 0..self.batch.count() {
+            let Some(head) = self.batch.pass_line() else {
+                break;
+            };
+            if let Some(serial) = self.next.get_mut(usize::from(head.lane)) {
+                *serial = head.serial.saturating_add(1);
+            }
+            count = count.saturating_add(1);
+        }
+        count
+    }
+}
+
+impl<R: Clock, D: LedgerDisk + Drop> Session<'_, R, D> {
+    /// Writes what there is, and reports whether that failed. After a fault it goes on where it stopped, at first in the
+    /// same file. If that fails again, or the file is no longer there, it begins the next file.
+    fn do_round(&mut self, is_last: bool) {
+        let was_failing = self.is_failing;
+        let Err(fault) = self.write_round(is_last) else {
+            self.succeed();
+            return;
+        };
+        self.fail(fault);
+        let is_lost = fault == LedgerFault::Gone || (was_failing && self.disk.size() > 0);
+        if is_lost && self.begin_file().is_ok() && self.write_round(is_last).is_ok() {
+            self.succeed();
+        }
+    }
+
+    /// Reports a fault, if the round before did not fail.
+    fn fail(&mut self, fault: LedgerFault) {
+        if !self.is_failing {
+            self.is_failing = true;
+            self.writer.state.fail(fault);
+        }
+    }
+
+    /// Reports that entries are written again, if the round before failed.
+    fn succeed(&mut self) {
+        if self.is_failing {
+            self.is_failing = false;
+            self.writer.state.goes_on();
+        }
+    }
+
+    /// Writes all entries that wait, and in the last round the line that ends the run, if there is to be one. Syncs the
+    /// file if that is due. Until entries may come it does nothing, so a program that can't serve leaves no file.
+    fn write_round(&mut self, is_last: bool) -> Result<(), LedgerFault> {
+        if !self.writer.state.is_begun() {
+            return Ok(());
+        }
+        for _ in 0..u64::MAX {
+            self.fill()?;
+            self.have_file()?;
+            let is_done = self.writer.batch.is_done();
+            if is_done && is_last {
+                self.make_last_line()?;
+            }
+            self.write_pending()?;
+            self.sync(is_last && is_done)?;
+            if is_done {
+                return Ok(());
+            }
+        }
+        Ok(())
+    }
+
+    /// Makes lines of the next entries, if all lines before them are written.
+    fn fill(&mut self) -> Result<(), LedgerFault> {
+        if self.writer.batch.is_done() {
+            let LedgerWriter {
+                names,
+                entries,
+                batch,
+                room,
+                ..
+            } = &mut self.writer;
+            if fill(batch, room, self.alloc, names, entries, self.day).is_err() {
+                return Err(LedgerFault::Memory);
+            }
+        }
+        self.writer.state.set_oldest(self.oldest());
+        Ok(())
+    }
+
+    /// Begins the next file if there is none, if the entries are of a later day, or if the file would have too many
+    /// octets.
+    fn have_file(&mut self) -> Result<(), LedgerFault> {
+        let open = if self.disk.is_open() {
+            Some(OpenFile {
+                size: self.disk.size(),
+                day: self.day,
+            })
+        } else {
+            None
+        };
+        let left = self.writer.batch.left() as u64;
+        if is_next_due(open, self.day_now(), left) && self.first.is_done() {
+            self.begin_file()?;
+        }
+        Ok(())
+    }
+
+    /// Returns when the first entry was handed over whose line is not written whole.
+    fn oldest(&self) -> Option<u64> {
+        match self.writer.batch.oldest() {
+            Some(head) => Some(head.time),
+            None => None,
+        }
+    }
+
+    /// Returns the number of the day of the first entry that waits, or of now if there is none.
+    fn day_now(&self) -> u64 {
+        let now = match self.oldest() {
+            Some(oldest) => Some(oldest),
+            None => time_since_1970(self.rt),
+        };
+        match now {
+            Some(now) => day_of(now),
+            None => self.day,
+        }
+    }
+
+    /// Begins the next file. The line of an entry that was not written whole is written to it from its start.
+    fn begin_file(&mut self) -> Result<(), LedgerFault> {
+        let now = time_since_1970(self.rt).unwrap_or(0);
+        let Ok(path) = self.next_path() else {
+            return Err(LedgerFault::Memory);
+        };
+        let Ok(line) = self.first_line(now) else {
+            return Err(LedgerFault::Memory);
+        };
+        self.disk.create(path).map_err(ledger_fault)?;
+        self.number = self.number.saturating_add(1);
+        self.day = self.day.max(self.day_now());
+        self.first = Pending::new(line);
+        self.last.begin_again();
+        self.writer.batch.begin_line_again();
+        Ok(())
+    }
+
+    /// Returns the path of the next file.
+    fn next_path(&self) -> Result<String, AllocError> {
+        let name = FileName {
+            folder: self.writer.folder.as_str(),
+            run: self.writer.names.run,
+            number: self.number,
+        };
+        format!(in self.alloc; "{name}")
+    }
+
+    /// Returns the line that begins the next file.
+    fn first_line(&self, now: u64) -> Result<Vec<u8>, AllocError> {
+        begin_line(
+            self.alloc,
+            &self.writer.names,
+            now,
+            self.number,
+            self.writer.next.as_slice(),
+            Vec::new(self.alloc),
+        )
+    }
+
+    /// Makes the line that ends the run, if there is to be one and it is not made yet.
+    fn make_last_line(&mut self) -> Result<(), LedgerFault> {
+        if !self.writer.state.is_clean() || !self.last.is_empty() {
+            return Ok(());
+        }
+        let now = time_since_1970(self.rt).unwrap_or(0);
+        let line = end_line(
+            self.alloc,
+            &self.writer.names,
+            now,
+            &self.writer.taken,
+            Vec::new(self.alloc),
+        );
+        match line {
+            Ok(line) => {
+                self.last = Pending::new(line);
+                Ok(())
+            }
+            Err(AllocError) => Err(LedgerFault::Memory),
+        }
+    }
+
+    /// Writes what is not written, if there is anything.
+    fn write_pending(&mut self) -> Result<(), LedgerFault> {
+        if self.first.is_done() && self.writer.batch.is_done() && self.last.is_done() {
+            return Ok(());
+        }
+        self.write_lines().map_err(ledger_fault)
+    }
+
+    /// Writes the line that begins the file, the lines of entries and the line that ends the run, as far as they are
+    /// not written, if the file is still at its path.
+    fn write_lines(&mut self) -> Result<(), DiskFault> {
+        self.disk.check_place()?;
+        self.first.write(&mut self.disk)?;
+        let outcome = self.writer.batch.write(&mut self.disk);
+        let count = self.writer.pass_lines();
+        self.writer.state.count_written(count);
+        self.writer.state.set_oldest(self.oldest());
+        outcome?;
+        self.last.write(&mut self.disk)
+    }
+
+    /// Syncs the file, if that is due or `is_now` is set.
+    fn sync(&mut self, is_now: bool) -> Result<(), LedgerFault> {
+        let now = Instant::now(self.rt).ok();
+        let is_due = match &self.synced {
+            Some(synced) => match synced.elapsed(self.rt) {
+                Ok(passed) => passed >= Duration::from_millis(SYNC),
+                Err(_) => true,
+            },
+            None => true,
+        };
+        if !is_due && !is_now {
+            return Ok(());
+        }
+        self.synced = now;
+        self.disk.sync().map_err(ledger_fault)
+    }
+}

@@ -1,0 +1,432 @@
+#!/usr/bin/env python3
+"""Has the program write a ledger, while disks, folders and writes fail, and compares it with what both sides acknowledged.
+
+usage: ledger_files.py PROGRAM [NAME ..]
+
+Each test is a function below, and its first line tells what holds. Names choose tests. The ledgers are audited by audit_model.py.
+A full disk is a small file system, where root runs this, and else told as left out. What is slow is so by slow.c, and midnight
+comes by clock.c. The last line is `N passed, M failed`.
+"""
+import json
+import os
+import pathlib
+import random
+import re
+import resource
+import signal
+import subprocess
+import sys
+import time
+import tomllib
+
+sys.dont_write_bytecode = True
+
+import audit_model
+from packets import HOME_SECRET, NAS_SECRET, START
+from starting import built, configuration, environment
+from trying import LeftOut, hope, try_named
+from vectors import ACCT_SESSION_ID, CLASS, answer, attribute, request
+from waiting import HERE, bound, free_port, until
+
+PATIENCE = 60
+NAME = re.compile("([0-9a-f]{16})-([0-9]{6})[.]jsonl")
+# How many requests are outstanding at most, how long one is waited for before it is sent again, and how many seconds an answer
+# may take: the program answers in a millisecond, and this machine may do something else meanwhile.
+OUTSTANDING, AGAIN, LATE = 32, 1.0, 2.0
+# A write is due within 100 ms. This much more is left to the machine.
+SLACK = 0.4
+
+
+class Trial:
+    """A program with one client and one home server, both on this side, and a folder for its ledger."""
+
+    def __init__(self, program, room):
+        self.program, self.room = program, room
+        self.folder, self.log, self.printed = room / "ledger", room / "log", room / "printed"
+        self.counters = room / "counters"
+        self.folder.mkdir()
+        self.home, self.nas, self.process = bound(), bound(), None
+        self.port = free_port()
+        self.file = room / "one.toml"
+        self.file.write_text(configuration(self.port, client=HERE, home_port=self.home.getsockname()[1], linger=1000))
+        self.made, self.slowest = 0, 0.0
+        # What the client was told, by the moment when it came, and what the home server said.
+        self.told, self.said = {}, set()
+
+    def start(self, before=None, **variables):
+        """Starts the program, and waits until it listens."""
+        kept = environment() | {"RAD_PROXY_LEDGER": str(self.folder), "RAD_PROXY_COUNTERS": str(self.counters)}
+        with open(self.printed, "wb") as out, open(self.log, "ab") as err:
+            self.process = subprocess.Popen([self.program, "run", self.file], stdin=subprocess.PIPE, stdout=out, stderr=err,
+                                            env=kept | variables, preexec_fn=before)
+        until("it listens", lambda: "listening" in self.printed.read_text())
+
+    def ask(self, count, more=b"", seconds=PATIENCE):
+        """Sends so many requests, and answers them; each is sent until it is acknowledged. Gives how many were in this time."""
+        self.home.setblocking(False)
+        self.nas.setblocking(False)
+        waiting, left, last = {}, count, time.monotonic() + seconds
+        while (waiting or left) and time.monotonic() < last and self.process.poll() is None:
+            while left and len(waiting) < OUTSTANDING:
+                identifier, self.made, left = self.made % 256, self.made + 1, left - 1
+                octets = request(identifier, START + attribute(ACCT_SESSION_ID, f"S{self.made}".encode()), NAS_SECRET)
+                now = time.monotonic()
+                waiting[identifier] = [octets, now, now]
+                self.nas.sendto(octets, (HERE, self.port))
+            if not self.serve(more) + self.hear(waiting):
+                self.repeat(waiting)
+                time.sleep(0.0005)
+        return count - left - len(waiting)
+
+    def serve(self, more):
+        """The home server answers what came, with more attributes."""
+        for count in range(OUTSTANDING):
+            try:
+                octets, proxy = self.home.recvfrom(4096)
+            except BlockingIOError:
+                return count
+            reply = answer(octets, octets[1], octets[-12:] + more, HOME_SECRET)
+            self.said.add(reply.hex())
+            self.home.sendto(reply, proxy)
+        return OUTSTANDING
+
+    def hear(self, waiting):
+        """The client takes down what it was told."""
+        for count in range(OUTSTANDING):
+            try:
+                octets = self.nas.recv(4096)
+            except (BlockingIOError, ConnectionError):
+                return count
+            asked = waiting.pop(octets[1], None)
+            if asked is not None:
+                self.slowest = max(self.slowest, time.monotonic() - asked[1])
+                self.told[octets.hex()] = time.monotonic()
+        return OUTSTANDING
+
+    def repeat(self, waiting):
+        for asked in waiting.values():
+            if time.monotonic() > asked[2] + AGAIN:
+                asked[2] = time.monotonic()
+                self.nas.sendto(asked[0], (HERE, self.port))
+
+    def end(self, status=0):
+        """Closes its input, and sees that it ends within two seconds of its `end:` line."""
+        self.process.stdin.close()
+        until("its last line", lambda: "end: " in self.printed.read_text())
+        began = time.monotonic()
+        hope("status", self.process.wait(PATIENCE), status)
+        ended = time.monotonic() - began
+        if ended > 1 + LATE:
+            raise AssertionError(f"it ended {ended:.1f} s after its last line")
+
+    def files(self, folder=None):
+        return sorted((folder or self.folder).glob("*.jsonl"))
+
+    def lines(self, files=None):
+        """The lines that stand whole."""
+        return [json.loads(line) for file in files or self.files() for line in file.read_bytes().split(b"\n")[:-1]]
+
+    def entries(self, files=None):
+        return [line for line in self.lines(files) if line["type"] == "entry"]
+
+    def verdict(self, files=None):
+        """What the auditor says of the one lane, and its findings before."""
+        audit = audit_model.Audit(tomllib.loads(self.file.read_text()))
+        for file in files or self.files():
+            audit.read(file.name, file.read_bytes())
+        audit.end()
+        hope("wrong lines", [line for line in audit.printed if line.split(": ")[-1] in REASONS], [])
+        return audit.printed[-1].partition("not judged 0 ")[2]
+
+    def is_all_there(self, verdict="whole", files=None):
+        """Each response that the client was told stands in the ledger once, with a reply of the home server's, and the auditor's
+        verdict is this one."""
+        entries = self.entries(files)
+        responses = [entry["response"] for entry in entries]
+        hope("entries that stand twice", len(responses), len(set(responses)))
+        hope("acknowledged and not in the ledger", len(set(self.told) - set(responses)), 0)
+        hope("replies that the home server did not send", {entry["reply"] for entry in entries} - self.said, set())
+        hope("verdict", self.verdict(files), verdict)
+
+    def events(self, word):
+        return [line for line in self.log.read_text().splitlines() if f"event={word}" in line]
+
+    def number(self, name):
+        """A metric of the last text."""
+        found = re.search(rf"^rad_proxy_{name} ([0-9.]+)$", self.counters.read_text(), re.MULTILINE)
+        return float(found[1]) if found else None
+
+    def answers_at_once(self):
+        if self.slowest > LATE:
+            raise AssertionError(f"an answer took {self.slowest:.1f} s")
+
+    def stop(self):
+        if self.process is not None:
+            self.process.kill()
+            self.process.wait()
+        subprocess.run(["umount", "-q", str(self.folder)], check=False, stderr=subprocess.DEVNULL)
+
+
+REASONS = {"NotEntry", "NoPacket", "WrongSent", "WrongReply", "WrongResponse", "SerialNotAbove", "UnknownLane"}
+
+
+def writes_what_was_acknowledged(trial):
+    """A ledger of a run that ends by itself is whole, in one file that its group may read, whatever the umask."""
+    trial.start(before=lambda: os.umask(0o077))
+    hope("acknowledged", trial.ask(2000), 2000)
+    until("they are written", lambda: trial.number("ledger_written_total") == 2000)
+    hope("waiting", (trial.number("ledger_waiting"), trial.number("ledger_dropped_total")), (0, 0))
+    trial.end()
+    trial.is_all_there()
+    (file,) = trial.files()
+    first, *_, last = trial.lines()
+    run, number = NAME.fullmatch(file.name).groups()
+    hope("the file", (int(number), file.stat().st_mode & 0o7777), (0, 0o640))
+    hope("the first line", (first["run"], first["file"], first["lanes"]), (run, 0, [{"lane": 0, "home": "h1", "serial": 0}]))
+    hope("the last line", (last["type"], last["lanes"]), ("end", [{"lane": 0, "entries": 2000}]))
+    entry = trial.entries()[0]
+    hope("its words", (entry["realm"], entry["session"], entry["status"], entry["client"]), ("example.org", "S1", 1, HERE))
+    hope("no secret", any(secret in file.read_bytes() for secret in (NAS_SECRET, HOME_SECRET)), False)
+    hope("what it tells", trial.log.read_text(), "")
+
+
+def writes_none_unasked(trial):
+    """Without the variable, or with an empty one, there is no ledger and no metric of one."""
+    trial.start(RAD_PROXY_LEDGER="")
+    hope("acknowledged", trial.ask(10), 10)
+    trial.end()
+    hope("the folder", (trial.files(), trial.number("ledger_written_total")), ([], None))
+
+
+def ends_a_run_with_requests_left(trial):
+    """An end with records left over writes the end line too."""
+    trial.start()
+    trial.ask(20)
+    trial.nas.sendto(request(77, START, NAS_SECRET), (HERE, trial.port))
+    time.sleep(0.5)
+    trial.end(3)
+    trial.is_all_there()
+
+
+def a_program_that_cannot_serve_leaves_no_file(trial):
+    """Where the clients' socket cannot be bound there is no file."""
+    other = bound(port=trial.port)
+    kept = environment() | {"RAD_PROXY_LEDGER": str(trial.folder)}
+    ended = subprocess.run([trial.program, "run", trial.file], stdin=subprocess.DEVNULL, capture_output=True, env=kept, timeout=PATIENCE)
+    other.close()
+    hope("status and files", (ended.returncode, trial.files()), (4, []))
+
+
+def is_written_within_a_tenth_of_a_second(trial):
+    """An entry is in the file a tenth of a second after its answer."""
+    trial.start()
+    for count in range(1, 11):
+        trial.ask(1)
+        until("the entry", lambda: len(trial.entries()) == count, 0.1 + SLACK)
+
+
+def a_folder_that_is_not_there_is_told(trial):
+    """A folder that is not there at the start is told once, requests are answered, and once it is there all entries come."""
+    trial.folder.rmdir()
+    trial.start()
+    hope("acknowledged", trial.ask(500), 500)
+    time.sleep(2.5)
+    until("the age of the oldest", lambda: trial.number("ledger_oldest_waiting_seconds") > 1)
+    hope("what is told", len(trial.events("ledger-fault")), 1)
+    hope("its level", "level=error" in trial.events("ledger-fault")[0], True)
+    trial.folder.mkdir()
+    until("the entries", lambda: trial.number("ledger_written_total") == 500)
+    trial.end()
+    trial.is_all_there()
+    trial.answers_at_once()
+    hope("what is told", (len(trial.events("ledger-fault")), len(trial.events("ledger-back"))), (1, 1))
+
+
+def a_folder_that_goes_away_and_comes_back(trial):
+    """Of a folder that is moved away and back nothing is missing, and its going is told once."""
+    trial.start()
+    trial.ask(300)
+    trial.folder.rename(trial.room / "elsewhere")
+    trial.ask(300)
+    time.sleep(2.5)
+    trial.ask(300)
+    (trial.room / "elsewhere").rename(trial.folder)
+    until("the entries", lambda: trial.number("ledger_written_total") == 900)
+    trial.end()
+    trial.is_all_there()
+    trial.answers_at_once()
+    hope("what is told", (len(trial.events("ledger-fault")), len(trial.events("ledger-back"))), (1, 1))
+
+
+def a_folder_that_is_made_anew(trial):
+    """Where a folder is moved away and another one comes in its place, a new file has what the old one lacks."""
+    trial.start()
+    trial.ask(300)
+    until("they are written", lambda: len(trial.entries()) == 300)
+    other = trial.room / "elsewhere"
+    trial.folder.rename(other)
+    trial.folder.mkdir()
+    trial.ask(300)
+    trial.end()
+    trial.is_all_there(files=[*trial.files(other), *trial.files()])
+    hope("the second file", trial.lines()[0]["lanes"][0]["serial"], 300)
+
+
+def a_limit_of_size_is_a_next_file(trial):
+    """Where a file may not grow, the entries go on in the next one, and none is missing."""
+
+    def limit():
+        signal.signal(signal.SIGXFSZ, signal.SIG_IGN)
+        resource.setrlimit(resource.RLIMIT_FSIZE, (300_000, resource.RLIM_INFINITY))
+
+    trial.start(before=limit, RAD_PROXY_COUNTERS="")
+    trial.ask(800)
+    until("several files", lambda: len(trial.files()) > 1)
+    resource.prlimit(trial.process.pid, resource.RLIMIT_FSIZE, (resource.RLIM_INFINITY, resource.RLIM_INFINITY))
+    until("the entries", lambda: len(trial.entries()) == 800)
+    trial.end()
+    trial.is_all_there()
+    trial.answers_at_once()
+
+
+def a_full_disk_loses_nothing(trial):
+    """While a disk is full requests are answered and that is told once; once it has room all entries come."""
+    if os.getuid() != 0:
+        raise LeftOut("it wants root")
+    mounted = subprocess.run(["mount", "-t", "tmpfs", "-o", "size=400k", "none", trial.folder], check=False, capture_output=True)
+    if mounted.returncode:
+        raise LeftOut("no file system can be mounted")
+    trial.start()
+    hope("acknowledged", trial.ask(2000), 2000)
+    until("it is told", lambda: trial.events("ledger-fault"))
+    trial.ask(200)
+    time.sleep(2.5)
+    until("some wait", lambda: trial.number("ledger_waiting") > 0)
+    hope("what is told", len(trial.events("ledger-fault")), 1)
+    subprocess.run(["mount", "-o", "remount,size=64m", trial.folder], check=True)
+    until("the entries", lambda: trial.number("ledger_written_total") == 2200)
+    trial.end()
+    trial.is_all_there()
+    trial.answers_at_once()
+
+
+def a_slow_write_delays_no_answer(trial):
+    """Where a write of the ledger takes ten seconds answers come as ever, and the end is a second after the last line; the
+    entries that are not written are told."""
+    trial.start(LD_PRELOAD=built(trial.room, "slow"), SLOW_PATH=str(trial.folder), SLOW_WRITE="10000")
+    hope("acknowledged", trial.ask(500), 500)
+    trial.answers_at_once()
+    trial.end()
+    until("it is told", lambda: trial.events("ledger-left"))
+
+
+def slow_writes_lose_nothing(trial):
+    """Where each write of the ledger takes a second, all entries are there in the end."""
+    trial.start(LD_PRELOAD=built(trial.room, "slow"), SLOW_PATH=str(trial.folder), SLOW_WRITE="1000")
+    for _ in range(8):
+        trial.ask(100)
+        time.sleep(0.3)
+    trial.answers_at_once()
+    until("they are written", lambda: trial.number("ledger_written_total") == 800)
+    trial.end()
+    trial.is_all_there()
+
+
+def drops_are_counted(trial):
+    """Once the buffer is full entries are dropped, counted and logged, answers come as ever, and the ledger has a gap."""
+    trial.folder.rmdir()
+    trial.start()
+    more = b"".join(attribute(CLASS, bytes(250)) for _ in range(14))
+    for _ in range(100):
+        trial.ask(200, more)
+        if trial.events("ledger-dropped"):
+            break
+    trial.answers_at_once()
+    told = until("it is told", lambda: trial.events("ledger-dropped"))
+    hope("its level", all("level=error" in line for line in told), True)
+    trial.folder.mkdir()
+    until("none waits", lambda: trial.number("ledger_waiting") == 0)
+    trial.ask(100)
+    trial.end()
+    dropped = int(trial.number("ledger_dropped_total"))
+    hope("what is told", sum(int(line.rpartition("=")[2]) for line in trial.events("ledger-dropped")), dropped)
+    missing = set(trial.told) - {entry["response"] for entry in trial.entries()}
+    hope("missing", len(missing), dropped)
+    serials = [entry["serial"] for entry in trial.entries()]
+    hope("entries", len(serials), trial.lines()[-1]["lanes"][0]["entries"] - dropped)
+    hope("verdict", trial.verdict().startswith("gap "), True)
+
+
+def a_killed_run_is_open(trial):
+    """After a kill what was acknowledged a tenth of a second before stands in the ledger, without a gap, and the run is open."""
+    chance = random.Random(os.environ.get("SEED", "1"))
+    kills = int(os.environ.get("KILLS", "5"))
+    for _ in range(kills):
+        before = trial.files()
+        trial.told.clear()
+        trial.start()
+        last = time.monotonic() + chance.uniform(0.2, 1.5)
+        while time.monotonic() < last:
+            trial.ask(20)
+        killed = time.monotonic()
+        trial.process.kill()
+        trial.process.wait()
+        files = [file for file in trial.files() if file not in before]
+        entries = {entry["response"] for entry in trial.entries(files)}
+        lost = [moment for response, moment in trial.told.items() if response not in entries]
+        early = [killed - moment for moment in lost if moment < killed - 0.1 - SLACK]
+        hope("lost from longer before the kill", early, [])
+        hope("verdict", trial.verdict(files), "open")
+
+
+def midnight_is_a_next_file(trial):
+    """At midnight UTC the next file is begun, with entries or without, and the ledger is whole."""
+    ahead = 86_400 - int(time.time()) % 86_400 - 4
+    trial.start(LD_PRELOAD=built(trial.room, "clock"), CLOCK_AHEAD=str(ahead))
+    until("midnight", lambda: trial.ask(5) and len(trial.files()) == 2, 20, 0.1)
+    trial.ask(50)
+    trial.end()
+    trial.is_all_there()
+    for file in trial.files():
+        days = {line["time"][:10] for line in trial.lines([file])}
+        hope("days of a file", len(days), 1)
+
+
+def a_long_ledger_is_several_files(trial):
+    """A file has at most 256 MiB, and the ledger of several is whole."""
+    trial.start()
+    more = b"".join(attribute(CLASS, bytes(250)) for _ in range(14))
+    while len(trial.files()) < 2:
+        trial.ask(500, more)
+    trial.end()
+    sizes = [file.stat().st_size for file in trial.files()]
+    hope("sizes", (max(sizes) <= 2**28, sizes[0] > 2**28 - 400_000), (True, True))
+    serials = [entry["serial"] for entry in trial.entries()]
+    hope("serials", serials, list(range(len(trial.told))))
+
+
+def a_name_that_is_no_text_is_told(trial):
+    """A variable whose value is not UTF-8 is told, and the program serves without a ledger."""
+    kept = {name.encode(): value.encode() for name, value in environment().items()} | {b"RAD_PROXY_LEDGER": b"\xff"}
+    with open(trial.printed, "wb") as out, open(trial.log, "ab") as err:
+        trial.process = subprocess.Popen([trial.program, "run", trial.file], stdin=subprocess.PIPE, stdout=out, stderr=err, env=kept)
+    until("it listens", lambda: "listening" in trial.printed.read_text())
+    hope("acknowledged", trial.ask(10), 10)
+    trial.end()
+    hope("what is told", trial.log.read_text(), 'level=error event=ledger-fault reason="RAD_PROXY_LEDGER is no text"\n')
+
+
+TESTS = [
+    writes_what_was_acknowledged, writes_none_unasked, ends_a_run_with_requests_left, a_program_that_cannot_serve_leaves_no_file,
+    is_written_within_a_tenth_of_a_second, a_folder_that_is_not_there_is_told, a_folder_that_goes_away_and_comes_back, a_folder_that_is_made_anew,
+    a_limit_of_size_is_a_next_file, a_full_disk_loses_nothing, a_slow_write_delays_no_answer, slow_writes_lose_nothing,
+    drops_are_counted, a_killed_run_is_open, midnight_is_a_next_file, a_long_ledger_is_several_files, a_name_that_is_no_text_is_told,
+]
+
+
+def main():
+    try_named(TESTS, Trial, __doc__)
+
+
+if __name__ == "__main__":
+    main()
