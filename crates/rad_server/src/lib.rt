@@ -2,8 +2,8 @@
 //! own, while commands are read and obeyed.
 //!
 //! [`run`] binds the sockets and serves over them. [`serve`] serves over any wires. Their contract is that they end
-//! with what is left of as many lanes as the configuration has home servers. What the workers send is in the contracts
-//! of the workers of `rad_desk`. What is received, sent and noted is reported to the gate only: this crate contains no
+//! with what is left of as many lanes as the configuration has home servers. [`run_with`] and [`serve_with`] do the same
+//! and keep the responses in a ledger. What the workers send is in the contracts of the workers of `rad_desk`. What is received, sent and noted is reported to the gate only: this crate contains no
 //! log and no counters.
 #![tactic(auto)]
 
@@ -41,6 +41,6 @@ pub use fib_trie::list_local;
 pub use interrupting::Interruptible;
 pub use local_addresses::{LocalAddresses, RuntimeAddresses, read_local_addresses};
 pub use notifying::{Notifier, Notifiers};
-pub use serving::{run, serve};
+pub use serving::{run, run_with, serve, serve_with};
 pub use streams::Descriptors;
 pub use wiring::Wires;

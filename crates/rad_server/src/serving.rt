@@ -15,7 +15,7 @@ use crate::threads::work;
 use crate::wiring::{Wires, make_reader, make_wires, notifiers_of};
 use crate::working::Service;
 use rad_console::{EndLine, ListeningLine, close};
-use rad_desk::{Gate, Ledger, OpenFault, Wire, open};
+use rad_desk::{Gate, Ledger, NoLedger, OpenFault, Wire, open};
 use rad_realms::Config;
 use std::alloc::Global;
 use std::io::{Read, Write};
@@ -31,14 +31,53 @@ use std::time::Clock;
 /// If the reader reads from a descriptor, so that a read may wait, a worker that ends by itself ends that wait. If the
 /// writer writes to a descriptor, so that a write may wait, the input is watched during the wait. From the end of the
 /// input on the lanes are drained, and the writer is waited for no longer than `linger`. If all addresses of the
-/// machine are served, `addresses` says which these are. The ledger begins once all sockets are bound, and the front
-/// hands each response over to it before it sends it.
+/// machine are served, `addresses` says which these are.
 ///
 /// # Errors
 ///
 /// `Listen` or `LaneSocket` if a socket can't be bound or set up, `InputWait` if a wait for the reader can't be set up,
 /// and otherwise as [`serve`].
-pub fn run<R, A, G, L, I, O>(
+pub fn run<R, A, G, I, O>(
+    rt: &R,
+    addresses: &A,
+    alloc: Global,
+    config: &Config,
+    gate: &G,
+    reader: I,
+    writer: O,
+    descriptors: Descriptors,
+) -> Result<EndLine, ServeFault>
+where
+    R: Clock + Net + RandomSource + Threads + Wait + Sync,
+    A: LocalAddresses + Sync,
+    G: Gate + Sync,
+    I: Read + Drop,
+    O: Write + Drop,
+    ensures { IfOk result (IsEndOf (length config.now.homes)) }
+{
+    run_with(
+        rt,
+        addresses,
+        alloc,
+        config,
+        gate,
+        NoLedger,
+        reader,
+        writer,
+        descriptors,
+    )
+}
+
+/// Serves a configuration over UDP as [`run`] does, and keeps its responses in a ledger.
+///
+/// The ledger begins once all sockets are bound, and before the workers do. The front hands each response over to it
+/// before it sends it.
+///
+/// # Errors
+///
+/// As [`run`]. The ledger has not begun if a socket can't be bound or set up, or if a wait for the reader can't be set
+/// up.
+pub fn run_with<R, A, G, L, I, O>(
     rt: &R,
     addresses: &A,
     alloc: Global,
@@ -76,10 +115,9 @@ where
 /// Serves a configuration over these wires until the reader ends. Then it drains the lanes, waits until they are done
 /// or `linger` has passed, and prints what is left.
 ///
-/// The wires keep a log, so that a contract can say what is sent on them. The ledger begins before the workers do, and
-/// the front hands each response over to it before it sends it. The notifiers are those of the wires and of the reader,
-/// as far as these have any. The gate is asked before each call of a worker. A worker that ends by itself stops the
-/// others.
+/// The wires keep a log, so that a contract can say what is sent on them. The notifiers are those of the wires and of
+/// the reader, as far as these have any. The gate is asked before each call of a worker. A worker that ends by itself
+/// stops the others.
 ///
 /// # Errors
 ///
@@ -87,7 +125,38 @@ where
 /// be started, `Ended` if a worker ends by itself, and `Memory` if a growth is refused. The workers have ended by then.
 /// A fault before the end of the input leaves the lanes as they are. A reader that returns `Interrupted` is read again,
 /// if all workers go on.
-pub fn serve<R, W, G, L, I, O>(
+pub fn serve<R, W, G, I, O>(
+    rt: &R,
+    alloc: Global,
+    config: &Config,
+    wires: Wires<W>,
+    notifiers: &Notifiers,
+    gate: &G,
+    reader: I,
+    writer: O,
+) -> Result<EndLine, ServeFault>
+where
+    R: Clock + Threads + Wait + Sync,
+    W: Wire + Send + Drop,
+    G: Gate + Sync,
+    I: Read + Drop,
+    O: Write + Drop,
+    requires keeps { (wire : W) → IsSome (W.log wire) }
+    ensures { IfOk result (IsEndOf (length config.now.homes)) }
+{
+    serve_with(
+        rt, alloc, config, wires, notifiers, gate, NoLedger, reader, writer,
+    )
+}
+
+/// Serves a configuration over these wires as [`serve`] does, and keeps its responses in a ledger.
+///
+/// The ledger begins before the workers do. The front hands each response over to it before it sends it.
+///
+/// # Errors
+///
+/// As [`serve`].
+pub fn serve_with<R, W, G, L, I, O>(
     rt: &R,
     alloc: Global,
     config: &Config,
@@ -125,7 +194,7 @@ fn open_output<O: Write + Drop>(
     Output::new(alloc, writer, descriptors, lines, linger_of(config))
 }
 
-/// Serves as `serve` does. What the output already holds is written once all workers have begun.
+/// Serves as `serve_with` does. What the output already holds is written once all workers have begun.
 fn serve_over<R, W, G, L, I, O>(
     rt: &R,
     alloc: Global,

@@ -4,7 +4,7 @@ use crate::comparing::holds;
 use crate::gates::Open;
 use crate::streams::{Narrow, Slow};
 use rad_console::EndLine;
-use rad_desk::{Gate, NoLedger};
+use rad_desk::Gate;
 use rad_realms::read_config;
 use rad_server::{Descriptors, LocalAddresses, RuntimeAddresses, ServeFault, run};
 use std::alloc::Global;
@@ -66,7 +66,6 @@ where
         alloc,
         &config,
         gate,
-        NoLedger,
         reader,
         writer,
         descriptors,

@@ -3,7 +3,7 @@
 ghost use Rattle.std.specs.Prelude.{Some, IsSome};
 
 use rad_console::EndLine;
-use rad_desk::{Delivery, Gate, NoLedger, Received, Traffic, Wire};
+use rad_desk::{Delivery, Gate, Received, Traffic, Wire};
 use rad_realms::{Endpoint, read_config};
 use rad_server::{Notifiers, ServeFault, Wires, serve};
 use rad_tables::Moment;
@@ -153,7 +153,5 @@ where
 {
     let config = read_config(alloc, TWO_HOMES)?;
     let notifiers = Notifiers::none(alloc);
-    Ok(serve(
-        rt, alloc, &config, wires, &notifiers, gate, NoLedger, reader, writer,
-    ))
+    Ok(serve(rt, alloc, &config, wires, &notifiers, gate, reader, writer))
 }
