@@ -8,7 +8,7 @@ use libc::{STDIN_FILENO, STDOUT_FILENO};
 use rad_console::EndLine;
 use rad_metrics::UdpSockets;
 use rad_realms::Config;
-use rad_server::{Descriptors, LocalAddresses, ServeFault, run};
+use rad_server::{Descriptors, LocalAddresses, ServeFault, run_with};
 use rad_telemetry::{
     CounterFile, CounterTexts, ErrorLines, LedgerState, Log, Logged, ReplaceFile, Reporter,
     StopFlag, Telemetry, ToldStream, find_counter_file, log_fault, open_log, report, start_texts,
@@ -43,7 +43,7 @@ const NO_WAIT: &str = "the system can't wait for it";
 ///
 /// # Errors
 ///
-/// Those of [`load`] and of [`run`]; `Threads` if a thread that reports or writes can't be started.
+/// Those of [`load`] and of [`run_with`]; `Threads` if a thread that reports or writes can't be started.
 pub fn serve_file<R, F, D, A>(
     rt: &R,
     files: F,
@@ -373,7 +373,7 @@ where
         input: Some(STDIN_FILENO),
         output: Some(STDOUT_FILENO),
     };
-    let end = run(
+    let end = run_with(
         rt,
         machine,
         alloc,
