@@ -375,7 +375,7 @@ def a_killed_run_is_open(trial):
         entries = {entry["response"] for entry in trial.entries(files)}
         lost = [moment for response, moment in trial.told.items() if response not in entries]
         early = [killed - moment for moment in lost if moment < killed - 0.1 - SLACK]
-        hope("lost from longer before the kill", early, [])
+        hope("lost from longer before the kill, and the longest", (len(early), max(early, default=0)), (0, 0))
         hope("verdict", trial.verdict(files), "open")
 
 

@@ -33,7 +33,7 @@ pub struct Batch {
 }
 
 impl Batch {
-    ghost use Rattle.std.specs.Prelude.{◌≡◌, ◌↔◌, ◌+◌, ◌-◌, ◌≤◌, ◌<◌, ℕ, List, [], ◌∷◌, ◌++◌, vec_len, slice_index, slice_range, IsTrue, IfOk, OnOk, MatchResult, MatchOption};
+    ghost use Rattle.std.specs.Prelude.{◌≡◌, ◌↔◌, ◌+◌, ◌-◌, ◌≤◌, ◌<◌, ℕ, List, [], ◌∷◌, ◌++◌, vec_len, slice_index, slice_range, IsTrue, IsOk, IfOk, OnOk, MatchResult, MatchOption};
     ghost use Rattle.ledger_files.specs.Batches.{HoldsLines, IsHeadOf};
     ghost use Rattle.ledger_files.specs.Files.{wrote};
 
@@ -133,6 +133,7 @@ impl Batch {
         ensures lines { (lines : List (List ℕ)) → HoldsLines self.old lines → HoldsLines self.new lines }
         ensures written { (self.old.done ≤ self.new.done) × (D.files disk.new ≡ wrote (D.files disk.old) (slice_range self.old.octets.items self.old.done self.new.done)) }
         ensures all { OnOk result (self.new.done ≡ vec_len self.old.octets) }
+        ensures none { self.old.done ≡ vec_len self.old.octets → (disk.new ≡ disk.old) × IsOk result }
     {
         let (done, outcome) = write_rest(disk, self.octets.as_slice(), self.done);
         self.done = done;
