@@ -1,11 +1,11 @@
 #!/usr/bin/env python3
 """Has the program write a ledger, while disks, folders and writes fail, and compares it with what both sides acknowledged.
 
-usage: ledger_files.py PROGRAM [NAME ..]
+usage: ledger_files.py PROGRAM [--long | NAME ..]
 
-Each test is a function below, and its first line tells what holds. Names choose tests. The ledgers are audited by audit_model.py.
-A full disk is a small file system, where root runs this, and else told as left out. What is slow is so by slow.c, and midnight
-comes by clock.c. The last line is `N passed, M failed`.
+Each test is a function below, and its first line tells what holds. Names choose tests, and `--long` those that take a minute or more.
+The ledgers are audited by audit_model.py. A full disk is a small file system, where root runs this, and else told as left out. What is
+slow is so by slow.c, midnight comes by clock.c, and disks.c shows the syncs. The last line is `N passed, M failed`.
 """
 import json
 import os
@@ -14,6 +14,9 @@ import random
 import re
 import resource
 import signal
+import socket
+import statistics
+import struct
 import subprocess
 import sys
 import time
@@ -33,8 +36,12 @@ NAME = re.compile("([0-9a-f]{16})-([0-9]{6})[.]jsonl")
 # How many requests are outstanding at most, how long one is waited for before it is sent again, and how many seconds an answer
 # may take: the program answers in a millisecond, and this machine may do something else meanwhile.
 OUTSTANDING, AGAIN, LATE = 32, 1.0, 2.0
-# A write is due within 100 ms. This much more is left to the machine.
-SLACK = 0.4
+# A write is due within 100 ms, and a sync within a second. This much more is left to the machine.
+WRITTEN, SYNCED, SLACK = 0.1, 1.0, 0.4
+# The middle answer beside a ledger that fails is at most this many times that of a program without one, and this much later.
+TIMES, LATER = 1.5, 0.001
+# How many octets may wait, and how many more of memory a ledger may take for its lines.
+BOUND, ROOM = 64 * 2**20, 4 * 2**20
 
 
 class Trial:
@@ -44,20 +51,20 @@ class Trial:
         self.program, self.room = program, room
         self.folder, self.log, self.printed = room / "ledger", room / "log", room / "printed"
         self.counters = room / "counters"
-        self.folder.mkdir()
+        self.folder.mkdir(exist_ok=True)
         self.home, self.nas, self.process = bound(), bound(), None
         self.port = free_port()
         self.file = room / "one.toml"
         self.file.write_text(configuration(self.port, client=HERE, home_port=self.home.getsockname()[1], linger=1000))
-        self.made, self.slowest = 0, 0.0
+        self.made, self.delays, self.resident = 0, [], 0
         # What the client was told, by the moment when it came, and what the home server said.
         self.told, self.said = {}, set()
 
-    def start(self, before=None, **variables):
+    def start(self, before=None, stdin=subprocess.PIPE, **variables):
         """Starts the program, and waits until it listens."""
         kept = environment() | {"RAD_PROXY_LEDGER": str(self.folder), "RAD_PROXY_COUNTERS": str(self.counters)}
         with open(self.printed, "wb") as out, open(self.log, "ab") as err:
-            self.process = subprocess.Popen([self.program, "run", self.file], stdin=subprocess.PIPE, stdout=out, stderr=err,
+            self.process = subprocess.Popen([self.program, "run", self.file], stdin=stdin, stdout=out, stderr=err,
                                             env=kept | variables, preexec_fn=before)
         until("it listens", lambda: "listening" in self.printed.read_text())
 
@@ -99,7 +106,7 @@ class Trial:
                 return count
             asked = waiting.pop(octets[1], None)
             if asked is not None:
-                self.slowest = max(self.slowest, time.monotonic() - asked[1])
+                self.delays.append(time.monotonic() - asked[1])
                 self.told[octets.hex()] = time.monotonic()
         return OUTSTANDING
 
@@ -156,9 +163,33 @@ class Trial:
         found = re.search(rf"^rad_proxy_{name} ([0-9.]+)$", self.counters.read_text(), re.MULTILINE)
         return float(found[1]) if found else None
 
-    def answers_at_once(self):
-        if self.slowest > LATE:
-            raise AssertionError(f"an answer took {self.slowest:.1f} s")
+    def answers_as_without(self, more=b""):
+        """No answer was late, and the middle one took no longer than that of a program without a ledger does now."""
+        if max(self.delays) > LATE:
+            raise AssertionError(f"an answer took {max(self.delays):.1f} s")
+        middle, without = statistics.median(self.delays), statistics.median(self.without(len(self.delays), more).delays)
+        if middle > TIMES * without + LATER:
+            raise AssertionError(f"the middle answer took {1000 * middle:.2f} ms, and {1000 * without:.2f} ms without a ledger")
+
+    def without(self, count, more=b""):
+        """A trial of the program without a ledger, which was asked so much and has ended; it knows how much memory it had."""
+        room = self.room / "without"
+        room.mkdir(exist_ok=True)
+        other = Trial(self.program, room)
+        try:
+            other.start(RAD_PROXY_LEDGER="")
+            other.ask(count, more)
+            other.memory()
+            other.end()
+        finally:
+            other.stop()
+        return other
+
+    def memory(self):
+        """How many octets of memory the program has."""
+        status = pathlib.Path(f"/proc/{self.process.pid}/status").read_text()
+        self.resident = 1024 * int(re.search(r"VmRSS:\s+(\d+) kB", status)[1])
+        return self.resident
 
     def stop(self):
         if self.process is not None:
@@ -222,7 +253,7 @@ def is_written_within_a_tenth_of_a_second(trial):
     trial.start()
     for count in range(1, 11):
         trial.ask(1)
-        until("the entry", lambda: len(trial.entries()) == count, 0.1 + SLACK)
+        until("the entry", lambda: len(trial.entries()) == count, WRITTEN + SLACK)
 
 
 def a_folder_that_is_not_there_is_told(trial):
@@ -238,7 +269,7 @@ def a_folder_that_is_not_there_is_told(trial):
     until("the entries", lambda: trial.number("ledger_written_total") == 500)
     trial.end()
     trial.is_all_there()
-    trial.answers_at_once()
+    trial.answers_as_without()
     hope("what is told", (len(trial.events("ledger-fault")), len(trial.events("ledger-back"))), (1, 1))
 
 
@@ -254,7 +285,7 @@ def a_folder_that_goes_away_and_comes_back(trial):
     until("the entries", lambda: trial.number("ledger_written_total") == 900)
     trial.end()
     trial.is_all_there()
-    trial.answers_at_once()
+    trial.answers_as_without()
     hope("what is told", (len(trial.events("ledger-fault")), len(trial.events("ledger-back"))), (1, 1))
 
 
@@ -286,7 +317,7 @@ def a_limit_of_size_is_a_next_file(trial):
     until("the entries", lambda: len(trial.entries()) == 800)
     trial.end()
     trial.is_all_there()
-    trial.answers_at_once()
+    trial.answers_as_without()
 
 
 def a_full_disk_loses_nothing(trial):
@@ -307,7 +338,7 @@ def a_full_disk_loses_nothing(trial):
     until("the entries", lambda: trial.number("ledger_written_total") == 2200)
     trial.end()
     trial.is_all_there()
-    trial.answers_at_once()
+    trial.answers_as_without()
 
 
 def a_slow_write_delays_no_answer(trial):
@@ -315,9 +346,25 @@ def a_slow_write_delays_no_answer(trial):
     entries that are not written are told."""
     trial.start(LD_PRELOAD=built(trial.room, "slow"), SLOW_PATH=str(trial.folder), SLOW_WRITE="10000")
     hope("acknowledged", trial.ask(500), 500)
-    trial.answers_at_once()
+    trial.answers_as_without()
     trial.end()
-    until("it is told", lambda: trial.events("ledger-left"))
+    missing = len(set(trial.told) - {entry["response"] for entry in trial.entries()})
+    hope("what is told", trial.log.read_text(), f"level=error event=ledger-left count={missing}\n")
+
+
+def writes_of_ten_seconds_lose_nothing(trial):
+    """Where each write of the ledger takes ten seconds answers come as ever, and all entries are there in the end, but not the
+    line that ends the run: the program does not wait so long."""
+    trial.start(LD_PRELOAD=built(trial.room, "slow"), SLOW_PATH=str(trial.folder), SLOW_WRITE="10000")
+    last = time.monotonic() + 25
+    while time.monotonic() < last:
+        trial.ask(100)
+        time.sleep(0.3)
+    asked = len(trial.told)
+    until("they are written", lambda: trial.number("ledger_written_total") == asked)
+    trial.end()
+    trial.is_all_there("open")
+    trial.answers_as_without()
 
 
 def slow_writes_lose_nothing(trial):
@@ -326,7 +373,7 @@ def slow_writes_lose_nothing(trial):
     for _ in range(8):
         trial.ask(100)
         time.sleep(0.3)
-    trial.answers_at_once()
+    trial.answers_as_without()
     until("they are written", lambda: trial.number("ledger_written_total") == 800)
     trial.end()
     trial.is_all_there()
@@ -341,7 +388,11 @@ def drops_are_counted(trial):
         trial.ask(200, more)
         if trial.events("ledger-dropped"):
             break
-    trial.answers_at_once()
+    has = trial.memory()
+    without = trial.without(len(trial.told), more).resident
+    if has > without + BOUND + ROOM:
+        raise AssertionError(f"it has {has} octets of memory, and {without} without a ledger")
+    trial.answers_as_without(more)
     told = until("it is told", lambda: trial.events("ledger-dropped"))
     hope("its level", all("level=error" in line for line in told), True)
     trial.folder.mkdir()
@@ -377,6 +428,77 @@ def a_killed_run_is_open(trial):
         early = [killed - moment for moment in lost if moment < killed - 0.1 - SLACK]
         hope("lost from longer before the kill, and the longest", (len(early), max(early, default=0)), (0, 0))
         hope("verdict", trial.verdict(files), "open")
+
+
+def a_run_that_ends_by_a_fault_is_open(trial):
+    """A run that ends by a fault has no line that ends it, and all its entries."""
+    listener = socket.create_server((HERE, 0))
+    near = socket.create_connection(listener.getsockname())
+    far, _ = listener.accept()
+    with far:
+        trial.start(stdin=far)
+    trial.ask(50)
+    near.setsockopt(socket.SOL_SOCKET, socket.SO_LINGER, struct.pack("ii", 1, 0))
+    near.close()
+    hope("status", trial.process.wait(PATIENCE), 4)
+    trial.is_all_there("open")
+    hope("what is told", [line.split()[1] for line in trial.log.read_text().splitlines() if "event=" in line], ["event=input-fault"])
+
+
+def a_file_that_is_there_is_left(trial):
+    """A file of the ledger's name that is there already is left as it is, that is told, and requests are answered."""
+    trial.start(LD_PRELOAD=built(trial.room, "disks"), TAKEN_PATH=str(trial.folder))
+    hope("acknowledged", trial.ask(200), 200)
+    until("it is told", lambda: trial.events("ledger-fault"))
+    trial.end()
+    (file,) = trial.files()
+    hope("the file", file.read_text(), "taken")
+    hope("what is told", sum(int(line.rpartition("=")[2]) for line in trial.events("ledger-left")), 200)
+
+
+def is_synced_each_second(trial):
+    """While entries come the file is synced at least each second, and at the end once more."""
+    log = trial.room / "syncs"
+    trial.start(LD_PRELOAD=built(trial.room, "disks"), SYNC_LOG=str(log))
+    began = 1000 * time.monotonic()
+    for _ in range(100):
+        trial.ask(2)
+        time.sleep(0.05)
+    last = 1000 * time.monotonic()
+    trial.end()
+    moments = [began, *map(int, log.read_text().split())]
+    longest = max(after - before for before, after in zip(moments, moments[1:]))
+    hope("milliseconds between syncs", (longest > 1000 * (SYNCED + SLACK), longest), (False, longest))
+    hope("a sync at the end", moments[-1] >= last, True)
+
+
+def is_handed_over_before_it_is_sent(trial):
+    """An entry is in the file while its answer is still being sent."""
+    slow = {"SLOW_PORT": str(trial.nas.getsockname()[1]), "SLOW_SEND": "1000"}
+    trial.start(LD_PRELOAD=built(trial.room, "slow"), **slow)
+    trial.nas.sendto(request(7, START, NAS_SECRET), (HERE, trial.port))
+    trial.home.setblocking(False)
+    until("the request", lambda: trial.serve(b""))
+    until("the entry", lambda: trial.entries(), WRITTEN + SLACK)
+    trial.nas.setblocking(False)
+    hope("answers", trial.hear({7: [b"", time.monotonic(), 0]}), 0)
+    until("the answer", lambda: trial.hear({7: [b"", time.monotonic(), 0]}))
+    trial.end()
+    trial.is_all_there()
+
+
+def a_folder_that_is_a_file_is_told(trial):
+    """A folder that is a file is told once at level error, requests are answered, and the end tells what is not written."""
+    trial.folder.rmdir()
+    trial.folder.write_text("no folder")
+    trial.start()
+    hope("acknowledged", trial.ask(300), 300)
+    time.sleep(1.5)
+    trial.answers_as_without()
+    trial.end()
+    hope("the file", trial.folder.read_text(), "no folder")
+    hope("what is told", [line.split(" reason=")[0] for line in trial.log.read_text().splitlines()],
+         ["level=error event=ledger-fault", "level=error event=ledger-left count=300"])
 
 
 def midnight_is_a_next_file(trial):
@@ -420,12 +542,18 @@ TESTS = [
     writes_what_was_acknowledged, writes_none_unasked, ends_a_run_with_requests_left, a_program_that_cannot_serve_leaves_no_file,
     is_written_within_a_tenth_of_a_second, a_folder_that_is_not_there_is_told, a_folder_that_goes_away_and_comes_back, a_folder_that_is_made_anew,
     a_limit_of_size_is_a_next_file, a_full_disk_loses_nothing, a_slow_write_delays_no_answer, slow_writes_lose_nothing,
-    drops_are_counted, a_killed_run_is_open, midnight_is_a_next_file, a_long_ledger_is_several_files, a_name_that_is_no_text_is_told,
+    drops_are_counted, a_killed_run_is_open, a_run_that_ends_by_a_fault_is_open, a_file_that_is_there_is_left, is_synced_each_second,
+    is_handed_over_before_it_is_sent, a_folder_that_is_a_file_is_told, midnight_is_a_next_file, a_long_ledger_is_several_files,
+    a_name_that_is_no_text_is_told,
 ]
+LONG = [writes_of_ten_seconds_lose_nothing]
 
 
 def main():
-    try_named(TESTS, Trial, __doc__)
+    is_long = "--long" in sys.argv
+    if is_long:
+        sys.argv.remove("--long")
+    try_named(LONG if is_long else TESTS, Trial, __doc__)
 
 
 if __name__ == "__main__":

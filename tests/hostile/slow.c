@@ -1,15 +1,17 @@
 /*
  * Makes files slow for the program that it is loaded into (LD_PRELOAD), as a busy disk or a server that is away would: each
  * write to standard error takes SLOW_LOG milliseconds. Of a file whose path begins with SLOW_PATH each opening takes SLOW_OPEN
- * milliseconds, and each write SLOW_WRITE.
+ * milliseconds, and each write SLOW_WRITE. And each datagram to the UDP port SLOW_PORT is sent SLOW_SEND milliseconds late.
  */
 #define _GNU_SOURCE
+#include <arpa/inet.h>
 #include <dlfcn.h>
 #include <fcntl.h>
 #include <stdarg.h>
 #include <stdio.h>
 #include <stdlib.h>
 #include <string.h>
+#include <sys/socket.h>
 #include <time.h>
 #include <unistd.h>
 
@@ -75,3 +77,12 @@ int open(const char *path, int flags, ...)
 
 /* Where a `long` has 64 bits, the two are one. */
 int open64(const char *path, int flags, ...) __attribute__((alias("open")));
+
+ssize_t sendto(int socket, const void *octets, size_t size, int flags, const struct sockaddr *to, socklen_t length)
+{
+    ssize_t (*next)(int, const void *, size_t, int, const struct sockaddr *, socklen_t) = dlsym(RTLD_NEXT, "sendto");
+    if (to && to->sa_family == AF_INET && ntohs(((const struct sockaddr_in *)to)->sin_port) == number_in("SLOW_PORT")) {
+        pause_for(number_in("SLOW_SEND"));
+    }
+    return next(socket, octets, size, flags, to, length);
+}
