@@ -11,7 +11,11 @@ mod ending;
 #[cfg(test)]
 mod gates;
 #[cfg(test)]
+mod handing_over;
+#[cfg(test)]
 mod interrupting;
+#[cfg(test)]
+mod journal;
 #[cfg(test)]
 mod lingering;
 #[cfg(test)]

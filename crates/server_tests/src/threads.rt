@@ -16,13 +16,13 @@ use test_octets::nas::{NAME_ONLY_REQUEST, SEVENTH};
 
 /// A reader that gives the command `state` until enough datagrams were sent, and then ends.
 #[derive(Drop)]
-struct Asking<'a, R> {
-    clock: &'a R,
-    sent: &'a AtomicU64,
-    enough: u64,
-    looks: u32,
+pub struct Asking<'a, R> {
+    pub clock: &'a R,
+    pub sent: &'a AtomicU64,
+    pub enough: u64,
+    pub looks: u32,
     /// Whether it ended with fewer.
-    gave_up: &'a AtomicBool,
+    pub gave_up: &'a AtomicBool,
 }
 
 impl<R: Clock> Read for Asking<'_, R> {
@@ -83,13 +83,13 @@ impl<R: Clock> Gate for Crossing<'_, R> {
     fn after(&self, _worker: Worker, _call: Call) {}
 }
 
-const CLIENT: Endpoint = Endpoint {
+pub const CLIENT: Endpoint = Endpoint {
     address: [10, 0, 0, 1],
     port: 40000,
 };
 
 /// Returns the home server of a lane.
-fn home(lane: u16) -> Endpoint {
+pub fn home(lane: u16) -> Endpoint {
     Endpoint {
         address: [127, 0, 0, 1],
         port: 2813_u16.saturating_add(lane),
@@ -97,7 +97,7 @@ fn home(lane: u16) -> Endpoint {
 }
 
 /// Makes a wire in memory that gives these datagrams once it has sent `waits_for` datagrams.
-fn scripted<'a, R: Clock>(
+pub fn scripted<'a, R: Clock>(
     clock: &'a R,
     from: Endpoint,
     gives: &'a [&'a [u8]],
@@ -111,6 +111,7 @@ fn scripted<'a, R: Clock>(
         next: 0,
         waits_for,
         sent,
+        journal: None,
         traffic: Traffic::new(),
     }
 }

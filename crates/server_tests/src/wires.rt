@@ -2,6 +2,7 @@
 
 ghost use Rattle.std.specs.Prelude.{Some, IsSome};
 
+use crate::journal::{Journal, SENT};
 use rad_console::EndLine;
 use rad_desk::{Delivery, Gate, Received, Traffic, Wire};
 use rad_realms::{Endpoint, read_config};
@@ -19,7 +20,7 @@ use std::time::{Clock, Duration};
 pub const LOOKS: u32 = 10_000;
 
 /// A configuration of one client and two home servers.
-const TWO_HOMES: &str = r#"
+pub const TWO_HOMES: &str = r#"
 listen = "127.0.0.1:1813"
 [[client]]
 address = "10.0.0.1"
@@ -54,10 +55,12 @@ pub struct Scripted<'a, R> {
     pub next: usize,
     pub waits_for: u64,
     pub sent: &'a AtomicU64,
+    /// Where it logs what it sends, if anywhere.
+    pub journal: Option<&'a Journal<'a, R>>,
     pub traffic: Traffic,
 }
 
-impl<R: Clock> Wire for Scripted<'_, R> {
+impl<R: Clock + Wait> Wire for Scripted<'_, R> {
     ghost log = { λ w. Some w.traffic.passed };
 
     fn now(&mut self) -> Moment {
@@ -96,6 +99,9 @@ impl<R: Clock> Wire for Scripted<'_, R> {
 
     fn send(&mut self, socket: u16, address: [u8; 4], port: u16, octets: &[u8]) -> Delivery {
         self.sent.fetch_add(1, Ordering::SeqCst);
+        if let Some(journal) = self.journal {
+            journal.add(SENT, octets);
+        }
         self.traffic
             .departed(socket, address, port, octets, Delivery::Sent);
         Delivery::Sent
@@ -114,6 +120,7 @@ fn quiet<'a, R: Clock>(clock: &'a R, sent: &'a AtomicU64) -> Scripted<'a, R> {
         next: 0,
         waits_for: 0,
         sent,
+        journal: None,
         traffic: Traffic::new(),
     }
 }
