@@ -1,5 +1,9 @@
 //! The lines of a ledger, made of what passed through the buffer.
 
+ghost use Rattle.std.specs.Prelude.{◌≡◌, ◌<◌, ◌^◌, IfOk, MatchOption, slice_get};
+ghost use Rattle.ledger_lines.specs.Written.{HasLineBehind};
+ghost use Rattle.rad_writer.specs.Entries.{IsEntryOf};
+
 use crate::counts::TakenCounts;
 use crate::entry_buffer::Parcel;
 use crate::run_names::RunNames;
@@ -28,14 +32,24 @@ pub(crate) fn entry_line(
     names: &RunNames,
     parcel: &Parcel<'_>,
     out: Vec<u8>,
-) -> Result<Vec<u8>, AllocError> {
-    let head = parcel.head;
-    let time = UtcTime::of(head.time);
+) -> Result<Vec<u8>, AllocError>
+    ensures { IfOk result (λ all. HasLineBehind out.items all.items) }
+{
+    let time = UtcTime::of(parcel.head.time);
     let time = format!(in alloc; "{time}")?;
+    let entry = entry_of(names, parcel, time.as_str());
+    write_entry(alloc, &entry, out)
+}
+
+/// Returns the entry that a parcel is, with this text for its time.
+fn entry_of<'a>(names: &'a RunNames, parcel: &Parcel<'a>, time: &'a str) -> Entry<'a>
+    ensures { IsEntryOf names.now parcel.now time.now result }
+{
+    let head = parcel.head;
     let packet = read(parcel.sent).ok();
-    let entry = Entry {
+    Entry {
         run: names.run,
-        time: time.as_str(),
+        time,
         home: names.home(head.lane),
         lane: head.lane,
         serial: head.serial,
@@ -59,8 +73,7 @@ pub(crate) fn entry_line(
             Some(packet) => status_of(packet),
             None => None,
         },
-    };
-    write_entry(alloc, &entry, out)
+    }
 }
 
 /// Returns the number in a packet's first Acct-Status-Type (RFC 2866 section 5.1), if it has one of four octets.
@@ -89,9 +102,31 @@ pub(crate) fn begin_line(
     file: u64,
     next: &[u64],
     out: Vec<u8>,
-) -> Result<Vec<u8>, AllocError> {
+) -> Result<Vec<u8>, AllocError>
+    ensures { IfOk result (λ all. HasLineBehind out.items all.items) }
+{
     let time = UtcTime::of(time);
     let time = format!(in alloc; "{time}")?;
+    let begin = Begin {
+        run: names.run,
+        time: time.as_str(),
+        version: VERSION,
+        file,
+        lanes: lane_starts(alloc, names, next)?,
+    };
+    write_begin(alloc, &begin, out)
+}
+
+/// Returns the run's lanes, each with the serial of its next entry.
+///
+/// # Errors
+///
+/// `AllocError` if memory is refused.
+fn lane_starts<'a>(
+    alloc: Global,
+    names: &'a RunNames,
+    next: &[u64],
+) -> Result<Vec<LaneStart<'a>>, AllocError> {
     let mut lanes = Vec::with_capacity(alloc, names.homes.len())?;
     for (lane, home) in names.homes.iter().enumerate() {
         lanes.push(LaneStart {
@@ -100,18 +135,34 @@ pub(crate) fn begin_line(
             serial: serial_at(next, lane),
         })?;
     }
-    let begin = Begin {
-        run: names.run,
-        time: time.as_str(),
-        version: VERSION,
-        file,
-        lanes,
-    };
-    write_begin(alloc, &begin, out)
+    Ok(lanes)
+}
+
+/// Returns the run's lanes, each with how many responses of it were taken.
+///
+/// # Errors
+///
+/// `AllocError` if memory is refused.
+fn lane_counts(
+    alloc: Global,
+    names: &RunNames,
+    taken: &TakenCounts,
+) -> Result<Vec<LaneCount>, AllocError> {
+    let mut lanes = Vec::with_capacity(alloc, names.homes.len())?;
+    for lane in 0..names.homes.len() {
+        lanes.push(LaneCount {
+            lane: u16::try_from(lane).unwrap_or(u16::MAX),
+            entries: taken.of_lane(lane),
+        })?;
+    }
+    Ok(lanes)
 }
 
 /// Returns a lane's next serial.
-fn serial_at(next: &[u64], lane: usize) -> u64 {
+fn serial_at(next: &[u64], lane: usize) -> u64
+    ensures bounded { result < 2 ^ 63 }
+    ensures value { MatchOption (slice_get next.now lane) (result ≡ 0) (λ serial. serial < 2 ^ 63 → result ≡ serial) }
+{
     match next.get(lane) {
         Some(serial) => (*serial).min(GREATEST_SERIAL),
         None => 0,
@@ -129,20 +180,15 @@ pub(crate) fn end_line(
     time: u64,
     taken: &TakenCounts,
     out: Vec<u8>,
-) -> Result<Vec<u8>, AllocError> {
+) -> Result<Vec<u8>, AllocError>
+    ensures { IfOk result (λ all. HasLineBehind out.items all.items) }
+{
     let time = UtcTime::of(time);
     let time = format!(in alloc; "{time}")?;
-    let mut lanes = Vec::with_capacity(alloc, names.homes.len())?;
-    for lane in 0..names.homes.len() {
-        lanes.push(LaneCount {
-            lane: u16::try_from(lane).unwrap_or(u16::MAX),
-            entries: taken.of_lane(lane),
-        })?;
-    }
     let end = End {
         run: names.run,
         time: time.as_str(),
-        lanes,
+        lanes: lane_counts(alloc, names, taken)?,
     };
     write_end(alloc, &end, out)
 }

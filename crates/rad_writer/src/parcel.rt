@@ -1,5 +1,10 @@
 //! A response as it passes through the buffer: a head of fixed size, and behind it the three packets.
 
+ghost use Rattle.std.specs.Prelude.{◌≡◌, ◌+◌, ◌≤◌, ◌<◌, ◌^◌, ◌++◌, ℕ, List, length, OnOk};
+ghost use Rattle.rad_auth.specs.Mark.{mark_value};
+ghost use Rattle.rad_auth.specs.declared.mark.Mark.{Mark};
+ghost use Rattle.rad_writer.specs.Parcels.{FitsOctets, parcel_octets};
+
 use rad_auth::RequestHead;
 use rad_lane::Outgoing;
 use std::alloc::AllocError;
@@ -34,34 +39,48 @@ pub(crate) struct ParcelHead {
     pub(crate) response: u16,
 }
 
-/// Returns the first octets of a list, filled up with zeros where it is shorter.
-fn front<const N: usize>(octets: &[u8]) -> [u8; N] {
+/// Returns the first octets of a list and those behind them.
+fn split_front<const N: usize>(octets: &[u8]) -> ([u8; N], &[u8])
+    requires { N ≤ length octets.now }
+    ensures parts { octets.now ≡ result.0 ++ result.1.now }
+    ensures count { length result.0 ≡ N }
+{
+    let (front, rest) = octets.split_at(N);
     let mut array = [0; N];
-    for (place, octet) in array.iter_mut().zip(octets) {
-        *place = *octet;
-    }
-    array
-}
-
-fn u16_at(octets: &[u8], start: usize) -> u16 {
-    u16::from_be_bytes(front(octets.get(start..).unwrap_or(&[])))
-}
-
-fn u64_at(octets: &[u8], start: usize) -> u64 {
-    u64::from_be_bytes(front(octets.get(start..).unwrap_or(&[])))
+    array.copy_from_slice(front);
+    (array, rest)
 }
 
 /// Returns a packet's length. No packet has more than 4096 octets.
-fn length_of(packet: &[u8]) -> u16 {
+fn length_of(packet: &[u8]) -> u16
+    ensures { length packet.now < 2 ^ 16 → result ≡ length packet.now }
+{
     u16::try_from(packet.len()).unwrap_or(u16::MAX)
 }
 
+/// Returns the lane and the number in the mark at the end of a sending.
+fn mark_of(sent: &[u8]) -> (u16, u64)
+    ensures { (before : List ℕ) (mark : Mark) → FitsOctets mark → sent.now ≡ before ++ mark_value mark → (result.0 ≡ mark.lane) × (result.1 ≡ mark.number) }
+{
+    if sent.len() < MARKED {
+        return (0, 0);
+    }
+    let (_, value) = sent.split_at(sent.len() - MARKED);
+    let (lane, rest) = split_front(value);
+    let (number, _) = split_front(rest);
+    (u16::from_be_bytes(lane), u64::from_be_bytes(number))
+}
+
 impl ParcelHead {
+    ghost use Rattle.rad_writer.specs.Parcels.{IsHead, IsHeadOf, head_octets};
+
     /// Returns the head of a response that is handed over at this moment. Its lane and number are those of the mark,
     /// which is the last attribute of the sending.
-    pub(crate) fn of(time: u64, outgoing: &Outgoing) -> ParcelHead {
+    pub(crate) fn of(time: u64, outgoing: &Outgoing) -> ParcelHead
+        ensures { IsHeadOf time outgoing.now result }
+    {
         let sent = outgoing.reply.sending();
-        let mark = sent.get(sent.len().saturating_sub(MARKED)..).unwrap_or(&[]);
+        let (lane, number) = mark_of(sent);
         let RequestHead {
             identifier,
             authenticator,
@@ -69,8 +88,8 @@ impl ParcelHead {
         ParcelHead {
             time,
             serial: outgoing.serial,
-            number: u64_at(mark, 2),
-            lane: u16_at(mark, 0),
+            number,
+            lane,
             client: outgoing.client,
             port: outgoing.port,
             identifier,
@@ -82,20 +101,32 @@ impl ParcelHead {
     }
 
     /// Returns the head that these octets are.
-    pub(crate) fn read(octets: &[u8; HEAD]) -> ParcelHead {
-        let octets = octets.as_slice();
+    pub(crate) fn read(octets: &[u8; HEAD]) -> ParcelHead
+        ensures { (head : ParcelHead) → IsHead head → octets.now ≡ head_octets head → result ≡ head }
+    {
+        let (time, rest) = split_front(octets.as_slice());
+        let (serial, rest) = split_front(rest);
+        let (number, rest) = split_front(rest);
+        let (lane, rest) = split_front(rest);
+        let (client, rest) = split_front(rest);
+        let (port, rest) = split_front(rest);
+        let ([identifier], rest) = split_front::<1>(rest);
+        let (authenticator, rest) = split_front(rest);
+        let (sent, rest) = split_front(rest);
+        let (reply, rest) = split_front(rest);
+        let (response, _) = split_front(rest);
         ParcelHead {
-            time: u64_at(octets, 0),
-            serial: u64_at(octets, 8),
-            number: u64_at(octets, 16),
-            lane: u16_at(octets, 24),
-            client: front(octets.get(26..).unwrap_or(&[])),
-            port: u16_at(octets, 30),
-            identifier: octets.get(32).copied().unwrap_or(0),
-            authenticator: front(octets.get(33..).unwrap_or(&[])),
-            sent: u16_at(octets, 49),
-            reply: u16_at(octets, 51),
-            response: u16_at(octets, 53),
+            time: u64::from_be_bytes(time),
+            serial: u64::from_be_bytes(serial),
+            number: u64::from_be_bytes(number),
+            lane: u16::from_be_bytes(lane),
+            client,
+            port: u16::from_be_bytes(port),
+            identifier,
+            authenticator,
+            sent: u16::from_be_bytes(sent),
+            reply: u16::from_be_bytes(reply),
+            response: u16::from_be_bytes(response),
         }
     }
 
@@ -104,7 +135,9 @@ impl ParcelHead {
     /// # Errors
     ///
     /// `AllocError` if memory is needed and refused.
-    fn write(&self, out: &mut Vec<u8>) -> Result<(), AllocError> {
+    fn write(&self, out: &mut Vec<u8>) -> Result<(), AllocError>
+        ensures { OnOk result (out.new.items ≡ out.old.items ++ head_octets self.now) }
+    {
         out.extend_from_slice(&self.time.to_be_bytes())?;
         out.extend_from_slice(&self.serial.to_be_bytes())?;
         out.extend_from_slice(&self.number.to_be_bytes())?;
@@ -115,11 +148,14 @@ impl ParcelHead {
         out.extend_from_slice(&self.authenticator)?;
         out.extend_from_slice(&self.sent.to_be_bytes())?;
         out.extend_from_slice(&self.reply.to_be_bytes())?;
-        out.extend_from_slice(&self.response.to_be_bytes())
+        out.extend_from_slice(&self.response.to_be_bytes())?;
+        Ok(())
     }
 
     /// Returns how many octets the packets have together.
-    pub(crate) fn packets(&self) -> usize {
+    pub(crate) fn packets(&self) -> usize
+        ensures { result ≡ self.now.sent + self.now.reply + self.now.response }
+    {
         usize::from(self.sent) + usize::from(self.reply) + usize::from(self.response)
     }
 }
@@ -133,10 +169,13 @@ pub(crate) fn pack(
     head: &ParcelHead,
     outgoing: &Outgoing,
     out: &mut Vec<u8>,
-) -> Result<(), AllocError> {
+) -> Result<(), AllocError>
+    ensures { OnOk result (out.new.items ≡ parcel_octets head.now outgoing.now.reply.sending outgoing.now.reply.reply outgoing.now.reply.response) }
+{
     out.clear();
     head.write(out)?;
     out.extend_from_slice(outgoing.reply.sending())?;
     out.extend_from_slice(outgoing.reply.reply())?;
-    out.extend_from_slice(outgoing.reply.response())
+    out.extend_from_slice(outgoing.reply.response())?;
+    Ok(())
 }

@@ -2,8 +2,8 @@
 
 use ledger_files::{DiskFault, LedgerDisk};
 use rad_telemetry::system_number;
-use std::fs::{self, Files, OpenFile, OpenOptions, Permissions};
-use std::io::{ErrorKind, Write};
+use std::fs::{self, Files, Metadata, OpenFile, OpenOptions, Permissions};
+use std::io::{self, ErrorKind, Write};
 use std::os::unix::fs::{MetadataExt, OpenOptionsExt, PermissionsExt};
 
 /// Who may read and write a file: its owner may do both, and its group may read it.
@@ -14,6 +14,15 @@ const MODE: u32 = 0o640;
 pub struct RuntimeDisk<R, F: Drop> {
     rt: R,
     open: Option<OpenedFile<F>>,
+    /// A file that was made and is not open yet, since a step behind that failed.
+    made: Option<MadeFile<F>>,
+}
+
+/// A file that was made.
+#[derive(Drop)]
+struct MadeFile<F: Drop> {
+    file: F,
+    path: String,
 }
 
 /// A file that is open, and where it is found again.
@@ -33,35 +42,58 @@ struct OpenedFile<F: Drop> {
 impl<R: Files<File = F>, F: Drop> RuntimeDisk<R, F> {
     /// Makes a value with no open file.
     pub fn new(rt: R) -> RuntimeDisk<R, F> {
-        RuntimeDisk { rt, open: None }
+        RuntimeDisk {
+            rt,
+            open: None,
+            made: None,
+        }
     }
-}
 
-impl<R: Files<File = F>, F: Write + OpenFile + Drop> LedgerDisk for RuntimeDisk<R, F> {
-    /// The file has its mode whatever the umask.
-    fn create(&mut self, path: String) -> Result<(), DiskFault> {
-        let opened = OpenOptions::new()
+    /// Makes a file of this path, or takes the one that was made for it.
+    fn make(&mut self, path: String) -> io::Result<MadeFile<F>> {
+        if let Some(made) = self.made.take()
+            && made.path == path
+        {
+            return Ok(made);
+        }
+        let file = OpenOptions::new()
             .write(true)
             .create_new(true)
             .mode(MODE)
-            .open(&self.rt, path.as_str());
-        let file = match opened {
-            Ok(file) => file,
-            Err(error) => return Err(DiskFault::Create(system_number(&error))),
-        };
-        if let Err(error) = file.set_permissions(Permissions::from_mode(MODE)) {
-            return Err(DiskFault::Create(system_number(&error)));
-        }
-        let found = match file.metadata() {
+            .open(&self.rt, path.as_str())?;
+        Ok(MadeFile { file, path })
+    }
+}
+
+/// Sets a file's mode, and returns what the system knows of it.
+fn set_up<F: OpenFile>(file: &F) -> io::Result<Metadata> {
+    file.set_permissions(Permissions::from_mode(MODE))?;
+    file.metadata()
+}
+
+/// Returns the fault of a file that could not be made.
+fn create_fault(error: io::Error) -> DiskFault {
+    DiskFault::Create(system_number(&error))
+}
+
+impl<R: Files<File = F>, F: Write + OpenFile + Drop> LedgerDisk for RuntimeDisk<R, F> {
+    /// The file has its mode whatever the umask. If its mode can't be set or the file can't be looked at, the next call
+    /// with the same path goes on with it.
+    fn create(&mut self, path: String) -> Result<(), DiskFault> {
+        let made = self.make(path).map_err(create_fault)?;
+        let found = match set_up(&made.file) {
             Ok(found) => found,
-            Err(error) => return Err(DiskFault::Create(system_number(&error))),
+            Err(error) => {
+                self.made = Some(made);
+                return Err(create_fault(error));
+            }
         };
         let _ = self.sync();
         self.open = Some(OpenedFile {
             device: found.dev(),
             inode: found.ino(),
-            file,
-            path,
+            file: made.file,
+            path: made.path,
             size: 0,
             is_unsynced: false,
         });

@@ -87,6 +87,22 @@ impl LedgerWriter {
         }
     }
 
+    /// Makes lines of the next entries, as [`fill`] does.
+    ///
+    /// # Errors
+    ///
+    /// `AllocError` if memory is refused.
+    fn fill(&mut self, alloc: Global, day: u64) -> Result<(), AllocError> {
+        fill(
+            &mut self.batch,
+            &mut self.room,
+            alloc,
+            &self.names,
+            &mut self.entries,
+            day,
+        )
+    }
+
     /// Counts the lines that are written whole, and puts the serial behind each one into `next` at the place of its
     /// lane. It returns how many that are.
     fn pass_lines(&mut self) -> u64 {
@@ -161,14 +177,9 @@ impl<R: Clock, D: LedgerDisk + Drop> Session<'_, R, D> {
     /// Makes lines of the next entries, if all lines before them are written.
     fn fill(&mut self) -> Result<(), LedgerFault> {
         if self.writer.batch.is_done() {
-            let LedgerWriter {
-                names,
-                entries,
-                batch,
-                room,
-                ..
-            } = &mut self.writer;
-            if fill(batch, room, self.alloc, names, entries, self.day).is_err() {
+            let alloc = self.alloc;
+            let day = self.day;
+            if self.writer.fill(alloc, day).is_err() {
                 return Err(LedgerFault::Memory);
             }
         }

@@ -1,0 +1,50 @@
+-- The form in which a response passes through the buffer (own): a head of 55 octets, then the packet to the home server,
+-- the home server's reply and the response. Numbers have their most significant octet first.
+use Rattle.std.specs.Prelude.{◌≡◌, ℕ, ◌<◌, ◌^◌, List, [], ◌∷◌, ◌++◌, length}
+use Rattle.std.specs.Int.{w16, w64, to_be_bytes}
+use Rattle.rad_auth.specs.Mark.{mark_value}
+use Rattle.rad_auth.specs.declared.mark.Mark.{Mark}
+use Rattle.rad_lane.specs.declared.outgoing.Outgoing.{Outgoing}
+use Rattle.rad_writer.specs.declared.parcel.ParcelHead.{ParcelHead}
+
+-- The octets of a head.
+abbrev pub head_octets : ParcelHead → List ℕ
+head_octets head =
+    to_be_bytes w64 head.time ++ (to_be_bytes w64 head.serial ++ (to_be_bytes w64 head.number ++ (to_be_bytes w16 head.lane
+    ++ (head.client ++ (to_be_bytes w16 head.port ++ (head.identifier ∷ (head.authenticator
+    ++ (to_be_bytes w16 head.sent ++ (to_be_bytes w16 head.reply ++ to_be_bytes w16 head.response)))))))))
+
+-- The octets of a parcel: those of its head, and three packets.
+abbrev pub parcel_octets : ParcelHead → List ℕ → List ℕ → List ℕ → List ℕ
+parcel_octets head sent reply response = head_octets head ++ (sent ++ (reply ++ response))
+
+-- Each number of a head fits its octets.
+pub record IsHead (head : ParcelHead) : Type 0 where
+  pub time : head.time < 2 ^ 64
+  pub serial : head.serial < 2 ^ 64
+  pub number : head.number < 2 ^ 64
+  pub lane : head.lane < 2 ^ 16
+  pub client : length head.client ≡ 4
+  pub port : head.port < 2 ^ 16
+  pub authenticator : length head.authenticator ≡ 16
+  pub sent : head.sent < 2 ^ 16
+  pub reply : head.reply < 2 ^ 16
+  pub response : head.response < 2 ^ 16
+
+-- Each number of a mark fits its octets.
+pub record FitsOctets (mark : Mark) : Type 0 where
+  pub lane : mark.lane < 2 ^ 16
+  pub number : mark.number < 2 ^ 64
+
+-- This is the head of a response that was handed over at this time. A sending ends with the Value of its mark.
+pub record IsHeadOf (now : ℕ) (outgoing : Outgoing) (head : ParcelHead) : Type 0 where
+  pub time : head.time ≡ now
+  pub serial : head.serial ≡ outgoing.serial
+  pub mark : (before : List ℕ) (mark : Mark) → FitsOctets mark → outgoing.reply.sending ≡ before ++ mark_value mark → (head.lane ≡ mark.lane) × (head.number ≡ mark.number)
+  pub client : head.client ≡ outgoing.client
+  pub port : head.port ≡ outgoing.port
+  pub identifier : head.identifier ≡ outgoing.reply.head.identifier
+  pub authenticator : head.authenticator ≡ outgoing.reply.head.authenticator
+  pub sent : length outgoing.reply.sending < 2 ^ 16 → head.sent ≡ length outgoing.reply.sending
+  pub reply : length outgoing.reply.reply < 2 ^ 16 → head.reply ≡ length outgoing.reply.reply
+  pub response : length outgoing.reply.response < 2 ^ 16 → head.response ≡ length outgoing.reply.response
