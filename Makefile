@@ -76,12 +76,14 @@ spoiled:
 	@python3 tests/hostile/mutations.py $(PROGRAM) $(DATAGRAMS) $(SEED)
 
 # The program over UDP and a network that loses, for SECONDS, and then, for as long, whether its memory grows under a load
-# that does not; the gate has short runs of a fixed count of requests.
+# that does not; the gate has short runs of a fixed count of requests. Then fifty runs that are killed at random moments, and a
+# disk that takes ten seconds for each write, whose ledgers are compared with what was acknowledged.
 soak:
 	@status=0; \
 	python3 tests/hostile/soak.py $(PROGRAM) --seconds $(SECONDS) $(SEED) || status=1; \
 	python3 tests/hostile/memory.py $(PROGRAM) --seconds $(SECONDS) || status=1; \
-	KILLS=50 SEED=$(SEED) python3 tests/hostile/ledger_files.py $(PROGRAM) a_killed_run_is_open || status=1; \
+	python3 tests/hostile/soak.py $(PROGRAM) --kills 50 $(SEED) || status=1; \
+	python3 tests/hostile/ledger_files.py $(PROGRAM) --long || status=1; \
 	exit $$status
 
 # Measures the program that was built, a bare relay, and radsecproxy and FreeRADIUS where they are installed; docs/performance.md

@@ -19,17 +19,28 @@ EARLIER_KEPT = 12
 CLOCK_STEP = 0.01
 
 
+def key_of(response):
+    """What a response is known by: the first half of its authenticator."""
+    return int.from_bytes(response[4:12], "big")
+
+
 @dataclass
 class Findings:
-    """What came out so far: faults in words, and counts."""
+    """What came out so far: faults in words, counts, and of each response to a request its key and the moment when it came."""
 
     faults: list = field(default_factory=list)
     counts: Counter = field(default_factory=Counter)
+    keys: array = field(default_factory=lambda: array("Q"))
+    moments: array = field(default_factory=lambda: array("d"))
 
     def fault(self, text):
         self.counts["faults"] += 1
         if len(self.faults) < MOST_FAULTS:
             self.faults.append(text)
+
+    def take_response(self, response):
+        self.keys.append(key_of(response))
+        self.moments.append(time.monotonic())
 
 
 @dataclass(slots=True)
@@ -255,6 +266,7 @@ class Nas:
         elif octets not in asked.responses:
             self.check_answer(asked, octets)
             asked.responses.append(octets)
+            self.findings.take_response(octets)
 
     def asked_under(self, came):
         """The request that a response answers."""

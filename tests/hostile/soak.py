@@ -3,22 +3,27 @@
 
 usage: soak.py PROGRAM                       short runs of a fixed count of requests, one for each ending and one more
        soak.py PROGRAM --seconds N SEED      one run of N seconds, by a seed; SIGTERM ends it earlier, and all is compared
+       soak.py PROGRAM --kills N SEED        N runs, each killed at a random moment
 
 The network drops, doubles, delays and spoils datagrams in both directions, and home servers go away and come back, silent
 or with their ports closed. At the end both sides' logs are compared: each acknowledged request is at its home server, with
 its own attributes, under one identifier and one authenticator; first sendings came in the order of acceptance, as far as
 a home server could receive them; each response was right, answered its own request and was what the home server had
 replied. Where a repeat came to its home server as a new request, `span` was over. Then the input ends, and the `end:` line
-and the status have to agree with what the sides know. The program writes a ledger, which audit_model.py has to find whole. All
-of this holds however slow the machine is. The endings:
+and the status have to agree with what the sides know. The program writes a ledger: each response that came to a NAS stands there
+once, and audit_model.py has to find it whole. All of this holds however slow the machine is. The endings:
 
     calm      all is acknowledged
     away      a home server answers nothing any more, and some requests are left over
     drain     the input ends while requests are out; each that was accepted is answered before the program ends
+    kill      the program is killed. Of its ledger only responses of the last 100 ms may be missing, and of these those behind the
+              last entry of a lane: audit_model.py has to find it open. Half a second is left to a busy machine, but in most of the
+              runs nothing may be missing from before these 100 ms
 
-In one of the short runs, which has no ledger, some hundred growths of the program are refused in its midst; its log has to say
-so, and all else has to hold. The last line is `N passed, M failed`, of acknowledged requests and faults.
+In one of the short runs some hundred growths of the program are refused in its midst; its log has to say so, and all else has to
+hold. The last line is `N passed, M failed`, of acknowledged requests and faults.
 """
+import json
 import os
 import pathlib
 import random
@@ -36,7 +41,7 @@ sys.dont_write_bytecode = True
 from audit_model import Audit
 from growths import Refuser
 from network import Loop, Network
-from sides import Findings, Home, Nas
+from sides import Findings, Home, Nas, key_of
 from waiting import HERE, free_port
 
 ENDINGS = ["calm", "away", "drain"]
@@ -48,7 +53,10 @@ IDENTIFIERS = 256
 # How long is waited for what has to come: much longer than it takes, since a slow machine is no fault of the program.
 PATIENCE, AFTERWARDS = 600, 0.3
 SPARE_LINES, SPARE_LINES_A_SECOND = 1000, 3
-LINGER = {"calm": 300_000, "away": 500, "drain": 300_000}
+# An entry is written within this time, and half a second more is left to the machine.
+WRITTEN, SLACK = 0.1, 0.5
+LONGEST_LIFE = 4.0
+LINGER = {"calm": 300_000, "away": 500, "drain": 300_000, "kill": 0}
 WINDOWS, PORTS, SPANS = [300, 4, 40], [2, 1, 1], [60, 60, 20]
 LIMITS = [
     "ring = 256\nbook = 1000000",
@@ -125,8 +133,10 @@ class Soak:
         with self.log.open("wb") as log:
             self.ledger = pathlib.Path(folder, "ledger")
             self.ledger.mkdir()
-            settings = refuser.settings(REFUSED) if refuser else os.environ | {"RAD_PROXY_LEDGER": str(self.ledger)}
+            settings = refuser.settings(REFUSED) if refuser else os.environ
+            settings = settings | {"RAD_PROXY_LEDGER": str(self.ledger)}
             self.program = Program(self.loop, [program, "run", str(file)], log, settings)
+        self.late = 0.0
         self.made, self.credit, self.is_asking, self.began = 0, 0, False, time.monotonic()
 
     def home(self, lane):
@@ -245,23 +255,44 @@ class Soak:
             if not all(known.is_answered for known in home.log.values()):
                 self.findings.fault(f"{home.name} has requests that it did not answer, and none is left over")
 
+    def end_kill(self):
+        self.program.ran.kill()
+        self.program.ran.wait()
+        self.killed = time.monotonic()
+
     def agree(self, line, status, wanted_line, wanted_status):
         if (line, status) != (wanted_line, wanted_status):
             self.findings.fault(f"it ended in {line!r} with status {status}; wanted {wanted_line!r} and {wanted_status}")
 
     def audit(self):
-        """What the auditor says of the ledger: each lane is whole, and no acknowledged request is missing."""
-        audit = Audit(tomllib.loads(self.configuration()))
+        """What the auditor says of the ledger, and whether each response that came to a NAS stands there once."""
+        audit, entries = Audit(tomllib.loads(self.configuration())), []
         for file in sorted(self.ledger.glob("*.jsonl")):
-            audit.read(file.name, file.read_bytes())
+            octets = file.read_bytes()
+            audit.read(file.name, octets)
+            lines = map(json.loads, octets.split(b"\n")[:-1])
+            entries += [key_of(bytes.fromhex(line["response"])) for line in lines if line["type"] == "entry"]
         audit.end()
+        verdict = "open" if self.ending == "kill" else "whole"
         for line in audit.printed:
-            if not line.endswith(" whole"):
+            if not line.endswith(f" {verdict}") and not (self.ending == "kill" and line.endswith(": torn")):
                 self.findings.fault(f"the ledger: {line}")
-        entries = sum(lane["entries"] for lanes in audit.runs.values() for lane in lanes)
-        self.findings.counts["entries of its ledger"] = entries
-        if entries < self.findings.counts["acknowledged"] or len(audit.printed) < len(self.homes):
-            self.findings.fault(f"its ledger has {entries} entries")
+        self.findings.counts["entries of its ledger"] = len(entries)
+        known = set(entries)
+        if len(known) != len(entries):
+            self.findings.fault(f"of its ledger's entries {len(entries) - len(known)} stand there twice")
+        came = zip(self.findings.keys, self.findings.moments)
+        self.judge_missing([moment for key, moment in came if key not in known], len(audit.printed))
+
+    def judge_missing(self, missing, lanes):
+        """Whether so few responses may be missing from the ledger, by the moments when they came."""
+        self.findings.counts["responses missing from its ledger"] = len(missing)
+        if self.ending == "kill":
+            self.late = max((self.killed - moment for moment in missing), default=0.0)
+            if self.late > WRITTEN + SLACK:
+                self.findings.fault(f"a response of {self.late:.3f} s before the kill is missing from its ledger")
+        elif missing or lanes < len(self.homes):
+            self.findings.fault(f"{len(missing)} responses are missing from its ledger, which has {lanes} lanes")
 
     def compare(self):
         """What both sides' logs show together."""
@@ -274,10 +305,9 @@ class Soak:
             ports = len({known.identity[0] for known in home.log.values()})
             if ports > PORTS[home.lane] or ports < PORTS[home.lane] and len(home.sessions) > IDENTIFIERS:
                 self.findings.fault(f"{home.name}: requests came from {ports} source ports")
-            if self.ending != "away" and sorted(home.sessions) != list(range(len(home.sessions))):
+            if self.ending not in ("away", "kill") and sorted(home.sessions) != list(range(len(home.sessions))):
                 self.findings.fault(f"{home.name}: a request was accepted that never came")
-        if not self.refuser:
-            self.audit()
+        self.audit()
         log = self.log.read_bytes()
         if self.refuser and not (self.refuser.has_refused() and b"OutOfMemory" in log):
             self.findings.fault("no growth was refused, or its log tells of none")
@@ -302,7 +332,17 @@ def ran(program, seed, ending, is_enough, seconds, is_refusing=False):
     how = f"{ending}, growths refused" if is_refusing else ending
     told = ", ".join(f"{name} {count}" for name, count in (*counts.items(), *soak.network.counts.items()))
     print(f"seed {seed}, {how}, {time.monotonic() - begin:.0f} seconds: {told}", *faults, sep="\n  ", flush=True)
-    return counts["acknowledged"], counts["faults"]
+    return counts["acknowledged"], counts["faults"], soak.late
+
+
+def killed(program, count, seed):
+    """So many runs that are killed: how many requests were acknowledged, and how many faults were found."""
+    chance = random.Random(seed)
+    runs = [ran(program, f"{seed}-{number}", "kill", lambda _: False, chance.uniform(0.05, LONGEST_LIFE)) for number in range(count)]
+    late = sum(run[2] > WRITTEN for run in runs)
+    if late > count // 4:
+        print(f"in {late} of {count} runs a response of more than {WRITTEN} s before the kill is missing")
+    return sum(run[0] for run in runs), sum(run[1] for run in runs) + (late > count // 4)
 
 
 def has_made_enough(soak):
@@ -314,6 +354,8 @@ def main():
     if len(words) == 1:
         runs = [(SEED, ending, has_made_enough, PATIENCE) for ending in ENDINGS]
         runs.append((SEED, "calm", has_made_enough, PATIENCE, True))
+    elif len(words) == 4 and words[1] == "--kills":
+        runs = []
     elif len(words) == 4 and words[1] == "--seconds":
         ended = []
         signal.signal(signal.SIGTERM, lambda *_: ended.append(True))
@@ -321,7 +363,10 @@ def main():
     else:
         sys.exit(__doc__)
     program = str(pathlib.Path(words[0]).resolve())
-    passed, failed = map(sum, zip(*(ran(program, *run) for run in runs)))
+    if runs:
+        passed, failed, _ = map(sum, zip(*(ran(program, *run) for run in runs)))
+    else:
+        passed, failed = killed(program, int(words[2]), words[3])
     print(f"{passed} passed, {failed} failed")
     sys.exit(1 if failed or not passed else 0)
 
