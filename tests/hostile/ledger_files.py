@@ -464,7 +464,7 @@ def is_synced_each_second(trial):
     for _ in range(100):
         trial.ask(2)
         time.sleep(0.05)
-    last = 1000 * time.monotonic()
+    last = int(1000 * time.monotonic())
     trial.end()
     moments = [began, *map(int, log.read_text().split())]
     longest = max(after - before for before, after in zip(moments, moments[1:]))
