@@ -1,9 +1,9 @@
 //! Reading and writing packets, and the printed faults.
 
+use crate::comparing::{holds, same};
 use rad_packet::{
     AttributePlace, Datagram, PacketRef, ReadFault, WriteFault, authenticator_of, read,
 };
-use std::fmt::Debug;
 use std::process::Abort;
 use std::test::Fail;
 
@@ -22,16 +22,6 @@ const CHANGED: [u8; 30] = [
     4, 8, 0, 30, 9, 9, 9, 9, 9, 9, 9, 9, 9, 9, 9, 9, 9, 9, 9, 9, 1, 5, 98, 111, 98, 1, 5, 98, 111,
     98,
 ];
-
-/// Checks that a value is the wanted one.
-fn same<T: PartialEq + Debug + Copy>(rt: &impl Abort, given: T, wanted: T) {
-    assert_eq!(rt; given, wanted);
-}
-
-/// Checks that a condition is true.
-fn holds(rt: &impl Abort, is_right: bool) {
-    assert!(rt; is_right);
-}
 
 /// Checks that a datagram has these octets.
 fn has(rt: &impl Abort, datagram: &Datagram, octets: &[u8]) {
@@ -98,12 +88,8 @@ fn a_copy_changes_alone(rt: HostRuntime) {
 
 /// Appends a Class with this Value, and checks the result.
 fn push_gives(rt: &impl Abort, datagram: &mut Datagram, value: &[u8], fault: Option<WriteFault>) {
-    assert_eq!(rt;
-        datagram.push(25, value).err(),
-        fault,
-        "a value of {}",
-        value.len()
-    );
+    let given = (value.len(), datagram.push(25, value).err());
+    same(rt, given, (value.len(), fault));
 }
 
 #[test]

@@ -1,5 +1,6 @@
 //! The faults of home servers' addresses.
 
+use crate::comparing::{holds, same};
 use rad_advice::{AddressFault, HomeAdvice, advise_homes};
 use rad_realms::{Config, read_config};
 use std::alloc::{AllocError, Global};
@@ -115,9 +116,9 @@ fn told_of(alloc: Global, listen: &str, home: &str) -> Result<Option<AddressFaul
 
 #[test]
 fn each_address_is_judged(rt: HostRuntime) -> Result<(), Fail> {
-    for &(listen, home, wanted) in &HOMES {
+    for (place, &(listen, home, wanted)) in HOMES.iter().enumerate() {
         let told = told_of(rt.alloc(), listen, home)?;
-        assert!(rt; told == wanted, "{home} where {listen} is listened at");
+        same(&rt, (place, told), (place, wanted));
     }
     Ok(())
 }
@@ -186,6 +187,6 @@ fn lines_of(alloc: Global, text: &str) -> Result<String, Fail> {
 #[test]
 fn each_is_printed_in_its_order(rt: HostRuntime) -> Result<(), Fail> {
     let told = lines_of(rt.alloc(), SIX)?;
-    assert!(rt; told.as_str() == TOLD, "{told}");
+    holds(&rt, told.as_str() == TOLD);
     Ok(())
 }

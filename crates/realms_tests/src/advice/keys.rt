@@ -1,5 +1,6 @@
 //! The keys that are not read, and their places.
 
+use crate::comparing::{holds, same};
 use rad_advice::unread_keys;
 use std::alloc::{AllocError, Global};
 use std::test::Fail;
@@ -183,12 +184,9 @@ static TEXTS: [(&str, &str); 40] = [
 
 #[test]
 fn each_key_is_told_with_its_place(rt: HostRuntime) -> Result<(), Fail> {
-    for &(text, wanted) in &TEXTS {
+    for (place, &(text, wanted)) in TEXTS.iter().enumerate() {
         let told = printed(rt.alloc(), text.as_bytes())?;
-        assert!(rt;
-            told.as_str() == wanted,
-            "{told} where {wanted} was expected of {text}"
-        );
+        same(&rt, (place, told.as_str() == wanted), (place, true));
     }
     Ok(())
 }
@@ -196,7 +194,7 @@ fn each_key_is_told_with_its_place(rt: HostRuntime) -> Result<(), Fail> {
 #[test]
 fn octets_that_are_no_text_have_no_keys(rt: HostRuntime) -> Result<(), Fail> {
     let told = printed(rt.alloc(), b"windw = 1\n# \xff\n")?;
-    assert!(rt; told.as_str() == "", "{told}");
+    holds(&rt, told.as_str() == "");
     Ok(())
 }
 
@@ -209,8 +207,8 @@ fn twenty_are_listed(rt: HostRuntime) -> Result<(), Fail> {
             text.push_str(line.as_str())?;
         }
         let keys = unread_keys(rt.alloc(), text.as_bytes())?;
-        assert!(rt; keys.more() == more, "{count}");
-        assert!(rt; keys.listed().len() == count - more, "{count}");
+        let counts = (keys.more(), keys.listed().len());
+        same(&rt, (count, counts), (count, (more, count - more)));
     }
     Ok(())
 }
@@ -224,9 +222,9 @@ fn the_last_of_many_is_found(rt: HostRuntime) -> Result<(), Fail> {
     }
     text.push_str("windw = 3\n")?;
     let told = printed(rt.alloc(), text.as_bytes())?;
-    assert!(rt;
+    holds(
+        &rt,
         told.as_str() == "home 299 windw at line 901, column 1\n",
-        "{told}"
     );
     Ok(())
 }

@@ -1,7 +1,6 @@
 //! Tests of what no contract states about signed packets: the octets of another implementation, the digests of the
 //! standards, and that calls succeed.
 
-mod comparing;
 mod digests;
 mod forwarding;
 mod replies;

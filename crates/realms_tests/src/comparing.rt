@@ -12,3 +12,8 @@ pub fn same<T: PartialEq + Debug + Copy>(rt: &impl Abort, given: T, wanted: T) {
 pub fn holds(rt: &impl Abort, is_right: bool) {
     assert!(rt; is_right);
 }
+
+/// Checks that a condition is true, and says what it is about if it is not.
+pub fn holds_of(rt: &impl Abort, what: &str, is_right: bool) {
+    assert!(rt; is_right, "{what}");
+}

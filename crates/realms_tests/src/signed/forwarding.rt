@@ -1,8 +1,8 @@
 //! Checking and forwarding requests.
 
-use super::comparing::{holds, same};
 use super::vectors::{FORWARDED, LONG_AUTHENTICATOR, REQUEST};
 use super::{CLIENT, HOME, MARK, secret_of};
+use crate::comparing::{holds, same};
 use rad_auth::{ACCOUNTING_REQUEST, Secret, check_request, forward, sign};
 use rad_packet::{Datagram, PacketRef, WriteFault, read};
 use std::alloc::Global;

@@ -1,5 +1,6 @@
 //! The places where texts stop being TOML.
 
+use crate::comparing::{holds, same};
 use rad_advice::{Place, place_of, syntax_error};
 use std::alloc::{AllocError, Global};
 use std::test::Fail;
@@ -10,6 +11,19 @@ fn printed(alloc: Global, text: &[u8]) -> Result<String, AllocError> {
         Some(fault) => format!(in alloc; "{fault}"),
         None => String::from_str(alloc, "TOML"),
     }
+}
+
+/// Returns whether this message, with this place, is printed for a text.
+fn is_printed(
+    alloc: Global,
+    text: &[u8],
+    line: usize,
+    column: usize,
+    message: &str,
+) -> Result<bool, AllocError> {
+    let told = printed(alloc, text)?;
+    let wanted = format!(in alloc; "line {line}, column {column}: {message}")?;
+    Ok(told.as_str() == wanted.as_str())
 }
 
 const VALUE: &str =
@@ -69,13 +83,9 @@ static FAULTS: [(&[u8], usize, usize, &str); 14] = [
 
 #[test]
 fn each_fault_has_its_place(rt: HostRuntime) -> Result<(), Fail> {
-    for &(text, line, column, message) in &FAULTS {
-        let told = printed(rt.alloc(), text)?;
-        let wanted = format!(in rt.alloc(); "line {line}, column {column}: {message}")?;
-        assert!(rt;
-            told.as_str() == wanted.as_str(),
-            "{told} where {wanted} was expected"
-        );
+    for (place, &(text, line, column, message)) in FAULTS.iter().enumerate() {
+        let is_right = is_printed(rt.alloc(), text, line, column, message)?;
+        same(&rt, (place, is_right), (place, true));
     }
     Ok(())
 }
@@ -96,13 +106,9 @@ static OCTETS: [(&[u8], usize, usize); 6] = [
 
 #[test]
 fn octets_that_are_no_text_have_their_place(rt: HostRuntime) -> Result<(), Fail> {
-    for &(text, line, column) in &OCTETS {
-        let told = printed(rt.alloc(), text)?;
-        let wanted = format!(in rt.alloc(); "line {line}, column {column}: no UTF-8")?;
-        assert!(rt;
-            told.as_str() == wanted.as_str(),
-            "{told} where {wanted} was expected"
-        );
+    for (place, &(text, line, column)) in OCTETS.iter().enumerate() {
+        let is_right = is_printed(rt.alloc(), text, line, column, "no UTF-8")?;
+        same(&rt, (place, is_right), (place, true));
     }
     Ok(())
 }
@@ -118,7 +124,7 @@ fn nothing_is_told_of_toml(rt: HostRuntime) -> Result<(), Fail> {
         "d = 1979-05-27 07:32:00Z\n",
     ] {
         let told = printed(rt.alloc(), text.as_bytes())?;
-        assert!(rt; told.as_str() == "TOML", "{told}");
+        holds(&rt, told.as_str() == "TOML");
     }
     Ok(())
 }
@@ -137,10 +143,8 @@ fn places_count_lines_and_characters(rt: HostRuntime) {
         (10, 3, 4),
         (11, 4, 1),
     ] {
-        assert!(rt;
-            place_of(text, offset) == Place { line, column },
-            "{offset}"
-        );
+        let given = (offset, place_of(text, offset));
+        same(&rt, given, (offset, Place { line, column }));
     }
 }
 
@@ -155,13 +159,11 @@ fn a_long_text_has_its_last_place(rt: HostRuntime) -> Result<(), Fail> {
     let Some(fault) = fault else {
         return Err(Fail::from("a fault"));
     };
-    assert!(rt;
-        fault.place()
-            == Place {
-                line: 100_001,
-                column: 10
-            }
-    );
-    assert!(rt; fault.message() == VALUE);
+    let last = Place {
+        line: 100_001,
+        column: 10,
+    };
+    same(&rt, fault.place(), last);
+    holds(&rt, fault.message() == VALUE);
     Ok(())
 }

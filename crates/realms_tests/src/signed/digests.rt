@@ -1,8 +1,8 @@
 //! Digests, and the secrets that they are made with.
 
-use super::comparing::{holds, same};
 use super::secret_of;
 use super::vectors::REQUEST;
+use crate::comparing::{holds, same};
 use md5::{Digest, Md5};
 use rad_auth::{Secret, SecretFault, hmac_md5, request_authenticator};
 use rad_packet::read;

@@ -1,10 +1,10 @@
 //! Status-Servers, and the answers to them.
 
-use super::comparing::holds;
 use super::vectors::{
     REQUEST, STATUS, STATUS_AMONG_OTHERS, STATUS_ANSWER, TWO_MESSAGE_AUTHENTICATORS,
 };
 use super::{CLIENT, HOME, secret_of};
+use crate::comparing::holds;
 use rad_auth::{STATUS_SERVER, Secret, answer_status, check_status, make_status};
 use rad_packet::{Datagram, PacketRef, authenticator_of, read};
 use std::test::Fail;
