@@ -1,9 +1,9 @@
 //! Tests of how the workers handle wires on which one receive or send fails.
 
-use super::comparing::same;
 use super::playing::{ANSWERED, CLIENT, Event, FORWARD, FRONT, HOME, LANE, OUT, Story, play};
 use super::test_gate::Telling;
 use super::test_proxy::TestProxy;
+use crate::comparing::same;
 use rad_desk::{Note, Worker};
 use std::alloc::Global;
 use std::process::Abort;

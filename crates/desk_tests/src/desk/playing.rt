@@ -1,9 +1,9 @@
 //! What a proxy is to do in a test, as data, with the expected results.
 
-use super::comparing::same;
 use super::test_desk::{CLIENT_PORT, slot};
 use super::test_gate::Telling;
 use super::test_proxy::{TestProxy, tally};
+use crate::comparing::same;
 use rad_desk::{Call, DeskFault, Note, Told, Worker};
 use rad_lane::{Action, Counts, Refusal, Taken, TurnFault};
 use rad_realms::Endpoint;

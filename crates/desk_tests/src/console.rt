@@ -141,7 +141,7 @@ fn a_failed_write_ends_a_command(rt: HostRuntime) -> Result<(), Fail> {
     for command in [Command::State, Command::Drain, Command::Unknown] {
         for room in [0, 7] {
             let is_right = is_cut(&rt, &config, &proxy, command, room, &mut taken);
-            assert!(rt; is_right, "{command:?} with room for {room}");
+            same(&rt, (command, room, is_right), (command, room, true));
         }
     }
     Ok(())

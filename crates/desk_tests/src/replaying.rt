@@ -61,10 +61,10 @@ fn forwards_one_request(rt: HostRuntime) -> Result<(), Fail> {
             fails: false,
         };
         let end = run(&rt, alloc, reader, 1000, &mut taken)?;
-        assert_eq!(rt; taken.as_slice(), ANSWERS.as_bytes(), "read by {most}");
-        same(&rt, end.queued, 0);
-        same(&rt, end.outstanding, 1);
-        same(&rt, end.untaken, Some(0));
+        let is_right = taken.as_slice() == ANSWERS.as_bytes();
+        same(&rt, (most, is_right), (most, true));
+        let left = (end.queued, end.outstanding, end.untaken);
+        same(&rt, left, (0, 1, Some(0)));
     }
     Ok(())
 }
@@ -89,8 +89,9 @@ fn a_failed_write_ends_the_replay(rt: HostRuntime) -> Result<(), Fail> {
             fails: false,
         };
         let ran = run(&rt, alloc, reader, room, &mut taken);
-        assert!(rt; matches!(ran, Err(ReplayFault::Output)), "room for {room}");
-        assert!(rt; whole.starts_with(taken.as_slice()), "room for {room}");
+        let is_output = matches!(ran, Err(ReplayFault::Output));
+        let is_start = whole.starts_with(taken.as_slice());
+        same(&rt, (room, is_output, is_start), (room, true, true));
     }
     Ok(())
 }
@@ -146,7 +147,7 @@ fn the_longest_input_is_read(rt: HostRuntime) -> Result<(), Fail> {
             room: 1000,
         };
         let ran = replay(&rt, alloc, padded, narrow);
-        assert_eq!(rt; ran.is_ok(), is_read, "{count} octets");
+        same(&rt, (count, ran.is_ok()), (count, is_read));
         if is_read {
             holds(&rt, taken.as_slice() == ANSWERS.as_bytes());
         } else {
