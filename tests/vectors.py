@@ -75,7 +75,7 @@ FROM_NAS = attribute(PROXY_STATE, b"abc")
 A_CLASS = attribute(CLASS, b"CLS")
 
 
-def of_auth_tests():
+def of_realms_tests():
     """Packets under secrets of their own, with a mark that has no octet twice."""
     client, home, its_mark = b"client secret", b"the secret of the home", mark(0x1234, 0x0123456789ABCDEF)
     asked = request(0x77, SESSION + FROM_NAS, client)
@@ -224,7 +224,7 @@ def of_ledgers():
 def made():
     """What the tests of each crate expect, by the names that it has there."""
     return {
-        "auth_tests": of_auth_tests(),
+        "realms_tests": of_realms_tests(),
         "ledger_tests": of_ledgers(),
         "test_octets": {**of_nas(), **of_lanes(), **of_desks(), **of_services()},
         "lane_tests": sums_of_lanes(),

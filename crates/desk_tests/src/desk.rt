@@ -5,7 +5,6 @@
 
 mod calls;
 mod closing;
-mod comparing;
 mod details;
 mod failing;
 mod handing_over;

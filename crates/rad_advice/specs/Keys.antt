@@ -6,10 +6,10 @@ use Rattle.std.specs.Str.{bytes_eq}
 use Rattle.toml_parser.specs.Strings.{Key as Parts, key}
 use Rattle.toml.specs.Data.{Data, Items, no_items, item, Members, no_members, member, get_member, as_array, as_table}
 use Rattle.toml.specs.Parse.{parse_document}
-use Rattle.rad_realms.specs.declared.reading.faults.Part.{Part}
-use Rattle.rad_realms.specs.declared.reading.faults.Part.TheVariants as part
-use Rattle.rad_realms.specs.declared.reading.faults.Key.{Key}
-use Rattle.rad_realms.specs.declared.reading.faults.Key.TheVariants.{Listen, DefaultHome, Linger, Client, Home, Realm, Address, Secret, Name, Window, Queue, Book, Tries, FirstWait, ProbeEvery, DownWait, Span, Ring, Ports}
+use Rattle.rad_config.specs.declared.reading.faults.Part.{Part}
+use Rattle.rad_config.specs.declared.reading.faults.Part.TheVariants as part
+use Rattle.rad_config.specs.declared.reading.faults.Key.{Key}
+use Rattle.rad_config.specs.declared.reading.faults.Key.TheVariants.{Listen, DefaultHome, Linger, Client, Home, Realm, Address, Secret, Name, Window, Queue, Book, Tries, FirstWait, ProbeEvery, DownWait, Span, Ring, Ports}
 use Rattle.rad_realms.specs.Spot.{key_name}
 use Rattle.rad_advice.specs.declared.unread.Unread.{Unread}
 use Rattle.rad_advice.specs.declared.unread.UnreadKey.{UnreadKey}

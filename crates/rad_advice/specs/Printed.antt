@@ -2,7 +2,7 @@
 use Rattle.std.specs.Prelude.{ℕ, ◌/◌, ◌%◌, Bool, false, not, ◌&&◌, ◌==◌, nat_le, nat_lt, if◌then◌else◌, List, [], ◌∷◌, ◌++◌, length, take, codes, Option, Some, None, string_bytes}
 use Rattle.std.specs.List.{flat_map}
 use Rattle.std.specs.Fmt.{decimal, digits}
-use Rattle.rad_realms.specs.declared.reading.faults.Part.{Part}
+use Rattle.rad_config.specs.declared.reading.faults.Part.{Part}
 use Rattle.rad_realms.specs.Spot.{part_name, index_text}
 use Rattle.rad_realms.specs.Printed.{endpoint_text}
 use Rattle.rad_advice.specs.declared.place.Place.{Place}

@@ -4,8 +4,8 @@ use Rattle.std.specs.Str.{IsUtf8}
 use Rattle.rad_realms.specs.Configuration.{Configuration}
 use Rattle.rad_realms.specs.Gives.{Gives}
 use Rattle.rad_realms.specs.Walk.{configuration_in}
-use Rattle.rad_realms.specs.declared.reading.faults.ConfigFault.{ConfigFault}
-use Rattle.rad_realms.specs.declared.reading.faults.ConfigFault.TheVariants.{Toml}
+use Rattle.rad_config.specs.declared.reading.faults.ConfigFault.{ConfigFault}
+use Rattle.rad_config.specs.declared.reading.faults.ConfigFault.TheVariants.{Toml}
 use Rattle.rad_console.specs.declared.lines.CountLine.{CountLine}
 
 -- The octets are read as UTF-8 text. Octets that are not UTF-8 are not TOML either.

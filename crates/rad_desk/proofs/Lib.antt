@@ -1,17 +1,6 @@
-pub mod Answers
-pub mod Outlets
-pub mod Wires
-pub mod Opening
-pub mod Rests
-pub mod Accounting
-pub mod Inlets
-pub mod Endings
-pub mod Untouched
 pub mod CallsJoined
 pub mod HomeWork
 pub mod FrontWork
 pub mod HandOver
 pub mod Responses
-pub mod OutletAfterTurn
 pub mod MarksCounted
-pub mod Standings

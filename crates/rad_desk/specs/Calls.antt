@@ -1,6 +1,6 @@
 -- What passes over a wire in a call (own).
 use Rattle.std.specs.Prelude.{◌≡◌, ⊤, ℕ, List, [], ◌∷◌, Option}
-use Rattle.rad_realms.specs.declared.reading.address.Endpoint.{Endpoint}
+use Rattle.rad_config.specs.declared.reading.address.Endpoint.{Endpoint}
 use Rattle.rad_desk.specs.declared.wire.Delivery.{Delivery}
 use Rattle.rad_desk.specs.Traffic.{Event, arrived, departed, told, drew, logged}
 

@@ -10,7 +10,7 @@ use Rattle.rad_lane.specs.declared.accepting.Taken.{Taken as Acceptance}
 use Rattle.rad_lane.specs.declared.accepting.Refusal.{Refusal}
 use Rattle.rad_lane.specs.declared.accepting.Refusal.TheVariants.{WrongLane}
 use Rattle.rad_lane.specs.Datagrams.{Datagrams}
-use Rattle.rad_desk.specs.Departures.{Returns, AcceptsLawfully, UnlessWrongLane}
+use Rattle.rad_rings.specs.Departures.{Returns, AcceptsLawfully, UnlessWrongLane}
 use Rattle.rad_desk.specs.declared.handling.Handled.{Handled}
 use Rattle.rad_desk.specs.declared.handling.Handled.TheVariants.{Taken, Answered}
 

@@ -4,7 +4,7 @@ use Rattle.std.specs.Prelude.{◌≡◌, ◌+◌, ◌<◌, ◌==◌, ⊤, ℕ, L
 use Rattle.std.specs.List.{flat_map}
 use Rattle.rad_packet.specs.Packet.{identifier_of, authenticator_of}
 use Rattle.rad_auth.specs.Authenticator.{accounting_response, IsRightResponse}
-use Rattle.rad_realms.specs.declared.reading.address.Endpoint.{Endpoint}
+use Rattle.rad_config.specs.declared.reading.address.Endpoint.{Endpoint}
 use Rattle.rad_realms.specs.declared.checking.Incoming.{Incoming}
 use Rattle.rad_realms.specs.declared.checking.Incoming.TheVariants as incoming
 use Rattle.rad_realms.specs.Checking.{Request as Checked}
@@ -12,10 +12,10 @@ use Rattle.rad_realms.specs.Configuration.{Configuration}
 use Rattle.rad_realms.specs.Incoming.{Takes}
 use Rattle.rad_lane.specs.declared.outgoing.Outgoing.{Outgoing}
 use Rattle.rad_lane.specs.declared.accepting.Taken.TheVariants.{Again}
-use Rattle.rad_desk.specs.declared.inlet.Inlet.{Inlet}
+use Rattle.rad_rings.specs.declared.inlet.Inlet.{Inlet}
 use Rattle.rad_desk.specs.declared.wire.Delivery.{Delivery}
-use Rattle.rad_desk.specs.Departures.{AcceptsLawfully, IsVerifiedResponse}
-use Rattle.rad_desk.specs.Inlet.{taken, SameInlet}
+use Rattle.rad_rings.specs.Departures.{AcceptsLawfully, IsVerifiedResponse}
+use Rattle.rad_rings.specs.Inlet.{taken, SameInlet}
 use Rattle.rad_desk.specs.Traffic.{Event, arrived, departed, told, endpoint}
 use Rattle.rad_desk.specs.Calls.{IsQuiet}
 

@@ -1,6 +1,6 @@
 -- What passed over a wire (own): the datagrams received and sent, the moments read and the octets drawn, in order.
 use Rattle.std.specs.Prelude.{◌≡◌, ℕ, ◌≤◌, List, [], ◌∷◌, ◌++◌, take, Option, Some, None}
-use Rattle.rad_realms.specs.declared.reading.address.Endpoint.{Endpoint}
+use Rattle.rad_config.specs.declared.reading.address.Endpoint.{Endpoint}
 use Rattle.rad_desk.specs.declared.wire.Delivery.{Delivery}
 use Rattle.rad_desk.specs.declared.wire.Passing.{Passing}
 use Rattle.rad_desk.specs.declared.wire.Passing.TheVariants.{Arrived, Departed, Told, Drew}

@@ -8,7 +8,7 @@ use Rattle.rad_lane.specs.declared.stepping.Action.{Action}
 use Rattle.rad_lane.specs.declared.stepping.Action.TheVariants.{Sent, Resent, Probed, WentDown, WentUp, Idle}
 use Rattle.rad_lane.specs.Datagrams.{Datagrams}
 use Rattle.rad_desk.specs.declared.wire.Delivery.{Delivery}
-use Rattle.rad_desk.specs.Departures.{StepsFor}
+use Rattle.rad_rings.specs.Departures.{StepsFor}
 use Rattle.rad_desk.specs.Traffic.{Event, departed, told, drew}
 use Rattle.rad_desk.specs.Calls.{IsQuiet, IsSent}
 

@@ -8,16 +8,15 @@ ghost use Rattle.rad_desk.specs.HandOver.{KeepsTaken, HandsOver};
 
 use crate::gate::{Call, Gate, Note, Repeat, Worker};
 use crate::handling::{Handled, handle};
-use crate::inlet::Inlet;
 use crate::ledger::{Ledger, NoLedger};
 use crate::marks::count_marks;
-use crate::proxy::Proxy;
 use crate::tally::{Shift, Tally};
 use crate::wire::{Received, Wire};
 use rad_auth::check_response;
 use rad_lane::Taken;
 use rad_packet::Datagram;
 use rad_realms::{Config, Dropped, Endpoint, Incoming, check_in};
+use rad_rings::{Inlet, Proxy};
 use std::alloc::Global;
 use std::sync::Wait;
 

@@ -1,8 +1,8 @@
 //! The interface that a worker asks before each call, and to which it reports.
 
-use crate::{DeskFault, Spent, Standing};
 use rad_lane::Refusal;
 use rad_realms::{Dropped, Endpoint};
+use rad_rings::{DeskFault, Spent, Standing};
 use rad_tables::{Moment, Slot};
 use std::io::Error;
 

@@ -5,13 +5,12 @@ ghost use Rattle.rad_desk.specs.Calls.{Passes, IsQuiet};
 ghost use Rattle.rad_desk.specs.Working.{WorksForHome, IsSentHome, slot_of, IsPortOf};
 
 use crate::gate::{Call, Gate, Note, UpReason, Worker};
-use crate::hearing::Told;
-use crate::proxy::{Proxy, Stepped};
 use crate::tally::{Shift, Tally};
 use crate::wire::{Received, Wire};
 use rad_lane::Action;
 use rad_packet::Datagram;
 use rad_realms::{Endpoint, Home};
+use rad_rings::{Proxy, Stepped, Told};
 use rad_tables::{Moment, Slot};
 use std::alloc::Global;
 use std::sync::Wait;

@@ -1,6 +1,5 @@
 //! What a worker does for one datagram or one step: the calls of [`Desk`], the value behind a lane's lock, which have
 //! their full contracts here, by `&mut self`; and [`handle`], which decides what a checked datagram of a NAS leads to.
 
-pub use crate::agreeing::agrees;
-pub use crate::desk::{Desk, RecordQueue};
 pub use crate::handling::{Handled, handle};
+pub use rad_rings::{Desk, RecordQueue, agrees};

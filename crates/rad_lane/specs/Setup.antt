@@ -1,7 +1,7 @@
 -- What a lane is set up with (own), and which requests lead to it.
 use Rattle.std.specs.Prelude.{◌≡◌, ℕ, ◌<◌, List, length, slice_get, Option, Some, None, Bool, false, ◌==◌, IsTrue}
 use Rattle.std.specs.List.{list_any}
-use Rattle.rad_realms.specs.declared.limits.LimitNumbers.{LimitNumbers}
+use Rattle.rad_config.specs.declared.limits.LimitNumbers.{LimitNumbers}
 use Rattle.rad_realms.specs.Configuration.{HomeEntry, Configuration}
 use Rattle.rad_realms.specs.Realm.{realm_of_packet, realms_of, same_name}
 

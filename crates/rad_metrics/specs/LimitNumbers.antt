@@ -1,6 +1,6 @@
 -- The limits of a lane as metrics (own).
 use Rattle.std.specs.Prelude.{ℕ, List, codes}
-use Rattle.rad_realms.specs.declared.limits.LimitNumbers.{LimitNumbers}
+use Rattle.rad_config.specs.declared.limits.LimitNumbers.{LimitNumbers}
 use Rattle.rad_metrics.specs.declared.value.Value.{Value}
 use Rattle.rad_metrics.specs.declared.value.Value.TheVariants.{Count, Milliseconds}
 use Rattle.rad_metrics.specs.declared.limit_number.LimitNumber.{LimitNumber}

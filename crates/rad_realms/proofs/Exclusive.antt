@@ -7,11 +7,11 @@ use Rattle.rad_packet.proofs.Exclusive.{read_or_refused, one_fault}
 use Rattle.rad_packet.proofs.OneReading.{one_packet}
 use Rattle.rad_realms.specs.declared.checking.Dropped.{Dropped}
 use Rattle.rad_realms.specs.declared.checking.Dropped.TheVariants.{UnknownClient, Unread, WrongCode, BadAuthenticator, BadMessageAuthenticator, MessageAuthenticatorHere, NoRealm}
-use Rattle.rad_realms.specs.Configuration.{ClientEntry, Configuration}
+use Rattle.rad_config.specs.Configuration.{ClientEntry, Configuration}
 use Rattle.rad_auth.specs.Status.{IsRightStatus}
 use Rattle.rad_realms.specs.declared.checking.Incoming.{Incoming}
 use Rattle.rad_realms.specs.declared.checking.Incoming.TheVariants as incoming
-use Rattle.rad_realms.specs.Realm.{client_of, lane_of_packet}
+use Rattle.rad_config.specs.Realm.{client_of, lane_of_packet}
 use Rattle.rad_realms.specs.Checking.{IsRequest, DropsPacket, DropsArrived, Drops}
 use Rattle.rad_realms.specs.Incoming.{TakesPacket, Takes}
 

@@ -3,7 +3,7 @@ use Rattle.std.proofs.Common.{◌≡◌, ◌≢◌, ℕ, ◌==◌, true, false, 
 use Rattle.std.specs.Option.{option_or}
 use Rattle.rad_packet.specs.Attribute.{Attribute, attributes_of, of_kind}
 use Rattle.rad_packet.specs.Packet.{packet_attributes}
-use Rattle.rad_realms.specs.Realm.{user_name}
+use Rattle.rad_config.specs.Realm.{user_name}
 use Rattle.rad_realms.proofs.FirstValue.{first_value, first_here, first_later}
 
 pub user_name_is : (text : List ℕ) → first_value 1 (packet_attributes text) ≡ user_name text

@@ -10,8 +10,8 @@ use Rattle.rad_auth.specs.Authenticator.{IsRightRequest}
 use Rattle.rad_auth.specs.Status.{IsRightStatus}
 use Rattle.rad_realms.specs.declared.checking.Dropped.{Dropped}
 use Rattle.rad_realms.specs.declared.checking.Dropped.TheVariants.{UnknownClient, Unread, WrongCode, BadAuthenticator, BadMessageAuthenticator, MessageAuthenticatorHere, NoRealm}
-use Rattle.rad_realms.specs.Configuration.{ClientEntry, Configuration}
-use Rattle.rad_realms.specs.Realm.{client_of, lane_of_packet}
+use Rattle.rad_config.specs.Configuration.{ClientEntry, Configuration}
+use Rattle.rad_config.specs.Realm.{client_of, lane_of_packet}
 
 -- An Accounting-Request that passed the checks: the configuration, the packet's text without padding, the address and
 -- port that it came from, the client's secret, and its lane.

@@ -2,7 +2,7 @@
 use Rattle.std.specs.Prelude.{◌≡◌, ℕ, List}
 use Rattle.rad_realms.specs.declared.checking.Incoming.{Incoming}
 use Rattle.rad_realms.specs.declared.checking.Incoming.TheVariants as incoming
-use Rattle.rad_realms.specs.Configuration.{ClientEntry, Configuration}
+use Rattle.rad_config.specs.Configuration.{ClientEntry, Configuration}
 use Rattle.rad_realms.specs.Checking.{Request, IsChecked, Status, IsCheckedStatus, Arrives}
 
 -- A packet from this client and from this port is taken as this request.

@@ -1,21 +1,9 @@
--- Addresses, the reasons to drop a datagram and the faults of limits, as they are printed.
-use Rattle.std.specs.Prelude.{ℕ, List, ◌∷◌, ◌++◌, codes, slice_index}
-use Rattle.std.specs.Fmt.{decimal}
+-- The reasons to drop a datagram, as they are printed; and addresses and the faults of limits, which `rad_config` prints.
+use Rattle.std.specs.Prelude.{ℕ, List, ◌++◌, codes}
 use Rattle.rad_packet.specs.Faults.{read_fault_text}
-use Rattle.rad_realms.specs.declared.reading.address.Endpoint.{Endpoint}
 use Rattle.rad_realms.specs.declared.checking.Dropped.{Dropped}
 use Rattle.rad_realms.specs.declared.checking.Dropped.TheVariants.{UnknownClient, Unread, WrongCode, BadAuthenticator, BadMessageAuthenticator, MessageAuthenticatorHere, NoRealm}
-use Rattle.rad_realms.specs.declared.limits.LimitFault.{LimitFault}
-use Rattle.rad_realms.specs.declared.limits.LimitFault.TheVariants.{Window, Queue, Book, Tries, FirstWait, ProbeEvery, DownWait, Span, Ring, Ports}
-
--- The text of an address: its octets in decimal, joined by `.`
-abbrev pub address_text : List ℕ → List ℕ
-address_text octets =
-    decimal (slice_index octets 0) ++ 46 ∷ (decimal (slice_index octets 1) ++ 46 ∷ (decimal (slice_index octets 2) ++ 46 ∷ decimal (slice_index octets 3)))
-
--- The text of an address and port: the address, `:`, and the port in decimal.
-abbrev pub endpoint_text : Endpoint → List ℕ
-endpoint_text endpoint = address_text endpoint.address ++ 58 ∷ decimal endpoint.port
+pub use Rattle.rad_config.specs.Printed.{address_text, endpoint_text, limit_text}
 
 abbrev pub dropped_text : Dropped → List ℕ
 dropped_text UnknownClient = codes "UnknownClient"
@@ -25,15 +13,3 @@ dropped_text BadAuthenticator = codes "BadAuthenticator"
 dropped_text BadMessageAuthenticator = codes "BadMessageAuthenticator"
 dropped_text MessageAuthenticatorHere = codes "MessageAuthenticatorHere"
 dropped_text NoRealm = codes "NoRealm"
-
-abbrev pub limit_text : LimitFault → List ℕ
-limit_text Window = codes "Window"
-limit_text Queue = codes "Queue"
-limit_text Book = codes "Book"
-limit_text Tries = codes "Tries"
-limit_text FirstWait = codes "FirstWait"
-limit_text ProbeEvery = codes "ProbeEvery"
-limit_text DownWait = codes "DownWait"
-limit_text Span = codes "Span"
-limit_text Ring = codes "Ring"
-limit_text Ports = codes "Ports"

@@ -3,17 +3,15 @@
 ghost use Rattle.std.specs.Prelude.{◌≡◌, ◌≢◌, [], Some, option_copied, option_and_then, MatchResult};
 ghost use Rattle.rad_packet.specs.Attribute.{of_kind};
 ghost use Rattle.rad_packet.specs.Packet.{IsPacketText, code_of, packet_attributes};
-ghost use Rattle.rad_realms.specs.Realm.{client_of, realm_in, user_name, realm_of_packet as the_realm};
+ghost use Rattle.rad_config.specs.Realm.{client_of, realm_in, user_name, realm_of_packet as the_realm};
 ghost use Rattle.rad_realms.specs.declared.checking.Dropped.TheVariants.{MessageAuthenticatorHere};
 ghost use Rattle.rad_realms.specs.Checking.{DropsPacket, Drops};
 ghost use Rattle.rad_realms.specs.Incoming.{TakesPacket, Takes};
 
-use crate::clients::Client;
-use crate::config::Config;
-use crate::realms::{Destination, realm_of};
 use rad_auth::{
     ACCOUNTING_REQUEST, MESSAGE_AUTHENTICATOR, STATUS_SERVER, Secret, check_request, check_status,
 };
+use rad_config::{Client, Config, Destination, realm_of};
 use rad_packet::{PacketRef, ReadFault, read};
 use std::fmt;
 use std::marker::Model;
@@ -52,7 +50,7 @@ pub struct Checked<'a> {
 
 impl<'a> Model for Checked<'a> {
     ghost use Rattle.std.specs.Prelude.{◌≡◌, option_copied};
-    ghost use Rattle.rad_realms.specs.Realm.{realm_of_packet, IsRank};
+    ghost use Rattle.rad_config.specs.Realm.{realm_of_packet, IsRank};
     ghost use Rattle.rad_realms.specs.Checking.{Request, IsChecked};
 
     ghost Value = { Request };
@@ -64,7 +62,7 @@ impl<'a> Model for Checked<'a> {
 
 impl<'a> Checked<'a> {
     ghost use Rattle.std.specs.Prelude.{◌≡◌, ◌<◌, length, option_copied};
-    ghost use Rattle.rad_realms.specs.Realm.{realm_of_packet, IsRank};
+    ghost use Rattle.rad_config.specs.Realm.{realm_of_packet, IsRank};
     ghost use Rattle.rad_realms.specs.Checking.{IsChecked};
 
     /// Returns the packet, without padding.
@@ -245,7 +243,7 @@ fn check_packet<'a>(
 }
 
 /// Checks an Accounting-Request from a client.
-#[tactic(auto, unfolding(crate::specs::Realm::lane_of_packet, crate::specs::Realm::realm_of_packet))]
+#[tactic(auto, unfolding(rad_config::specs::Realm::lane_of_packet, rad_config::specs::Realm::realm_of_packet))]
 fn check_accounting<'a>(
     config: &'a Config,
     client: &'a Client,
@@ -294,7 +292,7 @@ fn check_status_server<'a>(
 }
 
 /// Returns the realm of a packet's User-Name, if it has one. Looks at each attribute up to the User-Name once.
-#[tactic(auto, unfolding(crate::specs::Realm::realm_of_packet))]
+#[tactic(auto, unfolding(rad_config::specs::Realm::realm_of_packet))]
 pub fn realm_of_packet<'a>(packet: &PacketRef<'a>) -> Option<&'a [u8]>
     ensures realm { option_copied result ≡ the_realm packet.now }
     ensures packet { IsPacketText packet.now }

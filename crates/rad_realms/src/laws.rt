@@ -1,59 +1,14 @@
-//! Theorems about the definitions. Each function has an empty body; its contract states the theorem.
+//! A theorem about the definitions. Its function has an empty body, and its contract states the theorem.
 
-ghost use Rattle.std.specs.Prelude.{◌≡◌, ◌<◌, ◌≤◌, ◌^◌, true, ◌↔◌, ◌==◌, ◌++◌, ◌∷◌, [], List, ℕ, Some, None, not};
-ghost use Rattle.std.specs.List.{list_all};
-ghost use Rattle.std.specs.Fmt.{decimal};
-ghost use Rattle.rad_realms.specs.declared.limits.LimitNumbers.{LimitNumbers};
-ghost use Rattle.rad_realms.specs.Limits.{AreInRange, limits_of, first_fault};
-ghost use Rattle.rad_realms.specs.declared.reading.address.Endpoint.{Endpoint};
-ghost use Rattle.rad_realms.specs.Address.{number_in, address_in, endpoint_in, IsAddress};
-ghost use Rattle.rad_realms.specs.Printed.{address_text, endpoint_text};
-ghost use Rattle.rad_realms.specs.Realm.{realm_in};
+ghost use Rattle.std.specs.Prelude.{◌≡◌, List, ℕ};
 ghost use Rattle.rad_realms.specs.declared.checking.Dropped.{Dropped};
 ghost use Rattle.rad_realms.specs.declared.checking.Incoming.{Incoming};
-ghost use Rattle.rad_realms.specs.Configuration.{Configuration};
+ghost use Rattle.rad_config.specs.Configuration.{Configuration};
 ghost use Rattle.rad_realms.specs.Checking.{Drops};
 ghost use Rattle.rad_realms.specs.Incoming.{Takes};
-ghost use Rattle.std.specs.Prelude.{Ok};
-ghost use Rattle.rad_realms.specs.Walk.{configuration_in};
-ghost use Rattle.rad_realms.specs.WellFormed.{IsWellFormed};
-
-/// Numbers have no fault exactly if each of them is in its range.
-pub fn no_fault_in_range()
-    ensures { (n : LimitNumbers) → (first_fault (limits_of n) ≡ None) ↔ AreInRange n }
-{}
-
-/// The realm of a User-Name is the part after the last `@`, whatever stands before it. A name without `@` has none.
-pub fn realm_follows_the_last_sign()
-    ensures follows { (front realm : List ℕ) → list_all (λ o. not (o == 64)) realm ≡ true → realm_in (front ++ 64 ∷ realm) ≡ Some realm }
-    ensures none { (name : List ℕ) → list_all (λ o. not (o == 64)) name ≡ true → realm_in name ≡ None }
-{}
-
-/// Only its own text is read as a number.
-pub fn numbers_have_one_text()
-    ensures read { (least most n : ℕ) → n < 2 ^ 64 → least ≤ n → n ≤ most → number_in least most (decimal n) ≡ Some n }
-    ensures only { (least most n : ℕ) (text : List ℕ) → number_in least most text ≡ Some n → n < 2 ^ 64 → text ≡ decimal n }
-{}
-
-/// Only its own text is read as an address.
-pub fn addresses_have_one_text()
-    ensures read { (address : List ℕ) → IsAddress address → address_in (address_text address) ≡ Some address }
-    ensures only { (address text : List ℕ) → address_in text ≡ Some address → (text ≡ address_text address) × IsAddress address }
-{}
-
-/// Only its own text is read as an address and port.
-pub fn endpoints_have_one_text()
-    ensures read { (e : Endpoint) → IsAddress e.address → 1 ≤ e.port → e.port ≤ 65535 → endpoint_in (endpoint_text e) ≡ Some e }
-    ensures only { (e : Endpoint) (text : List ℕ) → endpoint_in text ≡ Some e → (text ≡ endpoint_text e) × IsAddress e.address × (1 ≤ e.port) × (e.port ≤ 65535) }
-{}
 
 /// No datagram is dropped for two reasons, and none that passes the checks is dropped.
 pub fn taken_or_dropped_once()
     ensures reason { (config : Configuration) (address datagram : List ℕ) (e f : Dropped) → Drops config address datagram e → Drops config address datagram f → e ≡ f }
     ensures taken { (config : Configuration) (address : List ℕ) (port : ℕ) (datagram : List ℕ) (taken : Incoming) (e : Dropped) → Takes config address port datagram taken → Drops config address datagram e → ⊥ }
-{}
-
-/// Each configuration that a text gives is well-formed (`specs/WellFormed.antt`).
-pub fn configurations_are_well_formed()
-    ensures { (text : List ℕ) (config : Configuration) → configuration_in text ≡ Ok config → IsWellFormed config }
 {}

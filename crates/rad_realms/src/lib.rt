@@ -1,29 +1,18 @@
-//! The clients, home servers and realms of a RADIUS accounting proxy (RFC 2866 section 2.1): reading them from a
-//! configuration, and checking a datagram that comes from a client.
+//! Checking a datagram that comes from a client of a RADIUS accounting proxy (RFC 2866 section 2.1). The clients, home
+//! servers and realms, and reading them from a configuration, are `rad_config`'s, and are passed on here.
 //!
-//! Contracts describe a configuration by its content (`specs/Configuration.antt`). `specs/Walk.antt` defines which
-//! configuration a document gives, `specs/WellFormed.antt` the invariant of a configuration, `specs/Realm.antt` the
-//! lane of a realm, and `specs/Checking.antt` the properties of a checked datagram.
+//! Contracts describe a configuration by its content (`Configuration` of `rad_config`). `specs/Checking.antt` defines
+//! the properties of a checked datagram, and `specs/Incoming.antt` how one is taken.
 #![tactic(auto)]
 
 mod checking;
-mod clients;
-mod config;
-mod homes;
 mod laws;
-mod limits;
-mod name;
-mod reading;
-mod realms;
 
 pub use checking::{Checked, CheckedStatus, Dropped, Incoming, check_in, realm_of_packet};
-pub use clients::Client;
-pub use config::Config;
-pub use homes::Home;
-pub use laws::{
-    addresses_have_one_text, configurations_are_well_formed, endpoints_have_one_text,
-    no_fault_in_range, numbers_have_one_text, realm_follows_the_last_sign, taken_or_dropped_once,
+pub use laws::taken_or_dropped_once;
+pub use rad_config::{
+    AddressText, Client, Config, ConfigFault, DEFAULT_LIMITS, Endpoint, Home, Key, LimitFault,
+    LimitNumbers, Limits, Part, Realm, Spot, addresses_have_one_text,
+    configurations_are_well_formed, endpoints_have_one_text, no_fault_in_range,
+    numbers_have_one_text, read_address, read_config, realm_follows_the_last_sign,
 };
-pub use limits::{DEFAULT_LIMITS, LimitFault, LimitNumbers, Limits};
-pub use reading::{AddressText, ConfigFault, Endpoint, Key, Part, Spot, read_address, read_config};
-pub use realms::Realm;

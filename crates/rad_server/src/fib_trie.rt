@@ -39,7 +39,7 @@ fn name_in(line: &str) -> Option<&str>
 }
 
 /// Splits a text around the first delimiter, an ASCII character.
-#[tactic(auto, unfolding(rad_realms::specs::Address::around_first))]
+#[tactic(auto, unfolding(rad_config::specs::Address::around_first))]
 fn split_around(text: &str, delimiter: char) -> Option<(&str, &str)>
     requires { delimiter < 128 }
     ensures { option_map (λ parts. (parts.0.now, parts.1.now)) result ≡ around_first delimiter text.now }

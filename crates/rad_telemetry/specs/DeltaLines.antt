@@ -1,7 +1,7 @@
 -- The log lines of sums, without their line feeds, and the other end of a datagram as log lines have it (own).
 use Rattle.std.specs.Prelude.{ℕ, List, ◌++◌, codes}
 use Rattle.std.specs.Fmt.{decimal}
-use Rattle.rad_realms.specs.declared.reading.address.Endpoint.{Endpoint}
+use Rattle.rad_config.specs.declared.reading.address.Endpoint.{Endpoint}
 use Rattle.rad_realms.specs.Printed.{address_text}
 use Rattle.rad_telemetry.specs.EventKinds.{metric_of, reason_text, event_of}
 use Rattle.rad_telemetry.specs.declared.delta_lines.ClientDelta.{ClientDelta}

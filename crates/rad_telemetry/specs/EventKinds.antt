@@ -4,7 +4,7 @@ use Rattle.rad_realms.specs.declared.checking.Dropped.TheVariants as dropped
 use Rattle.rad_realms.specs.Printed.{dropped_text}
 use Rattle.rad_lane.specs.declared.accepting.Refusal.TheVariants as refusal
 use Rattle.rad_lane.specs.declared.hearing.HearFault.TheVariants as fault
-use Rattle.rad_desk.specs.declared.hearing.DeskFault.TheVariants as desk
+use Rattle.rad_rings.specs.declared.hearing.DeskFault.TheVariants as desk
 use Rattle.rad_desk.specs.declared.gate.Note.{Note}
 use Rattle.rad_desk.specs.declared.gate.Note.TheVariants as note
 use Rattle.rad_telemetry.specs.declared.event_kind.EventKind.{EventKind}

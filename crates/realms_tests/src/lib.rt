@@ -1,6 +1,15 @@
-//! Tests of the public calls of `rad_realms`. They are in a crate of their own, so that no proof of `rad_realms` is
-//! made again for a test. This crate has no other code.
+//! Tests of the public calls of `rad_packet`, `rad_auth`, `rad_realms` and `rad_advice`, in a crate of their own, so that
+//! no proof of these crates is repeated for a test. They are in one crate, since reading the libraries costs as much as
+//! proving the tests of one of them. It has no other code.
 #![tactic(auto)]
 
 #[cfg(test)]
+mod advice;
+#[cfg(test)]
+mod comparing;
+#[cfg(test)]
 mod configurations;
+#[cfg(test)]
+mod packets;
+#[cfg(test)]
+mod signed;

@@ -2,10 +2,10 @@
 //! its contract.
 
 use super::closing::has_no_rest;
-use super::comparing::holds;
 use super::playing::Event;
 use super::test_desk::{DeskEvent, play_desk};
 use super::test_proxy::TestProxy;
+use crate::comparing::holds;
 use rad_desk::{Report, Told};
 use rad_lane::Taken;
 use std::test::Fail;

@@ -1,9 +1,9 @@
 //! The end of a proxy.
 
-use super::comparing::{holds, same};
 use super::playing::Event;
 use super::test_desk::TWO_HOMES;
 use super::test_proxy::TestProxy;
+use crate::comparing::{holds, same};
 use block_queue::Fifo;
 use rad_desk::laws::agrees;
 use rad_desk::{LaneEnd, Report, Rest, Told};

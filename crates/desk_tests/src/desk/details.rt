@@ -2,7 +2,7 @@
 //! which packet has a realm that leads to no lane; and which request has Proxy-States of the form of this proxy's
 //! marks.
 
-use super::playing::{CLIENT, Event, FORWARD, FRONT, LANE, Story, play};
+use super::playing::{CLIENT, Event, FORWARD, FRONT, LANE, Story, play_each};
 use super::test_gate::Telling;
 use rad_desk::{Note, UpReason};
 use rad_realms::{Dropped, Endpoint};
@@ -44,6 +44,7 @@ const DOWN: &[Event<'static>] = &[
 ];
 
 const UP_BY_A_PROBE: Story<'static> = Story {
+    name: "a probe's answer is told as the reason",
     more: MORE,
     scenes: &[
         FORWARD,
@@ -61,12 +62,8 @@ const UP_BY_A_PROBE: Story<'static> = Story {
     ],
 };
 
-#[test]
-fn a_probes_answer_is_told_as_the_reason(rt: HostRuntime) -> Result<(), Fail> {
-    play(&rt, rt.alloc(), &UP_BY_A_PROBE)
-}
-
 const UP_BY_THE_WAIT: Story<'static> = Story {
+    name: "the end of the wait is told as the reason",
     more: MORE,
     scenes: &[
         FORWARD,
@@ -80,14 +77,10 @@ const UP_BY_THE_WAIT: Story<'static> = Story {
     ],
 };
 
-#[test]
-fn the_end_of_the_wait_is_told_as_the_reason(rt: HostRuntime) -> Result<(), Fail> {
-    play(&rt, rt.alloc(), &UP_BY_THE_WAIT)
-}
-
 const NO_REALM: Telling = Telling::Of(CLIENT, Note::Dropped(Dropped::NoRealm));
 
 const OF_NO_REALM: Story<'static> = Story {
+    name: "a packet whose realm leads nowhere is told",
     more: MORE,
     scenes: &[&[
         Event::Turn(FRONT, &OTHER_REQUEST, [1, 0, 0], Some(NO_REALM), &[]),
@@ -95,12 +88,8 @@ const OF_NO_REALM: Story<'static> = Story {
     ]],
 };
 
-#[test]
-fn a_packet_whose_realm_leads_nowhere_is_told(rt: HostRuntime) -> Result<(), Fail> {
-    play(&rt, rt.alloc(), &OF_NO_REALM)
-}
-
 const MARKED: Story<'static> = Story {
+    name: "a request with a proxy's mark is told",
     more: MORE,
     scenes: &[&[
         Event::From(OTHER_PROXY),
@@ -124,7 +113,10 @@ const MARKED: Story<'static> = Story {
     ]],
 };
 
+/// What a gate is notified of besides the notes. A story's name says what it shows.
+const STORIES: &[Story<'static>] = &[UP_BY_A_PROBE, UP_BY_THE_WAIT, OF_NO_REALM, MARKED];
+
 #[test]
-fn a_request_with_a_proxys_mark_is_told(rt: HostRuntime) -> Result<(), Fail> {
-    play(&rt, rt.alloc(), &MARKED)
+fn a_gate_is_told_details(rt: HostRuntime) -> Result<(), Fail> {
+    play_each(&rt, rt.alloc(), STORIES)
 }

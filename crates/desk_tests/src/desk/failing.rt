@@ -1,9 +1,9 @@
 //! Tests of how the workers handle wires on which one receive or send fails.
 
-use super::comparing::same;
-use super::playing::{ANSWERED, CLIENT, Event, FORWARD, FRONT, HOME, LANE, OUT, Story, play};
+use super::playing::{ANSWERED, CLIENT, Event, FORWARD, FRONT, HOME, LANE, OUT, Story, play_each};
 use super::test_gate::Telling;
 use super::test_proxy::TestProxy;
+use crate::comparing::same;
 use rad_desk::{Note, Worker};
 use std::alloc::Global;
 use std::process::Abort;
@@ -85,6 +85,7 @@ fn any_fault_of_the_lanes_wire_is_overcome(rt: HostRuntime) -> Result<(), Fail> 
 }
 
 const SENT_AGAIN: Story<'static> = Story {
+    name: "a failed send is sent again",
     more: "",
     scenes: &[&[
         Event::Fails(LANE, 1),
@@ -109,13 +110,9 @@ const SENT_AGAIN: Story<'static> = Story {
     ]],
 };
 
-#[test]
-fn a_failed_send_is_sent_again(rt: HostRuntime) -> Result<(), Fail> {
-    play(&rt, rt.alloc(), &SENT_AGAIN)
-}
-
 /// The failed send is sent again, in one call of the worker.
 const COUNTED_ONCE: Story<'static> = Story {
+    name: "a failed send counts once",
     more: "",
     scenes: &[&[
         Event::Turn(
@@ -137,12 +134,8 @@ const COUNTED_ONCE: Story<'static> = Story {
     ]],
 };
 
-#[test]
-fn a_failed_send_counts_once(rt: HostRuntime) -> Result<(), Fail> {
-    play(&rt, rt.alloc(), &COUNTED_ONCE)
-}
-
 const RECEIVED_AFTERWARDS: Story<'static> = Story {
+    name: "a failed receive ends nothing",
     more: "",
     scenes: &[&[
         Event::Fails(FRONT, 0),
@@ -172,12 +165,8 @@ const RECEIVED_AFTERWARDS: Story<'static> = Story {
     ]],
 };
 
-#[test]
-fn a_failed_receive_ends_nothing(rt: HostRuntime) -> Result<(), Fail> {
-    play(&rt, rt.alloc(), &RECEIVED_AFTERWARDS)
-}
-
 const LOST_AND_GIVEN_AGAIN: Story<'static> = Story {
+    name: "a response that is lost is given again",
     more: "",
     scenes: &[
         FORWARD,
@@ -198,7 +187,15 @@ const LOST_AND_GIVEN_AGAIN: Story<'static> = Story {
     ],
 };
 
+/// How the workers overcome one fault. A story's name says what it shows.
+const STORIES: &[Story<'static>] = &[
+    SENT_AGAIN,
+    COUNTED_ONCE,
+    RECEIVED_AFTERWARDS,
+    LOST_AND_GIVEN_AGAIN,
+];
+
 #[test]
-fn a_response_that_is_lost_is_given_again(rt: HostRuntime) -> Result<(), Fail> {
-    play(&rt, rt.alloc(), &LOST_AND_GIVEN_AGAIN)
+fn one_fault_is_overcome(rt: HostRuntime) -> Result<(), Fail> {
+    play_each(&rt, rt.alloc(), STORIES)
 }

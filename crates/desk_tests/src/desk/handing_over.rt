@@ -3,11 +3,11 @@
 
 ghost use Rattle.std.specs.Prelude.{Some};
 
-use super::comparing::same;
 use super::memory::MemoryWire;
 use super::playing::{CLIENT, Event};
 use super::test_desk::TWO_HOMES;
 use super::test_proxy::{TestProxy, tally};
+use crate::comparing::same;
 use rad_desk::{Delivery, Handed, Ledger, Received, Tally, Told, Wire, front_worker_with};
 use rad_lane::{Outgoing, Taken};
 use rad_realms::Endpoint;

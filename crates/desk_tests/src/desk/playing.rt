@@ -1,9 +1,9 @@
 //! What a proxy is to do in a test, as data, with the expected results.
 
-use super::comparing::same;
 use super::test_desk::{CLIENT_PORT, slot};
 use super::test_gate::Telling;
 use super::test_proxy::{TestProxy, tally};
+use crate::comparing::same;
 use rad_desk::{Call, DeskFault, Note, Told, Worker};
 use rad_lane::{Action, Counts, Refusal, Taken, TurnFault};
 use rad_realms::Endpoint;
@@ -117,6 +117,8 @@ pub enum Event<'a> {
 
 /// A test: the proxy with the tests' configuration and the lines `more` makes the events of these scenes in order.
 pub struct Story<'a> {
+    /// What the story shows. It is printed if an event has another result.
+    pub name: &'a str,
     pub more: &'a str,
     pub scenes: &'a [&'a [Event<'a>]],
 }
@@ -160,13 +162,18 @@ fn peer_of(worker: Worker) -> Endpoint {
 impl TestProxy {
     /// Makes these events in order, and compares the result of each.
     pub fn play<R: Wait + Abort>(&mut self, rt: &R, events: &[Event<'_>]) {
+        self.play_scene(rt, "", events);
+    }
+
+    /// Makes these events of a story in order, and compares the result of each.
+    fn play_scene<R: Wait + Abort>(&mut self, rt: &R, story: &str, events: &[Event<'_>]) {
         for (place, event) in events.iter().enumerate() {
-            self.meet(rt, place, event);
+            self.meet(rt, (story, place), event);
         }
     }
 
-    /// Makes the event at this place, and compares its result.
-    fn meet<R: Wait + Abort>(&mut self, rt: &R, place: usize, event: &Event<'_>) {
+    /// Makes the event at this place of a story, and compares its result.
+    fn meet<R: Wait + Abort>(&mut self, rt: &R, place: (&str, usize), event: &Event<'_>) {
         match *event {
             Event::Turn(worker, receives, did, tells, sends) => {
                 self.come(worker, receives);
@@ -288,7 +295,7 @@ impl TestProxy {
 
     /// Has a worker take turns, and compares its tally, the last notification, what it sends, and the datagrams that
     /// the gate was notified of.
-    fn work_at<R: Wait + Abort>(&mut self, rt: &R, place: usize, turns: &Turns<'_>) {
+    fn work_at<R: Wait + Abort>(&mut self, rt: &R, place: (&str, usize), turns: &Turns<'_>) {
         let did = self.work(rt, turns.worker, turns.asked);
         same(rt, (place, did), (place, tally(turns.taken, turns.did)));
         same(rt, (place, self.gate.told()), (place, turns.tells));
@@ -320,7 +327,7 @@ impl TestProxy {
 pub fn play<R: Wait + Abort>(rt: &R, alloc: Global, story: &Story<'_>) -> Result<(), Fail> {
     let mut proxy = TestProxy::new(alloc, story.more)?;
     for scene in story.scenes {
-        proxy.play(rt, scene);
+        proxy.play_scene(rt, story.name, scene);
     }
     proxy.end();
     Ok(())

@@ -2,10 +2,10 @@
 //! have returned.
 
 use super::closing::known;
-use super::comparing::{holds, same};
 use super::playing::{ANSWERED, IDLE, OUT, WAITING};
 use super::test_desk::slot;
 use super::test_proxy::{TestProxy, close};
+use crate::comparing::{holds, same};
 use rad_desk::{CloseFault, DeskFault, Inlet, LaneEnd, Proxy, Report, Told};
 use rad_lane::{Action, HearFault, Refusal, Series, Taken, TurnFault};
 use std::alloc::Global;

@@ -1,6 +1,6 @@
 //! Tests of which sockets the workers send from and receive at, if there are two.
 
-use super::playing::{Event, FORWARD, FRONT, HOME, LANE, Story, play};
+use super::playing::{Event, FORWARD, FRONT, HOME, LANE, Story, play_each};
 use super::test_gate::Telling;
 use rad_desk::{DeskFault, Note};
 use rad_lane::HearFault;
@@ -18,6 +18,7 @@ const UNKNOWN: Telling = Telling::Of(HOME, Note::Unheard(DeskFault::Lane(HearFau
 /// port, and then those of the second one up to Identifier 2. Then the clock stands still, and the answer arrives at
 /// each of the two ports.
 const PROBED_BY_THE_SECOND_PORT: Story<'static> = Story {
+    name: "a lane sends and hears by the source port",
     more: TWO_PORTS,
     scenes: &[
         FORWARD,
@@ -47,13 +48,9 @@ const PROBED_BY_THE_SECOND_PORT: Story<'static> = Story {
     ],
 };
 
-#[test]
-fn a_lane_sends_and_hears_by_the_source_port(rt: HostRuntime) -> Result<(), Fail> {
-    play(&rt, rt.alloc(), &PROBED_BY_THE_SECOND_PORT)
-}
-
 /// What is asked at the second socket is answered from it, and the first response is sent from the first one.
 const ASKED_BY_THE_SECOND_SOCKET: Story<'static> = Story {
+    name: "the front answers by the socket that was asked",
     more: "",
     scenes: &[&[
         Event::Sockets(1, 1),
@@ -80,7 +77,10 @@ const ASKED_BY_THE_SECOND_SOCKET: Story<'static> = Story {
     ]],
 };
 
+/// Which sockets the workers use. A story's name says what it shows.
+const STORIES: &[Story<'static>] = &[PROBED_BY_THE_SECOND_PORT, ASKED_BY_THE_SECOND_SOCKET];
+
 #[test]
-fn the_front_answers_by_the_socket_that_was_asked(rt: HostRuntime) -> Result<(), Fail> {
-    play(&rt, rt.alloc(), &ASKED_BY_THE_SECOND_SOCKET)
+fn each_socket_has_its_use(rt: HostRuntime) -> Result<(), Fail> {
+    play_each(&rt, rt.alloc(), STORIES)
 }

@@ -1,9 +1,9 @@
 //! Tests of how the workers handle datagrams that are spoiled, arrive twice or arrive late.
 
-use super::comparing::holds;
 use super::playing::{ANSWERED, CLIENT, Event, FORWARD, FRONT, HOME, IDLE, LANE, OUT};
 use super::test_gate::Telling;
 use super::test_proxy::TestProxy;
+use crate::comparing::holds;
 use rad_desk::{DeskFault, Note};
 use rad_lane::{Counts, HearFault};
 use rad_packet::{Datagram, ReadFault};

@@ -3,7 +3,7 @@
 ghost use Rattle.std.specs.Prelude.{IfOk};
 ghost use Rattle.rad_desk.specs.Inlet.{AreOfOneRing};
 
-use super::comparing::same;
+use crate::comparing::same;
 use rad_desk::laws::Desk;
 use rad_desk::{DeskFault, Inlet, Told};
 use rad_lane::{Action, Counts, Refusal, Setup, Taken, TurnFault, Volume};

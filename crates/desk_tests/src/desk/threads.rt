@@ -1,8 +1,8 @@
 //! Tests of a lane and the front in threads of their own.
 
 use super::closing::known;
-use super::comparing::{holds, same};
 use super::test_proxy::{TestProxy, accept, hear, step};
+use crate::comparing::{holds, same};
 use rad_desk::laws::agrees;
 use rad_desk::{DeskFault, Inlet, LaneEnd, Proxy, Report, Told};
 use rad_lane::{Action, Answered, Outgoing, Stamp, Taken};

@@ -1,9 +1,9 @@
 //! Tests of the calls through the lock of a lane: no clause says which lane they reached.
 
-use super::comparing::same;
 use super::playing::{Event, IDLE, Story, play};
 use super::test_desk::{TWO_HOMES, config};
 use super::test_proxy::{TestProxy, accept};
+use crate::comparing::same;
 use rad_desk::{DeskFault, Told};
 use rad_lane::{Counts, HearFault, Refusal, Taken, TurnFault};
 use std::process::Abort;
@@ -28,6 +28,7 @@ const SERVED_BY_SECOND: &[Event<'static>] = &[
 
 /// Two lanes are drained. The second one answered a request, and its book is turned.
 const DRAINED_AND_TURNED: Story<'static> = Story {
+    name: "calls reach their own lane",
     more: TWO_HOMES,
     scenes: &[
         SERVED_BY_SECOND,

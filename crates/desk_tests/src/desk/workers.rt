@@ -1,7 +1,7 @@
 //! Tests of what the workers do in a turn, over wires in memory: what each one counts and reports, and where it sends
 //! to.
 
-use super::playing::{CLIENT, Event, FORWARD, FRONT, HOME, LANE, Story, play, play_each};
+use super::playing::{CLIENT, Event, FORWARD, FRONT, HOME, LANE, Story, play_each};
 use super::test_desk::TWO_HOMES;
 use super::test_gate::Telling;
 use rad_desk::{Call, Note};
@@ -17,6 +17,7 @@ use test_octets::nas::{
 
 /// The request is answered, and its response is sent, also for a repeat.
 const EACH_PART: Story<'static> = Story {
+    name: "each worker does its part",
     more: "",
     scenes: &[
         FORWARD,
@@ -35,13 +36,9 @@ const EACH_PART: Story<'static> = Story {
     ],
 };
 
-#[test]
-fn each_worker_does_its_part(rt: HostRuntime) -> Result<(), Fail> {
-    play(&rt, rt.alloc(), &EACH_PART)
-}
-
 /// Both requests are accepted, and both are answered. Then both responses are in the ring.
 const BOTH_ANSWERED: Story<'static> = Story {
+    name: "the front holds no response back",
     more: "",
     scenes: &[&[
         Event::Tick(1),
@@ -88,11 +85,6 @@ const BOTH_ANSWERED: Story<'static> = Story {
     ]],
 };
 
-#[test]
-fn the_front_holds_no_response_back(rt: HostRuntime) -> Result<(), Fail> {
-    play(&rt, rt.alloc(), &BOTH_ANSWERED)
-}
-
 /// The home server's address with another port.
 const OTHER_PORT: Endpoint = Endpoint {
     address: [127, 0, 0, 1],
@@ -108,6 +100,7 @@ const OTHER_ADDRESS: Endpoint = Endpoint {
 /// The reply comes from each of these endpoints.
 const FROM_ELSEWHERE: &[Story<'static>] = &[
     Story {
+        name: "a reply from elsewhere is dropped",
         more: "",
         scenes: &[
             FORWARD,
@@ -125,6 +118,7 @@ const FROM_ELSEWHERE: &[Story<'static>] = &[
         ],
     },
     Story {
+        name: "a reply from elsewhere is dropped",
         more: "",
         scenes: &[
             FORWARD,
@@ -143,14 +137,10 @@ const FROM_ELSEWHERE: &[Story<'static>] = &[
     },
 ];
 
-#[test]
-fn a_reply_from_elsewhere_is_dropped(rt: HostRuntime) -> Result<(), Fail> {
-    play_each(&rt, rt.alloc(), FROM_ELSEWHERE)
-}
-
 const UNKNOWN_CLIENT: Telling = Telling::Of(HOME, Note::Dropped(Dropped::UnknownClient));
 
 const STATUSES: Story<'static> = Story {
+    name: "the front answers and drops",
     more: "",
     scenes: &[&[
         Event::Turn(FRONT, &STATUS, [1, 1, 0], None, &STATUS_ANSWER),
@@ -159,12 +149,8 @@ const STATUSES: Story<'static> = Story {
     ]],
 };
 
-#[test]
-fn the_front_answers_and_drops(rt: HostRuntime) -> Result<(), Fail> {
-    play(&rt, rt.alloc(), &STATUSES)
-}
-
 const WORK_FOR_EACH: Story<'static> = Story {
+    name: "a gate is told whose lane has work",
     more: TWO_HOMES,
     scenes: &[&[
         Event::Turn(
@@ -185,14 +171,10 @@ const WORK_FOR_EACH: Story<'static> = Story {
     ]],
 };
 
-#[test]
-fn a_gate_is_told_whose_lane_has_work(rt: HostRuntime) -> Result<(), Fail> {
-    play(&rt, rt.alloc(), &WORK_FOR_EACH)
-}
-
 const QUEUE_FULL: Telling = Telling::Of(CLIENT, Note::Refused(Refusal::QueueFull));
 
 const ONE_TOO_MANY: Story<'static> = Story {
+    name: "a refusal is of what came last",
     more: "queue = 1\n",
     scenes: &[&[
         Event::Turn(
@@ -206,12 +188,8 @@ const ONE_TOO_MANY: Story<'static> = Story {
     ]],
 };
 
-#[test]
-fn a_refusal_is_of_what_came_last(rt: HostRuntime) -> Result<(), Fail> {
-    play(&rt, rt.alloc(), &ONE_TOO_MANY)
-}
-
 const STOPPED: Story<'static> = Story {
+    name: "a gate stops each worker",
     more: "",
     scenes: &[&[
         Event::Stops(Call::Take),
@@ -228,12 +206,8 @@ const STOPPED: Story<'static> = Story {
     ]],
 };
 
-#[test]
-fn a_gate_stops_each_worker(rt: HostRuntime) -> Result<(), Fail> {
-    play(&rt, rt.alloc(), &STOPPED)
-}
-
 const DOWN_AND_UP: Story<'static> = Story {
+    name: "a probe's answer takes a lane up",
     more: "tries = 1\n",
     scenes: &[
         FORWARD,
@@ -265,12 +239,8 @@ const DOWN_AND_UP: Story<'static> = Story {
     ],
 };
 
-#[test]
-fn a_probes_answer_takes_a_lane_up(rt: HostRuntime) -> Result<(), Fail> {
-    play(&rt, rt.alloc(), &DOWN_AND_UP)
-}
-
 const CUT_AT_ONCE: Story<'static> = Story {
+    name: "a half full book is cut",
     more: "book = 2\nspan = 0\n",
     scenes: &[
         FORWARD,
@@ -287,16 +257,12 @@ const CUT_AT_ONCE: Story<'static> = Story {
     ],
 };
 
-#[test]
-fn a_half_full_book_is_cut(rt: HostRuntime) -> Result<(), Fail> {
-    play(&rt, rt.alloc(), &CUT_AT_ONCE)
-}
-
 /// The clock stands still.
 const STANDING: &[Event<'static>] = &[Event::Tick(0)];
 
 /// The request is answered, and a span later it is cut.
 const CUT_AFTER_SPAN: Story<'static> = Story {
+    name: "a request is cut once its span is over",
     more: "book = 2\nspan = 30000\n",
     scenes: &[
         STANDING,
@@ -313,11 +279,6 @@ const CUT_AFTER_SPAN: Story<'static> = Story {
     ],
 };
 
-#[test]
-fn a_request_is_cut_once_its_span_is_over(rt: HostRuntime) -> Result<(), Fail> {
-    play(&rt, rt.alloc(), &CUT_AFTER_SPAN)
-}
-
 /// The receives are a millisecond apart.
 const EACH_MILLISECOND: &[Event<'static>] = &[Event::Tick(1)];
 
@@ -328,10 +289,12 @@ const WITHOUT_WORK: &[Event<'static>] = &[Event::Turns(LANE, 31, 31, [0, 0, 0], 
 /// turn.
 const HALF_FULL: &[Story<'static>] = &[
     Story {
+        name: "each idle step turns a book that is half full",
         more: "book = 3\n",
         scenes: &[EACH_MILLISECOND, FORWARD, WITHOUT_WORK, &[Event::Turned(0)]],
     },
     Story {
+        name: "each idle step turns a book that is half full",
         more: "book = 2\n",
         scenes: &[
             EACH_MILLISECOND,
@@ -341,6 +304,7 @@ const HALF_FULL: &[Story<'static>] = &[
         ],
     },
     Story {
+        name: "each idle step turns a book that is half full",
         more: "book = 1\n",
         scenes: &[
             EACH_MILLISECOND,
@@ -351,7 +315,22 @@ const HALF_FULL: &[Story<'static>] = &[
     },
 ];
 
+/// What the workers do in a turn. A story's name says what it shows.
+const STORIES: &[Story<'static>] = &[
+    EACH_PART,
+    BOTH_ANSWERED,
+    STATUSES,
+    WORK_FOR_EACH,
+    ONE_TOO_MANY,
+    STOPPED,
+    DOWN_AND_UP,
+    CUT_AT_ONCE,
+    CUT_AFTER_SPAN,
+];
+
 #[test]
-fn each_idle_step_turns_a_book_that_is_half_full(rt: HostRuntime) -> Result<(), Fail> {
+fn the_workers_take_turns(rt: HostRuntime) -> Result<(), Fail> {
+    play_each(&rt, rt.alloc(), STORIES)?;
+    play_each(&rt, rt.alloc(), FROM_ELSEWHERE)?;
     play_each(&rt, rt.alloc(), HALF_FULL)
 }

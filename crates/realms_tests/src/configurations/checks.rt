@@ -1,6 +1,7 @@
 //! The results of checking datagrams, and the parts of each.
 
 use super::reading::{configuration, counts_of, lane_of};
+use crate::comparing::{holds, holds_of, same};
 use rad_packet::ReadFault;
 use rad_realms::{
     Checked, CheckedStatus, Config, Dropped, Endpoint, Incoming, LimitNumbers, check_in,
@@ -76,7 +77,7 @@ fn answer_of(config: &Config, address: [u8; 4], datagram: &[u8]) -> Told {
 /// Checks that each of these datagrams has the result beside it.
 fn each_is_told(rt: &impl Abort, config: &Config, rows: &[(&str, [u8; 4], &[u8], Told)]) {
     for (what, address, datagram, wanted) in rows {
-        assert!(rt; answer_of(config, *address, datagram) == *wanted, "{what}");
+        holds_of(rt, what, answer_of(config, *address, datagram) == *wanted);
     }
 }
 
@@ -146,7 +147,8 @@ fn each_datagram_has_its_answer(rt: HostRuntime) -> Result<(), Fail> {
     let config = configuration(rt.alloc(), TEXT)?;
     each_is_told(&rt, &config, ANSWERS.as_slice());
     let cut = answer_of(&config, CLIENT, &SEVENTH[..46]);
-    assert!(rt; cut == Told::Dropped(Dropped::Unread(ReadFault::Truncated)));
+    let truncated = Dropped::Unread(ReadFault::Truncated);
+    holds(&rt, cut == Told::Dropped(truncated));
     Ok(())
 }
 
@@ -172,10 +174,8 @@ fn a_default_home_takes_what_has_no_realm(rt: HostRuntime) -> Result<(), Fail> {
     let text = format!(in rt.alloc(); "default_home = \"h2\"\n{TEXT}")?;
     let config = configuration(rt.alloc(), text.as_str())?;
     each_is_told(&rt, &config, DEFAULT_ANSWERS.as_slice());
-    assert_eq!(rt;
-        (lane_of(&config, None), lane_of(&config, Some(b"a@THIRD"))),
-        (Some(1), Some(0))
-    );
+    let lanes = (lane_of(&config, None), lane_of(&config, Some(b"a@THIRD")));
+    same(&rt, lanes, (Some(1), Some(0)));
     Ok(())
 }
 
@@ -208,10 +208,8 @@ fn request_tells(
     secret: &[u8],
     realm: &[u8],
 ) {
-    assert_eq!(rt;
-        parts_of_request(request),
-        (octets, CLIENT, 40_001, secret, Some(realm))
-    );
+    let wanted = (octets, CLIENT, 40_001, secret, Some(realm));
+    same(rt, parts_of_request(request), wanted);
 }
 
 #[test]
@@ -251,7 +249,7 @@ fn checked_requests_tell_their_ranks(rt: HostRuntime) -> Result<(), Fail> {
     let text = format!(in rt.alloc(); "default_home = \"h2\"\n{TEXT}{FOURTH}")?;
     let config = configuration(rt.alloc(), text.as_str())?;
     for (what, datagram, rank) in RANKS {
-        assert!(rt; rank_of(&config, datagram) == Some(rank), "{what}");
+        holds_of(&rt, what, rank_of(&config, datagram) == Some(rank));
     }
     Ok(())
 }
@@ -271,7 +269,7 @@ fn parts_of_status<'a>(status: &'a CheckedStatus<'_>) -> (&'a [u8], &'a [u8]) {
 
 /// Checks that a Status-Server has these parts.
 fn status_tells(rt: &impl Abort, status: &CheckedStatus<'_>, octets: &[u8], secret: &[u8]) {
-    assert_eq!(rt; parts_of_status(status), (octets, secret));
+    same(rt, parts_of_status(status), (octets, secret));
 }
 
 #[test]
@@ -333,29 +331,25 @@ const SECOND_NUMBERS: LimitNumbers = LimitNumbers {
 
 /// Checks the address and secret of the second client of the configuration.
 fn client_tells(rt: &impl Abort, config: &Config, address: [u8; 4], secret: &[u8]) {
-    assert_eq!(rt; client_of(config, address), Some((address, secret)));
+    same(rt, client_of(config, address), Some((address, secret)));
 }
 
 /// Checks the parts of the second home server of the configuration.
 fn home_tells(rt: &impl Abort, config: &Config, name: &str, secret: &[u8]) {
-    assert_eq!(rt;
-        home_of(config, 1),
-        Some((name, [127, 0, 0, 2], 65_535, secret, SECOND_NUMBERS))
-    );
+    let wanted = (name, [127, 0, 0, 2], 65_535, secret, SECOND_NUMBERS);
+    same(rt, home_of(config, 1), Some(wanted));
 }
 
 /// Checks the name and lane of the second realm of the configuration.
 fn realm_tells(rt: &impl Abort, config: &Config, name: &str) {
-    assert_eq!(rt; realm_at(config, 1), Some((name, 1)));
+    same(rt, realm_at(config, 1), Some((name, 1)));
 }
 
 #[test]
 fn a_configuration_tells_its_parts(rt: HostRuntime) -> Result<(), Fail> {
     let config = configuration(rt.alloc(), TEXT)?;
-    assert_eq!(rt;
-        (top_of(&config), counts_of(&config)),
-        ((LISTEN, 0), (2, 2, 3))
-    );
+    same(&rt, top_of(&config), (LISTEN, 0));
+    same(&rt, counts_of(&config), (2, 2, 3));
     client_tells(&rt, &config, [9, 255, 0, 1], b"other-secret");
     home_tells(&rt, &config, "h2", b"second-secret");
     realm_tells(&rt, &config, "Example.org");

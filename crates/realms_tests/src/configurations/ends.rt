@@ -2,6 +2,7 @@
 
 use super::faults::{CLIENT, HOME, TOP, prints};
 use super::reading::{push_each, push_times};
+use crate::comparing::same;
 use std::alloc::{AllocError, Global};
 use std::test::Fail;
 
@@ -49,7 +50,7 @@ const THIRD_REALM: &str =
 
 /// The text before a unit, the unit, the number of times that it is repeated, and what is printed for the whole text.
 /// The whole text ends with a quotation mark after the units.
-const ENDS: [(&str, &str, u32, &str); 36] = [
+static ENDS: [(&str, &str, u32, &str); 36] = [
     (CLIENT_SECRET, "s", 1, "read"),
     (CLIENT_SECRET, "s", 128, "read"),
     (CLIENT_SECRET, "s", 129, "OutOfRange at client 1 secret"),
@@ -125,10 +126,10 @@ const ENDS: [(&str, &str, u32, &str); 36] = [
 
 #[test]
 fn each_text_at_both_ends(rt: HostRuntime) -> Result<(), Fail> {
-    for (before, unit, count, wanted) in ENDS {
+    for (place, &(before, unit, count, wanted)) in ENDS.iter().enumerate() {
         let text = text_of(rt.alloc(), before, unit, count, "\"\n")?;
         let is_right = prints(rt.alloc(), text.as_str(), wanted)?;
-        assert!(rt; is_right, "{before}{unit}");
+        same(&rt, (place, is_right), (place, true));
     }
     Ok(())
 }

@@ -1,6 +1,7 @@
 //! The faults of faulty texts.
 
 use super::reading::{printed, push_each};
+use crate::comparing::holds_of;
 use std::alloc::{AllocError, Global};
 use std::process::Abort;
 use std::test::Fail;
@@ -43,7 +44,7 @@ fn each_prints(
 ) -> Result<(), Fail> {
     for (part, wanted) in rows {
         let text = text_of(alloc, before, part, after)?;
-        assert!(rt; prints(alloc, text.as_str(), wanted)?, "{part}");
+        holds_of(rt, part, prints(alloc, text.as_str(), wanted)?);
     }
     Ok(())
 }

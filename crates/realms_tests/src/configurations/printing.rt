@@ -1,5 +1,6 @@
 //! The printed reasons to drop a datagram, the printed faults of limits, and which texts are addresses.
 
+use crate::comparing::{holds, same};
 use rad_packet::ReadFault;
 use rad_realms::{Dropped, LimitFault, read_address};
 use std::test::Fail;
@@ -27,7 +28,7 @@ const REASONS: [(Dropped, &str); 10] = [
 fn each_reason_is_printed(rt: HostRuntime) -> Result<(), Fail> {
     for (reason, wanted) in REASONS {
         let text = format!(in rt.alloc(); "{reason}")?;
-        assert!(rt; text.as_str() == wanted);
+        holds(&rt, text.as_str() == wanted);
     }
     Ok(())
 }
@@ -49,7 +50,7 @@ const LIMITS: [(LimitFault, &str); 10] = [
 fn each_limit_is_printed(rt: HostRuntime) -> Result<(), Fail> {
     for (fault, wanted) in LIMITS {
         let text = format!(in rt.alloc(); "{fault}")?;
-        assert!(rt; text.as_str() == wanted);
+        holds(&rt, text.as_str() == wanted);
     }
     Ok(())
 }
@@ -66,6 +67,6 @@ fn addresses_are_read_from_text(rt: HostRuntime) {
         ("10.2.30.4 ", None),
         ("10.2..4", None),
     ] {
-        assert!(rt; read_address(text) == wanted, "{text}");
+        same(&rt, (text, read_address(text)), (text, wanted));
     }
 }

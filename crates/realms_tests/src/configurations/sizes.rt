@@ -2,6 +2,7 @@
 
 use super::faults::prints;
 use super::reading::{configuration, counts_of, lane_of, push_times};
+use crate::comparing::{holds, holds_of, same};
 use rad_realms::Config;
 use std::alloc::{AllocError, Global};
 use std::process::Abort;
@@ -59,9 +60,9 @@ fn found_at(config: &Config, address: [u8; 4]) -> Option<[u8; 4]> {
 fn each_client_is_found(rt: &impl Abort, config: &Config) {
     for i in 0..=255u8 {
         let address = [10, 0, 0, i];
-        assert!(rt; found_at(config, address) == Some(address));
+        same(rt, found_at(config, address), Some(address));
     }
-    assert!(rt; found_at(config, [10, 0, 1, 0]).is_none());
+    same(rt, found_at(config, [10, 0, 1, 0]), None);
 }
 
 /// Checks that each of 256 realms leads to its lane.
@@ -73,15 +74,15 @@ fn each_realm_leads_to_its_lane(
     for i in 0..256u32 {
         let name = format!(in alloc; "someone@r{i}")?;
         let lane = (i % 64) as u16;
-        assert!(rt; lane_of(config, Some(name.as_bytes())) == Some(lane));
+        same(rt, lane_of(config, Some(name.as_bytes())), Some(lane));
     }
     Ok(())
 }
 
 /// Checks that no realm is found after the last one, and none for a User-Name of 255 times `@`.
 fn no_other_is_found(rt: &impl Abort, config: &Config) {
-    assert!(rt; lane_of(config, Some(b"someone@r256")).is_none());
-    assert!(rt; lane_of(config, Some(&[b'@'; 255])).is_none());
+    same(rt, lane_of(config, Some(b"someone@r256")), None);
+    same(rt, lane_of(config, Some(&[b'@'; 255])), None);
 }
 
 /// Returns the largest configuration.
@@ -93,7 +94,7 @@ fn largest(alloc: Global) -> Result<Config, Fail> {
 #[test]
 fn the_largest_configuration_is_read(rt: HostRuntime) -> Result<(), Fail> {
     let config = largest(rt.alloc())?;
-    assert!(rt; counts_of(&config) == (256, 64, 256));
+    same(&rt, counts_of(&config), (256, 64, 256));
     each_client_is_found(&rt, &config);
     no_other_is_found(&rt, &config);
     Ok(each_realm_leads_to_its_lane(&rt, rt.alloc(), &config)?)
@@ -132,7 +133,7 @@ fn faults_of_the_last_and_of_one_too_many(rt: HostRuntime) -> Result<(), Fail> {
     for (clients, homes, realms, more, wanted) in SIZES {
         let mut text = text_of(rt.alloc(), clients, homes, realms)?;
         text.push_str(more)?;
-        assert!(rt; prints(rt.alloc(), text.as_str(), wanted)?, "{wanted}");
+        holds_of(&rt, wanted, prints(rt.alloc(), text.as_str(), wanted)?);
     }
     Ok(())
 }
@@ -142,6 +143,6 @@ fn a_long_text_is_read(rt: HostRuntime) -> Result<(), Fail> {
     let mut text = text_of(rt.alloc(), 1, 1, 1)?;
     let line = "# sixty-four octets of a comment, so that the text becomes long.\n";
     push_times(&mut text, line, 2048)?;
-    assert!(rt; prints(rt.alloc(), text.as_str(), "read")?);
+    holds(&rt, prints(rt.alloc(), text.as_str(), "read")?);
     Ok(())
 }

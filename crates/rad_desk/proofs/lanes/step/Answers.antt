@@ -1,6 +1,6 @@
 use Rattle.std.proofs.Common.{refl, subst}
 use Rattle.rad_desk.specs.Calls.{IsQuiet}
-use Rattle.rad_desk.specs.Departures.{StepsFor}
+use Rattle.rad_rings.specs.Departures.{StepsFor}
 use Rattle.rad_desk.specs.Working.{IsGiven}
 use Rattle.rad_desk.proofs.CallsJoined.{passes_none}
 use Rattle.rad_desk.proofs.HomeWork.{works_idle, works_step}

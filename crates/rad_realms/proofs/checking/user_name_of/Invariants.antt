@@ -1,6 +1,6 @@
 use Rattle.std.proofs.Common.{◌≡◌}
 use Rattle.rad_packet.specs.Attribute.{attributes_of}
-use Rattle.rad_realms.specs.Realm.{user_name}
+use Rattle.rad_config.specs.Realm.{user_name}
 use Rattle.rad_realms.proofs.FirstValue.{first_value}
 use Rattle.rad_realms.proofs.checking.user_name_of.Given as goal
 

@@ -1,7 +1,7 @@
 use Rattle.std.proofs.Common.{◌≡◌, Some, sym, ap, ◌∙◌}
 use Rattle.std.specs.Option.{option_copied_mut}
 use Rattle.std.specs.FinMap as map
-use Rattle.rad_realms.specs.declared.limits.LimitNumbers.{LimitNumbers}
+use Rattle.rad_config.specs.declared.limits.LimitNumbers.{LimitNumbers}
 use Rattle.rad_lane.specs.Book.{Book}
 use Rattle.rad_lane.proofs.LawfulAfterWatch.{stands_resent, again_is, few_sendings}
 use Rattle.rad_lane.proofs.lane.Lane.resend.Goals as goal

@@ -1,5 +1,5 @@
 use Rattle.std.proofs.Common.{take, drop, refl, ap, ◌∙◌, subst}
-use Rattle.rad_realms.specs.declared.limits.LimitNumbers.{LimitNumbers}
+use Rattle.rad_config.specs.declared.limits.LimitNumbers.{LimitNumbers}
 use Rattle.rad_lane.specs.Volumes.{BeginsUnended}
 use Rattle.rad_lane.proofs.ConsistentAfterCut.{cut_is, cut_some, none_over}
 use Rattle.rad_lane.proofs.VolumeLeaves.{volume_answered, volume_repeats}

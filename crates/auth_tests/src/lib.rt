@@ -1,6 +1,0 @@
-//! Tests of the public calls of `rad_auth`. They are in a crate of their own, so that no proof of `rad_auth` is made
-//! again for a test. This crate has no other code.
-#![tactic(auto)]
-
-#[cfg(test)]
-mod signed;

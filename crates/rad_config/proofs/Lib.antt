@@ -1,0 +1,14 @@
+pub mod Numbers
+pub mod Addresses
+pub mod Places
+pub mod Names
+pub mod ArrayTables
+pub mod Turns
+pub mod LastSigns
+pub mod Ranges
+pub mod Steps
+pub mod TableCounts
+pub mod EachTable
+pub mod NewNames
+pub mod WellFormed
+pub mod Lanes

@@ -1,0 +1,10 @@
+pub mod Limits
+pub mod Spot
+pub mod Address
+pub mod Configuration
+pub mod Realm
+pub mod WellFormed
+pub mod Walk
+pub mod Gives
+pub mod Printed
+pub mod internal

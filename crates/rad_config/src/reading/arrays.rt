@@ -1,0 +1,94 @@
+//! Reading the arrays of tables of a configuration.
+
+ghost use Rattle.std.specs.Prelude.{◌≡◌, ◌≤◌, length, All, IfOk, Some, None, IsTrue, MatchBool, ◌↔◌};
+ghost use Rattle.toml.specs.View.{view, items_view, table_view};
+ghost use Rattle.rad_config.specs.internal.Values.{IsTable, table_of, tables_of_values, ReadsTables};
+ghost use Rattle.rad_config.specs.Walk.{is_empty_array, tables_in, tables_of, some_tables_at, any_tables_at};
+
+use super::document::{member, needed_value};
+use super::faults::{ConfigFault, Spot};
+use toml::{Table, Value};
+
+/// Reads an array that needs at least one table.
+#[tactic(auto, unfolding(crate::specs::Walk::some_tables_at))]
+pub(crate) fn some_tables<'t>(
+    most: usize,
+    spot: Spot,
+    doc: &'t Table,
+) -> Result<&'t [Value], ConfigFault>
+    ensures tables { ReadsTables result (some_tables_at most spot (table_view doc.now)) }
+    ensures most { IfOk result (λ values. length values.now ≤ most) }
+{
+    let value = needed_value(spot, doc)?;
+    if is_empty_array_value(value) {
+        return Err(ConfigFault::Missing(spot));
+    }
+    tables_of_value(most, spot, value)
+}
+
+/// Reads an array that may be absent or empty.
+#[tactic(auto, unfolding(crate::specs::Walk::any_tables_at))]
+pub(crate) fn any_tables<'t>(
+    most: usize,
+    spot: Spot,
+    doc: &'t Table,
+) -> Result<&'t [Value], ConfigFault>
+    ensures { ReadsTables result (any_tables_at most spot (table_view doc.now)) }
+{
+    match member(spot.key, doc) {
+        Some(value) => tables_of_value(most, spot, value),
+        None => Ok(&[]),
+    }
+}
+
+/// Returns a value that is an array of at most `most` tables.
+#[tactic(auto, using(crate::proofs::ArrayTables::length_tables), unfolding(crate::specs::Walk::tables_of))]
+fn tables_of_value(most: usize, spot: Spot, value: &Value) -> Result<&[Value], ConfigFault>
+    ensures tables { ReadsTables result (tables_of most spot (view value.now)) }
+    ensures most { IfOk result (λ values. length values.now ≤ most) }
+{
+    let Some(values) = value.as_array() else {
+        return Err(ConfigFault::WrongType(spot));
+    };
+    if !are_tables(values) {
+        return Err(ConfigFault::WrongType(spot));
+    }
+    if values.len() > most {
+        return Err(ConfigFault::TooMany(spot));
+    }
+    Ok(values.as_slice())
+}
+
+/// Whether the elements of an array are tables.
+fn are_tables(values: &[Value]) -> bool
+    ensures { MatchBool result
+        (All IsTable values.now × (tables_in (items_view values.now) ≡ Some (tables_of_values values.now)))
+        (tables_in (items_view values.now) ≡ None) }
+{
+    is_each_table(values)
+}
+
+/// Whether each value is a table.
+fn is_each_table(values: &[Value]) -> bool
+    ensures { IsTrue result ↔ All IsTable values.now }
+{
+    values.iter().all(|value| value.is_table())
+}
+
+/// Whether a value is an empty array.
+fn is_empty_array_value(value: &Value) -> bool
+    ensures { result ≡ is_empty_array (view value.now) }
+{
+    match value.as_array() {
+        Some(values) => values.is_empty(),
+        None => false,
+    }
+}
+
+/// Returns a value that is known to be a table.
+pub(crate) fn table(value: &Value) -> &Table
+    requires { IsTable value.now }
+    ensures { table_view result.now ≡ table_of value.now }
+{
+    value.as_table().unwrap()
+}

@@ -1,0 +1,92 @@
+//! Reading a configuration: the walk over the TOML document.
+
+ghost use Rattle.std.specs.Prelude.{◌≡◌, Option, option_map};
+ghost use Rattle.toml.specs.View.{table_view};
+ghost use Rattle.rad_config.specs.Gives.{Gives};
+ghost use Rattle.rad_config.specs.Walk.{clients_in, homes_in, realms_in, default_lane_in, walk, configuration_in};
+
+use super::arrays::{any_tables, some_tables};
+use super::document::{address_and_port, number, optional_text};
+use super::faults::{ConfigFault, Key, Part};
+use super::sections::{clients_of, homes_of, lane_of_home, realms_of, spot_of};
+use crate::clients::Clients;
+use crate::config::Config;
+use crate::homes::Homes;
+use crate::realms::Realms;
+use std::alloc::Global;
+use toml::Table;
+
+/// Reads a configuration from its text, which is TOML.
+///
+/// # Errors
+///
+/// [`ConfigFault::Toml`] if the text is not TOML. Otherwise the first fault of the walk over the document, from the
+/// top down. [`ConfigFault::OutOfMemory`] may come at any point of it.
+#[tactic(auto, unfolding(crate::specs::Walk::configuration_in))]
+pub fn read_config(alloc: Global, text: &str) -> Result<Config, ConfigFault>
+    ensures { Gives result (configuration_in text.now) }
+{
+    match toml::table_from_str(alloc, text) {
+        Ok(document) => read_document(alloc, &document),
+        Err(fault) => Err(if fault.is_memory() {
+            ConfigFault::OutOfMemory
+        } else {
+            ConfigFault::Toml
+        }),
+    }
+}
+
+/// Reads the configuration from a document.
+#[tactic(auto, unfolding(crate::specs::Walk::walk))]
+fn read_document(alloc: Global, doc: &Table) -> Result<Config, ConfigFault>
+    ensures { Gives result (walk (table_view doc.now)) }
+{
+    let listen = address_and_port(spot_of(Part::Top, 0, Key::Listen), doc)?;
+    let default_home = optional_text(spot_of(Part::Top, 0, Key::DefaultHome), doc)?;
+    let linger = number(0, 600_000, 5000, spot_of(Part::Top, 0, Key::Linger), doc)?;
+    let clients = read_clients(alloc, doc)?;
+    let homes = read_homes(alloc, doc)?;
+    let realms = read_realms(alloc, &homes, doc)?;
+    let default_lane = default_lane(&homes, default_home)?;
+    Ok(Config::new(listen, linger, clients, homes, realms, default_lane))
+}
+
+/// Reads the clients, 1 to 256.
+#[tactic(auto, unfolding(crate::specs::Walk::clients_in))]
+fn read_clients(alloc: Global, doc: &Table) -> Result<Clients, ConfigFault>
+    ensures { Gives result (clients_in (table_view doc.now)) }
+{
+    let tables = some_tables(256, spot_of(Part::Top, 0, Key::Client), doc)?;
+    clients_of(alloc, tables)
+}
+
+/// Reads the home servers, 1 to 64.
+#[tactic(auto, unfolding(crate::specs::Walk::homes_in))]
+fn read_homes(alloc: Global, doc: &Table) -> Result<Homes, ConfigFault>
+    ensures { Gives result (homes_in (table_view doc.now)) }
+{
+    let tables = some_tables(64, spot_of(Part::Top, 0, Key::Home), doc)?;
+    homes_of(alloc, tables)
+}
+
+/// Reads the realms, at most 256.
+#[tactic(auto, unfolding(crate::specs::Walk::realms_in))]
+fn read_realms(alloc: Global, homes: &Homes, doc: &Table) -> Result<Realms, ConfigFault>
+    ensures { Gives result (realms_in homes.now (table_view doc.now)) }
+{
+    let tables = any_tables(256, spot_of(Part::Top, 0, Key::Realm), doc)?;
+    realms_of(alloc, homes, tables)
+}
+
+/// Finds the lane of the default home server, if one is named.
+fn default_lane(homes: &Homes, name: Option<&str>) -> Result<Option<u16>, ConfigFault>
+    ensures { result ≡ default_lane_in homes.now (option_map (λ s. s.now) name.entry) }
+{
+    match name {
+        Some(name) => {
+            let lane = lane_of_home(homes, spot_of(Part::Top, 0, Key::DefaultHome), name)?;
+            Ok(Some(lane))
+        }
+        None => Ok(None),
+    }
+}

@@ -1,8 +1,0 @@
-use Rattle.rad_desk.proofs.OutletAfterTurn.{outlet_turned, bounded_turned}
-use Rattle.rad_desk.proofs.desk.Desk.turn.Goals as goal
-
-pub invariant_of-self : goal.invariant_of-self
-invariant_of-self c = record {
-  outlet = outlet_turned _ _ _ _ _ c.turn.ensures.turns c.args.self.now.outlet;
-  bounded = bounded_turned c.args.self.now.lane c.turn.new.self c.args.moment c.turn.result c.turn.ensures.turns c.args.self.now.bounded;
-}

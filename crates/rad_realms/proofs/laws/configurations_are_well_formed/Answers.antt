@@ -1,5 +1,0 @@
-use Rattle.rad_realms.proofs.WellFormed.{well_formed}
-use Rattle.rad_realms.proofs.laws.configurations_are_well_formed.Goals as goal
-
-pub returns : goal.returns
-returns c = well_formed

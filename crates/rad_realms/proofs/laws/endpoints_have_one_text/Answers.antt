@@ -1,8 +1,0 @@
-use Rattle.rad_realms.proofs.Addresses.{endpoint_from_text, endpoint_only}
-use Rattle.rad_realms.proofs.laws.endpoints_have_one_text.Goals as goal
-
-pub returns-clause-read : goal.returns-clause-read
-returns-clause-read c = endpoint_from_text
-
-pub returns-clause-only : goal.returns-clause-only
-returns-clause-only c = endpoint_only

@@ -1,8 +1,0 @@
-use Rattle.rad_realms.proofs.LastSigns.{behind_the_last, no_sign}
-use Rattle.rad_realms.proofs.laws.realm_follows_the_last_sign.Goals as goal
-
-pub returns-clause-follows : goal.returns-clause-follows
-returns-clause-follows c = behind_the_last
-
-pub returns-clause-none : goal.returns-clause-none
-returns-clause-none c = no_sign

@@ -1,0 +1,11 @@
+pub mod Answers
+pub mod Outlets
+pub mod Wires
+pub mod Opening
+pub mod Rests
+pub mod Accounting
+pub mod Inlets
+pub mod Endings
+pub mod Untouched
+pub mod OutletAfterTurn
+pub mod Standings

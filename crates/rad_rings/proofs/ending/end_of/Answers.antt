@@ -1,0 +1,40 @@
+use Rattle.std.proofs.Common.{◌≡◌, List, refl, sym, ap, ◌∙◌, subst}
+use Rattle.rad_lane.specs.declared.counts.Counts.{Counts}
+use Rattle.rad_lane.specs.Outstanding.{AnswerKept}
+use Rattle.rad_lane.specs.Closes.{Left}
+use Rattle.std.specs.FinMap as map
+use Rattle.rad_tables.specs.declared.slots.Slot.{Slot}
+use Rattle.rad_tables.specs.Pairs.{Table}
+use Rattle.rad_lane.specs.declared.entry.Entry.{Entry}
+use Rattle.rad_lane.specs.Entries.{but_a_probe}
+use Rattle.rad_rings.specs.Desk.{book}
+use Rattle.rad_rings.specs.Ending.{TellsRest}
+use Rattle.rad_rings.proofs.Accounting.{accounts}
+use Rattle.rad_rings.proofs.ending.end_of.Goals as goal
+
+pub returns-clause-end : goal.returns-clause-end
+returns-clause-end c =
+    let parts = c.into_parts-parts.result in
+    let left = c.close.result in
+    let leaves = c.close.ensures.leaves in
+    let made = sym c.into_parts-parts.ensures in
+    let accepted = ap (λ (l : Left). l.accepted) made in
+    let answered = ap (λ (l : Left). l.answered) made in
+    let outstanding = ap (λ (l : Left). l.outstanding) made in
+    let lawful = c.close.ensures.lawful in
+    let counts = c.counts-counts.ensures.counts in
+    let its_answers : c.as_slice.result.now ≡ (book c.args.desk).answered = c.as_slice.ensures ∙ answered ∙ leaves.answered in
+    let served = ap (λ (k : Counts). k.answered) counts in
+    let told = subst (λ (xs : List AnswerKept). TellsRest c.args.lane xs c.counts-counts.result.answered c.args.inlet c.rest_of-rest.result) its_answers c.rest_of-rest.ensures in
+    record {
+      lane_is = refl;
+      lawful = lawful;
+      counts = counts;
+      accepted = accepted ∙ leaves.accepted;
+      answered = answered ∙ leaves.answered;
+      outstanding = subst (λ (t : Table Entry). (slot : Slot) → map.get t.entries slot ≡ but_a_probe (map.get (book c.args.desk).held slot)) (sym outstanding) leaves.outstanding;
+      ports = ap (λ (t : Table Entry). t.ports) outstanding ∙ leaves.ports;
+      allotted = ap (λ (t : Table Entry). t.allotted) outstanding ∙ leaves.allotted;
+      accounts = accounts (book c.args.desk) left _ lawful leaves (record { accepted = accepted; answered = answered; outstanding = outstanding }) counts;
+      rest = subst (λ n. TellsRest c.args.lane (book c.args.desk).answered n c.args.inlet c.rest_of-rest.result) served told;
+    }

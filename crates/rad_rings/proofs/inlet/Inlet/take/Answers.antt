@@ -1,0 +1,16 @@
+use Rattle.std.proofs.Common.{[], ◌∷◌, length, sym, ap, subst, arith, length-append}
+use Rattle.rtrb.specs.Ring.{received}
+use Rattle.rad_rings.specs.Outlet.{InOrder}
+use Rattle.rad_rings.proofs.Outlets.{in_order_more}
+use Rattle.rad_rings.proofs.inlet.Inlet.take.Goals as goal
+
+pub invariant_of-self : goal.invariant_of-self
+invariant_of-self c =
+    let before = received c.args.self.now.taker in
+    let response = c.in-Ok.response in
+    let popped = c.in-Ok.ensures.ok in
+    let count = ap length popped.0 in
+    record {
+      in_order = subst InOrder (sym popped.0) (in_order_more before response c.args.self.now.in_order popped.2);
+      counted = omega (arith, count, length-append before (response ∷ []), popped.2);
+    }

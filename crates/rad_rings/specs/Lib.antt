@@ -1,0 +1,12 @@
+pub mod Outlet
+pub mod Desk
+pub mod Inlet
+pub mod Tells
+pub mod Departures
+pub mod Lawful
+pub mod Ending
+pub mod Refusing
+pub mod Turned
+pub mod Printed
+pub mod Spent
+pub mod Standing

@@ -1,0 +1,73 @@
+//! Hearing the home server, if the ring has a place for the response.
+
+ghost use Rattle.rad_rings.specs.Tells.{Tells};
+
+use crate::desk::Desk;
+use rad_lane::{HearFault, Heard};
+use rad_tables::Moment;
+use std::alloc::Global;
+use std::fmt;
+
+/// What a datagram from the home server was.
+#[derive(Clone, Copy, Debug, PartialEq, Eq)]
+pub enum Told {
+    /// A verified reply to a request. The response of this serial was added to the ring.
+    Answer(u64),
+    /// The valid answer to the probe.
+    ProbeAnswered,
+}
+
+/// Why a datagram from the home server is unheard. It is printed as `RingFull`, or as the lane's fault.
+#[derive(Clone, Copy, Debug, PartialEq, Eq)]
+pub enum DeskFault {
+    /// The ring had no free place for a response. The datagram was not read.
+    RingFull,
+    /// The lane did not hear it, for this reason.
+    Lane(HearFault),
+}
+
+impl fmt::Display for DeskFault {
+    ghost use Rattle.std.specs.Prelude.{Some};
+    ghost use Rattle.rad_rings.specs.Printed.{desk_fault_text};
+
+    ghost output = { λ fault. Some (desk_fault_text fault) };
+
+    fn fmt<W: fmt::Write>(&self, f: &mut fmt::Formatter<W>) -> fmt::Result {
+        match self {
+            DeskFault::RingFull => f.write_str("RingFull"),
+            DeskFault::Lane(fault) => write!(f, "{fault}"),
+        }
+    }
+}
+
+impl Desk {
+    /// Passes a datagram that came to a source port from the home server to the lane, if the ring has a free place. The
+    /// response that the lane gives is added to the ring.
+    ///
+    /// # Errors
+    ///
+    /// `RingFull` if the ring is full, and `Lane` if the lane does not hear the datagram. The lane and the responses
+    /// added are unchanged.
+    pub fn hear(
+        &mut self,
+        alloc: Global,
+        moment: Moment,
+        port: u16,
+        datagram: &[u8],
+    ) -> Result<Told, DeskFault>
+        ensures { Tells self.old moment port datagram.now result self.new }
+    {
+        if self.giver.is_full() {
+            return Err(DeskFault::RingFull);
+        }
+        match self.lane.hear(alloc, moment, port, datagram) {
+            Ok(Heard::Answer(response)) => {
+                let serial = response.serial;
+                self.giver.push_reserved(response);
+                Ok(Told::Answer(serial))
+            }
+            Ok(Heard::ProbeAnswered) => Ok(Told::ProbeAnswered),
+            Err(fault) => Err(DeskFault::Lane(fault)),
+        }
+    }
+}

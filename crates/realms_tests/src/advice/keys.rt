@@ -1,0 +1,230 @@
+//! The keys that are not read, and their places.
+
+use crate::comparing::{holds, same};
+use rad_advice::unread_keys;
+use std::alloc::{AllocError, Global};
+use std::test::Fail;
+
+/// Returns the lines of a text's keys that are not read, and the number of the others if it is not 0.
+fn printed(alloc: Global, text: &[u8]) -> Result<String, AllocError> {
+    let keys = unread_keys(alloc, text)?;
+    let mut lines = String::new(alloc);
+    for key in keys.listed() {
+        let line = format!(in alloc; "{key}\n")?;
+        lines.push_str(line.as_str())?;
+    }
+    if keys.more() > 0 {
+        let more = keys.more();
+        let line = format!(in alloc; "{more} more\n")?;
+        lines.push_str(line.as_str())?;
+    }
+    Ok(lines)
+}
+
+/// Every key that is read.
+const ALL: &str = r#"
+listen = "127.0.0.1:1813"
+default_home = "h1"
+linger = 5
+[[client]]
+address = "10.0.0.1"
+secret = "nas-secret"
+[[home]]
+name = "h1"
+address = "127.0.0.1:2813"
+secret = "home-secret"
+window = 1
+queue = 2
+book = 3
+tries = 4
+first_wait = 5
+probe_every = 6
+down_wait = 7
+span = 8
+ring = 9
+ports = 1
+[[realm]]
+name = "example.org"
+home = "h1"
+"#;
+
+/// Texts, each with the lines that are printed for it.
+static TEXTS: [(&str, &str); 40] = [
+    ("", ""),
+    (ALL, ""),
+    // not TOML
+    ("windw = 3\n= 4\n", ""),
+    // the top
+    ("windw = 3\n", "top windw at line 1, column 1\n"),
+    ("\n  windw = 3\n", "top windw at line 2, column 3\n"),
+    ("\u{feff}windw = 3\n", "top windw at line 1, column 2\n"),
+    (
+        "Listen = 1\nlisten = 2\n",
+        "top Listen at line 1, column 1\n",
+    ),
+    ("address = 1\n", "top address at line 1, column 1\n"),
+    // in the order of their octets, each with its place
+    (
+        "zz = 1\nlisten = 2\nb.c = 3\nb.d = 4\n\"a\" = 5\n",
+        "top a at line 5, column 1\ntop b at line 3, column 1\ntop zz at line 1, column 1\n",
+    ),
+    // headers
+    (
+        "listen = 1\n[[realms]]\nname = 2\n[[realms]]\n",
+        "top realms at line 2, column 3\n",
+    ),
+    ("[ realms ]\nname = 2\n", "top realms at line 1, column 3\n"),
+    (
+        "[realms.one.two]\n[realms]\n",
+        "top realms at line 1, column 2\n",
+    ),
+    (
+        "[[home]]\n[[realms]]\nwindow = 1\n",
+        "top realms at line 2, column 3\n",
+    ),
+    // the keys below a header are not keys of the top
+    ("[listen]\nwindw = 1\n", ""),
+    // tables of an array
+    (
+        "[[home]]\nwindow = 1\n[[home]]\nwindw = 3\n",
+        "home 1 windw at line 4, column 1\n",
+    ),
+    (
+        "[[home]]\n\twindw = 3 # windw = 4\n[[home]]\nwindw = 3\n",
+        "home 0 windw at line 2, column 2\nhome 1 windw at line 4, column 1\n",
+    ),
+    (
+        "[[realm]]\nhome = 1\nhomes = 2\n[[client]]\nname = 1\n[[home]]\nlisten = 2\n",
+        "client 0 name at line 5, column 1\nhome 0 listen at line 7, column 1\nrealm 0 homes at line 3, column 1\n",
+    ),
+    // other tables between two tables of one array
+    (
+        "[[home]]\na = 1\n[[client]]\na = 2\n[[home]]\na = 3\n[[client]]\na = 4\n",
+        "client 0 a at line 4, column 1\nclient 1 a at line 8, column 1\nhome 0 a at line 2, column 1\nhome 1 a at line 6, column 1\n",
+    ),
+    // tables in tables
+    (
+        "[[home]]\n[home.limits]\nwindow = 3\n[[home]]\n[ home . limits . more ]\n",
+        "home 0 limits at line 2, column 7\nhome 1 limits at line 5, column 10\n",
+    ),
+    (
+        "[[home]]\nlimits.window = 3\n",
+        "home 0 limits at line 2, column 1\n",
+    ),
+    (
+        "[[client]]\n[[client.\"host\"]]\n[[client.host]]\n",
+        "client 0 host at line 2, column 10\n",
+    ),
+    ("[[home]]\n[home.window]\nx = 1\n", ""),
+    // arrays that are written as one value
+    (
+        "home = [ { name = 1, windw = 3 }, { 'x' = [ { windw = 5 } ], windw = { windw = 6 } } ]\n",
+        "home 0 windw at line 1, column 22\nhome 1 windw at line 1, column 62\nhome 1 x at line 1, column 37\n",
+    ),
+    (
+        "client = [\n  # { b = 1 },\n  { a = \"}, {\" },\n  {\n    b = ''' ] '''\n  },\n]\n",
+        "client 0 a at line 3, column 5\nclient 1 b at line 5, column 5\n",
+    ),
+    (
+        "realm = [ { name = 1, a.b = 2, a.c = 3 } ]\n",
+        "realm 0 a at line 1, column 23\n",
+    ),
+    // values that are not arrays of tables
+    ("home = 3\nclient = { windw = 1 }\n[realm]\nwindw = 1\n", ""),
+    (
+        "home = [ 1, { windw = 2 } ]\n",
+        "home 1 windw at line 1, column 15\n",
+    ),
+    ("home = [ [ { windw = 2 } ] ]\n", ""),
+    // values that look like keys
+    (
+        "secret = \"\"\"\nwindw = 1\n[[home]]\n\"\"\"\nwindw = '''\n[x]\n'''\n",
+        "top secret at line 1, column 1\ntop windw at line 5, column 1\n",
+    ),
+    (
+        "a = [ '[', \"]\\\"\", # ]\n [ ] ]\nb = 1\n",
+        "top a at line 1, column 1\ntop b at line 3, column 1\n",
+    ),
+    (
+        "a = \"\"\"x\"\"\"\"\"\nb = 1979-05-27T07:32:00.5+01:00\nc = 1e5 # c\r\nd = -inf\n",
+        "top a at line 1, column 1\ntop b at line 2, column 1\ntop c at line 3, column 1\ntop d at line 4, column 1\n",
+    ),
+    // keys in quotation marks
+    (
+        "\"lis\\u0074en\" = 1\n'a b' = 2\n\"\\u00e9\" = 3\n'' = 4\n",
+        "top  at line 4, column 1\ntop a%20b at line 2, column 1\ntop %c3%a9 at line 3, column 1\n",
+    ),
+    (
+        "\"a\\nb\\u001b\" = 1\n\"%\" = 2\n\"\\\"\" = 3\n\"=\" = 4\n\"#]\" = 5\nz = 6\n",
+        "top %22 at line 3, column 1\ntop #] at line 5, column 1\ntop %25 at line 2, column 1\ntop %3d at line 4, column 1\ntop a%0ab%1b at line 1, column 1\ntop z at line 6, column 1\n",
+    ),
+    // columns count characters
+    (
+        "home = [ { secret = \"\u{e9}\u{1d11e}\", windw = 3 } ]\n",
+        "home 0 windw at line 1, column 27\n",
+    ),
+    // a long name is cut
+    (
+        "a123456789b123456789c123456789d123456789e123456789f123456789g123 = 1\n",
+        "top a123456789b123456789c123456789d123456789e123456789f123456789g123 at line 1, column 1\n",
+    ),
+    (
+        "a123456789b123456789c123456789d123456789e123456789f123456789g1234 = 1\n",
+        "top a123456789b123456789c123456789d123456789e123456789f123456789g123.. at line 1, column 1\n",
+    ),
+    // a last line without a line feed
+    ("listen = 1\nx = 2", "top x at line 2, column 1\n"),
+    ("[[home]]\n[x]", "top x at line 2, column 2\n"),
+    (
+        "[[home]]\nname = 1\n[[home]]\n\n# windw = 1\n\r\n  windw=1\r\n",
+        "home 1 windw at line 7, column 3\n",
+    ),
+    ("listen = { windw = 1 }\nlinger.windw = 2\n", ""),
+];
+
+#[test]
+fn each_key_is_told_with_its_place(rt: HostRuntime) -> Result<(), Fail> {
+    for (place, &(text, wanted)) in TEXTS.iter().enumerate() {
+        let told = printed(rt.alloc(), text.as_bytes())?;
+        same(&rt, (place, told.as_str() == wanted), (place, true));
+    }
+    Ok(())
+}
+
+#[test]
+fn octets_that_are_no_text_have_no_keys(rt: HostRuntime) -> Result<(), Fail> {
+    let told = printed(rt.alloc(), b"windw = 1\n# \xff\n")?;
+    holds(&rt, told.as_str() == "");
+    Ok(())
+}
+
+#[test]
+fn twenty_are_listed(rt: HostRuntime) -> Result<(), Fail> {
+    for (count, more) in [(19, 0), (20, 0), (21, 1), (1000, 980)] {
+        let mut text = String::from_str(rt.alloc(), "[[home]]\n")?;
+        for number in 0..count {
+            let line = format!(in rt.alloc(); "key-{number} = 1\n")?;
+            text.push_str(line.as_str())?;
+        }
+        let keys = unread_keys(rt.alloc(), text.as_bytes())?;
+        let counts = (keys.more(), keys.listed().len());
+        same(&rt, (count, counts), (count, (more, count - more)));
+    }
+    Ok(())
+}
+
+/// A key in the last of 300 tables has its place.
+#[test]
+fn the_last_of_many_is_found(rt: HostRuntime) -> Result<(), Fail> {
+    let mut text = String::new(rt.alloc());
+    for _ in 0..300 {
+        text.push_str("[[home]]\nname = \"h[1]\"\nwindow = [ 1, { a = 2 } ]\n")?;
+    }
+    text.push_str("windw = 3\n")?;
+    let told = printed(rt.alloc(), text.as_bytes())?;
+    holds(
+        &rt,
+        told.as_str() == "home 299 windw at line 901, column 1\n",
+    );
+    Ok(())
+}

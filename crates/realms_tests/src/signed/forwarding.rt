@@ -1,0 +1,100 @@
+//! Checking and forwarding requests.
+
+use super::vectors::{FORWARDED, LONG_AUTHENTICATOR, REQUEST};
+use super::{CLIENT, HOME, MARK, secret_of};
+use crate::comparing::{holds, same};
+use rad_auth::{ACCOUNTING_REQUEST, Secret, check_request, forward, sign};
+use rad_packet::{Datagram, PacketRef, WriteFault, read};
+use std::alloc::Global;
+use std::process::Abort;
+use std::test::Fail;
+
+#[test]
+fn requests_are_checked(rt: HostRuntime) -> Result<(), Fail> {
+    let request = read(&REQUEST)?;
+    holds(&rt, check_request(&request, &secret_of(CLIENT)?));
+    holds(&rt, !check_request(&request, &secret_of(HOME)?));
+    Ok(())
+}
+
+/// Returns REQUEST as it is forwarded with an Identifier, under a secret.
+fn forwarded(identifier: u8, secret: &[u8]) -> Result<Datagram, Fail> {
+    let mut datagram = Datagram::new();
+    forward(
+        &read(&REQUEST)?,
+        MARK,
+        identifier,
+        &secret_of(secret)?,
+        &mut datagram,
+    )?;
+    Ok(datagram)
+}
+
+#[test]
+fn requests_are_forwarded(rt: HostRuntime) -> Result<(), Fail> {
+    holds(&rt, forwarded(0xa5, HOME)?.bytes() == FORWARDED.as_slice());
+    Ok(())
+}
+
+/// Whether a request, signed again, is FORWARDED.
+fn is_signed(alloc: Global, request: &[u8], home: &Secret) -> Result<bool, Fail> {
+    let packet = read(request)?;
+    if packet.code() != ACCOUNTING_REQUEST {
+        return Ok(false);
+    }
+    let mut signed = packet.octets().to_vec(alloc)?;
+    sign(signed.as_mut_slice(), 0xa5, home);
+    Ok(signed.as_slice() == FORWARDED.as_slice())
+}
+
+#[test]
+fn requests_are_signed(rt: HostRuntime) -> Result<(), Fail> {
+    let other = forwarded(0x5a, CLIENT)?;
+    holds(
+        &rt,
+        is_signed(rt.alloc(), other.bytes(), &secret_of(HOME)?)?,
+    );
+    Ok(())
+}
+
+/// Returns a request that leaves room for the mark and 212 octets more.
+fn long_request() -> Result<Datagram, Fail> {
+    let mut request = Datagram::new();
+    request.begin(ACCOUNTING_REQUEST, 7, [0; 16]);
+    request.push(1, b"bob@example.org")?;
+    request.push(40, &[0, 0, 0, 1])?;
+    request.push(44, b"S1")?;
+    for octet in b'A'..b'P' {
+        request.push(25, &[octet; 253])?;
+    }
+    Ok(request)
+}
+
+/// Forwards it with one more attribute, a Class with a Value of `room` octets.
+fn forward_with(
+    room: usize,
+    home: &Secret,
+    datagram: &mut Datagram,
+) -> Result<Result<(), WriteFault>, Fail> {
+    let mut request = long_request()?;
+    let class = [b'Z'; 253];
+    request.push(25, class.get(..room).ok_or("too much room")?)?;
+    Ok(forward(&request.packet(), MARK, 0xa5, home, datagram))
+}
+
+fn has_long_authenticator(packet: &PacketRef<'_>) -> bool {
+    packet.octets().len() == 4096 && packet.authenticator() == LONG_AUTHENTICATOR
+}
+
+#[test]
+fn the_longest_request_fits(rt: HostRuntime) -> Result<(), Fail> {
+    let home = secret_of(HOME)?;
+    let mut datagram = Datagram::new();
+    same(&rt, forward_with(210, &home, &mut datagram)?, Ok(()));
+    holds(&rt, has_long_authenticator(&datagram.packet()));
+    let before = datagram.copy();
+    let refused = forward_with(211, &home, &mut datagram)?;
+    same(&rt, refused, Err(WriteFault::PacketTooLong));
+    holds(&rt, datagram.bytes() == before.bytes());
+    Ok(())
+}
