@@ -8,3 +8,4 @@ pub mod Samples
 pub mod Buckets
 pub mod SocketNumbers
 pub mod LedgerNumbers
+pub mod LedgerText

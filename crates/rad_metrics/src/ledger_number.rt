@@ -20,14 +20,6 @@ pub enum LedgerNumber {
     Age,
 }
 
-/// The metrics, in the order in which they are written.
-pub(crate) const LEDGER_NUMBERS: [LedgerNumber; 4] = [
-    LedgerNumber::Written,
-    LedgerNumber::Waiting,
-    LedgerNumber::Dropped,
-    LedgerNumber::Age,
-];
-
 impl LedgerNumber {
     /// Returns the name, the kind and the help text of the family, which precede its sample.
     pub fn family(self) -> Family

@@ -1,15 +1,16 @@
 //! The metrics of a running proxy, in Prometheus' text format: of the program, of the limits, of each client, of each
-//! home server and of each socket.
+//! home server, of each socket and of the ledger.
 //!
 //! [`Numbers`] keeps what the workers report. The metrics of one home server are taken under one hold of its lane's
 //! lock, by the lane's worker, when it is asked for them. All labels come from the configuration, from the program and
 //! from its sockets, whoever sends.
 //!
 //! Contracts say what each family is called, what its help text is and how each line is printed, which part of its
-//! [`Reading`] each metric of a home server is, and as which event of a client a note is counted. No contract covers
-//! what is behind a lock or in an atomic, such as a count: tests check it. The definitions are in `specs`: `Families`
-//! and `Samples` define the lines, `ProgramNumbers`, `LimitNumbers`, `ClientEvents`, `HomeNumbers`, `SocketNumbers` and
-//! `LedgerNumbers` the metrics of each, and `Buckets` the bounds of a histogram.
+//! [`Reading`] each metric of a home server is, as which event of a client a note is counted, and which text the
+//! ledger's metrics have. No contract covers what is behind a lock or in an atomic, such as a count: tests check it. The
+//! definitions are in `specs`: `Families` and `Samples` define the lines, `ProgramNumbers`, `LimitNumbers`,
+//! `ClientEvents`, `HomeNumbers`, `SocketNumbers` and `LedgerNumbers` the metrics of each, `LedgerText` the text of the
+//! ledger's, and `Buckets` the bounds of a histogram.
 #![tactic(auto)]
 
 mod client_event;
@@ -22,6 +23,7 @@ mod home_number;
 mod home_times;
 mod ledger_number;
 mod ledger_reading;
+mod ledger_text;
 mod limit_number;
 mod numbers;
 mod program_number;
@@ -41,6 +43,7 @@ pub use family::{Family, Kind};
 pub use home_number::HomeNumber;
 pub use ledger_number::LedgerNumber;
 pub use ledger_reading::LedgerReading;
+pub use ledger_text::write_ledger;
 pub use limit_number::LimitNumber;
 pub use numbers::Numbers;
 pub use program_number::ProgramNumber;
@@ -50,4 +53,4 @@ pub use socket_number::SocketNumber;
 pub use socket_numbers::SocketReading;
 pub use udp_sockets::{UdpSockets, read_udp_sockets};
 pub use value::Value;
-pub use writing::{VERSION, write_ledger, write_numbers};
+pub use writing::{VERSION, write_numbers};

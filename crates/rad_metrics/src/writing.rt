@@ -4,8 +4,6 @@ use crate::client_event::{CLIENT_EVENTS, CLIENT_FAMILIES, ClientEvent, ClientFam
 use crate::family::{Family, HelpLine, TypeLine};
 use crate::histogram::{BUCKETS, Histogram, bound_label};
 use crate::home_number::HOME_NUMBERS;
-use crate::ledger_number::LEDGER_NUMBERS;
-use crate::ledger_reading::LedgerReading;
 use crate::limit_number::LIMIT_NUMBERS;
 use crate::numbers::Numbers;
 use crate::program_number::ProgramNumber;
@@ -84,19 +82,6 @@ pub fn write_numbers<W: Write, R: Clock>(
     write_replies(writer, config, numbers)?;
     write_responses(writer, config, numbers)?;
     write_sockets(writer, config, sockets)
-}
-
-/// Writes the metrics of the ledger.
-///
-/// # Errors
-///
-/// The writer's own error.
-pub fn write_ledger<W: Write>(writer: &mut W, reading: &LedgerReading) -> io::Result<()> {
-    for number in LEDGER_NUMBERS {
-        write_head(writer, number.family())?;
-        write_sample(writer, number.family(), Labels::None, number.value(reading))?;
-    }
-    Ok(())
 }
 
 /// Writes the lines that precede the samples of a family.
