@@ -222,6 +222,35 @@ def runs():
     yield "reply-to-a-client-that-is-not-there", {"ledger": text(unknown)}, [
         "ledger:2: WrongReply", f"ledger:5: run {NAME:016x} lane 0 h1 gap 0 to 0", counted(0, "h1", 0, 1, "gap 0 to 0"), both[1]], 5, config(client="192.0.2.11")
 
+    three = two()
+    first = [three.begin(), three.entry(0), three.entry(1)]
+    second, third = [three.begin(), three.entry(0), three.entry(1)], [three.begin(), three.entry(0), three.end()]
+    all_three = {"a": text(first), "b": text(second), "c": text(third)}
+    yield "three-files", all_three, [counted(0, "h1", 0, 3, "whole"), counted(1, "h2", 0, 2, "whole")], 0
+    yield "three-files-in-another-order", {name: all_three[name] for name in ("b", "a", "c")}, [
+        "a:2: SerialNotAbove", "a:3: SerialNotAbove", counted(0, "h1", 1, 2, "whole"), counted(1, "h2", 1, 1, "whole")], 5
+    yield "the-same-file-twice", {"a": all_three["a"], "b": all_three["a"]}, [
+        "b:2: SerialNotAbove", "b:3: SerialNotAbove", counted(0, "h1", 0, 1, "open"), counted(1, "h2", 0, 1, "open")], 5
+    behind = {**all_three, "c": text([third[0], changed(third[2], lanes=[{"lane": 0, "entries": 4}, {"lane": 1, "entries": 3}])])}
+    yield "gaps-of-two-lanes", behind, [
+        f"c:2: run {NAME:016x} lane 0 h1 gap 2 to 3", f"c:2: run {NAME:016x} lane 1 h2 gap 2 to 2",
+        counted(0, "h1", 0, 2, "gap 2 to 3"), counted(1, "h2", 0, 2, "gap 2 to 2")], 3
+    stray = {**all_three, "c": text([third[0], third[1], changed(third[2], lanes=[{"lane": 5, "entries": 1}, *third[2]["lanes"]])])}
+    yield "an-end-of-a-lane-that-is-not-named", stray, ["c:3: UnknownLane", counted(0, "h1", 0, 3, "whole"), counted(1, "h2", 0, 2, "whole")], 5
+    aside = Run(NAME - 1, [Lane(3, "h2", OTHER, 7), Lane(1, "h1", HOME, 2)])
+    woven = [aside.begin(), first[0], aside.entry(0), *first[1:], aside.entry(1), *second[1:], aside.entry(1), third[1], aside.end(), third[2]]
+    yield "two-runs-side-by-side", {"ledger": text(woven)}, [
+        counted(3, "h2", 7, 1, "whole", run=NAME - 1), counted(1, "h1", 2, 2, "whole", run=NAME - 1),
+        counted(0, "h1", 0, 3, "whole"), counted(1, "h2", 0, 2, "whole")], 0
+
+    lines = lines_of(one(), 3)
+    wide = [lines[0], *(json.dumps(line) for line in lines[1:4]), lines[4]]
+    wide[2] += " " * (65536 - len(wide[2]))
+    yield "a-line-of-65536-octets", {"ledger": text(wide)}, [counted(0, "h1", 0, 3, "whole")], 0
+    missing = [f"ledger:4: run {NAME:016x} lane 0 h1 gap 1 to 1", counted(0, "h1", 0, 2, "gap 1 to 1")]
+    for name, more in (("65537", 1), ("65538", 2), ("a-million", 934464)):
+        yield f"a-line-of-{name}-octets", {"ledger": text([*wide[:2], wide[2] + " " * more, *wide[3:]])}, ["ledger:3: NotEntry", *missing], 5
+
     other = Run(NAME + 1, [Lane(0, "h1", HOME)])
     mixed = [*lines_of(one(), 2), *lines_of(other, 1)]
     yield "two-runs", {"ledger": text(mixed)}, [counted(0, "h1", 0, 2, "whole"), counted(0, "h1", 0, 1, "whole", run=NAME + 1)], 0
@@ -273,6 +302,28 @@ def audited(program, words, folder):
     return ran.stdout.decode("utf-8", "replace"), ran.stderr.decode("utf-8", "replace"), ran.returncode
 
 
+def ended_early(program, folder):
+    """What is told where a file can't be read behind one that can: what was found until then, and no more."""
+    (folder / "good.toml").write_text(config())
+    lines = lines_of(one(), 2)
+    (folder / "a").write_text(text([lines[0], lines[2], lines[1]]))
+    out, err, status = audited(program, ["good.toml", "a", "absent", "a"], folder)
+    wanted = f"a:2: run {NAME:016x} lane 0 h1 gap 0 to 0\na:3: SerialNotAbove\n", "file: absent\n", 4
+    yield "a file that is absent behind another", None if (out, err, status) == wanted else f"{(out, err, status)} and not {wanted}"
+
+
+def to_full_disk(program, folder):
+    """What the program tells where nothing can be printed: nothing, and by its status that it failed."""
+    (folder / "good.toml").write_text(config())
+    (folder / "a").write_text(text(lines_of(one(), 2)))
+    (folder / "none").write_text("")
+    for name, file, wanted in (("what can't be printed", "a", 4), ("nothing to print", "none", 0)):
+        with open("/dev/full", "wb") as full:
+            ran = subprocess.run([program, "good.toml", file], cwd=folder, stdout=full, stderr=subprocess.PIPE, timeout=SECONDS)
+        found = ran.stderr, ran.returncode
+        yield name, None if found == (b"", wanted) else f"{found} and not {wanted}"
+
+
 def shown(program):
     """The name of each case, and what was wrong with it: nothing where it is as it has to be."""
     cases = [(name, *case) for name, case in REASONS.items()] + [tuple(case) for case in runs()]
@@ -290,6 +341,9 @@ def shown(program):
             out, err, ended = audited(program, words, made)
             right = out == "" and err.startswith(line) and err.endswith("\n") and ended == status
             yield " ".join(words), None if right else f"{(out, err, ended)} and not {(line, status)}"
+    for ends in ended_early, to_full_disk:
+        with tempfile.TemporaryDirectory() as made:
+            yield from ends(program, pathlib.Path(made))
     example = audited(program, ["one-home.toml", "one-home.jsonl"], TOP / "examples")
     wanted = counted(0, "billing", 0, 4, "whole", run=0x0123456789ABCDEF) + "\n", "", 0
     yield "the example", None if example == wanted else f"{example} and not {wanted}"

@@ -281,8 +281,13 @@ def main(words):
         status = audit.end()
     except Ends as ended:
         fault, status = ended.args
-    for line in audit.printed if audit else []:
-        print(line)
+    try:
+        for line in audit.printed if audit else []:
+            print(line)
+        sys.stdout.flush()
+    except OSError:
+        sys.stdout = None
+        return 4
     if fault is not None:
         print(fault, file=sys.stderr)
     return status

@@ -3,4 +3,5 @@
 mod comparing;
 mod judged;
 mod lines;
+mod read_back;
 mod vectors;

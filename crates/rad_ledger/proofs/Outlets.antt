@@ -6,7 +6,7 @@ use Rattle.std.proofs.lemmas.List.{length-map}
 use Rattle.std.proofs.lemmas.List.FromFn.{get_or-range_with_len}
 use Rattle.std.proofs.Math.Seq.{get_or-append_seam}
 use Rattle.rad_lane.specs.declared.outgoing.Outgoing.{Outgoing}
-use Rattle.rad_ledger.specs.Counting.{GoOnFrom, IsFirstGap, Tells}
+use Rattle.rad_ledger.specs.Counting.{GoOnFrom, IsFirstGap, IsOpen, Tells}
 use Rattle.rad_ledger.specs.Outlets.{serials_of, AreAllGiven}
 use Rattle.rad_ledger.specs.declared.tally.Tally.{Tally}
 use Rattle.rad_ledger.specs.declared.tally.Gap.{Gap}
@@ -21,6 +21,21 @@ no_gap first serials gap e g =
     let there : get_or serials n 0 ≡ gap.last + 1 = ap (λ xs. get_or xs n 0) g.split ∙ get_or-append_seam g.before (gap.last + 1) g.after 0 in
     let wanted : get_or serials n 0 ≡ first + n = ap (λ xs. get_or xs n 0) e ∙ get_or-range_with_len first (length serials) n 0 within in
     omega (arith, there, wanted, g.from, g.some)
+
+-- what is told is that it is open, exactly where it is
+module _ (tally : Tally) (serials : List ℕ) where
+  open_alone : IsOpen tally serials → (verdict : Verdict) → Tells tally serials verdict → verdict ≡ Open
+  open_alone is Whole t =
+      let less : t.count < tally.first + length serials = subst (λ o. IfSome o (λ n. n < tally.first + length serials)) t.ended is.unended in
+      absurd (omega (arith, less, t.all))
+  open_alone is Open t = refl
+  open_alone is (Missing gap) (inl g) = absurd (no_gap tally.first serials gap is.goes_on g)
+  open_alone is (Missing gap) (inr cut) =
+      let less : cut.count < tally.first + length serials = subst (λ o. IfSome o (λ n. n < tally.first + length serials)) cut.ended is.unended in
+      absurd (omega (arith, less, cut.from, cut.to, cut.some))
+
+  pub open_exactly : (verdict : Verdict) → Tells tally serials verdict → (verdict ≡ Open) ↔ IsOpen tally serials
+  open_exactly verdict t = (λ e. subst (λ v. Tells tally serials v) e t, λ is. open_alone is verdict t)
 
 module _ (tally : Tally) (given : List Outgoing) (from_zero : tally.first ≡ 0) where
   long : length (serials_of given) ≡ length given

@@ -1,8 +1,8 @@
 -- How the serials go on.
 use Rattle.std.proofs.Common.{◌≡◌, ℕ, zero, suc, ◌+◌, ◌<◌, List, [], ◌∷◌, ◌++◌, length, refl, sym, ap, ◌∙◌, arith, add-zero, add-one, append_assoc, length-append, Option, Some, None, MatchOption, subst, inl, inr}
 use Rattle.std.specs.Prelude.{⊤}
-use Rattle.std.specs.List.{range_with_len}
-use Rattle.std.specs.Option.{option_or}
+use Rattle.std.specs.List.{last_or, range_with_len}
+use Rattle.std.specs.Option.{option_map_or, option_or}
 use Rattle.rad_ledger.specs.Counting.{GoOnFrom, next_after, IsFirstGap, LeavesGap, Counts, Tells}
 use Rattle.rad_ledger.specs.declared.tally.Gap.{Gap}
 use Rattle.rad_ledger.specs.declared.tally.Tally.{Tally}
@@ -15,14 +15,25 @@ range_more from (suc count) =
     let rest : range_with_len (from + 1) (count + 1) ≡ range_with_len (from + 1) count ++ (from + suc count) ∷ [] = range_more (from + 1) count ∙ ap (λ n. range_with_len (from + 1) count ++ n ∷ []) next in
     rw (add-one (suc count)) (ap (λ numbers. from ∷ numbers) (rw (add-one count) at rest))
 
+last_push : (before : Option ℕ) (serials : List ℕ) (serial : ℕ) → last_or before (serials ++ serial ∷ []) ≡ Some serial
+last_push before [] serial = refl
+last_push before (x ∷ xs) serial = last_push (Some x) xs serial
+
 -- the next serial after one more
 pub next_after_push : (first : ℕ) (serials : List ℕ) (serial : ℕ) → next_after first (serials ++ serial ∷ []) ≡ serial + 1
-next_after_push first [] serial = refl
-next_after_push first (x ∷ xs) serial = next_after_push (x + 1) xs serial
+next_after_push first serials serial = ap (λ last. option_map_or (λ n. n + 1) last first) (last_push None serials serial)
+
+last_range : (from count : ℕ) → last_or (Some from) (range_with_len (from + 1) count) ≡ Some (from + count)
+last_range from zero = ap Some (omega arith)
+last_range from (suc count) =
+    let same : from + 1 + count ≡ from + suc count = omega arith in
+    last_range (from + 1) count ∙ ap Some same
 
 next_after_range : (first count : ℕ) → next_after first (range_with_len first count) ≡ first + count
 next_after_range first zero = omega arith
-next_after_range first (suc count) = next_after_range (first + 1) count ∙ (omega arith)
+next_after_range first (suc count) =
+    let same : first + count + 1 ≡ first + suc count = omega arith in
+    ap (λ last. option_map_or (λ n. n + 1) last first) (last_range first count) ∙ same
 
 -- where none is left out, the next serial is known
 pub next_of_all : (first : ℕ) (serials : List ℕ) → GoOnFrom first serials → next_after first serials ≡ first + length serials

@@ -1,6 +1,7 @@
 -- What is counted of the entries of one lane of a run (own): those that are right, in the order of their lines.
 use Rattle.std.specs.Prelude.{◌≡◌, ℕ, ◌+◌, ◌<◌, ◌≤◌, List, [], ◌∷◌, ◌++◌, length, Option, MatchOption, Some, None, ◌⊎◌, IfSome}
-use Rattle.std.specs.List.{range_with_len}
+use Rattle.std.specs.List.{last_or, range_with_len}
+use Rattle.std.specs.Option.{option_map_or}
 use Rattle.rad_ledger.specs.declared.tally.Tally.{Tally}
 use Rattle.rad_ledger.specs.declared.tally.Gap.{Gap}
 use Rattle.rad_ledger.specs.declared.tally.Verdict.{Verdict}
@@ -10,10 +11,9 @@ use Rattle.rad_ledger.specs.declared.tally.Verdict.TheVariants.{Whole, Open, Mis
 abbrev pub GoOnFrom : ℕ → List ℕ → Type 0
 GoOnFrom first serials = serials ≡ range_with_len first (length serials)
 
--- The serial that the next entry has, where none is left out.
+-- The serial that the next entry has, where none is left out: one above the last one, or the first one where there is none yet.
 abbrev pub next_after : ℕ → List ℕ → ℕ
-next_after first [] = first
-next_after first (serial ∷ serials) = next_after (serial + 1) serials
+next_after first serials = option_map_or (λ serial. serial + 1) (last_or None serials) first
 
 -- The serials before the gap go on from the first one; then those from the gap's first to its last are left out.
 pub record IsFirstGap (first : ℕ) (serials : List ℕ) (gap : Gap) : Type 0 where
@@ -42,7 +42,7 @@ pub record IsWhole (tally : Tally) (serials : List ℕ) : Type 0 where
   pub goes_on : GoOnFrom tally.first serials
   pub all : tally.first + length serials ≡ count
 
--- No end line counts what is there, of which nothing is missing.
+-- Nothing is missing of what is there, and no end line counts it: there is none, or it counts fewer than there are.
 pub record IsOpen (tally : Tally) (serials : List ℕ) : Type 0 where
   pub goes_on : GoOnFrom tally.first serials
   pub unended : IfSome tally.end (λ count. count < tally.first + length serials)

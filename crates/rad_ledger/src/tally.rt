@@ -63,8 +63,8 @@ impl Tally {
     ghost use Rattle.std.specs.Prelude.{◌≡◌, ◌↔◌, ◌≤◌, ◌<◌, ◌^◌, ◌++◌, [], ◌∷◌, ℕ, List, Some, None, OnOk, IfOk, IfErr};
     ghost use Rattle.rad_lane.specs.declared.outgoing.Outgoing.{Outgoing};
     ghost use Rattle.rad_ledger.specs.declared.reason.Reason.TheVariants.{SerialNotAbove};
-    ghost use Rattle.rad_ledger.specs.declared.tally.Verdict.TheVariants.{Whole};
-    ghost use Rattle.rad_ledger.specs.Counting.{Counts, LeavesGap, Tells};
+    ghost use Rattle.rad_ledger.specs.declared.tally.Verdict.TheVariants.{Open, Whole};
+    ghost use Rattle.rad_ledger.specs.Counting.{Counts, IsOpen, LeavesGap, Tells};
     ghost use Rattle.rad_ledger.specs.Outlets.{AreAllGiven, serials_of};
 
     /// Returns the tally of a lane without entries whose next response has this serial.
@@ -144,9 +144,10 @@ impl Tally {
     }
 
     /// Returns what the entries show together.
-    #[tactic(auto, using(crate::proofs::Outlets::whole_exactly))]
+    #[tactic(auto, using(crate::proofs::Outlets::open_exactly, crate::proofs::Outlets::whole_exactly))]
     pub fn verdict(&self) -> Verdict
         ensures tells { (serials : List ℕ) → Counts self.now serials → Tells self.now serials result }
+        ensures open { (serials : List ℕ) → Counts self.now serials → (result ≡ Open) ↔ IsOpen self.now serials }
         ensures outlet { (given : List Outgoing) → Counts self.now (serials_of given) → self.now.first ≡ 0 → (result ≡ Whole) ↔ AreAllGiven self.now given }
     {
         self.found()

@@ -1,0 +1,232 @@
+//! Lines that are written, as they are read again.
+
+use super::comparing::holds;
+use ledger_lines::{
+    Begin, End, LaneCount, LaneStart, Line, Room, read_line, write_begin, write_end, write_entry,
+};
+use rad_ledger::Entry;
+use std::alloc::{AllocGlobal, Global};
+use std::process::Abort;
+use std::test::Fail;
+
+const TIME: &str = "2026-01-31T23:59:59.999Z";
+
+/// An entry with no realm, no session and no status.
+fn plain<'a>() -> Entry<'a> {
+    Entry {
+        run: 0,
+        time: TIME,
+        home: "h1",
+        lane: 0,
+        serial: 0,
+        number: 0,
+        client: [0, 0, 0, 0],
+        port: 0,
+        identifier: 0,
+        authenticator: [0; 16],
+        sent: &[],
+        reply: &[],
+        response: &[],
+        realm: None,
+        session: None,
+        status: None,
+    }
+}
+
+/// An entry whose numbers are the greatest that a line can have.
+fn greatest<'a>() -> Entry<'a> {
+    Entry {
+        run: u64::MAX,
+        lane: u16::MAX,
+        serial: (1 << 63) - 1,
+        number: u64::MAX,
+        client: [255, 255, 255, 255],
+        port: u16::MAX,
+        identifier: u8::MAX,
+        authenticator: [255; 16],
+        sent: &[255; 3],
+        reply: &[0, 255],
+        response: &[128],
+        status: Some(u32::MAX),
+        ..plain()
+    }
+}
+
+/// Whether an entry has what another one has.
+fn is_same(entry: &Entry<'_>, other: &Entry<'_>) -> bool {
+    has_same_request(entry, other) && has_same_packets(entry, other)
+}
+
+fn has_same_request(entry: &Entry<'_>, other: &Entry<'_>) -> bool {
+    entry.run == other.run
+        && entry.time == other.time
+        && entry.home == other.home
+        && entry.lane == other.lane
+        && entry.serial == other.serial
+        && entry.number == other.number
+        && entry.client == other.client
+        && entry.port == other.port
+        && entry.identifier == other.identifier
+}
+
+fn has_same_packets(entry: &Entry<'_>, other: &Entry<'_>) -> bool {
+    entry.authenticator == other.authenticator
+        && entry.sent == other.sent
+        && entry.reply == other.reply
+        && entry.response == other.response
+        && entry.realm == other.realm
+        && entry.session == other.session
+        && entry.status == other.status
+}
+
+/// Returns the line that stands before the last line end.
+fn line_of(all: &[u8]) -> Result<&[u8], Fail> {
+    match all.split_last() {
+        Some((b'\n', line)) => Ok(line),
+        _ => Err(Fail::from("a line end")),
+    }
+}
+
+/// Whether an entry is read again as it was written.
+fn comes_back(alloc: Global, entry: &Entry<'_>) -> Result<bool, Fail> {
+    let all = write_entry(alloc, entry, Vec::new(alloc))?;
+    let mut room = Room::new(alloc)?;
+    match read_line(alloc, line_of(all.as_slice())?, &mut room) {
+        Ok(Line::Entry(again)) => Ok(is_same(entry, &again)),
+        _ => Ok(false),
+    }
+}
+
+#[test]
+fn an_entry_is_read_as_it_was_written(rt: HostRuntime) -> Result<(), Fail> {
+    let alloc = rt.alloc();
+    let is_back = comes_back(alloc, &plain())?;
+    holds(&rt, is_back);
+    let is_back = comes_back(alloc, &greatest())?;
+    holds(&rt, is_back);
+    Ok(())
+}
+
+/// What a realm and a session may be: no octets; characters that JSON writes by others; characters of two, three and four
+/// octets; and octets that are no text, at their front, in their middle and at their end.
+const WORDS: [&[u8]; 12] = [
+    b"",
+    b"S1",
+    b"a\"b\\c/d",
+    b"\x00\x01\x08\t\n\x0c\r\x1f\x7f",
+    b"{\"type\":\"entry\"}",
+    b"\xc3\xa9\xe2\x82\xac\xf0\x9f\x98\x80\xef\xbb\xbf\xe2\x80\xa8",
+    b"00ff",
+    b"\xff",
+    b"\xffab",
+    b"a\xc3",
+    b"a\xed\xa0\x80b",
+    b"\xf5\x80\x80\x80",
+];
+
+#[test]
+fn a_realm_and_a_session_are_read_as_they_were_written(rt: HostRuntime) -> Result<(), Fail> {
+    let alloc = rt.alloc();
+    for realm in WORDS {
+        for session in WORDS {
+            let entry = Entry {
+                realm: Some(realm),
+                session: Some(session),
+                ..plain()
+            };
+            let is_back = comes_back(alloc, &entry)?;
+            holds(&rt, is_back);
+        }
+    }
+    Ok(())
+}
+
+/// Home servers of a file's first line, and serials.
+const STARTS: [LaneStart<'static>; 3] = [
+    LaneStart {
+        lane: 0,
+        home: "h1",
+        serial: 0,
+    },
+    LaneStart {
+        lane: 7,
+        home: "\"\\\n\u{1f600}",
+        serial: 1,
+    },
+    LaneStart {
+        lane: u16::MAX,
+        home: "",
+        serial: (1 << 63) - 1,
+    },
+];
+
+const COUNTS: [LaneCount; 2] = [
+    LaneCount {
+        lane: 0,
+        entries: 0,
+    },
+    LaneCount {
+        lane: u16::MAX,
+        entries: u64::MAX,
+    },
+];
+
+/// Whether a file's first line is read again as it was written.
+fn begin_comes_back(alloc: Global, begin: &Begin<'_>) -> Result<bool, Fail> {
+    let all = write_begin(alloc, begin, Vec::new(alloc))?;
+    let mut room = Room::new(alloc)?;
+    match read_line(alloc, line_of(all.as_slice())?, &mut room) {
+        Ok(Line::Begin(again)) => Ok(again.run == begin.run
+            && again.time == begin.time
+            && again.version == begin.version
+            && again.file == begin.file
+            && again.lanes.as_slice() == begin.lanes.as_slice()),
+        _ => Ok(false),
+    }
+}
+
+#[test]
+fn a_first_line_is_read_as_it_was_written(rt: HostRuntime) -> Result<(), Fail> {
+    let alloc = rt.alloc();
+    let mut begin = Begin {
+        run: u64::MAX,
+        time: TIME,
+        version: "0.1.0 \"x\"",
+        file: u64::MAX,
+        lanes: Vec::new(alloc),
+    };
+    let is_back = begin_comes_back(alloc, &begin)?;
+    holds(&rt, is_back);
+    begin.lanes.extend_from_slice(&STARTS)?;
+    let is_back = begin_comes_back(alloc, &begin)?;
+    holds(&rt, is_back);
+    Ok(())
+}
+
+/// Whether an end line is read again as it was written.
+fn end_comes_back(alloc: Global, end: &End<'_>) -> Result<bool, Fail> {
+    let all = write_end(alloc, end, Vec::new(alloc))?;
+    let mut room = Room::new(alloc)?;
+    match read_line(alloc, line_of(all.as_slice())?, &mut room) {
+        Ok(Line::End(again)) => Ok(again.run == end.run
+            && again.time == end.time
+            && again.lanes.as_slice() == end.lanes.as_slice()),
+        _ => Ok(false),
+    }
+}
+
+#[test]
+fn an_end_line_is_read_as_it_was_written(rt: HostRuntime) -> Result<(), Fail> {
+    let alloc = rt.alloc();
+    let mut end = End {
+        run: 0,
+        time: TIME,
+        lanes: Vec::new(alloc),
+    };
+    let is_back = end_comes_back(alloc, &end)?;
+    holds(&rt, is_back);
+    end.lanes.extend_from_slice(&COUNTS)?;
+    let is_back = end_comes_back(alloc, &end)?;
+    holds(&rt, is_back);
+    Ok(())
+}
