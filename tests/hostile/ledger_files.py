@@ -358,10 +358,10 @@ def writes_of_ten_seconds_lose_nothing(trial):
     trial.start(LD_PRELOAD=built(trial.room, "slow"), SLOW_PATH=str(trial.folder), SLOW_WRITE="10000")
     last = time.monotonic() + 25
     while time.monotonic() < last:
-        trial.ask(100)
+        trial.ask(10)
         time.sleep(0.3)
     asked = len(trial.told)
-    until("they are written", lambda: trial.number("ledger_written_total") == asked)
+    until("they are written", lambda: trial.number("ledger_written_total") == asked, 2 * PATIENCE)
     trial.end()
     trial.is_all_there("open")
     trial.answers_as_without()

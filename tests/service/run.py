@@ -325,6 +325,17 @@ def counters_elsewhere_are_told(service):
     hope("lanes", 'rad_proxy_home_up{lane="0",home="h1"} 1' in done.stdout, True)
 
 
+def the_ledger_is_where_the_variable_says(service):
+    """`serve` hands the folder of the ledger on, also where its path is relative."""
+    (service.room / "ledger").mkdir()
+    for number, folder in enumerate((str(service.room / "ledger"), "ledger"), 1):
+        service.environment["RAD_PROXY_LEDGER"] = folder
+        process = service.start(cwd=service.room)
+        process.terminate()
+        hope("status", process.wait(PATIENCE), 0)
+        hope("files", len(list((service.room / "ledger").glob("*-000000.jsonl"))), number)
+
+
 def counters_that_cannot_be_written_are_told(service):
     """Where a folder stands in the place of the counters it is the same, and the log says why."""
     service.start()
@@ -843,7 +854,7 @@ TESTS = [
     the_lock_outlives_a_serve_that_was_killed, refuses_a_folder_that_others_write_in, whatever_the_umask,
     a_stopped_asker_keeps_nobody_out, an_asker_without_an_answer_gives_up, many_ask_at_once,
     a_hand_over_that_dies_is_started_anew, nobody_reads_its_output, its_output_is_full, what_is_left_over_is_a_warning,
-    counters_elsewhere_are_told, counters_that_cannot_be_written_are_told, counters_that_are_not_written_are_told,
+    counters_elsewhere_are_told, the_ledger_is_where_the_variable_says, counters_that_cannot_be_written_are_told, counters_that_are_not_written_are_told,
     metrics_are_as_prometheus_reads_them, alerts_fire_where_they_should, metrics_go_to_a_file,
     top_draws_what_is_there, top_draws_a_table_as_soon_as_its_numbers_are_there, top_of_no_proxy_ends, metrics_of_no_proxy_are_removed, metrics_go_to_no_other_file, metrics_are_had_by_http, http_waits_for_no_client, each_panel_of_the_dashboard_draws, sent_again_is_never_less_than_nothing, counters_that_are_written_late_are_waited_for,
     memory_is_refused_and_nothing_ends, relative_paths_hold, an_answer_that_cannot_be_written_is_told,
