@@ -3,8 +3,8 @@
 
 usage: growths.py PROGRAM [TESTS ..]
 
-`replay` runs over some rows of tests/rows, `check` over a configuration, and `run` is asked for its state and drained. In each run an allocation is
-refused by refuse.c: the first, then the second, and so on until there is none of that number; and once more so, with all
+`replay` runs over some rows of tests/rows, `check` over a configuration, and `run` is asked for its state and drained, without a ledger and with
+one. In each run an allocation is refused by refuse.c: the first, then the second, and so on until there is none of that number; and once more so, with all
 that follow refused too. `replay` has to end in `configuration: OutOfMemory` or `memory: refused`, with the lines before as
 without the refusal, or it goes on: then each event whose growth was refused says so and has changed nothing, and every
 other line and the end are what model.py answers. `check` ends in one of these two, and `run` too, or in `threads: failed`. Where one
@@ -23,7 +23,7 @@ import signal
 import subprocess
 import sys
 import tempfile
-from dataclasses import dataclass
+from dataclasses import dataclass, field
 from functools import partial
 from typing import Callable
 
@@ -65,10 +65,10 @@ class Refuser:
     def has_refused(self):
         return self.note.exists()
 
-    def run(self, words, given, **numbers):
-        """What came of a program with what has these numbers refused; none where it has no such."""
+    def run(self, words, given, more=None, **numbers):
+        """What came of a program with what has these numbers refused, in an environment with more; none where it has no such."""
         self.note.unlink(missing_ok=True)
-        how = {"input": given, "env": self.settings(numbers), "capture_output": True, "timeout": SECONDS}
+        how = {"input": given, "env": self.settings(numbers) | (more or {}), "capture_output": True, "timeout": SECONDS}
         try:
             ran = subprocess.run(words, **how)
         except subprocess.TimeoutExpired as late:
@@ -90,6 +90,7 @@ class Subject:
     is_test: bool = False
     is_threads: bool = False
     quiet: list | None = None
+    more: dict = field(default_factory=dict)
 
 
 def told_by(ran):
@@ -163,8 +164,11 @@ def subjects(program, folder):
     yield Subject("check", [program, "check", str(file)], b"", partial(fault_of_run, ["clients 1 homes 1 realms 1"]))
     wanted = [f"listening {listen}", STATE, "drain: 0 0", "end: queued 0 outstanding 0 untaken 0"]
     words = [program, "run", str(file)]
-    yield Subject("run", words, COMMANDS, partial(fault_of_run, wanted))
-    yield Subject("run", words, COMMANDS, partial(fault_of_threadless, wanted), is_threads=True)
+    ledger = pathlib.Path(folder, "ledger")
+    ledger.mkdir()
+    for name, more in (("run", {}), ("run with a ledger", {"RAD_PROXY_LEDGER": str(ledger)})):
+        yield Subject(name, words, COMMANDS, partial(fault_of_run, wanted), more=more)
+        yield Subject(name, words, COMMANDS, partial(fault_of_threadless, wanted), is_threads=True, more=more)
 
 
 def tests_of(program):
@@ -186,7 +190,7 @@ def refused_in_turn(refuser, subject, is_alone):
     """Each run with one allocation or thread refused, or all from one on: the number of that one, and what came."""
     number = 1
     while number < MOST_ALLOCATIONS:
-        ran = refuser.run(subject.words, subject.given, **numbers_of(subject, number, is_alone))
+        ran = refuser.run(subject.words, subject.given, subject.more, **numbers_of(subject, number, is_alone))
         if ran is None:
             return
         yield number, ran
