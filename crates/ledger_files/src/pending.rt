@@ -1,11 +1,12 @@
 //! Octets that are to be written, and how far they are written.
 
-ghost use Rattle.std.specs.Prelude.{◌≡◌, ◌↔◌, ◌≤◌, length, vec_len, slice_range, IsTrue, OnOk};
+ghost use Rattle.std.specs.Prelude.{◌≡◌, ◌↔◌, ◌≤◌, length, vec_len, slice_range, IsOk, IsTrue, OnOk};
 ghost use Rattle.ledger_files.specs.Files.{wrote};
 
 use crate::disk::{DiskFault, LedgerDisk};
 
-/// Writes octets that are written up to `done`, and returns up to where they are written then.
+/// Writes octets that are written up to `done`, and returns up to where they are written then. If all are written, it
+/// asks nothing of the disk.
 ///
 /// # Errors
 ///
@@ -18,15 +19,16 @@ pub fn write_rest<D: LedgerDisk>(
     requires { done ≤ length octets.now }
     ensures written { (done ≤ result.0) × (result.0 ≤ length octets.now) × (D.files disk.new ≡ wrote (D.files disk.old) (slice_range octets.now done result.0)) }
     ensures all { OnOk result.1 (result.0 ≡ length octets.now) }
+    ensures none { done ≡ length octets.now → (disk.new ≡ disk.old) × IsOk result.1 }
 {
     let mut at = done;
     for _ in 0..octets.len() {
+        if at == octets.len() {
+            return (at, Ok(()));
+        }
         match disk.write(&octets[at..]) {
             Ok(count) => at += count,
             Err(fault) => return (at, Err(fault)),
-        }
-        if at == octets.len() {
-            return (at, Ok(()));
         }
     }
     if at == octets.len() {
@@ -82,6 +84,7 @@ impl Pending {
         ensures octets { self.new.octets ≡ self.old.octets }
         ensures written { (self.old.done ≤ self.new.done) × (D.files disk.new ≡ wrote (D.files disk.old) (slice_range self.old.octets.items self.old.done self.new.done)) }
         ensures all { OnOk result (self.new.done ≡ vec_len self.old.octets) }
+        ensures none { self.old.done ≡ vec_len self.old.octets → (disk.new ≡ disk.old) × IsOk result }
     {
         let (done, outcome) = write_rest(disk, self.octets.as_slice(), self.done);
         self.done = done;
