@@ -1,6 +1,7 @@
 //! The file that the counters are written to, and how it is replaced.
 
-use log::{Log, warn};
+use crate::telling::warn_of_reason;
+use log::Log;
 use std::alloc::{AllocError, AllocGlobal, Global};
 use std::env::{self, Env, VarError};
 use std::fmt::{self, Display};
@@ -175,5 +176,5 @@ where
 
 /// Logs that the counters are not written, and why.
 pub fn log_fault<L: Log>(log: &L, fault: FileFault) {
-    warn!(log; "event=counters-fault reason=\"{fault}\"");
+    warn_of_reason(log, "counters-fault", &fault);
 }

@@ -24,13 +24,13 @@ pub struct PacketWords<'a> {
 #[derive(Clone, Copy)]
 pub struct DatagramWords<'a>(pub &'a [u8]);
 
-/// An Acct-Session-Id, with a space before it.
+/// An Acct-Session-Id, with a space before it, if there is one.
 #[derive(Clone, Copy)]
-pub struct SessionWord<'a>(pub &'a [u8]);
+pub struct SessionWord<'a>(pub Option<&'a [u8]>);
 
-/// A realm, with a space before it.
+/// A realm, with a space before it, if there is one.
 #[derive(Clone, Copy)]
-pub struct RealmWord<'a>(pub &'a [u8]);
+pub struct RealmWord<'a>(pub Option<&'a [u8]>);
 
 /// The octets of a text as a log line has them. Printable ASCII is unchanged, except for spaces, `%`, `"` and `=`.
 /// These and all other octets are written as `%` and two hexadecimal digits.
@@ -57,29 +57,28 @@ impl<'a> PacketWords<'a> {
 impl fmt::Display for PacketWords<'_> {
     fn fmt<W: fmt::Write>(&self, f: &mut fmt::Formatter<W>) -> fmt::Result {
         let identifier = self.identifier;
-        write!(f, " identifier={identifier}")?;
-        if let Some(session) = self.session {
-            let session = SessionWord(session);
-            write!(f, "{session}")?;
-        }
-        if let Some(realm) = self.realm {
-            let realm = RealmWord(realm);
-            write!(f, "{realm}")?;
-        }
-        Ok(())
+        let session = SessionWord(self.session);
+        let realm = RealmWord(self.realm);
+        write!(f, " identifier={identifier}{session}{realm}")
     }
 }
 
 impl fmt::Display for SessionWord<'_> {
     fn fmt<W: fmt::Write>(&self, f: &mut fmt::Formatter<W>) -> fmt::Result {
-        let session = Escaped(self.0);
+        let Some(session) = self.0 else {
+            return Ok(());
+        };
+        let session = Escaped(session);
         write!(f, " session={session}")
     }
 }
 
 impl fmt::Display for RealmWord<'_> {
     fn fmt<W: fmt::Write>(&self, f: &mut fmt::Formatter<W>) -> fmt::Result {
-        let realm = Escaped(self.0);
+        let Some(realm) = self.0 else {
+            return Ok(());
+        };
+        let realm = Escaped(realm);
         write!(f, " realm={realm}")
     }
 }
