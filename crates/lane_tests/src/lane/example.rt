@@ -86,6 +86,11 @@ impl Example {
         }
     }
 
+    /// Makes these calls in their order.
+    fn plays(&mut self, alloc: Global) -> Result<bool, Fail> {
+        Ok(self.takes_a_request(alloc)? && self.forwards_it() && self.answers_it(alloc)?)
+    }
+
     /// Closes the lane, which returns everything that it kept.
     fn leaves_an_answer(self) -> bool {
         self.lane.close().answered().len() == 1
@@ -95,9 +100,8 @@ impl Example {
 #[test]
 fn a_request_is_taken_forwarded_and_answered(rt: HostRuntime) -> Result<(), Fail> {
     let mut example = Example::new(rt.alloc(), CONFIGURATION)?;
-    let is_answered = example.takes_a_request(rt.alloc())?
-        && example.forwards_it()
-        && example.answers_it(rt.alloc())?;
-    holds(&rt, is_answered && example.leaves_an_answer());
+    let is_answered = example.plays(rt.alloc());
+    let has_answer = example.leaves_an_answer();
+    holds(&rt, is_answered? && has_answer);
     Ok(())
 }
