@@ -1,4 +1,4 @@
--- What a chain of blocks is after a step at one of its ends.
+-- What a chain of blocks is after a step at one of its ends. Proofs of the crate above cite this.
 use Rattle.std.proofs.Common.{◌≡◌, ℕ, zero, suc, ◌+◌, ◌-◌, ◌^◌, ◌<◌, ◌≤◌, inl, inr, true, false, List, [], ◌∷◌, ◌++◌, Some, None, refl, sym, ap, ◌∙◌, subst, arith, length, get_or, drop, append-nil, append_assoc, length-append}
 use Rattle.std.specs.Prelude.{Bool, Result, Ok, Err, OnOk, OnErr, Option, slice_get}
 use Rattle.std.specs.Borrow.{Bor}

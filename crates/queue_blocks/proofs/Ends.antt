@@ -1,4 +1,4 @@
--- A list of blocks whose first or last one is at hand.
+-- A list of blocks whose first or last one is at hand. Proofs of the crate above cite this.
 use Rattle.std.proofs.Common.{◌≡◌, ◌-◌, ◌<◌, ◌≤◌, ◌⊎◌, inl, inr, true, false, List, [], ◌∷◌, ◌++◌, None, refl, sym, ap, ◌∙◌, subst, arith, length, get_or, drop, append-nil}
 use Rattle.std.specs.Prelude.{Bool, Option, Some}
 use Rattle.std.specs.Borrow.{Bor}
