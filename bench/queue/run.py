@@ -27,21 +27,24 @@ LONG = 65_536
 ITEM = 232
 MOST = 1.5
 MOST_BEYOND = 5.0
+LIBRARIES = ["queue_blocks", "block_queue"]
 
 
 def build():
-    """Proves and builds the program in a copy of the crate, over what its checks kept."""
+    """Proves and builds the program in a copy of the crates, over what their checks kept."""
     with tempfile.TemporaryDirectory() as room:
         crates = pathlib.Path(room, "crates")
-        kept = TOP / "crates" / "block_queue"
         left_out = shutil.ignore_patterns("out", "must-fail", "wrong-bodies")
-        shutil.copytree(kept, crates / "block_queue", ignore=left_out)
-        if (kept / "out").is_dir():
-            shutil.copytree(kept / "out", crates / "block_queue" / "out")
+        for library in LIBRARIES:
+            kept = TOP / "crates" / library
+            shutil.copytree(kept, crates / library, ignore=left_out)
+            if (kept / "out").is_dir():
+                shutil.copytree(kept / "out", crates / library / "out")
         (crates / "queue_bench" / "src").mkdir(parents=True)
         shutil.copy(HERE / "main.rt.in", crates / "queue_bench" / "src" / "main.rt")
-        uses = next(line for line in (TOP / "crates.txt").read_text().splitlines() if line.startswith("block_queue:"))
-        pathlib.Path(room, "crates.txt").write_text(f"{uses}\nqueue_bench: block_queue\n")
+        listed = (TOP / "crates.txt").read_text().splitlines()
+        uses = "".join(f"{line}\n" for line in listed if line.partition(":")[0] in LIBRARIES)
+        pathlib.Path(room, "crates.txt").write_text(f"{uses}queue_bench: block_queue\n")
         how = {"cwd": crates / "queue_bench", "encoding": "utf-8", "errors": "replace"}
         how.update(stdin=subprocess.DEVNULL, stdout=subprocess.PIPE, stderr=subprocess.STDOUT)
         ran = subprocess.run([*RT, "run"], **how)

@@ -1,10 +1,9 @@
 ghost use Rattle.std.specs.Prelude.{◌≡◌, ◌<◌, IsSome, length, option_copied, slice_get};
 ghost use Rattle.std.specs.Iterator.{at_most};
 ghost use Rattle.std.specs.Map.Iter.{TakesFirst, deref};
-ghost use Rattle.block_queue.specs.Blocks.{items_of, left_in, IsChain};
+ghost use Rattle.queue_blocks.specs.Blocks.{items_of, left_in, IsChain};
 
-use crate::block::Block;
-use crate::block_iter::BlockIter;
+use queue_blocks::{Block, BlockIter};
 use std::marker::Model;
 
 /// The items of a queue, the oldest first.
@@ -17,7 +16,7 @@ pub struct Iter<'a, T> {
 
 impl<'a, T> Model for Iter<'a, T> {
     ghost use Rattle.std.specs.Prelude.{List, ◌++◌};
-    ghost use Rattle.block_queue.specs.Blocks.{items_of, left_in, IsChain};
+    ghost use Rattle.queue_blocks.specs.Blocks.{items_of, left_in, IsChain};
 
     ghost Value = { List T };
 

@@ -6,31 +6,17 @@
 //! items are not moved when the queue grows. [`SlidingList`] is a list in one slice, with room that is made in the
 //! same way.
 //!
-//! The definitions that the contracts cite are in `specs/Queue.antt`.
+//! The blocks and the list are in `queue_blocks`, with the definitions that the contracts cite: `Queue.antt` of its
+//! `specs` has the items and the room of a queue.
 #![tactic(auto)]
 
-mod back;
-mod block;
-mod block_iter;
 mod block_queue;
-mod chain;
-mod detached_block;
 mod fifo;
-mod front;
-mod held_blocks;
 mod iter;
-mod linked_blocks;
-mod nodes;
 mod plain_queue;
-mod region;
-mod row;
-mod rows;
-mod sharing;
-mod sliding_list;
 
 pub use block_queue::BlockQueue;
 pub use fifo::Fifo;
 pub use iter::Iter;
 pub use plain_queue::PlainQueue;
-pub use sharing::Share;
-pub use sliding_list::SlidingList;
+pub use queue_blocks::{Share, SlidingList};

@@ -28,7 +28,7 @@ fn push_each<Q: Fifo<u64>>(
 /// Makes room for a number and pushes it.
 fn push<Q: Fifo<u64>>(rt: &impl Abort, queue: &mut Q, number: u64) -> Result<(), AllocError> {
     queue.reserve_one()?;
-    assert!(rt; queue.spare() > 0);
+    holds(rt, queue.spare() > 0);
     queue.push_back(number);
     Ok(())
 }
@@ -48,7 +48,7 @@ fn has_none<Q: Fifo<u64>>(rt: &impl Abort, queue: &mut Q) {
 }
 
 /// Pushes the numbers up to `end` into an empty queue, and pops them.
-fn is_in_order<Q: Fifo<u64>>(rt: &impl Abort, queue: &mut Q, end: u64) -> Result<(), AllocError> {
+fn is_in_order<Q: Fifo<u64>>(rt: &impl Abort, queue: &mut Q, end: u64) -> Result<(), Fail> {
     has_none(rt, queue);
     push_each(rt, queue, 0, end)?;
     holds(rt, queue.len() as u64 == end);
@@ -60,13 +60,13 @@ fn is_in_order<Q: Fifo<u64>>(rt: &impl Abort, queue: &mut Q, end: u64) -> Result
 #[test]
 fn first_in_is_first_out_of_a_plain_queue(rt: HostRuntime) -> Result<(), Fail> {
     let mut queue = PlainQueue::new(rt.alloc());
-    Ok(is_in_order(&rt, &mut queue, 70)?)
+    is_in_order(&rt, &mut queue, 70)
 }
 
 #[test]
 fn first_in_is_first_out_of_blocks(rt: HostRuntime) -> Result<(), Fail> {
     let mut queue = BlockQueue::new(rt.alloc());
-    Ok(is_in_order(&rt, &mut queue, 70)?)
+    is_in_order(&rt, &mut queue, 70)
 }
 
 /// Makes a queue of the numbers from `first` up to `end`, from which the numbers up to `popped` were popped before.
@@ -128,24 +128,33 @@ fn joined(
     Ok(queue)
 }
 
-/// Joins two queues of these lengths, and checks the result.
-fn whole_are_right(
+/// Joins two queues from which some items were popped, pushes up to `end` items, and checks the result.
+fn joined_are_right(
     rt: &impl Abort,
     alloc: Global,
-    first: u64,
-    second: u64,
+    one: Shortened,
+    other: Shortened,
+    end: u64,
 ) -> Result<(), AllocError> {
-    let one = Shortened {
-        popped: 0,
-        left: first,
-    };
-    let other = Shortened {
-        popped: 0,
-        left: second,
-    };
     let mut queue = joined(rt, alloc, one, other)?;
-    has_each(rt, &mut queue, first.wrapping_add(second));
+    has_each_up_to(rt, &mut queue, one.left.wrapping_add(other.left), end)
+}
+
+/// Pushes the numbers from `count` up to `end` to a queue of those before, and checks that it then has each.
+fn has_each_up_to(
+    rt: &impl Abort,
+    queue: &mut BlockQueue<u64>,
+    count: u64,
+    end: u64,
+) -> Result<(), AllocError> {
+    push_each(rt, queue, count, end)?;
+    has_each(rt, queue, end);
     Ok(())
+}
+
+/// A queue of this length from which nothing was popped.
+fn whole(left: u64) -> Shortened {
+    Shortened { popped: 0, left }
 }
 
 #[test]
@@ -153,22 +162,10 @@ fn joined_queues_follow_one_another(rt: HostRuntime) -> Result<(), Fail> {
     let lengths = [0u64, 1, 31, 32, 33, 64, 65];
     for first in lengths {
         for second in lengths {
-            whole_are_right(&rt, rt.alloc(), first, second)?;
+            let end = first.wrapping_add(second);
+            joined_are_right(&rt, rt.alloc(), whole(first), whole(second), end)?;
         }
     }
-    Ok(())
-}
-
-/// Joins two queues from which some items were popped, pushes up to 100 items, and checks the result.
-fn shortened_is_right(
-    rt: &impl Abort,
-    alloc: Global,
-    one: Shortened,
-    other: Shortened,
-) -> Result<(), AllocError> {
-    let mut queue = joined(rt, alloc, one, other)?;
-    push_each(rt, &mut queue, one.left.wrapping_add(other.left), 100)?;
-    has_each(rt, &mut queue, 100);
     Ok(())
 }
 
@@ -179,7 +176,7 @@ fn shortened_queues_follow_one_another(rt: HostRuntime) -> Result<(), Fail> {
     for (popped, left) in counts {
         let one = Shortened { popped, left };
         for (popped, left) in counts {
-            shortened_is_right(&rt, rt.alloc(), one, Shortened { popped, left })?;
+            joined_are_right(&rt, rt.alloc(), one, Shortened { popped, left }, 100)?;
         }
     }
     Ok(())
@@ -225,10 +222,20 @@ const ROOMS: [(u64, u64); 9] = [
 #[test]
 fn unused_room_stays(rt: HostRuntime) -> Result<(), Fail> {
     for (count, popped) in ROOMS {
-        let mut queue = numbered(&rt, rt.alloc(), 0, 0, count)?;
-        keeps_its_room(&rt, &mut queue, popped)?;
+        numbered_keeps_its_room(&rt, rt.alloc(), count, popped)?;
     }
     Ok(())
+}
+
+/// Makes a queue of `count` items, and pops `popped` of them.
+fn numbered_keeps_its_room(
+    rt: &impl Abort,
+    alloc: Global,
+    count: u64,
+    popped: u64,
+) -> Result<(), AllocError> {
+    let mut queue = numbered(rt, alloc, 0, 0, count)?;
+    keeps_its_room(rt, &mut queue, popped)
 }
 
 /// Joins a queue of one full block and another queue, and pops `popped` items.
@@ -238,11 +245,7 @@ fn room_stays(
     other: Shortened,
     popped: u64,
 ) -> Result<(), AllocError> {
-    let full = Shortened {
-        popped: 0,
-        left: 32,
-    };
-    let mut queue = joined(rt, alloc, full, other)?;
+    let mut queue = joined(rt, alloc, whole(32), other)?;
     keeps_its_room(rt, &mut queue, popped)
 }
 
@@ -375,7 +378,7 @@ impl Both {
     }
 
     /// Pushes or pops 20,000 times, as the bits of a generator determine.
-    fn play(&mut self, rt: &impl Abort) -> Result<(), AllocError> {
+    fn play(&mut self, rt: &impl Abort) -> Result<(), Fail> {
         let mut state = 0x2545_f491_4f6c_dd1du64;
         for step in 0..20_000u64 {
             state = next(state);
@@ -401,7 +404,7 @@ fn next(state: u64) -> u64 {
 #[test]
 fn both_queues_answer_alike(rt: HostRuntime) -> Result<(), Fail> {
     let mut both = Both::new(rt.alloc());
-    Ok(both.play(&rt)?)
+    both.play(&rt)
 }
 
 /// Pushes a number if room is granted. If it is refused, checks that the queue is unchanged.
@@ -438,24 +441,34 @@ const MANY: u64 = 20_000;
 /// More items than the queues of these tests have.
 const LONGEST: usize = 1_000_000;
 
+/// Passes many items through a queue, which has the first 40 of them.
+fn pass_many(rt: &impl Abort, queue: &mut BlockQueue<u64>) -> Result<(), Fail> {
+    for number in 0..MANY {
+        push(rt, queue, number.wrapping_add(40))?;
+        holds(rt, queue.pop_front() == Some(number));
+    }
+    Ok(())
+}
+
 /// Items that pass through a queue of constant length take no new block: the first block, once emptied, becomes the
 /// last one.
 #[test]
 fn what_passes_takes_no_block(rt: HostRuntime) -> Result<(), Fail> {
     let mut queue = numbered(&rt, rt.alloc(), 0, 0, 40)?;
-    for number in 0..MANY {
-        push(&rt, &mut queue, number.wrapping_add(40))?;
-        assert!(rt; queue.pop_front() == Some(number));
-    }
-    Ok(())
+    pass_many(&rt, &mut queue)
 }
 
 /// The empty block of an appended queue is used for the next items.
 #[test]
 fn what_is_appended_empty_takes_no_room(rt: HostRuntime) -> Result<(), Fail> {
     let mut queue = BlockQueue::new(rt.alloc());
+    append_many(rt.alloc(), &mut queue)
+}
+
+/// Appends many empty queues, and pushes an item after each.
+fn append_many(alloc: Global, queue: &mut BlockQueue<[u64; 32]>) -> Result<(), Fail> {
     for _ in 0..MANY {
-        append_empty(rt.alloc(), &mut queue)?;
+        append_empty(alloc, queue)?;
         queue.reserve_one()?;
         queue.push_back([0u64; 32]);
     }

@@ -123,6 +123,17 @@ impl<'a> Slid<'a> {
         }
     }
 
+    /// Slides through rows of several lengths, with cuts of several lengths.
+    fn slide(&mut self, rt: &impl Abort) -> Result<(), Fail> {
+        self.play(rt, 300, 0)?;
+        self.play(rt, 600, 1)?;
+        self.play(rt, 200, 2)?;
+        self.play(rt, 500, 0)?;
+        self.cut(590);
+        self.play(rt, 200, 1)?;
+        Ok(())
+    }
+
     fn is_right(&self) -> bool {
         is_from_to(&self.list, self.first, self.end)
     }
@@ -151,16 +162,11 @@ fn a_list_slides_through_its_rows(rt: HostRuntime) -> Result<(), Fail> {
         dropped: &dropped,
     };
     let mut slid = Slid::new(rt.alloc(), counts);
-    slid.play(&rt, 300, 0)?;
-    slid.play(&rt, 600, 1)?;
-    slid.play(&rt, 200, 2)?;
-    slid.play(&rt, 500, 0)?;
-    slid.cut(590);
-    slid.play(&rt, 200, 1)?;
+    let slides = slid.slide(&rt);
     slid.end();
     holds(
         &rt,
         made.load(Ordering::SeqCst) == dropped.load(Ordering::SeqCst),
     );
-    Ok(())
+    slides
 }

@@ -1,14 +1,15 @@
 //! Requests that are taken, and those that are not.
 
 use super::comparing::holds;
-use super::script::Call::{Accept, Counts as Count, Drain, Is, Made};
+use super::script::Call::{Accept, Counts as Count, Drain, Is};
 use super::script::Gives::{self, Drain as Drained};
-use super::script::Made::AcceptOfLength;
-use super::script::Question::{HasAccepted, HasSent, IsDone, IsDraining, Keeps};
-use super::script::{NO, NOTHING, Row, Stamped, TAKEN_0, TAKEN_1, YES, play};
+use super::script::Question::{HasAccepted, HasSent, Keeps};
+use super::script::{NOTHING, Row, Stamped, TAKEN_0, TAKEN_1, YES, play};
 use super::test_lane::{CLIENT, CLIENT_PORT, TestLane, config_of};
 use rad_lane::{Counts, Refusal, Taken};
 use rad_realms::{Config, Incoming, check_in};
+use std::alloc::Global;
+use std::process::Abort;
 use std::test::Fail;
 use test_octets::nas::{EIGHTH, OTHER_REQUEST, SEVENTH};
 
@@ -75,18 +76,6 @@ const FULL_QUEUE: [Row<'static>; 4] = [
 fn refusals_change_nothing(rt: HostRuntime) -> Result<(), Fail> {
     play(&rt, rt.alloc(), (0, "book = 1\n"), &FULL_BOOK)?;
     play(&rt, rt.alloc(), (0, "queue = 1\n"), &FULL_QUEUE)
-}
-
-const TOO_LONG: Gives = Gives::Accept(Err(Refusal::TooLong));
-
-const LENGTHS: [Row<'static>; 2] = [
-    (100, Made(AcceptOfLength(4085)), TOO_LONG, NOTHING),
-    (100, Made(AcceptOfLength(4084)), TAKEN_0, NOTHING),
-];
-
-#[test]
-fn the_mark_has_to_fit(rt: HostRuntime) -> Result<(), Fail> {
-    play(&rt, rt.alloc(), (0, ""), &LENGTHS)
 }
 
 /// A second home server, and its realm.
@@ -158,50 +147,28 @@ fn takes_checked(lane: &TestLane, config: &Config, request: &[u8]) -> bool {
     }
 }
 
-#[test]
-fn takes_requests_that_were_checked_elsewhere(rt: HostRuntime) -> Result<(), Fail> {
-    let turned = config_of(rt.alloc(), TURNED)?;
+/// Whether a new lane with these lines takes a request that is checked by a configuration.
+fn new_lane_takes(
+    alloc: Global,
+    more: &str,
+    config: &Config,
+    request: &[u8],
+) -> Result<bool, Fail> {
+    let lane = TestLane::new(alloc, (0, more))?;
+    let takes = takes_checked(&lane, config, request);
+    lane.end();
+    Ok(takes)
+}
+
+fn compare_each(rt: &impl Abort, alloc: Global, config: &Config) -> Result<(), Fail> {
     for (more, request, wanted) in CHECKED_ELSEWHERE {
-        let lane = TestLane::new(rt.alloc(), (0, more))?;
-        holds(&rt, takes_checked(&lane, &turned, request) == wanted);
-        lane.end();
+        holds(rt, new_lane_takes(alloc, more, config, request)? == wanted);
     }
     Ok(())
 }
 
-/// One request waits in a lane that drains.
-const ONE_DRAINING: Gives = Gives::Counts(Counts {
-    opening: 0,
-    accepted: 1,
-    answered: 0,
-    queued: 1,
-    outstanding: 0,
-    up: true,
-    draining: true,
-});
-
-const DRAINS_ONCE: [Row<'static>; 7] = [
-    (100, Accept(&SEVENTH), TAKEN_0, NOTHING),
-    (100, Is(IsDraining), NO, NOTHING),
-    (100, Drain, Drained(1), NOTHING),
-    (100, Drain, Drained(1), NOTHING),
-    (100, Count, ONE_DRAINING, NOTHING),
-    (100, Is(IsDraining), YES, NOTHING),
-    (100, Is(IsDone), NO, NOTHING),
-];
-
 #[test]
-fn drains_once(rt: HostRuntime) -> Result<(), Fail> {
-    play(&rt, rt.alloc(), (0, ""), &DRAINS_ONCE)
-}
-
-const DONE_AT_ONCE: [Row<'static>; 3] = [
-    (0, Is(IsDone), NO, NOTHING),
-    (0, Drain, Drained(0), NOTHING),
-    (0, Is(IsDone), YES, NOTHING),
-];
-
-#[test]
-fn is_done_with_nothing_queued(rt: HostRuntime) -> Result<(), Fail> {
-    play(&rt, rt.alloc(), (0, ""), &DONE_AT_ONCE)
+fn takes_requests_that_were_checked_elsewhere(rt: HostRuntime) -> Result<(), Fail> {
+    let turned = config_of(rt.alloc(), TURNED)?;
+    compare_each(&rt, rt.alloc(), &turned)
 }

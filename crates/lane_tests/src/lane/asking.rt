@@ -8,8 +8,6 @@ impl TestLane {
     /// Answers a question.
     pub fn is(&self, question: Question<'_>) -> bool {
         match question {
-            Question::IsDraining => self.lane.is_draining(),
-            Question::IsDone => self.lane.is_done(),
             Question::HasAccepted(wanted) => are_stamps(self.lane.accepted(), wanted),
             Question::HasSent(wanted) => are_stamps(self.lane.sent(), wanted),
             Question::Keeps(wanted) => are_kept(self.lane.answered(), wanted),

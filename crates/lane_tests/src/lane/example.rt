@@ -1,5 +1,7 @@
 //! An example of a lane's use, from its configuration to its end: one request of a NAS is accepted, forwarded and answered.
 
+ghost use Rattle.std.specs.Prelude.{◌<◌, length};
+
 use super::comparing::holds;
 use super::script::moment;
 use block_queue::BlockQueue;
@@ -43,14 +45,22 @@ struct Example {
     datagram: Datagram,
 }
 
+/// The lane of the first home server of a configuration. It is empty, and the home server is marked up.
+fn first_lane(alloc: Global, config: &Config) -> Result<Lane<BlockQueue<Record>>, Fail>
+    requires { 0 < length config.now.homes }
+{
+    let setup = Setup::of(alloc, config, 0)?;
+    Ok(Lane::new(alloc, setup)?)
+}
+
 impl Example {
-    /// The lane of the first home server of a configuration. It is empty, and the home server is marked up.
+    /// The example of this configuration.
     fn new(alloc: Global, configuration: &str) -> Result<Example, Fail> {
         let config = read_config(alloc, configuration)?;
-        let setup = Setup::of(alloc, &config, 0)?;
+        let lane = first_lane(alloc, &config)?;
         Ok(Example {
             config,
-            lane: Lane::new(alloc, setup)?,
+            lane,
             datagram: Datagram::new(),
         })
     }
@@ -86,6 +96,11 @@ impl Example {
         }
     }
 
+    /// Makes these calls in their order.
+    fn plays(&mut self, alloc: Global) -> Result<bool, Fail> {
+        Ok(self.takes_a_request(alloc)? && self.forwards_it() && self.answers_it(alloc)?)
+    }
+
     /// Closes the lane, which returns everything that it kept.
     fn leaves_an_answer(self) -> bool {
         self.lane.close().answered().len() == 1
@@ -95,9 +110,8 @@ impl Example {
 #[test]
 fn a_request_is_taken_forwarded_and_answered(rt: HostRuntime) -> Result<(), Fail> {
     let mut example = Example::new(rt.alloc(), CONFIGURATION)?;
-    let is_answered = example.takes_a_request(rt.alloc())?
-        && example.forwards_it()
-        && example.answers_it(rt.alloc())?;
-    holds(&rt, is_answered && example.leaves_an_answer());
+    let is_answered = example.plays(rt.alloc());
+    let has_answer = example.leaves_an_answer();
+    holds(&rt, is_answered? && has_answer);
     Ok(())
 }

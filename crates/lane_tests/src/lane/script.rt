@@ -31,8 +31,6 @@ pub enum Call<'a> {
 /// Calls with packets that are made. Those of the numbers from one on to another are all but the last.
 #[derive(Clone, Copy)]
 pub enum Made {
-    /// A request of this length comes from the client.
-    AcceptOfLength(usize),
     /// The requests of these numbers come from the client, and each is taken as new with its number.
     AcceptEach(u16, u16),
     /// The requests of these numbers are sent, each under the pair of its number.
@@ -47,8 +45,6 @@ pub enum Made {
 /// What is asked of a lane.
 #[derive(Clone, Copy)]
 pub enum Question<'a> {
-    IsDraining,
-    IsDone,
     /// Whether these stamps are all that it accepted.
     HasAccepted(&'a [Stamped]),
     /// Whether these stamps are all that it sent.
@@ -107,8 +103,6 @@ pub const NOTHING: &[u8] = &[];
 
 pub const YES: Gives = Gives::Is(true);
 
-pub const NO: Gives = Gives::Is(false);
-
 pub const TAKEN_0: Gives = Gives::Accept(Ok(Taken::New(0)));
 
 pub const TAKEN_1: Gives = Gives::Accept(Ok(Taken::New(1)));
@@ -122,8 +116,6 @@ pub const SENT_1: Gives = Gives::Step(Action::Sent(1, SECOND));
 pub const RESENT_0: Gives = Gives::Step(Action::Resent(0, FIRST));
 
 pub const WENT_DOWN: Gives = Gives::Step(Action::WentDown);
-
-pub const WENT_UP: Gives = Gives::Step(Action::WentUp);
 
 /// The home server is probed under Identifier 1 of the first source port.
 pub const PROBED_AS_1: Gives = Gives::Step(Action::Probed(SECOND));
@@ -188,8 +180,20 @@ fn leave_same(
     other: &[Row<'_>],
 ) -> Result<bool, Fail> {
     let one = leave(rt, alloc, home, one)?;
-    let other = leave(rt, alloc, home, other)?;
-    Ok(is_same(&one, &other))
+    leaves_same(rt, alloc, home, other, &one)
+}
+
+/// Whether a new lane leaves this after a script. The function owns one of the two that it compares, since each that it
+/// owned would be dropped on each path that leaves it.
+fn leaves_same(
+    rt: &impl Abort,
+    alloc: Global,
+    home: Home<'_>,
+    script: &[Row<'_>],
+    wanted: &Leftover<BlockQueue<Record>>,
+) -> Result<bool, Fail> {
+    let left = leave(rt, alloc, home, script)?;
+    Ok(is_same(&left, wanted))
 }
 
 /// Plays a long script on a new lane, and no more.

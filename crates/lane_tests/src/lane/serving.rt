@@ -6,7 +6,7 @@ use super::test_lane::{CLIENT, CLIENT_PORT, TestLane};
 use rad_lane::{Action, Taken};
 use rad_packet::Datagram;
 use rad_tables::{Moment, Slot};
-use test_octets::{reply_to, request, request_of_length};
+use test_octets::{reply_to, request};
 
 /// What a sum of octets in order begins with (Fowler, Noll and Vo's of 64 bits, as FNV-1a).
 pub const NO_OCTETS: u64 = 0xcbf2_9ce4_8422_2325_u64;
@@ -42,7 +42,6 @@ impl TestLane {
     /// Makes calls with made packets, of which none is left in the datagram.
     pub fn call_made(&mut self, moment: Moment, made: Made) -> Gives {
         let gives = match made {
-            Made::AcceptOfLength(length) => self.accept_of_length(moment, length),
             Made::AcceptEach(first, end) => Gives::Until(self.accept_each(moment, first, end)),
             Made::SendEach(first, end) => Gives::Until(self.send_each(moment, first, end, 0)),
             Made::Hear(port, place) => self.hear_made(moment, port, place),
@@ -52,14 +51,6 @@ impl TestLane {
         };
         self.datagram = Datagram::new();
         gives
-    }
-
-    /// The lane's answer to a request of this length.
-    fn accept_of_length(&mut self, moment: Moment, length: usize) -> Gives {
-        match request_of_length(length) {
-            Some(request) => Gives::Accept(self.accept(moment, request.bytes())),
-            None => Gives::Is(false),
-        }
     }
 
     fn serve(

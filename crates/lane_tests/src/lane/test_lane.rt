@@ -48,8 +48,7 @@ pub struct TestLane {
 impl TestLane {
     /// An empty lane of a home server.
     pub fn new(alloc: Global, (number, more): Home<'_>) -> Result<TestLane, Fail> {
-        let text = text_of(alloc, more)?;
-        let config = config_of(alloc, text.as_str())?;
+        let config = config_with(alloc, more)?;
         let lane = lane_of(alloc, &config, number)?;
         Ok(TestLane {
             alloc,
@@ -153,6 +152,12 @@ fn text_of(alloc: Global, more: &str) -> Result<String, Fail> {
     let mut text = String::from_str(alloc, TEXT)?;
     text.push_str(more)?;
     Ok(text)
+}
+
+/// The configuration that goes on with these lines.
+fn config_with(alloc: Global, more: &str) -> Result<Config, Fail> {
+    let text = text_of(alloc, more)?;
+    config_of(alloc, text.as_str())
 }
 
 /// The configuration of a text. It stands apart from that text, which no proof has to read.

@@ -1,0 +1,12 @@
+pub mod Blocks
+mod Cells
+pub mod Ends
+mod Fronts
+mod Lending
+mod NodeSteps
+mod Places
+mod Ready
+mod Regions
+mod Rooms
+mod RowPlaces
+mod Sending

@@ -1,0 +1,180 @@
+//! The operations of a list on its rows, each of which may be absent.
+ghost use Rattle.std.specs.Prelude.{◌≡◌, ◌≢◌, ◌<◌, ◌≤◌, ◌↔◌, [], ◌∷◌, ◌++◌, true, List, None, length, drop as drop_list, option_copied, slice_get, slice_set, slice_index_or};
+ghost use Rattle.queue_blocks.specs.Sliding.{items_in, room_in, IsFront};
+
+use crate::row::Row;
+use crate::sharing::Share;
+use std::alloc::AllocError;
+use std::mem;
+
+/// The places of a row beyond one and a half times the number of items.
+const LEAST_PLACES: usize = 32;
+
+/// Returns how many places a row for `count` items is made with: one and a half times as many, and some more.
+pub(crate) fn places_for(count: usize) -> usize
+    ensures { 1 ≤ result }
+{
+    (count / 2)
+        .saturating_add(count)
+        .saturating_add(LEAST_PLACES)
+}
+
+/// Returns the items of a row.
+pub(crate) fn slice_of<T>(row: &Option<Row<T>>) -> &[T]
+    ensures { result.now ≡ items_in row.now }
+{
+    match row {
+        Some(row) => row.as_slice(),
+        None => &[],
+    }
+}
+
+/// Returns the number of places after the items.
+pub(crate) fn room_of<T>(row: &Option<Row<T>>) -> usize
+    ensures { result ≡ room_in row.now }
+{
+    match row {
+        Some(row) => row.room(),
+        None => 0,
+    }
+}
+
+/// Returns whether there is a row with `count` items.
+pub(crate) fn has_all<T>(row: &Option<Row<T>>, count: usize) -> bool
+    ensures { result ≡ true → length (items_in row.now) ≡ count }
+{
+    match row {
+        Some(row) => row.len() == count,
+        None => false,
+    }
+}
+
+/// Replaces the row by the next row. The old row becomes the spent one.
+pub(crate) fn take_next<T: Drop>(
+    row: &mut Option<Row<T>>,
+    next: &mut Option<Row<T>>,
+    spent: &mut Option<Row<T>>,
+)
+    ensures row { row.new ≡ next.old }
+    ensures next { next.new ≡ None }
+{
+    let taken = mem::replace(next, None);
+    *spent = mem::replace(row, taken);
+}
+
+/// Adds an item at the end.
+pub(crate) fn push_to<T>(row: &mut Option<Row<T>>, item: T)
+    requires { 1 ≤ room_in row.old }
+    ensures { items_in row.new ≡ items_in row.old ++ item ∷ [] }
+{
+    match row {
+        Some(row) => row.push(item),
+        None => unreachable!(),
+    }
+}
+
+/// Replaces the item at an index.
+pub(crate) fn set_in<T: Drop>(row: &mut Option<Row<T>>, place: usize, item: T)
+    requires { place < length (items_in row.old) }
+    ensures { items_in row.new ≡ slice_set (items_in row.old) place item }
+{
+    match row {
+        Some(row) => drop(row.replace(place, item)),
+        None => unreachable!(),
+    }
+}
+
+/// Exchanges two items.
+pub(crate) fn swap_in<T>(row: &mut Option<Row<T>>, i: usize, j: usize)
+    requires i_within { i < length (items_in row.old) }
+    requires j_within { j < length (items_in row.old) }
+    requires apart { i ≢ j }
+    ensures { (d : T) → items_in row.new ≡ slice_set (slice_set (items_in row.old) i (slice_index_or (items_in row.old) j d)) j (slice_index_or (items_in row.old) i d) }
+{
+    match row {
+        Some(row) => row.swap(i, j),
+        None => unreachable!(),
+    }
+}
+
+/// Drops the first `count` items, or all if there are fewer.
+pub(crate) fn drop_first<T: Drop>(row: &mut Option<Row<T>>, count: usize)
+    ensures { items_in row.new ≡ drop_list count (items_in row.old) }
+{
+    if let Some(row) = row {
+        pop_each(row, count);
+    }
+}
+
+fn pop_each<T: Drop>(row: &mut Row<T>, count: usize)
+    ensures { row.new.items ≡ drop_list count row.old.items }
+{
+    for _ in 0..count.min(row.len()) {
+        drop(row.pop());
+    }
+}
+
+/// Copies at most `most` more items, in order, into a row that holds a prefix of them.
+pub(crate) fn copy_to<T: Share>(items: &[T], row: &mut Option<Row<T>>, most: usize)
+    requires { IsFront (items_in row.old) items.now }
+    ensures { IsFront (items_in row.new) items.now }
+{
+    if let Some(row) = row {
+        copy_each(items, row, most);
+    }
+}
+
+fn copy_each<T: Share>(items: &[T], row: &mut Row<T>, most: usize)
+    requires { IsFront row.old.items items.now }
+    ensures { IsFront row.new.items items.now }
+{
+    for _ in 0..most {
+        let Some(item) = item_at(items, row.len()) else {
+            return;
+        };
+        if row.room() == 0 {
+            return;
+        }
+        let Ok(other) = item.share() else {
+            return;
+        };
+        row.push(other);
+    }
+}
+
+fn item_at<T>(items: &[T], place: usize) -> Option<&T>
+    ensures { option_copied result ≡ slice_get items.now place }
+{
+    items.get(place)
+}
+
+/// Updates a row that holds a prefix of some items when the item at an index is replaced. If the new item cannot be
+/// shared, the row is dropped.
+pub(crate) fn follow_set<T: Share + Drop>(row: &mut Option<Row<T>>, place: usize, item: &T)
+    ensures { (items : List T) → IsFront (items_in row.old) items → IsFront (items_in row.new) (slice_set items place item.now) }
+{
+    if place >= slice_of(row).len() {
+        return;
+    }
+    match item.share() {
+        Ok(other) => set_in(row, place, other),
+        Err(AllocError) => *row = None,
+    }
+}
+
+/// Updates a row that holds a prefix of some items when two of the items are exchanged.
+pub(crate) fn follow_swap<T: Share + Drop>(
+    items: &[T],
+    row: &mut Option<Row<T>>,
+    i: usize,
+    j: usize,
+)
+    requires front { IsFront (items_in row.old) items.now }
+    requires i_within { i < length items.now }
+    requires j_within { j < length items.now }
+    ensures { (d : T) → IsFront (items_in row.new)
+        (slice_set (slice_set items.now i (slice_index_or items.now j d)) j (slice_index_or items.now i d)) }
+{
+    follow_set(row, i, &items[j]);
+    follow_set(row, j, &items[i]);
+}
