@@ -1,6 +1,9 @@
 mod Dates
 mod Ends
 mod Orders
+mod Runs
+mod RunCalls
+mod RunSteps
 mod Writes
 mod Years
 mod Zeros

@@ -4,3 +4,4 @@ pub mod Files
 pub mod FileNames
 pub mod Moments
 pub mod Rotation
+pub mod Runs

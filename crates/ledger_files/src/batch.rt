@@ -33,7 +33,7 @@ pub struct Batch {
 }
 
 impl Batch {
-    ghost use Rattle.std.specs.Prelude.{◌≡◌, ◌↔◌, ◌+◌, ◌-◌, ◌≤◌, ◌<◌, ℕ, List, [], ◌∷◌, ◌++◌, vec_len, slice_index, slice_range, IsTrue, IsOk, IfOk, OnOk, MatchResult, MatchOption};
+    ghost use Rattle.std.specs.Prelude.{◌≡◌, ◌↔◌, ◌+◌, ◌-◌, ◌≤◌, ◌<◌, ℕ, List, [], ◌∷◌, ◌++◌, vec_len, slice_index, slice_range, IsOk, IsTrue, IfOk, OnOk, MatchResult, MatchOption};
     ghost use Rattle.ledger_files.specs.Batches.{HoldsLines, IsHeadOf};
     ghost use Rattle.ledger_files.specs.Files.{wrote};
 
@@ -114,7 +114,8 @@ impl Batch {
     /// `AllocError` if memory is refused. The lines stay as they are.
     #[tactic(auto, using(crate::proofs::Ends::holds_same, crate::proofs::Ends::holds_more))]
     pub fn add(&mut self, head: LineHead, line: &[u8]) -> Result<(), AllocError>
-        ensures { (lines : List (List ℕ)) → HoldsLines self.old lines → MatchResult result (λ _. HoldsLines self.new (lines ++ line.now ∷ [])) (λ _. HoldsLines self.new lines) }
+        ensures lines { (lines : List (List ℕ)) → HoldsLines self.old lines → MatchResult result (λ _. HoldsLines self.new (lines ++ line.now ∷ [])) (λ _. HoldsLines self.new lines) }
+        ensures same { (self.new.done ≡ self.old.done) × (self.new.whole ≡ self.old.whole) }
     {
         self.heads.reserve(1)?;
         self.ends.reserve(1)?;
@@ -133,6 +134,7 @@ impl Batch {
         ensures lines { (lines : List (List ℕ)) → HoldsLines self.old lines → HoldsLines self.new lines }
         ensures written { (self.old.done ≤ self.new.done) × (D.files disk.new ≡ wrote (D.files disk.old) (slice_range self.old.octets.items self.old.done self.new.done)) }
         ensures all { OnOk result (self.new.done ≡ vec_len self.old.octets) }
+        ensures whole { self.new.whole ≡ self.old.whole }
         ensures none { self.old.done ≡ vec_len self.old.octets → (disk.new ≡ disk.old) × IsOk result }
     {
         let (done, outcome) = write_rest(disk, self.octets.as_slice(), self.done);

@@ -10,6 +10,7 @@ mod disk;
 mod file_name;
 mod pending;
 mod rotation;
+mod run_files;
 mod utc;
 
 pub use batch::{Batch, LineHead};
@@ -17,4 +18,5 @@ pub use disk::{DiskFault, LedgerDisk};
 pub use file_name::FileName;
 pub use pending::{Pending, write_rest};
 pub use rotation::{MOST_OCTETS, OpenFile, is_next_due};
+pub use run_files::RunFiles;
 pub use utc::{Date, DayTime, UtcTime, date_of, day_of};

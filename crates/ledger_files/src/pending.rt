@@ -1,12 +1,12 @@
 //! Octets that are to be written, and how far they are written.
 
-ghost use Rattle.std.specs.Prelude.{◌≡◌, ◌↔◌, ◌≤◌, length, vec_len, slice_range, IsTrue, IsOk, OnOk};
+ghost use Rattle.std.specs.Prelude.{◌≡◌, ◌↔◌, ◌≤◌, length, vec_len, slice_range, IsOk, IsTrue, OnOk};
 ghost use Rattle.ledger_files.specs.Files.{wrote};
 
 use crate::disk::{DiskFault, LedgerDisk};
 
-/// Writes octets that are written up to `done`, and returns up to where they are written then. If all are, it asks
-/// nothing of the disk.
+/// Writes octets that are written up to `done`, and returns up to where they are written then. If all are written, it
+/// asks nothing of the disk.
 ///
 /// # Errors
 ///
@@ -21,17 +21,14 @@ pub fn write_rest<D: LedgerDisk>(
     ensures all { OnOk result.1 (result.0 ≡ length octets.now) }
     ensures none { done ≡ length octets.now → (disk.new ≡ disk.old) × IsOk result.1 }
 {
-    if done == octets.len() {
-        return (done, Ok(()));
-    }
     let mut at = done;
     for _ in 0..octets.len() {
+        if at == octets.len() {
+            return (at, Ok(()));
+        }
         match disk.write(&octets[at..]) {
             Ok(count) => at += count,
             Err(fault) => return (at, Err(fault)),
-        }
-        if at == octets.len() {
-            return (at, Ok(()));
         }
     }
     if at == octets.len() {

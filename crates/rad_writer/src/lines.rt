@@ -6,6 +6,7 @@ ghost use Rattle.rad_writer.specs.Entries.{IsEntryOf};
 
 use crate::counts::TakenCounts;
 use crate::entry_buffer::Parcel;
+use crate::parcel::ParcelHead;
 use crate::run_names::RunNames;
 use ledger_files::UtcTime;
 use ledger_lines::{Begin, End, LaneCount, LaneStart, write_begin, write_end, write_entry};
@@ -35,18 +36,30 @@ pub(crate) fn entry_line(
 ) -> Result<Vec<u8>, AllocError>
     ensures { IfOk result (λ all. HasLineBehind out.items all.items) }
 {
-    let time = UtcTime::of(parcel.head.time);
+    let Parcel {
+        head,
+        sent,
+        reply,
+        response,
+    } = *parcel;
+    let time = UtcTime::of(head.time);
     let time = format!(in alloc; "{time}")?;
-    let entry = entry_of(names, parcel, time.as_str());
+    let entry = entry_of(names, head, sent, reply, response, time.as_str());
     write_entry(alloc, &entry, out)
 }
 
-/// Returns the entry that a parcel is, with this text for its time.
-fn entry_of<'a>(names: &'a RunNames, parcel: &Parcel<'a>, time: &'a str) -> Entry<'a>
-    ensures { IsEntryOf names.now parcel.now time.now result }
+/// Returns the entry that a parcel's head and packets are, with this text for its time.
+fn entry_of<'a>(
+    names: &'a RunNames,
+    head: ParcelHead,
+    sent: &'a [u8],
+    reply: &'a [u8],
+    response: &'a [u8],
+    time: &'a str,
+) -> Entry<'a>
+    ensures { IsEntryOf names.now head sent.now reply.now response.now time.now result }
 {
-    let head = parcel.head;
-    let packet = read(parcel.sent).ok();
+    let packet = read(sent).ok();
     Entry {
         run: names.run,
         time,
@@ -58,9 +71,9 @@ fn entry_of<'a>(names: &'a RunNames, parcel: &Parcel<'a>, time: &'a str) -> Entr
         port: head.port,
         identifier: head.identifier,
         authenticator: head.authenticator,
-        sent: parcel.sent,
-        reply: parcel.reply,
-        response: parcel.response,
+        sent,
+        reply,
+        response,
         realm: match &packet {
             Some(packet) => realm_of_packet(packet),
             None => None,
@@ -105,6 +118,7 @@ pub(crate) fn begin_line(
 ) -> Result<Vec<u8>, AllocError>
     ensures { IfOk result (λ all. HasLineBehind out.items all.items) }
 {
+    let lanes = lane_starts(alloc, names, next)?;
     let time = UtcTime::of(time);
     let time = format!(in alloc; "{time}")?;
     let begin = Begin {
@@ -112,7 +126,7 @@ pub(crate) fn begin_line(
         time: time.as_str(),
         version: VERSION,
         file,
-        lanes: lane_starts(alloc, names, next)?,
+        lanes,
     };
     write_begin(alloc, &begin, out)
 }
@@ -183,12 +197,13 @@ pub(crate) fn end_line(
 ) -> Result<Vec<u8>, AllocError>
     ensures { IfOk result (λ all. HasLineBehind out.items all.items) }
 {
+    let lanes = lane_counts(alloc, names, taken)?;
     let time = UtcTime::of(time);
     let time = format!(in alloc; "{time}")?;
     let end = End {
         run: names.run,
         time: time.as_str(),
-        lanes: lane_counts(alloc, names, taken)?,
+        lanes,
     };
     write_end(alloc, &end, out)
 }

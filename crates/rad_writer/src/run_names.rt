@@ -1,6 +1,6 @@
 //! What the lines of a run name: the run and its home servers.
 
-ghost use Rattle.std.specs.Prelude.{◌≡◌, IfOk, MatchOption, slice_get, string_bytes};
+ghost use Rattle.std.specs.Prelude.{◌≡◌, [], IfOk, MatchOption, slice_get, string_bytes};
 ghost use Rattle.rad_writer.specs.RunNames.{AreNamesOf};
 
 use rad_realms::Home;

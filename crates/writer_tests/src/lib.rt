@@ -5,8 +5,14 @@
 #[cfg(test)]
 mod comparing;
 #[cfg(test)]
+mod faulty_files;
+#[cfg(test)]
 mod memory_disk;
 #[cfg(test)]
 mod moments;
+#[cfg(test)]
+mod places;
+#[cfg(test)]
+mod responses;
 #[cfg(test)]
 mod writing;

@@ -37,19 +37,30 @@ pub struct MemoryDisk<'a> {
     pub written: &'a Written,
     /// How many octets the file that is open has.
     pub size: Option<u64>,
+    pub gives: Gives,
+}
+
+/// What a disk gives its writer.
+#[derive(Clone, Copy)]
+pub struct Gives {
     /// The most octets that one write takes.
     pub most: usize,
     /// How many creations fail before one that does not.
     pub refused: u32,
-    /// How many octets the disk has room for.
+    /// How many octets the first file has room for.
     pub room: usize,
+    /// How a write fails for which there is no room.
+    pub fault: DiskFault,
 }
 
 impl LedgerDisk for MemoryDisk<'_> {
     fn create(&mut self, path: String) -> Result<(), DiskFault> {
-        if self.refused > 0 {
-            self.refused = self.refused.saturating_sub(1);
+        if self.gives.refused > 0 {
+            self.gives.refused = self.gives.refused.saturating_sub(1);
             return Err(DiskFault::Create(13));
+        }
+        if self.size.is_some() {
+            self.gives.room = 1_000_000;
         }
         self.written.add(self.alloc, path.as_bytes());
         self.written.add(self.alloc, b"\n");
@@ -70,11 +81,11 @@ impl LedgerDisk for MemoryDisk<'_> {
     }
 
     fn write(&mut self, octets: &[u8]) -> Result<usize, DiskFault> {
-        let count = octets.len().min(self.most).min(self.room);
+        let count = octets.len().min(self.gives.most).min(self.gives.room);
         if count == 0 {
-            return Err(DiskFault::Write(28));
+            return Err(self.gives.fault);
         }
-        self.room = self.room.saturating_sub(count);
+        self.gives.room = self.gives.room.saturating_sub(count);
         self.written
             .add(self.alloc, octets.get(..count).unwrap_or(&[]));
         self.size = Some(self.size().saturating_add(count as u64));

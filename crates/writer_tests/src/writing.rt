@@ -1,11 +1,16 @@
-//! Tests of a writer's last round, over a disk in memory, with a run of two home servers whose front took nothing.
+//! Tests of a writer's last round, over a disk in memory, with a run of two home servers.
 
 use crate::comparing::holds;
-use crate::memory_disk::{MemoryDisk, Written};
+use crate::memory_disk::{Gives, MemoryDisk, Written};
+use crate::responses::{ASKED, Asked, CUT, WHOLE};
+use ledger_files::DiskFault;
+use rad_auth::{ACCOUNTING_RESPONSE, Mark, RequestHead, Secret, forward, respond};
 use rad_desk::Ledger;
+use rad_lane::Outgoing;
+use rad_packet::{Datagram, read};
 use rad_realms::read_config;
 use rad_writer::{OpenedLedger, open_ledger};
-use std::alloc::AllocGlobal;
+use std::alloc::{AllocGlobal, Global};
 use std::io;
 use std::random::RandomSource;
 use std::sync::Wait;
@@ -28,8 +33,8 @@ address = "127.0.0.1:2814"
 secret = "home2-secret"
 "#;
 
-/// What is written: the path of the file, its first line, and the last one.
-const WHOLE: &str = "folder/0101010101010101-000000.jsonl\n\
+/// What is written if the front took nothing: the path of the file, its first line, and the last one.
+const EMPTY: &str = "folder/0101010101010101-000000.jsonl\n\
     {\"type\":\"begin\",\"run\":\"0101010101010101\",\"time\":\"1970-01-01T00:20:34.567Z\",\"version\":\"0.1.0\",\"file\":0,\"lanes\":[{\"lane\":0,\"home\":\"h1\",\"serial\":0},{\"lane\":1,\"home\":\"h2\",\"serial\":0}]}\n\
     {\"type\":\"end\",\"run\":\"0101010101010101\",\"time\":\"1970-01-01T00:20:34.567Z\",\"lanes\":[{\"lane\":0,\"entries\":0},{\"lane\":1,\"entries\":0}]}\n";
 
@@ -63,19 +68,98 @@ impl<R> RandomSource for Still<'_, R> {
     }
 }
 
-/// What a disk gives its writer.
-#[derive(Clone, Copy)]
-struct Gives {
-    /// The most octets that one write takes.
-    most: usize,
-    /// How many creations fail before one that does not.
-    refused: u32,
-    /// How many octets the disk has room for.
-    room: usize,
+/// The secret of the client and those of the home servers, in the order of their lanes.
+const NAS: &[u8] = b"nas-secret";
+
+const HOMES: [&[u8]; 2] = [b"home-secret", b"home2-secret"];
+
+/// Returns the response to a request, as its lane gives it.
+fn outgoing(alloc: Global, asked: &Asked) -> Result<Outgoing, Fail> {
+    let Some(home) = HOMES.get(usize::from(asked.lane)) else {
+        return Err(Fail::from("no home server"));
+    };
+    let (client, home) = (Secret::new(NAS)?, Secret::new(home)?);
+    let (request, reply) = (read(asked.request)?, read(asked.reply)?);
+    let mark = Mark {
+        lane: asked.lane,
+        number: asked.number,
+    };
+    let mut datagram = Datagram::new();
+    forward(&request, mark, asked.identifier, &home, &mut datagram)?;
+    let sending = datagram.packet();
+    if reply.code() != ACCOUNTING_RESPONSE || reply.identifier() != sending.identifier() {
+        return Err(Fail::from("a reply answers its sending"));
+    }
+    let head = RequestHead {
+        identifier: request.identifier(),
+        authenticator: request.authenticator(),
+    };
+    Ok(Outgoing {
+        serial: 0,
+        client: [10, 0, 0, 1],
+        port: asked.port,
+        reply: respond(alloc, head, &sending, &reply, &client, &home)?,
+    })
 }
 
-/// Ends a run whose front took nothing, over a disk that gives this, and compares what is written.
-fn ends_as<R: Wait + AllocGlobal>(rt: &R, gives: Gives, wanted: &str) -> Result<bool, Fail> {
+/// A run.
+struct Case {
+    gives: Gives,
+    /// The requests that are answered.
+    asked: &'static [Asked],
+    /// What is written.
+    wanted: &'static str,
+}
+
+/// A disk that takes all.
+const ALL: Gives = Gives {
+    most: 1_000_000,
+    refused: 0,
+    room: 1_000_000,
+    fault: DiskFault::Write(28),
+};
+
+/// Runs, in this order: without responses; with writes of seven octets; over a folder that is not there; over a disk that
+/// is full in the first line; with two responses; with these over a disk that loses its file in the second one.
+const CASES: [Case; 6] = [
+    Case {
+        gives: ALL,
+        asked: &[],
+        wanted: EMPTY,
+    },
+    Case {
+        gives: Gives { most: 7, ..ALL },
+        asked: &[],
+        wanted: EMPTY,
+    },
+    Case {
+        gives: Gives { refused: 1, ..ALL },
+        asked: &[],
+        wanted: "",
+    },
+    Case {
+        gives: Gives { room: 48, ..ALL },
+        asked: &[],
+        wanted: "folder/0101010101010101-000000.jsonl\n{\"type\":\"begin\",\"run\":\"0101010101010101\",\"time\":",
+    },
+    Case {
+        gives: ALL,
+        asked: &ASKED,
+        wanted: WHOLE,
+    },
+    Case {
+        gives: Gives {
+            room: 1024,
+            fault: DiskFault::Gone,
+            ..ALL
+        },
+        asked: &ASKED,
+        wanted: CUT,
+    },
+];
+
+/// Ends a run, and returns whether it wrote what is wanted.
+fn ends_as<R: Wait + AllocGlobal>(rt: &R, case: &Case) -> Result<bool, Fail> {
     let alloc = rt.alloc();
     let Ok(config) = read_config(alloc, TWO_HOMES) else {
         return Err(Fail::from("no configuration"));
@@ -88,6 +172,9 @@ fn ends_as<R: Wait + AllocGlobal>(rt: &R, gives: Gives, wanted: &str) -> Result<
         state,
     } = open_ledger(&still, alloc, folder, &config)?;
     inlet.begin();
+    for asked in case.asked {
+        inlet.keep(&outgoing(alloc, asked)?);
+    }
     let start = Instant::now(&still)?;
     state.end(&still, true, start, Duration::from_millis(0));
     let written = Written::new(alloc);
@@ -95,56 +182,16 @@ fn ends_as<R: Wait + AllocGlobal>(rt: &R, gives: Gives, wanted: &str) -> Result<
         alloc,
         written: &written,
         size: None,
-        most: gives.most,
-        refused: gives.refused,
-        room: gives.room,
+        gives: case.gives,
     };
     writer.write_all(&still, alloc, disk);
-    Ok(written.take(alloc).as_slice() == wanted.as_bytes())
+    Ok(written.take(alloc).as_slice() == case.wanted.as_bytes())
 }
 
 #[test]
-fn a_run_without_responses_is_two_lines(rt: HostRuntime) -> Result<(), Fail> {
-    let gives = Gives {
-        most: 10_000,
-        refused: 0,
-        room: 10_000,
-    };
-    holds(&rt, ends_as(&rt, gives, WHOLE)?);
-    Ok(())
-}
-
-#[test]
-fn short_writes_are_gone_on_with(rt: HostRuntime) -> Result<(), Fail> {
-    let gives = Gives {
-        most: 7,
-        refused: 0,
-        room: 10_000,
-    };
-    holds(&rt, ends_as(&rt, gives, WHOLE)?);
-    Ok(())
-}
-
-#[test]
-fn a_folder_that_is_not_there_gets_nothing(rt: HostRuntime) -> Result<(), Fail> {
-    let gives = Gives {
-        most: 10_000,
-        refused: 1,
-        room: 10_000,
-    };
-    holds(&rt, ends_as(&rt, gives, "")?);
-    Ok(())
-}
-
-#[test]
-fn a_full_disk_ends_a_line_early(rt: HostRuntime) -> Result<(), Fail> {
-    let gives = Gives {
-        most: 10_000,
-        refused: 0,
-        room: 48,
-    };
-    let cut =
-        "folder/0101010101010101-000000.jsonl\n{\"type\":\"begin\",\"run\":\"0101010101010101\",\"time\":";
-    holds(&rt, ends_as(&rt, gives, cut)?);
+fn runs_are_written(rt: HostRuntime) -> Result<(), Fail> {
+    for case in &CASES {
+        holds(&rt, ends_as(&rt, case)?);
+    }
     Ok(())
 }

@@ -1,4 +1,4 @@
-use Rattle.std.proofs.Common.{arith, length-drop}
+use Rattle.std.proofs.Common.{◌≡◌, length, refl, arith, length-drop}
 use Rattle.std.proofs.lemmas.List.{take_rest}
 use Rattle.ledger_files.proofs.Writes.{writes_begin, writes_go_on}
 use Rattle.ledger_files.proofs.pending.write_rest.Goals as goal
@@ -8,13 +8,8 @@ loop-init g c = record {
   from = omega arith;
   within = c.requires;
   written = writes_begin (g.D.LedgerDisk.files c.args.disk.now) c.args.octets.now c.args.done;
+  none = λ e. refl;
 }
-
-pub returns-then-at-octets-clause-written : goal.returns-then-at-octets-clause-written
-returns-then-at-octets-clause-written g c =
-    let i = c.loop.invariant in
-    let w = rw (take_rest c.args.octets.now c.loop.at) at c.in-Ok.ensures.1 in
-    (omega (arith, i.from), omega (arith, c.if-at-octets.true), writes_go_on _ _ _ c.args.octets.now c.args.done c.loop.at c.in-Ok.count i.from i.written w)
 
 pub loop-preserved : goal.loop-preserved
 loop-preserved g c =
@@ -25,4 +20,5 @@ loop-preserved g c =
       from = omega (arith, i.from);
       within = omega (arith, i.within, n, length-drop c.loop.at c.args.octets.now);
       written = writes_go_on _ _ _ c.args.octets.now c.args.done c.loop.at c.in-Ok.count i.from i.written w;
+      none = λ e. absurd (omega (arith, e, i.from, i.within));
     }

@@ -8,4 +8,5 @@ invariant-loop g l = record {
   from : l.done ≤ l.at;
   within : l.at ≤ length l.octets;
   written : g.D.LedgerDisk.files l.disk ≡ wrote (g.D.LedgerDisk.files l.initial.disk) (slice_range l.octets l.done l.at);
+  none : l.done ≡ length l.octets → l.disk ≡ l.initial.disk;
 }

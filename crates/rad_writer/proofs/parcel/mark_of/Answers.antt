@@ -14,8 +14,8 @@ length_of_mark : (mark : Mark) → length (mark_value mark) ≡ 10
 unfolding mark_value
 length_of_mark mark = refl
 
-pub returns-then-len_lt10 : goal.returns-then-len_lt10
-returns-then-len_lt10 c = λ before mark fits is. absurd (omega (arith, ap length is, length-append before (mark_value mark), length_of_mark mark))
+pub returns-then-sent-lt-MARKED : goal.returns-then-sent-lt-MARKED
+returns-then-sent-lt-MARKED c = λ before mark fits is. absurd (omega (arith, ap length is, length-append before (mark_value mark), length_of_mark mark))
 
 pub returns : goal.returns
 returns c = λ before mark fits is.

@@ -1,0 +1,10 @@
+use Rattle.std.proofs.Common.{◌≡◌, ℕ, List, length, ap, ◌∙◌, arith}
+use Rattle.std.specs.Prelude.{string_bytes}
+use Rattle.ledger_files.proofs.RunCalls.{ended}
+use Rattle.ledger_files.proofs.run_files.RunFiles.end_with.Goals as goal
+
+pub returns : goal.returns
+returns g c = λ lines h.
+    let run = c.args.self.now in
+    ended (g.D.LedgerDisk.files run.disk) run.first run.batch run.last c.new.result lines
+    (omega (arith, c.requires, run.last.octets.ok.0)) (omega (arith, run.last.within, run.last.octets.ok.0)) c.new.ensures.1 h

@@ -1,0 +1,170 @@
+//! The files of a run, and the lines that are to be written to the one that is open.
+
+ghost use Rattle.std.specs.Prelude.{◌≡◌, ◌≢◌, ◌↔◌, [], ◌∷◌, ◌++◌, List, ℕ, Some, vec_len, IsTrue, OnOk, MatchOption, MatchResult};
+ghost use Rattle.ledger_files.specs.Batches.{HoldsLines, IsHeadOf};
+ghost use Rattle.ledger_files.specs.Runs.{IsRun};
+
+use crate::batch::{Batch, LineHead};
+use crate::disk::{DiskFault, LedgerDisk};
+use crate::pending::Pending;
+use std::alloc::{AllocError, Global};
+
+/// The files of a run on a disk, and the lines that are to be written to the one that is open: the line that begins it,
+/// lines of entries, and the line that ends the run.
+///
+/// A file is its begin line, whole lines of entries, and the front of one more line if that was cut short. The next file
+/// has that line again, whole. `IsRun` says so of a disk that keeps a record of its files.
+#[derive(Drop)]
+pub struct RunFiles<D: Drop> {
+    disk: D,
+    first: Pending,
+    batch: Batch,
+    last: Pending,
+}
+
+impl<D: LedgerDisk + Drop> RunFiles<D> {
+    /// Makes a value of a disk without files of the run, and of a batch without lines.
+    pub fn new(alloc: Global, disk: D, batch: Batch) -> RunFiles<D>
+        ensures { HoldsLines batch [] → D.files disk ≡ Some [] → IsRun (D.files result.disk) result [] }
+    {
+        RunFiles {
+            disk,
+            first: Pending::new(Vec::new(alloc)),
+            batch,
+            last: Pending::new(Vec::new(alloc)),
+        }
+    }
+
+    /// Returns the disk.
+    pub fn disk(&self) -> &D
+        ensures { result.now ≡ self.now.disk }
+    {
+        &self.disk
+    }
+
+    /// Returns the lines of entries.
+    pub fn batch(&self) -> &Batch
+        ensures { result.now ≡ self.now.batch }
+    {
+        &self.batch
+    }
+
+    /// Returns whether the line that begins the file is written whole.
+    pub fn is_begun(&self) -> bool
+        ensures { IsTrue result ↔ (self.now.first.done ≡ vec_len self.now.first.octets) }
+    {
+        self.first.is_done()
+    }
+
+    /// Returns whether the line that ends the run is made.
+    pub fn is_ended(&self) -> bool
+        ensures { IsTrue result ↔ (vec_len self.now.last.octets ≢ 0) }
+    {
+        !self.last.is_empty()
+    }
+
+    /// Returns whether all lines are written.
+    pub fn is_done(&self) -> bool {
+        self.first.is_done() && self.batch.is_done() && self.last.is_done()
+    }
+
+    /// Removes the lines of entries, all of which are written.
+    pub fn clear(&mut self)
+        requires { self.old.batch.whole ≡ vec_len self.old.batch.ends }
+        ensures { (lines : List (List ℕ)) → IsRun (D.files self.old.disk) self.old lines → IsRun (D.files self.new.disk) self.new lines }
+    {
+        self.batch.clear();
+    }
+
+    /// Adds the line of an entry behind the others.
+    ///
+    /// # Errors
+    ///
+    /// `AllocError` if memory is refused. The lines stay as they are.
+    pub fn add(&mut self, head: LineHead, line: &[u8]) -> Result<(), AllocError>
+        requires { vec_len self.old.last.octets ≡ 0 }
+        ensures { (lines : List (List ℕ)) → IsRun (D.files self.old.disk) self.old lines → MatchResult result (λ _. IsRun (D.files self.new.disk) self.new (lines ++ line.now ∷ [])) (λ _. IsRun (D.files self.new.disk) self.new lines) }
+    {
+        self.batch.add(head, line)?;
+        Ok(())
+    }
+
+    /// Sets the line that ends the run. No entry may be added behind it.
+    pub fn end_with(&mut self, line: Vec<u8>)
+        requires { vec_len self.old.last.octets ≡ 0 }
+        ensures { (lines : List (List ℕ)) → IsRun (D.files self.old.disk) self.old lines → IsRun (D.files self.new.disk) self.new lines }
+    {
+        self.last = Pending::new(line);
+    }
+
+    /// Begins the next file, of this path and with this first line. The line of an entry that was not written whole is
+    /// written to it from its start.
+    ///
+    /// # Errors
+    ///
+    /// That of [`LedgerDisk::create`]. The file that was open stays open.
+    pub fn begin_file(&mut self, path: String, first: Vec<u8>) -> Result<(), DiskFault>
+        ensures { (lines : List (List ℕ)) → IsRun (D.files self.old.disk) self.old lines → IsRun (D.files self.new.disk) self.new lines }
+    {
+        self.disk.create(path)?;
+        self.first = Pending::new(first);
+        self.batch.begin_line_again();
+        self.last.begin_again();
+        Ok(())
+    }
+
+    /// Writes the line that begins the file and the lines of entries, as far as they are not written, if the file is still
+    /// at its path.
+    ///
+    /// # Errors
+    ///
+    /// `Gone` if no file is open or it is not at its path any more, and that of [`LedgerDisk::write`].
+    pub fn write(&mut self) -> Result<(), DiskFault>
+        ensures { (lines : List (List ℕ)) → IsRun (D.files self.old.disk) self.old lines → IsRun (D.files self.new.disk) self.new lines }
+    {
+        if !self.disk.is_open() {
+            return Err(DiskFault::Gone);
+        }
+        self.disk.check_place()?;
+        self.first.write(&mut self.disk)?;
+        self.batch.write(&mut self.disk)?;
+        Ok(())
+    }
+
+    /// Counts the next line of an entry as written whole, if it is, and returns what it is of.
+    pub fn pass_line(&mut self) -> Option<LineHead>
+        ensures { (lines : List (List ℕ)) → IsRun (D.files self.old.disk) self.old lines → IsRun (D.files self.new.disk) self.new lines }
+    {
+        if !self.disk.is_open() || !self.first.is_done() {
+            return None;
+        }
+        let head = self.batch.pass_line()?;
+        Some(head)
+    }
+
+    /// Writes the line that ends the run, as far as it is not written, once all lines before it are.
+    ///
+    /// # Errors
+    ///
+    /// That of [`LedgerDisk::write`].
+    pub fn write_end(&mut self) -> Result<(), DiskFault>
+        ensures { (lines : List (List ℕ)) → IsRun (D.files self.old.disk) self.old lines → IsRun (D.files self.new.disk) self.new lines }
+    {
+        if !self.disk.is_open() || !self.first.is_done() || self.batch.left() != 0 {
+            return Ok(());
+        }
+        self.last.write(&mut self.disk)?;
+        Ok(())
+    }
+
+    /// Has the system put on its disk what was written.
+    ///
+    /// # Errors
+    ///
+    /// That of [`LedgerDisk::sync`].
+    pub fn sync(&mut self) -> Result<(), DiskFault>
+        ensures { (lines : List (List ℕ)) → IsRun (D.files self.old.disk) self.old lines → IsRun (D.files self.new.disk) self.new lines }
+    {
+        self.disk.sync()
+    }
+}
