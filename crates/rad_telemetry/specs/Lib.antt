@@ -4,3 +4,5 @@ pub mod DeltaLines
 pub mod MetricLines
 pub mod WatchLines
 pub mod FileFaults
+pub mod LedgerFaults
+pub mod LedgerLines

@@ -3,15 +3,20 @@
 use crate::levels::read_level;
 use crate::line_queue::LineQueue;
 use crate::line_writer::StandardError;
+use crate::telling::tell_warning;
 use log::kv::Source;
 use log::span::Spans;
-use log::{Level, LevelFilter, Log, Logged, Metadata, Record, warn};
+use log::{Level, LevelFilter, Log, Logged, Metadata, Record};
 use std::alloc::{AllocError, Global};
 use std::env::Env;
 use std::fmt::{self, Display};
 use std::sync::{Arc, Wait};
 use std::thread::{self, Threads};
 use std::time::{Clock, Duration, Instant};
+
+/// The log line of a level that there is not.
+const NO_SUCH_LEVEL: &str =
+    "event=no-such-level reason=\"RAD_PROXY_LOG is none of off, error, warn, info, debug, trace\"";
 
 /// Writes records to standard error, one line each. Once [`ErrorLines::start`] has started a thread for that, a
 /// thread that logs only puts the line into a buffer of fixed size. Before that, the thread that logs writes the line
@@ -112,7 +117,7 @@ pub fn open_log<E: Env>(env: &E, alloc: Global) -> Result<Logged<(), ErrorLines>
     let lines = ErrorLines::new(alloc)?;
     let log = Logged::new((), level.unwrap_or(LevelFilter::Info), lines);
     if level.is_none() {
-        warn!(log; "event=no-such-level reason=\"RAD_PROXY_LOG is none of off, error, warn, info, debug, trace\"");
+        tell_warning(&log, &NO_SUCH_LEVEL);
     }
     Ok(log)
 }

@@ -5,13 +5,15 @@ use crate::delta_lines::CutDelta;
 use crate::last_datagram::LastDatagram;
 use crate::packet_words::DatagramWords;
 use crate::peer_text::{ClientText, PeerText};
+use crate::telling::{tell, warn_of_reason};
 use crate::watch_lines::{DownLine, UpLine};
 use crate::workers::worker_name;
-use log::{Level, Log, debug, error, info, log_enabled, trace, warn};
+use log::{Level, Log, log_enabled};
 use rad_desk::{DeskFault, Note, Spent, UpReason, Worker};
 use rad_lane::Refusal;
 use rad_realms::{Config, Dropped, Endpoint};
 use std::alloc::{AllocError, Global};
+use std::fmt::Display;
 use std::io::Error;
 use std::net::Ipv4Addr;
 
@@ -46,6 +48,10 @@ impl<'a, L: Log> EventLog<'a, L> {
         Ok(EventLog { log, config, last })
     }
 
+    fn tell<D: Display>(&self, level: Level, line: &D) {
+        tell(self.log, level, line);
+    }
+
     /// Returns the name of a worker.
     fn name(&self, worker: Worker) -> &str {
         worker_name(self.config, worker)
@@ -54,7 +60,10 @@ impl<'a, L: Log> EventLog<'a, L> {
     /// Logs that a worker ended by itself.
     pub fn ended(&self, worker: Worker) {
         let name = self.name(worker);
-        error!(self.log; "event=stopped worker={name} reason=\"ended by itself\"");
+        self.tell(
+            Level::Error,
+            &format_args!("event=stopped worker={name} reason=\"ended by itself\""),
+        );
     }
 
     /// Logs a worker's note about `peer`. It does not log `WentDown` and `WentUp`, which have calls of their own.
@@ -87,96 +96,133 @@ impl<'a, L: Log> EventLog<'a, L> {
     pub fn accepted(&self, lane: u16, number: u64) {
         let home = self.name(Worker::Lane(lane));
         let packet = self.last.words(Worker::Front);
-        trace!(self.log; "event=accepted home={home} number={number}{packet}");
+        self.tell(
+            Level::Trace,
+            &format_args!("event=accepted home={home} number={number}{packet}"),
+        );
     }
 
     /// Logs that a request of a lane was answered.
     pub fn answered(&self, lane: u16, serial: u64) {
-        let home = self.name(Worker::Lane(lane));
-        trace!(self.log; "event=answered home={home} serial={serial}");
+        self.replied("answered", lane, serial);
     }
 
     /// Logs that a lane's home server is marked down, since this request is unanswered.
     pub fn went_down(&self, lane: u16, spent: &Spent) {
         let home = self.name(Worker::Lane(lane));
         let line = DownLine { home, spent };
-        warn!(self.log; "{line}");
+        self.tell(Level::Warn, &line);
     }
 
     /// Logs that a lane's home server is marked up, for this reason.
     pub fn went_up(&self, lane: u16, reason: UpReason) {
         let home = self.name(Worker::Lane(lane));
         let line = UpLine { home, reason };
-        info!(self.log; "{line}");
+        self.tell(Level::Info, &line);
     }
 
     /// Logs that there can be no socket at this address and port, with the system's error.
     pub fn unbound(&self, at: Endpoint, error: &Error) {
-        error!(self.log; "event=unbound socket={at} reason=\"{error}\"");
+        self.tell(
+            Level::Error,
+            &format_args!("event=unbound socket={at} reason=\"{error}\""),
+        );
     }
 
     /// Logs that the addresses of this machine can't be read.
     pub fn addresses_unread(&self, error: &Error) {
-        warn!(self.log; "event=addresses-unread reason=\"{error}\"");
+        warn_of_reason(self.log, "addresses-unread", error);
     }
 
     /// Logs that no socket is bound to this address of this machine alone.
     pub fn address_unbound(&self, address: [u8; 4]) {
         let address = Ipv4Addr::from(address);
-        warn!(self.log; "event=address-unbound address={address}");
+        self.tell(
+            Level::Warn,
+            &format_args!("event=address-unbound address={address}"),
+        );
     }
 
     fn passed(&self, event: &str, worker: Worker, peer: Endpoint, octets: &[u8]) {
         let name = self.name(worker);
         let peer = PeerText(peer);
         let datagram = DatagramWords(octets);
-        trace!(self.log; "event={event} worker={name} {peer} {datagram}");
+        self.tell(
+            Level::Trace,
+            &format_args!("event={event} worker={name} {peer} {datagram}"),
+        );
     }
 
     fn returned(&self, lane: u16, serial: u64) {
+        self.replied("returned", lane, serial);
+    }
+
+    /// Logs an event of a lane's response.
+    fn replied(&self, event: &str, lane: u16, serial: u64) {
         let home = self.name(Worker::Lane(lane));
-        trace!(self.log; "event=returned home={home} serial={serial}");
+        self.tell(
+            Level::Trace,
+            &format_args!("event={event} home={home} serial={serial}"),
+        );
     }
 
     fn cut(&self, worker: Worker, count: u64) {
         let home = self.name(worker);
         let line = CutDelta { home, count };
-        debug!(self.log; "{line}");
+        self.tell(Level::Debug, &line);
     }
 
     fn receive_fault(&self, worker: Worker) {
         let name = self.name(worker);
-        debug!(self.log; "event=receive-fault worker={name}");
+        self.tell(
+            Level::Debug,
+            &format_args!("event=receive-fault worker={name}"),
+        );
     }
 
     fn send_fault(&self, worker: Worker, to: Endpoint) {
         let name = self.name(worker);
         let to = PeerText(to);
-        debug!(self.log; "event=send-fault worker={name} {to}");
+        self.tell(
+            Level::Debug,
+            &format_args!("event=send-fault worker={name} {to}"),
+        );
     }
 
     fn dropped(&self, worker: Worker, from: Endpoint, reason: Dropped) {
-        let from = ClientText(from);
-        let packet = self.last.words(worker);
-        debug!(self.log; "event=dropped {from}{packet} reason=\"{reason}\"");
+        self.unserved("dropped", worker, from, &reason);
     }
 
     fn refused(&self, worker: Worker, from: Endpoint, reason: Refusal) {
+        self.unserved("refused", worker, from, &reason);
+    }
+
+    /// Logs an event of the datagram that a worker received last, and its reason.
+    fn unserved<R: Display>(&self, event: &str, worker: Worker, from: Endpoint, reason: &R) {
         let from = ClientText(from);
         let packet = self.last.words(worker);
-        debug!(self.log; "event=refused {from}{packet} reason=\"{reason}\"");
+        self.tell(
+            Level::Debug,
+            &format_args!("event={event} {from}{packet} reason=\"{reason}\""),
+        );
     }
 
     fn not_home(&self, worker: Worker, from: Endpoint) {
         let home = self.name(worker);
         let from = PeerText(from);
         let packet = self.last.words(worker);
-        debug!(self.log; "event=unheard home={home} {from}{packet} reason=\"NotHome\"");
+        self.tell(
+            Level::Debug,
+            &format_args!("event=unheard home={home} {from}{packet} reason=\"NotHome\""),
+        );
     }
 
     fn unheard(&self, worker: Worker, fault: DeskFault) {
         let home = self.name(worker);
         let packet = self.last.words(worker);
-        debug!(self.log; "event=unheard home={home}{packet} reason=\"{fault}\"");
+        self.tell(
+            Level::Debug,
+            &format_args!("event=unheard home={home}{packet} reason=\"{fault}\""),
+        );
     }
 }

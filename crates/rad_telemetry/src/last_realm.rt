@@ -88,7 +88,7 @@ impl fmt::Display for LastRealm {
         if !realm.is_there {
             return Ok(());
         }
-        let word = RealmWord(realm.octets());
+        let word = RealmWord(Some(realm.octets()));
         write!(f, "{word}")
     }
 }

@@ -1,5 +1,9 @@
 //! Why the ledger is not written.
 
+ghost use Rattle.std.specs.Prelude.{◌≡◌, ◌<◌, Some};
+ghost use Rattle.rad_telemetry.specs.LedgerFaults.{fault_number, fault_of_number, fault_step, number_of_code, number_of_system};
+ghost use Rattle.std.specs.IoError.{raw_os_error};
+
 use std::fmt::{self, Display};
 use std::io::Error;
 
@@ -20,23 +24,32 @@ pub enum LedgerFault {
     Sync(u32),
 }
 
+/// The number of values of a system's number.
+const NUMBERS: u64 = 1 << 32;
+
 impl LedgerFault {
     /// Returns the number that stands for the fault. It is not 0.
-    pub(crate) fn number(self) -> u64 {
+    pub(crate) fn number(self) -> u64
+        ensures number { result ≡ fault_number self }
+        ensures some { 0 < result }
+        ensures back { fault_of_number result ≡ Some self }
+    {
         match self {
-            LedgerFault::NoText => 1 << 32,
-            LedgerFault::Memory => 2 << 32,
-            LedgerFault::Gone => 3 << 32,
-            LedgerFault::Create(number) => 4 << 32 | u64::from(number),
-            LedgerFault::Write(number) => 5 << 32 | u64::from(number),
-            LedgerFault::Sync(number) => 6 << 32 | u64::from(number),
+            LedgerFault::NoText => NUMBERS,
+            LedgerFault::Memory => 2 * NUMBERS,
+            LedgerFault::Gone => 3 * NUMBERS,
+            LedgerFault::Create(number) => 4 * NUMBERS + u64::from(number),
+            LedgerFault::Write(number) => 5 * NUMBERS + u64::from(number),
+            LedgerFault::Sync(number) => 6 * NUMBERS + u64::from(number),
         }
     }
 
     /// Returns the fault that a number stands for, if it stands for one.
-    pub(crate) fn of_number(number: u64) -> Option<LedgerFault> {
-        let system = (number & 0xffff_ffff) as u32;
-        match number >> 32 {
+    pub(crate) fn of_number(number: u64) -> Option<LedgerFault>
+        ensures fault { result ≡ fault_of_number number }
+    {
+        let system = (number % NUMBERS) as u32;
+        match number / NUMBERS {
             1 => Some(LedgerFault::NoText),
             2 => Some(LedgerFault::Memory),
             3 => Some(LedgerFault::Gone),
@@ -46,10 +59,37 @@ impl LedgerFault {
             _ => None,
         }
     }
+
+    /// Returns what was not possible.
+    fn step(self) -> &'static str
+        ensures { result.now ≡ fault_step self }
+    {
+        match self {
+            LedgerFault::NoText => "RAD_PROXY_LEDGER is no text",
+            LedgerFault::Memory => "no memory",
+            LedgerFault::Gone => "the file is no longer there",
+            LedgerFault::Create(_) => "can't make a file",
+            LedgerFault::Write(_) => "can't write",
+            LedgerFault::Sync(_) => "can't sync",
+        }
+    }
+
+    /// Returns the system's number, or 0 if it gave none.
+    fn system(self) -> u32
+        ensures { result ≡ number_of_system self }
+    {
+        match self {
+            LedgerFault::NoText | LedgerFault::Memory | LedgerFault::Gone => 0,
+            LedgerFault::Create(number) | LedgerFault::Write(number) | LedgerFault::Sync(number) =>
+                number,
+        }
+    }
 }
 
 /// Returns the system's number of an error, or 0 if it has none.
-pub fn system_number(error: &Error) -> u32 {
+pub fn system_number(error: &Error) -> u32
+    ensures { result ≡ number_of_code (raw_os_error error.now) }
+{
     match error.raw_os_error() {
         Some(number) => u32::try_from(number).unwrap_or(0),
         None => 0,
@@ -57,26 +97,22 @@ pub fn system_number(error: &Error) -> u32 {
 }
 
 impl Display for LedgerFault {
-    fn fmt<W: fmt::Write>(&self, f: &mut fmt::Formatter<W>) -> fmt::Result {
-        match *self {
-            LedgerFault::NoText => f.write_str("RAD_PROXY_LEDGER is no text"),
-            LedgerFault::Memory => f.write_str("no memory"),
-            LedgerFault::Gone => f.write_str("the file is no longer there"),
-            LedgerFault::Create(number) => write_refused(f, "can't make a file", number),
-            LedgerFault::Write(number) => write_refused(f, "can't write", number),
-            LedgerFault::Sync(number) => write_refused(f, "can't sync", number),
-        }
-    }
-}
+    ghost use Rattle.rad_telemetry.specs.LedgerFaults.{fault_text};
 
-/// Writes what the system refused, and the system's text for its number, if there is one.
-fn write_refused<W: fmt::Write>(f: &mut fmt::Formatter<W>, what: &str, number: u32) -> fmt::Result {
-    f.write_str(what)?;
-    match i32::try_from(number) {
-        Ok(number) if number != 0 => {
-            let error = Error::from_raw_os_error(number);
-            write!(f, ": {error}")
+    ghost output = { λ fault. fault_text fault };
+
+    fn fmt<W: fmt::Write>(&self, f: &mut fmt::Formatter<W>) -> fmt::Result {
+        let step = self.step();
+        let number = self.system();
+        if number == 0 {
+            return f.write_str(step);
         }
-        _ => Ok(()),
+        match i32::try_from(number) {
+            Ok(number) => {
+                let error = Error::from_raw_os_error(number);
+                write!(f, "{step}: {error}")
+            }
+            Err(_) => f.write_str(step),
+        }
     }
 }

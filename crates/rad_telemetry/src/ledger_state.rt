@@ -1,8 +1,14 @@
 //! What the thread that writes the ledger shares with the front and with the reporter.
 
+ghost use Rattle.std.specs.Prelude.{◌≡◌};
+ghost use Rattle.rad_telemetry.specs.LedgerLines.{oldest_age};
+
+use crate::counters::since;
 use crate::ledger_fault::LedgerFault;
+use crate::ledger_lines::LedgerLine;
+use crate::telling::tell;
 use crate::writer_state::WriterState;
-use log::{Log, error, info};
+use log::{Level, Log};
 use rad_metrics::LedgerReading;
 use std::sync::Wait;
 use std::sync::atomic::{AtomicU64, Ordering};
@@ -130,17 +136,11 @@ impl LedgerState {
     /// Returns the counts, at this moment in milliseconds since 1970.
     pub fn reading(&self, now: u64) -> LedgerReading {
         let written = self.written.load(Ordering::SeqCst);
-        let oldest = self.oldest.load(Ordering::SeqCst);
-        let age = if oldest == 0 {
-            0
-        } else {
-            now.saturating_sub(oldest)
-        };
         LedgerReading {
             written,
-            waiting: self.put.load(Ordering::SeqCst).saturating_sub(written),
+            waiting: since(written, self.put.load(Ordering::SeqCst)),
             dropped: self.dropped.load(Ordering::SeqCst),
-            age,
+            age: age_of(self.oldest.load(Ordering::SeqCst), now),
         }
     }
 
@@ -148,12 +148,12 @@ impl LedgerState {
     pub fn tell<L: Log>(&self, log: &L) {
         self.tell_fault(log);
         if self.is_back.swap(0, Ordering::SeqCst) != 0 {
-            info!(log; "event=ledger-back");
+            tell(log, Level::Info, &LedgerLine::Back);
         }
         let dropped = self.dropped.load(Ordering::SeqCst);
-        let count = dropped.saturating_sub(self.told.swap(dropped, Ordering::SeqCst));
+        let count = since(self.told.swap(dropped, Ordering::SeqCst), dropped);
         if count != 0 {
-            error!(log; "event=ledger-dropped count={count}");
+            tell(log, Level::Error, &LedgerLine::Dropped(count));
         }
     }
 
@@ -169,12 +169,23 @@ impl LedgerState {
         self.tell(log);
         let count = self.reading(0).waiting;
         if count != 0 {
-            error!(log; "event=ledger-left count={count}");
+            tell(log, Level::Error, &LedgerLine::Left(count));
         }
+    }
+}
+
+/// Returns how long ago the oldest entry that waits was handed over, in milliseconds; 0 if none waits.
+fn age_of(oldest: u64, now: u64) -> u64
+    ensures { result ≡ oldest_age oldest now }
+{
+    if oldest == 0 {
+        0
+    } else {
+        now.saturating_sub(oldest)
     }
 }
 
 /// Logs that the ledger is not written, and why.
 pub fn log_ledger_fault<L: Log>(log: &L, fault: LedgerFault) {
-    error!(log; "event=ledger-fault reason=\"{fault}\"");
+    tell(log, Level::Error, &LedgerLine::Fault(fault));
 }

@@ -9,8 +9,9 @@
 //! The contract to read first is that of [`EventKind::of`]: it says as which kind a note is counted. No contract says
 //! what is behind a lock or in an atomic, such as a count; tests check that. The definitions that the contracts cite
 //! are in specs: `EventKinds` has the kinds and the metrics, `Workers` the names of the workers, `DeltaLines` and
-//! `MetricLines` the texts of sums and of counters, `WatchLines` the text of a home server that is marked up, and
-//! `FileFaults` the reasons for which the file of the counters is not replaced.
+//! `MetricLines` the texts of sums and of counters, `WatchLines` the text of a home server that is marked up,
+//! `FileFaults` the reasons for which the file of the counters is not replaced, `LedgerFaults` those for which the
+//! ledger is not written, and `LedgerLines` the log lines of the ledger.
 //!
 //! This is the only crate that uses `log`. It exports the items of `log` that the program needs.
 #![tactic(auto)]
@@ -27,6 +28,7 @@ mod last_datagram;
 mod last_peers;
 mod last_realm;
 mod ledger_fault;
+mod ledger_lines;
 mod ledger_state;
 mod levels;
 mod line_queue;

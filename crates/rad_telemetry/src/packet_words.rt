@@ -24,13 +24,13 @@ pub struct PacketWords<'a> {
 #[derive(Clone, Copy)]
 pub struct DatagramWords<'a>(pub &'a [u8]);
 
-/// An Acct-Session-Id, with a space before it.
+/// An Acct-Session-Id, with a space before it, if there is one.
 #[derive(Clone, Copy)]
-pub struct SessionWord<'a>(pub &'a [u8]);
+pub struct SessionWord<'a>(pub Option<&'a [u8]>);
 
-/// A realm, with a space before it.
+/// A realm, with a space before it, if there is one.
 #[derive(Clone, Copy)]
-pub struct RealmWord<'a>(pub &'a [u8]);
+pub struct RealmWord<'a>(pub Option<&'a [u8]>);
 
 /// The octets of a text as a log line has them. Printable ASCII is unchanged, except for spaces, `%`, `"` and `=`.
 /// These and all other octets are written as `%` and two hexadecimal digits.
@@ -57,31 +57,34 @@ impl<'a> PacketWords<'a> {
 impl fmt::Display for PacketWords<'_> {
     fn fmt<W: fmt::Write>(&self, f: &mut fmt::Formatter<W>) -> fmt::Result {
         let identifier = self.identifier;
-        write!(f, " identifier={identifier}")?;
-        if let Some(session) = self.session {
-            let session = SessionWord(session);
-            write!(f, "{session}")?;
-        }
-        if let Some(realm) = self.realm {
-            let realm = RealmWord(realm);
-            write!(f, "{realm}")?;
-        }
-        Ok(())
+        let session = SessionWord(self.session);
+        let realm = RealmWord(self.realm);
+        write!(f, " identifier={identifier}{session}{realm}")
     }
 }
 
 impl fmt::Display for SessionWord<'_> {
     fn fmt<W: fmt::Write>(&self, f: &mut fmt::Formatter<W>) -> fmt::Result {
-        let session = Escaped(self.0);
-        write!(f, " session={session}")
+        match self.0 {
+            Some(session) => write_word(f, "session", session),
+            None => Ok(()),
+        }
     }
 }
 
 impl fmt::Display for RealmWord<'_> {
     fn fmt<W: fmt::Write>(&self, f: &mut fmt::Formatter<W>) -> fmt::Result {
-        let realm = Escaped(self.0);
-        write!(f, " realm={realm}")
+        match self.0 {
+            Some(realm) => write_word(f, "realm", realm),
+            None => Ok(()),
+        }
     }
+}
+
+/// Writes a key and its value, with a space before them.
+fn write_word<W: fmt::Write>(f: &mut fmt::Formatter<W>, key: &str, value: &[u8]) -> fmt::Result {
+    let value = Escaped(value);
+    write!(f, " {key}={value}")
 }
 
 impl fmt::Display for DatagramWords<'_> {

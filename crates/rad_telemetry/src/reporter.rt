@@ -9,12 +9,13 @@ use crate::event_kind::{EVENT_KINDS, EventKind};
 use crate::last_realm::LastRealm;
 use crate::ledger_state::LedgerState;
 use crate::metric::{METRICS, Metric};
-use crate::metric_lines::{CounterLine, HelpLine, Labels, TypeLine};
+use crate::metric_lines::{CounterLine, HelpLine, Labels, Side, TypeLine};
 use crate::stop_flag::StopFlag;
+use crate::telling::tell;
 use crate::workers::{worker_name, worker_of_lane};
-use log::{Log, info, warn};
+use log::{Level, Log};
 use rad_desk::Worker;
-use rad_metrics::{Draft, Numbers, UdpSockets, write_ledger};
+use rad_metrics::{Draft, LedgerReading, Numbers, UdpSockets, write_ledger};
 use rad_realms::{Config, Dropped};
 use std::alloc::{AllocError, Global};
 use std::io::{self, Write};
@@ -164,73 +165,38 @@ impl<L: Log, R> Reporter<'_, L, R> {
     /// Writes the counters of a metric: the front's, then those of the lanes in order.
     fn write_metric<W: Write>(&self, writer: &mut W, metric: Metric) -> io::Result<()> {
         write_head(writer, metric)?;
-        self.write_front(writer, metric)?;
+        self.write_side(writer, metric, Side::Clients)?;
         for (lane, home) in self.config.homes().iter().enumerate() {
-            self.write_lane(writer, metric, lane, home.name())?;
+            self.write_side(writer, metric, Side::Home(lane, home.name()))?;
         }
         Ok(())
     }
 
-    /// Writes the front's counters of a metric, if it has any.
-    fn write_front<W: Write>(&self, writer: &mut W, metric: Metric) -> io::Result<()> {
-        for kind in EVENT_KINDS {
-            if kind.metric() == metric {
-                self.write_front_kind(writer, metric, kind)?;
-            }
-        }
-        Ok(())
-    }
-
-    /// Writes the front's counter of one kind of a metric, if it has one.
-    fn write_front_kind<W: Write>(
+    /// Writes the counters of a metric that a side has.
+    fn write_side<W: Write>(
         &self,
         writer: &mut W,
         metric: Metric,
-        kind: EventKind,
-    ) -> io::Result<()> {
-        match metric {
-            Metric::Dropped | Metric::Refused => {
-                self.write_counter(writer, Worker::Front, kind, Labels::Reason(kind))
-            }
-            Metric::SendFault | Metric::ReceiveFault => {
-                self.write_counter(writer, Worker::Front, kind, Labels::Clients)
-            }
-            _ => Ok(()),
-        }
-    }
-
-    /// Writes a lane's counters of a metric, if it has any.
-    fn write_lane<W: Write>(
-        &self,
-        writer: &mut W,
-        metric: Metric,
-        lane: usize,
-        home: &str,
+        side: Side<'_>,
     ) -> io::Result<()> {
         for kind in EVENT_KINDS {
             if kind.metric() == metric {
-                self.write_lane_kind(writer, metric, kind, lane, home)?;
+                self.write_kind(writer, side, kind)?;
             }
         }
         Ok(())
     }
 
-    /// Writes a lane's counter of one kind of a metric, if it has one.
-    fn write_lane_kind<W: Write>(
+    /// Writes the counter of a kind, if the side has one.
+    fn write_kind<W: Write>(
         &self,
         writer: &mut W,
-        metric: Metric,
+        side: Side<'_>,
         kind: EventKind,
-        lane: usize,
-        home: &str,
     ) -> io::Result<()> {
-        let worker = worker_of_lane(lane);
-        match metric {
-            Metric::Dropped | Metric::Refused => Ok(()),
-            Metric::Unheard => {
-                self.write_counter(writer, worker, kind, Labels::HomeReason(lane, home, kind))
-            }
-            _ => self.write_counter(writer, worker, kind, Labels::Home(lane, home)),
+        match side.labels(kind) {
+            Some(labels) => self.write_counter(writer, side.worker(), kind, labels),
+            None => Ok(()),
         }
     }
 
@@ -264,15 +230,18 @@ impl<L: Log, R: Clock> Reporter<'_, L, R> {
         }
     }
 
+    /// Returns the counts of the ledger, if there is one.
+    fn ledger_reading(&self) -> Option<LedgerReading> {
+        let ledger = self.ledger?;
+        Some(ledger.reading(self.numbers.now()))
+    }
+
     /// Writes all counters, then all numbers of the clients, the home servers and the sockets, and then those of the
     /// ledger, if there is one.
     fn write_all(&self, draft: &mut Draft) -> io::Result<()> {
         self.write(draft.begin())?;
         draft.finish(self.config, self.numbers)?;
-        match self.ledger {
-            Some(ledger) => write_ledger(draft.text(), &ledger.reading(self.numbers.now())),
-            None => Ok(()),
-        }
+        write_ledger(draft.text(), self.ledger_reading())
     }
 }
 
@@ -286,23 +255,23 @@ fn write_head<W: Write>(writer: &mut W, metric: Metric) -> io::Result<()> {
 
 fn log_dropped<L: Log>(log: &L, kind: EventKind, delta: Delta) {
     let line = ClientDelta::new(kind, delta);
-    info!(log; "{line}");
+    tell(log, Level::Info, &line);
 }
 
 fn log_no_realm<L: Log>(log: &L, kind: EventKind, delta: Delta, realm: &LastRealm) {
     let line = ClientDelta::new(kind, delta);
-    info!(log; "{line}{realm}");
+    tell(log, Level::Info, &format_args!("{line}{realm}"));
 }
 
 fn log_refused<L: Log>(log: &L, kind: EventKind, delta: Delta) {
     let line = ClientDelta::new(kind, delta);
-    warn!(log; "{line}");
+    tell(log, Level::Warn, &line);
 }
 
 fn log_unheard<L: Log>(log: &L, home: &str, kind: EventKind, delta: Delta) {
     let count = delta.count;
     let line = HomeDelta { kind, home, count };
-    info!(log; "{line}");
+    tell(log, Level::Info, &line);
 }
 
 fn log_faults<L: Log>(log: &L, worker: &str, kind: EventKind, delta: Delta) {
@@ -312,13 +281,13 @@ fn log_faults<L: Log>(log: &L, worker: &str, kind: EventKind, delta: Delta) {
         worker,
         count,
     };
-    warn!(log; "{line}");
+    tell(log, Level::Warn, &line);
 }
 
 fn log_cut<L: Log>(log: &L, home: &str, delta: Delta) {
     let count = delta.count;
     let line = CutDelta { home, count };
-    info!(log; "{line}");
+    tell(log, Level::Info, &line);
 }
 
 /// Logs requests that this proxy or one like it sent before. Behind one other proxy a request has one Proxy-State of
@@ -330,9 +299,10 @@ fn log_marked<L: Log>(log: &L, home: &str, delta: Delta) {
         most: delta.most_marks,
         client: delta.last,
     };
-    if delta.most_marks > 1 {
-        warn!(log; "{line}");
+    let level = if delta.most_marks > 1 {
+        Level::Warn
     } else {
-        info!(log; "{line}");
-    }
+        Level::Info
+    };
+    tell(log, level, &line);
 }

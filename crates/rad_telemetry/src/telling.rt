@@ -3,19 +3,24 @@
 use crate::error_lines::{ErrorLines, open_log};
 use crate::levels::names_level;
 use libc::{STDERR_FILENO, isatty};
-use log::{LevelFilter, Log, Logged, error, warn};
+use log::{Level, LevelFilter, Log, Logged, log};
 use std::alloc::{AllocError, Global};
 use std::env::Env;
 use std::fmt::{self, Display};
 
+/// Logs a text at a level. All lines are logged here, so that what a macro of `log` writes is proved once.
+pub(crate) fn tell<L: Log, D: Display>(log: &L, level: Level, text: &D) {
+    log!(log; level, "{text}");
+}
+
 /// Logs a text at `error`.
 pub fn tell_error<L: Log, D: Display>(log: &L, text: &D) {
-    error!(log; "{text}");
+    tell(log, Level::Error, text);
 }
 
 /// Logs a text at `warn`.
 pub fn tell_warning<L: Log, D: Display>(log: &L, text: &D) {
-    warn!(log; "{text}");
+    tell(log, Level::Warn, text);
 }
 
 /// Opens the log as [`open_log`] does, if standard error is a terminal or the environment has `RAD_PROXY_LOG`.

@@ -24,18 +24,25 @@ pub struct UpLine<'a> {
     pub reason: UpReason,
 }
 
+impl<'a> DownLine<'a> {
+    /// Returns the session of the request, if it has one.
+    fn session(&self) -> Option<&'a [u8]> {
+        let session = self.spent.session.as_ref()?;
+        Some(session.octets())
+    }
+}
+
 impl fmt::Display for DownLine<'_> {
     fn fmt<W: fmt::Write>(&self, f: &mut fmt::Formatter<W>) -> fmt::Result {
         let home = self.home;
         let number = self.spent.number;
         let client = ClientText(self.spent.client);
-        write!(f, "event=down home={home} number={number} {client}")?;
-        if let Some(session) = &self.spent.session {
-            let session = SessionWord(session.octets());
-            write!(f, "{session}")?;
-        }
+        let session = SessionWord(self.session());
         let age = self.spent.age;
-        write!(f, " age={age}")
+        write!(
+            f,
+            "event=down home={home} number={number} {client}{session} age={age}"
+        )
     }
 }
 

@@ -12,3 +12,8 @@ pub fn same<T: PartialEq + Debug + Copy>(rt: &impl Abort, given: T, wanted: T) {
 pub fn holds(rt: &impl Abort, is_right: bool) {
     assert!(rt; is_right);
 }
+
+/// Ends the test unless `is_right` is true, with the name of the case that is wrong.
+pub fn holds_of(rt: &impl Abort, case: &str, is_right: bool) {
+    assert!(rt; is_right, "{case}");
+}

@@ -7,6 +7,8 @@ mod comparing;
 #[cfg(test)]
 mod counting;
 #[cfg(test)]
+mod ledgers;
+#[cfg(test)]
 mod levels;
 #[cfg(test)]
 mod logging;
@@ -20,6 +22,8 @@ mod packets;
 mod reporting;
 #[cfg(test)]
 mod shared;
+#[cfg(test)]
+mod stories;
 #[cfg(test)]
 mod summing;
 #[cfg(test)]

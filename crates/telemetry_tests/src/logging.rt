@@ -1,14 +1,14 @@
-//! Tests of what no clause says of the log: the line of each note and its level, and what it has of the datagram that
-//! the note is about.
+//! The lines of notes and events, with what they have of the datagram that the note is about, and a test of what is
+//! escaped in them.
 
 use crate::comparing::holds;
 use crate::packets::SHORT;
-use crate::shared::{HOME, MemoryLog, NAS, Still, Story, logs};
+use crate::shared::{HOME, MemoryLog, NAS, Still};
 use rad_desk::{DeskFault, Gate, Note, Session, Spent, UpReason, Worker};
 use rad_lane::{HearFault, Refusal};
 use rad_packet::read;
 use rad_realms::Dropped;
-use rad_telemetry::{LevelFilter, PacketWords, Telemetry};
+use rad_telemetry::{PacketWords, Telemetry};
 use std::result::Result;
 use std::test::Fail;
 use test_octets::homes::NAME_ONLY_REPLY;
@@ -16,7 +16,7 @@ use test_octets::nas::{NAME_ONLY_REQUEST, SEVENTH};
 
 /// The lines of the datagrams that a lane's worker received, and of its notes about them. The worker of `h1` received
 /// nothing.
-const NOTES_OF_LANES: &str =
+pub const NOTES_OF_LANES: &str =
     "event=came worker=h2 address=127.0.0.1 port=2814 code=5 length=32 identifier=0\n\
     event=unheard home=h2 identifier=0 reason=\"Unknown\"\n\
     event=came worker=h2 address=10.0.0.1 port=40000 code=5 length=32 identifier=0\n\
@@ -24,7 +24,7 @@ const NOTES_OF_LANES: &str =
     event=unheard home=h1 reason=\"RingFull\"\n";
 
 /// The lines of the datagrams that the front received, and of its notes about them.
-const NOTES_OF_THE_FRONT: &str =
+pub const NOTES_OF_THE_FRONT: &str =
     "event=came worker=front address=10.0.0.1 port=40000 code=4 length=47 identifier=7 session=S1 realm=example.org\n\
     event=accepted home=h1 number=3 identifier=7 session=S1 realm=example.org\n\
     event=refused client=10.0.0.1 client_port=40000 identifier=7 session=S1 realm=example.org reason=\"BookFull\"\n\
@@ -32,7 +32,7 @@ const NOTES_OF_THE_FRONT: &str =
     event=went worker=front address=10.0.0.1 port=40000 code=4 length=37 identifier=9 realm=example.net\n";
 
 /// The lines of the events that are not about a received datagram.
-const EVENTS: &str = "event=stopped worker=h1 reason=\"ended by itself\"\n\
+pub const EVENTS: &str = "event=stopped worker=h1 reason=\"ended by itself\"\n\
     event=down home=h2 number=3 client=10.0.0.1 client_port=40000 session=S%201 age=14000\n\
     event=up home=h2 reason=\"down_wait over\"\n\
     event=cut home=h2 count=3\n\
@@ -43,19 +43,19 @@ const EVENTS: &str = "event=stopped worker=h1 reason=\"ended by itself\"\n\
     event=returned home=h2 serial=5\n";
 
 /// Those of them that are logged at `error`.
-const ERRORS: &str = "event=stopped worker=h1 reason=\"ended by itself\"\n";
+pub const ERRORS: &str = "event=stopped worker=h1 reason=\"ended by itself\"\n";
 
 /// Those that are logged at `warn`.
-const WARNINGS: &str = "event=stopped worker=h1 reason=\"ended by itself\"\n\
+pub const WARNINGS: &str = "event=stopped worker=h1 reason=\"ended by itself\"\n\
     event=down home=h2 number=3 client=10.0.0.1 client_port=40000 session=S%201 age=14000\n";
 
 /// Those that are logged at `info`.
-const INFOS: &str = "event=stopped worker=h1 reason=\"ended by itself\"\n\
+pub const INFOS: &str = "event=stopped worker=h1 reason=\"ended by itself\"\n\
     event=down home=h2 number=3 client=10.0.0.1 client_port=40000 session=S%201 age=14000\n\
     event=up home=h2 reason=\"down_wait over\"\n";
 
 /// Those that are logged at `debug`.
-const DETAILS: &str = "event=stopped worker=h1 reason=\"ended by itself\"\n\
+pub const DETAILS: &str = "event=stopped worker=h1 reason=\"ended by itself\"\n\
     event=down home=h2 number=3 client=10.0.0.1 client_port=40000 session=S%201 age=14000\n\
     event=up home=h2 reason=\"down_wait over\"\n\
     event=cut home=h2 count=3\n\
@@ -79,7 +79,7 @@ fn spent() -> Spent {
 }
 
 /// Reports each event that is not about a received datagram.
-fn tell_events(telemetry: &Telemetry<'_, MemoryLog, Still>) {
+pub fn tell_events(telemetry: &Telemetry<'_, MemoryLog, Still>) {
     telemetry.tell_end(Worker::Lane(0));
     telemetry.note(Worker::Lane(1), Note::WentDown);
     telemetry.went_down(1, &spent());
@@ -94,7 +94,7 @@ fn tell_events(telemetry: &Telemetry<'_, MemoryLog, Still>) {
 }
 
 /// Reports the datagrams that the second lane received, and a full ring of the first lane.
-fn tell_of_lanes(telemetry: &Telemetry<'_, MemoryLog, Still>) {
+pub fn tell_of_lanes(telemetry: &Telemetry<'_, MemoryLog, Still>) {
     let unknown = DeskFault::Lane(HearFault::Unknown);
     telemetry.received(Worker::Lane(1), HOME, &NAME_ONLY_REPLY);
     telemetry.note(Worker::Lane(1), Note::Unheard(unknown));
@@ -104,7 +104,7 @@ fn tell_of_lanes(telemetry: &Telemetry<'_, MemoryLog, Still>) {
 }
 
 /// Reports the datagrams that the front received, and one that it sends.
-fn tell_of_the_front(telemetry: &Telemetry<'_, MemoryLog, Still>) {
+pub fn tell_of_the_front(telemetry: &Telemetry<'_, MemoryLog, Still>) {
     telemetry.received(Worker::Front, NAS, &SEVENTH);
     telemetry.accepted(0, 3);
     telemetry.note(Worker::Front, Note::Refused(Refusal::BookFull));
@@ -112,76 +112,10 @@ fn tell_of_the_front(telemetry: &Telemetry<'_, MemoryLog, Still>) {
     telemetry.sends(Worker::Front, NAS, &NAME_ONLY_REQUEST);
 }
 
-/// What the tests report.
-#[derive(Clone, Copy)]
-enum Told {
-    Lanes,
-    Front,
-    Events,
-    /// A drop, and the datagram that is dropped.
-    Drop,
-}
-
-impl Story for Told {
-    fn tell<'x>(&'x self, telemetry: &'x Telemetry<'_, MemoryLog, Still>) {
-        match self {
-            Told::Lanes => tell_of_lanes(telemetry),
-            Told::Front => tell_of_the_front(telemetry),
-            Told::Events => tell_events(telemetry),
-            Told::Drop => tell_of_a_drop(telemetry),
-        }
-    }
-}
-
 /// Reports a datagram that the front dropped.
-fn tell_of_a_drop(telemetry: &Telemetry<'_, MemoryLog, Still>) {
+pub fn tell_of_a_drop(telemetry: &Telemetry<'_, MemoryLog, Still>) {
     telemetry.received(Worker::Front, NAS, &SEVENTH);
     telemetry.note(Worker::Front, Note::Dropped(Dropped::NoRealm));
-}
-
-#[test]
-fn each_note_tells_of_what_its_lane_received(rt: HostRuntime) -> Result<(), Fail> {
-    let trace = LevelFilter::Trace;
-    holds(&rt, logs(rt.alloc(), trace, &Told::Lanes, NOTES_OF_LANES)?);
-    Ok(())
-}
-
-#[test]
-fn each_note_tells_of_what_the_front_received(rt: HostRuntime) -> Result<(), Fail> {
-    let trace = LevelFilter::Trace;
-    holds(
-        &rt,
-        logs(rt.alloc(), trace, &Told::Front, NOTES_OF_THE_FRONT)?,
-    );
-    Ok(())
-}
-
-#[test]
-fn each_event_has_its_line(rt: HostRuntime) -> Result<(), Fail> {
-    let trace = LevelFilter::Trace;
-    holds(&rt, logs(rt.alloc(), trace, &Told::Events, EVENTS)?);
-    Ok(())
-}
-
-#[test]
-fn each_event_has_its_level(rt: HostRuntime) -> Result<(), Fail> {
-    for (level, expected) in [
-        (LevelFilter::Off, ""),
-        (LevelFilter::Error, ERRORS),
-        (LevelFilter::Warn, WARNINGS),
-        (LevelFilter::Info, INFOS),
-        (LevelFilter::Debug, DETAILS),
-    ] {
-        let is_right = logs(rt.alloc(), level, &Told::Events, expected)?;
-        assert!(rt; is_right, "{level:?}");
-    }
-    Ok(())
-}
-
-#[test]
-fn nothing_of_a_datagram_is_kept_above_debug(rt: HostRuntime) -> Result<(), Fail> {
-    holds(&rt, logs(rt.alloc(), LevelFilter::Info, &Told::Drop, "")?);
-    Ok(())
 }
 
 #[test]

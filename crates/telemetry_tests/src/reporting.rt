@@ -1,14 +1,15 @@
 //! Tests of what no clause says of a report: the text of the counters, how it gets into its file, and the lines of
 //! sums.
 
-use crate::comparing::holds;
+use crate::comparing::{holds, holds_of};
+use crate::ledgers::five_entries;
 use crate::shared::{HOME, MemoryLog, NAS, Setup, Still, Story, TWO_HOMES, logs};
 use rad_desk::{Gate, Note, Worker};
 use rad_lane::Refusal;
 use rad_metrics::{Draft, UdpSockets};
 use rad_realms::{Dropped, Endpoint};
 use rad_telemetry::{
-    CounterFile, CounterTexts, FileFault, LevelFilter, ReplaceFile, Reporter, Telemetry,
+    CounterFile, CounterTexts, FileFault, LedgerState, LevelFilter, ReplaceFile, Telemetry,
 };
 use std::alloc::Global;
 use std::result::Result;
@@ -30,9 +31,9 @@ impl Memory {
         }
     }
 
-    fn begins_with(&self, expected: &str) -> bool {
+    fn has(&self, start: &str, end: &str) -> bool {
         match self.given.try_lock() {
-            Some(given) => given.starts_with(expected.as_bytes()),
+            Some(given) => given.starts_with(start.as_bytes()) && given.ends_with(end.as_bytes()),
             None => false,
         }
     }
@@ -98,14 +99,97 @@ const TAIL: &str = "# HELP rad_proxy_send_faults_total Sends that failed.\n\
     rad_proxy_marked_total{lane=\"0\",home=\"h1\"} 1\n\
     rad_proxy_marked_total{lane=\"1\",home=\"h2\"} 0\n";
 
-/// What the file of the counters is given if nothing was counted yet.
-const GIVEN: &str =
+/// How the file of the counters begins if nothing was counted yet.
+const START: &str =
     "some/file # HELP rad_proxy_dropped_total Datagrams at the clients' sockets that were dropped.\n\
     # TYPE rad_proxy_dropped_total counter\n\
     rad_proxy_dropped_total{reason=\"UnknownClient\"} 0\n";
 
+/// How it ends if there are no sockets and no ledger.
+const END: &str =
+    "# HELP rad_proxy_socket_drops_total Datagrams that the system dropped because the socket's receive buffer was full.\n\
+    # TYPE rad_proxy_socket_drops_total counter\n";
+
+/// How it ends if there is a ledger of which two entries were written and three wait, the oldest since 567 milliseconds,
+/// and one was dropped.
+const END_OF_A_LEDGER: &str = "# TYPE rad_proxy_socket_drops_total counter\n\
+    # HELP rad_proxy_ledger_written_total Entries that were written to the ledger.\n\
+    # TYPE rad_proxy_ledger_written_total counter\n\
+    rad_proxy_ledger_written_total 2\n\
+    # HELP rad_proxy_ledger_waiting Entries that wait to be written to the ledger.\n\
+    # TYPE rad_proxy_ledger_waiting gauge\n\
+    rad_proxy_ledger_waiting 3\n\
+    # HELP rad_proxy_ledger_dropped_total Entries that are missing from the ledger because too many waited.\n\
+    # TYPE rad_proxy_ledger_dropped_total counter\n\
+    rad_proxy_ledger_dropped_total 1\n\
+    # HELP rad_proxy_ledger_oldest_waiting_seconds The age of the oldest entry that waits.\n\
+    # TYPE rad_proxy_ledger_oldest_waiting_seconds gauge\n\
+    rad_proxy_ledger_oldest_waiting_seconds 0.567\n";
+
+/// Texts that are left, and what becomes of them.
+#[derive(Clone, Copy)]
+struct Case {
+    name: &'static str,
+    /// With what each write to the file fails, if it does.
+    fault: Option<FileFault>,
+    /// How many texts are written, each as the last one.
+    written: u32,
+    /// How many are left after that, which nobody takes.
+    untaken: u32,
+    has_ledger: bool,
+    /// How the file begins and ends then.
+    start: &'static str,
+    end: &'static str,
+    /// The lines that are logged.
+    lines: &'static str,
+}
+
+const CASES: [Case; 4] = [
+    Case {
+        name: "a file is replaced",
+        fault: None,
+        written: 1,
+        untaken: 1,
+        has_ledger: false,
+        start: START,
+        end: END,
+        lines: "",
+    },
+    Case {
+        name: "the numbers of a ledger are written",
+        fault: None,
+        written: 1,
+        untaken: 0,
+        has_ledger: true,
+        start: START,
+        end: END_OF_A_LEDGER,
+        lines: "",
+    },
+    Case {
+        name: "a file that is not replaced is logged once",
+        fault: Some(FileFault::NotRegular),
+        written: 3,
+        untaken: 0,
+        has_ledger: false,
+        start: "",
+        end: "",
+        lines: "event=counters-fault reason=\"no regular file\"\n",
+    },
+    Case {
+        name: "a text that is not taken is logged",
+        fault: None,
+        written: 0,
+        untaken: 4,
+        has_ledger: false,
+        start: "",
+        end: "",
+        lines: "event=counters-fault reason=\"takes longer than a second\"\n",
+    },
+];
+
 /// The sums of what each worker noted.
-const SUMS: &str = "event=dropped reason=\"NoRealm\" count=2 client=10.0.0.1 client_port=40000\n\
+pub const SUMS: &str =
+    "event=dropped reason=\"NoRealm\" count=2 client=10.0.0.1 client_port=40000\n\
     event=refused reason=\"BookFull\" count=1 client=10.0.0.1 client_port=40000\n\
     event=send-fault worker=front count=1\n\
     event=unheard home=h2 reason=\"NotHome\" count=1\n\
@@ -146,15 +230,10 @@ fn tell_sums(telemetry: &Telemetry<'_, MemoryLog, Still>) {
 }
 
 /// Reports what is summed up above, and logs the sums twice.
-#[derive(Clone, Copy)]
-struct Sums;
-
-impl Story for Sums {
-    fn tell<'x>(&'x self, telemetry: &'x Telemetry<'_, MemoryLog, Still>) {
-        tell_sums(telemetry);
-        for _ in 0..2 {
-            telemetry.reporter(None).log_deltas();
-        }
+pub fn tell_sums_twice(telemetry: &Telemetry<'_, MemoryLog, Still>) {
+    tell_sums(telemetry);
+    for _ in 0..2 {
+        telemetry.reporter(None).log_deltas();
     }
 }
 
@@ -178,10 +257,8 @@ struct Texts<'a, R> {
     texts: CounterTexts,
     file: CounterFile,
     memory: &'a Memory,
-    /// How many of them are written, each as the last one.
-    written: u32,
-    /// How many are left after that, which nobody takes.
-    untaken: u32,
+    ledger: Option<&'a LedgerState>,
+    case: &'a Case,
 }
 
 /// A machine that lists no UDP socket.
@@ -194,9 +271,16 @@ impl UdpSockets for NoSockets {
 }
 
 impl<R: Wait> Texts<'_, R> {
-    /// Leaves a text, and writes it as the last one.
-    fn write_last(&self, reporter: Reporter<'_, MemoryLog, Still>) {
-        reporter.leave_text(self.rt, &NoSockets, &mut Draft::new(self.alloc));
+    /// Leaves a text.
+    fn leave(&self, telemetry: &Telemetry<'_, MemoryLog, Still>, draft: &mut Draft) {
+        telemetry
+            .reporter(Some(&self.texts))
+            .with_ledger(self.ledger)
+            .leave_text(self.rt, &NoSockets, draft);
+    }
+
+    /// Writes the last text.
+    fn write_last(&self) {
         self.texts.end();
         self.texts
             .write_all(self.rt, self.alloc, &self.file, self.memory);
@@ -205,40 +289,36 @@ impl<R: Wait> Texts<'_, R> {
 
 impl<R: Wait> Story for Texts<'_, R> {
     fn tell<'x>(&'x self, telemetry: &'x Telemetry<'_, MemoryLog, Still>) {
-        for _ in 0..self.written {
-            self.write_last(telemetry.reporter(Some(&self.texts)));
-        }
         let mut draft = Draft::new(self.alloc);
-        for _ in 0..self.untaken {
-            telemetry
-                .reporter(Some(&self.texts))
-                .leave_text(self.rt, &NoSockets, &mut draft);
+        for _ in 0..self.case.written {
+            self.leave(telemetry, &mut draft);
+            self.write_last();
+        }
+        for _ in 0..self.case.untaken {
+            self.leave(telemetry, &mut draft);
         }
     }
 }
 
-/// Returns whether a file is given a text that begins like this, and exactly these lines are logged, if `written`
-/// texts are written and then `untaken` more are left. If there is a `fault`, each write to the file fails with it.
-fn gives<R: Wait>(
+/// Returns whether the file and the log are as the case has them.
+fn is_right<R: Wait>(
     rt: &R,
     alloc: Global,
-    fault: Option<FileFault>,
-    (written, untaken): (u32, u32),
-    given: &str,
-    expected: &str,
+    case: &Case,
+    ledger: &LedgerState,
 ) -> Result<bool, Fail> {
-    let memory = Memory::new(alloc, fault);
+    let memory = Memory::new(alloc, case.fault);
     let story = Texts {
         rt,
         alloc,
         texts: CounterTexts::new(alloc),
         file: CounterFile::new(String::from_str(alloc, "some/file")?),
         memory: &memory,
-        written,
-        untaken,
+        ledger: case.has_ledger.then_some(ledger),
+        case,
     };
-    let is_logged = logs(alloc, LevelFilter::Warn, &story, expected)?;
-    Ok(is_logged && memory.begins_with(given))
+    let is_logged = logs(alloc, LevelFilter::Warn, &story, case.lines)?;
+    Ok(is_logged && memory.has(case.start, case.end))
 }
 
 #[test]
@@ -253,29 +333,12 @@ fn counters_are_written(rt: HostRuntime) -> Result<(), Fail> {
 }
 
 #[test]
-fn a_file_is_replaced(rt: HostRuntime) -> Result<(), Fail> {
-    let is_right = gives(&rt, rt.alloc(), None, (1, 1), GIVEN, "")?;
-    holds(&rt, is_right);
-    Ok(())
-}
-
-#[test]
-fn a_file_that_is_not_replaced_is_logged_once(rt: HostRuntime) -> Result<(), Fail> {
-    let fault = Some(FileFault::NotRegular);
-    let expected = "event=counters-fault reason=\"no regular file\"\n";
-    holds(&rt, gives(&rt, rt.alloc(), fault, (3, 0), "", expected)?);
-    Ok(())
-}
-
-#[test]
-fn a_text_that_is_not_taken_is_logged(rt: HostRuntime) -> Result<(), Fail> {
-    let expected = "event=counters-fault reason=\"takes longer than a second\"\n";
-    holds(&rt, gives(&rt, rt.alloc(), None, (0, 4), "", expected)?);
-    Ok(())
-}
-
-#[test]
-fn sums_are_logged_once(rt: HostRuntime) -> Result<(), Fail> {
-    holds(&rt, logs(rt.alloc(), LevelFilter::Info, &Sums, SUMS)?);
+fn texts_are_left_and_written(rt: HostRuntime) -> Result<(), Fail> {
+    let ledger = five_entries();
+    ledger.set_oldest(Some(1_234_000));
+    for case in &CASES {
+        let is_right = is_right(&rt, rt.alloc(), case, &ledger)?;
+        holds_of(&rt, case.name, is_right);
+    }
     Ok(())
 }

@@ -95,6 +95,11 @@ impl Setup {
         &self.config
     }
 
+    /// Returns the log.
+    pub fn log(&self) -> &MemoryLog {
+        &self.log
+    }
+
     /// Returns whether exactly these lines were logged.
     pub fn has_logged(&self, expected: &str) -> bool {
         self.log.sink().is(expected)

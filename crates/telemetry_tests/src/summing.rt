@@ -1,13 +1,10 @@
-//! Tests of what no clause says of sums: which realm a sum of drops names, what the sum of cuts counts, and how many
-//! Proxy-States a loop makes.
+//! The lines of sums: which realm a sum of drops names, what the sum of cuts counts, and how many Proxy-States a loop
+//! makes.
 
-use crate::comparing::holds;
-use crate::shared::{MemoryLog, NAS, Still, Story, logs};
+use crate::shared::{MemoryLog, NAS, Still};
 use rad_desk::{Gate, Note, Worker};
 use rad_realms::{Dropped, Endpoint};
-use rad_telemetry::{LevelFilter, Telemetry};
-use std::result::Result;
-use std::test::Fail;
+use rad_telemetry::Telemetry;
 use test_octets::nas::{NAME_ONLY_REQUEST, SEVENTH};
 
 /// The endpoint of another proxy like this one.
@@ -28,22 +25,24 @@ const ODD_REALM: [u8; 28] = [
 ];
 
 /// The sums of drops, one for each call of [`log_deltas`].
-const DROPS: &str =
+pub const DROPS: &str =
     "event=dropped reason=\"NoRealm\" count=2 client=10.0.0.1 client_port=40000 realm=example.net\n\
     event=dropped reason=\"NoRealm\" count=1 client=10.0.0.1 client_port=40000 realm=%20%22%0a%ff\n\
     event=dropped reason=\"NoRealm\" count=1 client=10.0.0.1 client_port=40000\n\
     event=dropped reason=\"WrongCode\" count=1 client=10.0.0.1 client_port=40000\n";
 
 /// The sum of two cuts.
-const CUTS: &str = "event=cut home=h2 count=8\n";
+pub const CUTS: &str = "event=cut home=h2 count=8\n";
 
 /// The sums of requests of another proxy, and of a loop.
-const MARKS: &str = "event=marked home=h1 count=2 proxy_states=1 client=10.0.0.2 client_port=1813\n\
+pub const MARKS: &str =
+    "event=marked home=h1 count=2 proxy_states=1 client=10.0.0.2 client_port=1813\n\
     event=marked home=h1 count=2 proxy_states=7 client=10.0.0.2 client_port=1813\n\
     event=marked home=h1 count=1 proxy_states=2 client=10.0.0.1 client_port=40000\n";
 
 /// Those of them that are logged at `warn`.
-const LOOPS: &str = "event=marked home=h1 count=2 proxy_states=7 client=10.0.0.2 client_port=1813\n\
+pub const LOOPS: &str =
+    "event=marked home=h1 count=2 proxy_states=7 client=10.0.0.2 client_port=1813\n\
     event=marked home=h1 count=1 proxy_states=2 client=10.0.0.1 client_port=40000\n";
 
 /// Reports a packet that is dropped for its realm.
@@ -59,7 +58,7 @@ fn log_deltas(telemetry: &Telemetry<'_, MemoryLog, Still>) {
 }
 
 /// Reports drops, and logs their sums one after the other.
-fn tell_drops(telemetry: &Telemetry<'_, MemoryLog, Still>) {
+pub fn tell_drops(telemetry: &Telemetry<'_, MemoryLog, Still>) {
     drop_for_its_realm(telemetry, &SEVENTH);
     drop_for_its_realm(telemetry, &NAME_ONLY_REQUEST);
     log_deltas(telemetry);
@@ -72,7 +71,7 @@ fn tell_drops(telemetry: &Telemetry<'_, MemoryLog, Still>) {
 }
 
 /// Reports requests with different numbers of Proxy-States of this proxy's form, and logs their sums.
-fn tell_marks(telemetry: &Telemetry<'_, MemoryLog, Still>) {
+pub fn tell_marks(telemetry: &Telemetry<'_, MemoryLog, Still>) {
     telemetry.came_marked(0, NAS, 1);
     telemetry.came_marked(0, OTHER_PROXY, 1);
     log_deltas(telemetry);
@@ -84,51 +83,9 @@ fn tell_marks(telemetry: &Telemetry<'_, MemoryLog, Still>) {
 }
 
 /// Reports two cuts, and logs their sum.
-fn tell_cuts(telemetry: &Telemetry<'_, MemoryLog, Still>) {
+pub fn tell_cuts(telemetry: &Telemetry<'_, MemoryLog, Still>) {
     telemetry.note(Worker::Lane(1), Note::Cut(3));
     telemetry.note(Worker::Lane(1), Note::Cut(5));
     log_deltas(telemetry);
     log_deltas(telemetry);
-}
-
-/// What the tests report.
-#[derive(Clone, Copy)]
-enum Told {
-    Drops,
-    Cuts,
-    Marks,
-}
-
-impl Story for Told {
-    fn tell<'x>(&'x self, telemetry: &'x Telemetry<'_, MemoryLog, Still>) {
-        match self {
-            Told::Drops => tell_drops(telemetry),
-            Told::Cuts => tell_cuts(telemetry),
-            Told::Marks => tell_marks(telemetry),
-        }
-    }
-}
-
-#[test]
-fn the_last_realm_is_named(rt: HostRuntime) -> Result<(), Fail> {
-    holds(
-        &rt,
-        logs(rt.alloc(), LevelFilter::Info, &Told::Drops, DROPS)?,
-    );
-    Ok(())
-}
-
-#[test]
-fn cuts_are_summed_up(rt: HostRuntime) -> Result<(), Fail> {
-    holds(&rt, logs(rt.alloc(), LevelFilter::Info, &Told::Cuts, CUTS)?);
-    Ok(())
-}
-
-#[test]
-fn marks_are_summed_up(rt: HostRuntime) -> Result<(), Fail> {
-    for (level, expected) in [(LevelFilter::Info, MARKS), (LevelFilter::Warn, LOOPS)] {
-        let is_right = logs(rt.alloc(), level, &Told::Marks, expected)?;
-        assert!(rt; is_right, "{level:?}");
-    }
-    Ok(())
 }

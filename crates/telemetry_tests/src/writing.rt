@@ -1,7 +1,7 @@
 //! Tests of what no clause says of the log's lines on their way: which ones find room, and what follows a write that
 //! was cut short.
 
-use crate::comparing::holds;
+use crate::comparing::{holds, holds_of};
 use rad_telemetry::{LineOutput, LineRoom, LineWriter};
 use std::alloc::{AllocError, Global};
 use std::result::Result;
@@ -33,6 +33,43 @@ impl LineOutput for Disk<'_> {
         count
     }
 }
+
+/// How many octets the output accepts in each write, and the text that it has then.
+#[derive(Clone, Copy)]
+struct Case(&'static str, &'static [usize], &'static str);
+
+const CASES: [Case; 6] = [
+    Case(
+        "whole lines are in order",
+        &[],
+        "one\ntwo\none\ntwo\none\ntwo\n",
+    ),
+    Case(
+        "parts of lines are in order",
+        &[1, 2, 3],
+        "one\ntwo\none\ntwo\none\ntwo\n",
+    ),
+    Case(
+        "a part of a line stands alone",
+        &[6, 0],
+        "one\ntw\nlevel=warn event=lines-dropped count=1\none\ntwo\none\ntwo\n",
+    ),
+    Case(
+        "behind a whole line comes no line end",
+        &[4, 0],
+        "one\nlevel=warn event=lines-dropped count=1\none\ntwo\none\ntwo\n",
+    ),
+    Case(
+        "lines are counted until that is told",
+        &[0, 0, 0],
+        "level=warn event=lines-dropped count=4\none\ntwo\n",
+    ),
+    Case(
+        "what is told of them may be cut too",
+        &[0, 5, 0],
+        "level\nlevel=warn event=lines-dropped count=2\none\ntwo\none\ntwo\n",
+    ),
+];
 
 /// Returns a buffer with these lines.
 fn room_of(alloc: Global, size: usize, lines: &[&str]) -> Result<LineRoom, AllocError> {
@@ -78,42 +115,10 @@ fn lines_that_find_no_room_are_counted(rt: HostRuntime) -> Result<(), Fail> {
 }
 
 #[test]
-fn lines_are_written_in_order(rt: HostRuntime) -> Result<(), Fail> {
-    let whole = "one\ntwo\none\ntwo\none\ntwo\n";
-    let is_right = has_written(rt.alloc(), &[], whole)?
-        && has_written(rt.alloc(), &[1, 2, 3], whole)?;
-    holds(&rt, is_right);
-    Ok(())
-}
-
-#[test]
-fn a_part_of_a_line_stands_alone(rt: HostRuntime) -> Result<(), Fail> {
-    let expected = "one\ntw\nlevel=warn event=lines-dropped count=1\none\ntwo\none\ntwo\n";
-    let is_right = has_written(rt.alloc(), &[6, 0], expected)?;
-    holds(&rt, is_right);
-    Ok(())
-}
-
-#[test]
-fn behind_a_whole_line_comes_no_line_end(rt: HostRuntime) -> Result<(), Fail> {
-    let expected = "one\nlevel=warn event=lines-dropped count=1\none\ntwo\none\ntwo\n";
-    let is_right = has_written(rt.alloc(), &[4, 0], expected)?;
-    holds(&rt, is_right);
-    Ok(())
-}
-
-#[test]
-fn lines_are_counted_until_that_is_told(rt: HostRuntime) -> Result<(), Fail> {
-    let expected = "level=warn event=lines-dropped count=4\none\ntwo\n";
-    let is_right = has_written(rt.alloc(), &[0, 0, 0], expected)?;
-    holds(&rt, is_right);
-    Ok(())
-}
-
-#[test]
-fn what_is_told_of_them_may_be_cut_too(rt: HostRuntime) -> Result<(), Fail> {
-    let expected = "level\nlevel=warn event=lines-dropped count=2\none\ntwo\none\ntwo\n";
-    let is_right = has_written(rt.alloc(), &[0, 5, 0], expected)?;
-    holds(&rt, is_right);
+fn lines_are_written(rt: HostRuntime) -> Result<(), Fail> {
+    for case in &CASES {
+        let Case(name, takes, expected) = *case;
+        holds_of(&rt, name, has_written(rt.alloc(), takes, expected)?);
+    }
     Ok(())
 }

@@ -1,0 +1,22 @@
+-- The log lines of the ledger, without their line feeds, and the age of its oldest entry (own).
+use Rattle.std.specs.Prelude.{ℕ, ◌-◌, ◌==◌, if◌then◌else◌, List, ◌++◌, codes, Option, Some, None}
+use Rattle.std.specs.Fmt.{decimal}
+use Rattle.rad_telemetry.specs.LedgerFaults.{fault_text}
+use Rattle.rad_telemetry.specs.declared.ledger_fault.LedgerFault.{LedgerFault}
+use Rattle.rad_telemetry.specs.declared.ledger_lines.LedgerLine.{LedgerLine}
+use Rattle.rad_telemetry.specs.declared.ledger_lines.LedgerLine.TheVariants as line
+
+-- The line of a fault whose text is known.
+abbrev pub fault_line : Option (List ℕ) → Option (List ℕ)
+fault_line None = None
+fault_line (Some text) = Some (codes "event=ledger-fault reason=\"" ++ text ++ codes "\"")
+
+abbrev pub ledger_line : LedgerLine → Option (List ℕ)
+ledger_line (line.Fault fault) = fault_line (fault_text fault)
+ledger_line line.Back = Some (codes "event=ledger-back")
+ledger_line (line.Dropped count) = Some (codes "event=ledger-dropped count=" ++ decimal count)
+ledger_line (line.Left count) = Some (codes "event=ledger-left count=" ++ decimal count)
+
+-- How long ago the oldest entry that waits was handed over; 0 if none waits.
+abbrev pub oldest_age : ℕ → ℕ → ℕ
+oldest_age oldest now = if oldest == 0 then 0 else now - oldest
