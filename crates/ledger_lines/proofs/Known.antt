@@ -10,7 +10,7 @@ use Rattle.json.specs.Json.{Json, Members, object}
 use Rattle.json.specs.Strict.{keys}
 use Rattle.json.specs.Value.{members_view}
 use Rattle.json.specs.declared.value.Value.{Value}
-use Rattle.ledger_lines.specs.Known.{IsAbsent}
+use Rattle.ledger_lines.specs.internal.Known.{IsAbsent}
 use Rattle.ledger_lines.specs.Lines.{HasOnly}
 
 -- ---- one key

@@ -1,3 +1,3 @@
-pub mod Known
 pub mod Lines
 pub mod Written
+pub mod internal

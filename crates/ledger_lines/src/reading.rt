@@ -14,8 +14,8 @@ ghost use Rattle.ledger_lines.specs.Lines.{AreEach, Denies, HasLanes, HasText, I
 use crate::begin::{Begin, End, LaneCount, LaneStart};
 use crate::faults::LineFault;
 use crate::values::{
-    authenticator_at, client_at, has_only, lanes_at, number_at, octet_at,
-    octets_at, read_value, run_at, serial_at, short_at, status_at, text_at, time_at, words_at,
+    authenticator_at, client_at, has_only, lanes_at, number_at, octet_at, octets_at, read_value,
+    run_at, serial_at, short_at, status_at, text_at, time_at, words_at,
 };
 use json::{Scratch, Value};
 use rad_ledger::Entry;

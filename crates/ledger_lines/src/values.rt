@@ -5,7 +5,7 @@ ghost use Rattle.std.specs.List.{All, Contains};
 ghost use Rattle.json.specs.Json.{Items, Json};
 ghost use Rattle.json.specs.Strict.{keys};
 ghost use Rattle.json.specs.Value.{items_view, members_view, value_view};
-ghost use Rattle.ledger_lines.specs.Known.{IsAbsent};
+ghost use Rattle.ledger_lines.specs.internal.Known.{IsAbsent};
 ghost use Rattle.ledger_lines.specs.Lines.{as_items, Denies, HasAuthenticator, HasClient, HasList, HasNumber, HasOctets, HasOnly, HasRun, HasText, HasTime, has_form, IsTime, IsValue, MayHaveNumber, MayHaveWords};
 
 use crate::digits::{fill, octets_of};

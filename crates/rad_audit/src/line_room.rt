@@ -72,7 +72,8 @@ impl LineRoom {
     /// Adds octets of a line, as far as there is room.
     fn keep(&mut self, octets: &[u8]) -> Result<()> {
         let room = (MOST_LINE_OCTETS + 1).saturating_sub(self.octets.len());
-        self.octets.extend_from_slice(&octets[..octets.len().min(room)])?;
+        self.octets
+            .extend_from_slice(&octets[..octets.len().min(room)])?;
         Ok(())
     }
 
