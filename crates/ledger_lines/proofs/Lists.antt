@@ -1,12 +1,9 @@
 -- The list of lanes in a line, value by value.
-use Rattle.std.proofs.Common.{◌≡◌, ℕ, zero, suc, ◌+◌, ◌<◌, ◌≤◌, List, [], ◌∷◌, ◌++◌, length, get_or, take, Option, Some, None, IsTrue, nat_eq, refl, sym, ap, ◌∙◌, subst, arith, codes}
-use Rattle.std.proofs.lemmas.Bool.{eqb-true, eq-eqb}
+use Rattle.std.proofs.Common.{◌≡◌, ℕ, zero, suc, ◌+◌, ◌<◌, ◌≤◌, List, [], ◌∷◌, ◌++◌, length, get_or, take, Some, None, sym, ap, ◌∙◌, subst, arith, codes}
 use Rattle.std.proofs.lemmas.List.{take_more, take_all}
-use Rattle.json.specs.Json.{Json, Items, Members, array, object}
+use Rattle.json.specs.Json.{Json, Items, array}
 use Rattle.json.specs.Find.{get}
-use Rattle.json.specs.Strict.{keys}
-use Rattle.json.specs.Value.{value_view, items_view, members_view}
-use Rattle.std.specs.Borrow.{Bor}
+use Rattle.json.specs.Value.{value_view, items_view}
 use Rattle.json.specs.declared.value.Value.{Value}
 use Rattle.ledger_lines.specs.Lines.{Denies, AreEach, as_items, HasList, HasLanes}
 use Rattle.ledger_lines.specs.declared.faults.LineFault.{LineFault}

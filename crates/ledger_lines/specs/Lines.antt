@@ -1,5 +1,5 @@
 -- Lines of a ledger (own): objects of JSON (RFC 8259), with their keys in any order, each once.
-use Rattle.std.specs.Prelude.{◌≡◌, ℕ, ◌<◌, ◌≤◌, ◌*◌, ◌^◌, ◌+◌, List, [], ◌∷◌, length, get_or, codes, Bool, option_copied, IsTrue, cond, ◌==◌, Option, Some, None, Ok, ◌⊎◌, ⊤}
+use Rattle.std.specs.Prelude.{◌≡◌, ℕ, ◌<◌, ◌≤◌, ◌*◌, ◌^◌, List, [], ◌∷◌, length, get_or, codes, Bool, option_copied, IsTrue, cond, ◌==◌, Option, Some, None, Ok, ◌⊎◌, ⊤}
 use Rattle.std.specs.List.{All, Contains}
 use Rattle.std.specs.Int.{w64, from_be_bytes}
 use Rattle.std.specs.Char.{is_ascii_digit}
