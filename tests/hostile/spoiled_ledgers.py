@@ -49,7 +49,7 @@ ENTRIES = 20000
 MEMORY = 16 << 20
 
 # The least entries that are read in a second of processor time, on a machine that has other work too.
-LEAST = 20000
+LEAST = 40000
 
 KEYS = ["run", "time", "home", "lane", "serial", "record", "client", "port", "identifier", "authenticator", "sent", "reply", "response"]
 
