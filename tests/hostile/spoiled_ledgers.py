@@ -1,8 +1,9 @@
 #!/usr/bin/env python3
 """Spoils lines of a ledger by chance, among lines that are right, and has the auditor that was built read them all: it has to name
 each spoiled line by its file and number, with a reason of how it was spoiled, and no other line, and to count every entry that is
-right. Then it spoils a ledger at any octets, and compares all that is printed with what audit_model.py answers. Last it has the auditor
-read entries that are right alone, and tells how many it reads in a second of processor time.
+right. Then it spoils a ledger at any octets, and compares all that is printed with what audit_model.py answers. It has the auditor read
+more than fits the memory that it gives it. Last it has it read entries that are right alone, and tells how many it reads in a second of
+processor time.
 
 usage: spoiled_ledgers.py AUDITOR [LINES [SEED]]    the path of rad_audit; else 100000 lines, and the seed 1
 
@@ -44,8 +45,11 @@ SPOILED = 4000
 APART = 20
 ENTRIES = 20000
 
+# The address space that the program has while it reads more than that.
+MEMORY = 16 << 20
+
 # The least entries that are read in a second of processor time, on a machine that has other work too.
-LEAST = 20000
+LEAST = 40000
 
 KEYS = ["run", "time", "home", "lane", "serial", "record", "client", "port", "identifier", "authenticator", "sent", "reply", "response"]
 
@@ -167,6 +171,24 @@ def of_octets(program, folder, seed):
         yield f"status {status}, and by the model {its}"
 
 
+def of_memory(program, folder):
+    """More entries than fit the memory that the program has, a line that is as long as all of it, and one without an end."""
+    run = Run(1, [Lane(0, "h1", HOME)])
+    lines = [run.begin(), *(run.entry(client=("192.0.2.10", NAS), more=bytes([26, 122]) + bytes(120)) for _ in range(ENTRIES))]
+    (folder / "config.toml").write_text(CONFIG)
+    (folder / "a").write_text(text(lines))
+    with open(folder / "b", "wb") as long:
+        long.seek(MEMORY)
+        long.write(b"\n" + text([run.end()]).encode())
+        long.seek(2 * MEMORY, 1)
+        long.write(b"?")
+    limit = lambda: resource.setrlimit(resource.RLIMIT_AS, (MEMORY, MEMORY))
+    ran = subprocess.run([program, "config.toml", "a", "b"], cwd=folder, capture_output=True, encoding="utf-8", timeout=SECONDS, preexec_fn=limit)
+    wanted = ["b:1: NotEntry", "b:3: torn", f"run {1:016x} lane 0 h1 from 0 entries {ENTRIES} not judged 0 whole"]
+    if (folder / "a").stat().st_size <= MEMORY or (ran.stdout.splitlines(), ran.stderr, ran.returncode) != (wanted, "", 5):
+        yield f"within {MEMORY} octets of memory: {ran.stdout[-200:]!r} {ran.stderr!r} {ran.returncode}"
+
+
 def of_speed(program, folder):
     run = Run(1, [Lane(0, "h1", HOME)])
     lines = [run.begin(), *(run.entry(client=("192.0.2.10", NAS), more=bytes([26, 122]) + bytes(120)) for _ in range(ENTRIES)), run.end()]
@@ -184,7 +206,7 @@ def main():
     count, seed = (int(word) for word in [*sys.argv[2:], "100000", "1"][: len(sys.argv) - 2] + ["100000", "1"][len(sys.argv) - 2 :])
     with tempfile.TemporaryDirectory() as made:
         folder = pathlib.Path(made)
-        wrong = [*of_spoiled(program, folder, count, seed), *of_octets(program, folder, seed), *of_speed(program, folder)]
+        wrong = [*of_spoiled(program, folder, count, seed), *of_octets(program, folder, seed), *of_memory(program, folder), *of_speed(program, folder)]
     for line in wrong[:20]:
         print(line)
     if len(wrong) > 20:

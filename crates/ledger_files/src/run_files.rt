@@ -1,6 +1,6 @@
 //! The files of a run, and the lines that are to be written to the one that is open.
 
-ghost use Rattle.std.specs.Prelude.{◌≡◌, ◌≢◌, ◌↔◌, [], ◌∷◌, ◌++◌, List, ℕ, Some, vec_len, IsTrue, OnOk, MatchOption, MatchResult};
+ghost use Rattle.std.specs.Prelude.{◌≡◌, ◌↔◌, ◌<◌, [], ◌∷◌, ◌++◌, List, ℕ, Some, vec_len, IsTrue, OnOk, MatchOption, MatchResult};
 ghost use Rattle.ledger_files.specs.Batches.{HoldsLines, IsHeadOf};
 ghost use Rattle.ledger_files.specs.Runs.{IsRun};
 
@@ -58,7 +58,7 @@ impl<D: LedgerDisk + Drop> RunFiles<D> {
 
     /// Returns whether the line that ends the run is made.
     pub fn is_ended(&self) -> bool
-        ensures { IsTrue result ↔ (vec_len self.now.last.octets ≢ 0) }
+        ensures { IsTrue result ↔ (0 < vec_len self.now.last.octets) }
     {
         !self.last.is_empty()
     }
@@ -71,7 +71,8 @@ impl<D: LedgerDisk + Drop> RunFiles<D> {
     /// Removes the lines of entries, all of which are written.
     pub fn clear(&mut self)
         requires { self.old.batch.whole ≡ vec_len self.old.batch.ends }
-        ensures { (lines : List (List ℕ)) → IsRun (D.files self.old.disk) self.old lines → IsRun (D.files self.new.disk) self.new lines }
+        ensures last { self.new.last ≡ self.old.last }
+        ensures run { (lines : List (List ℕ)) → IsRun (D.files self.old.disk) self.old lines → IsRun (D.files self.new.disk) self.new lines }
     {
         self.batch.clear();
     }
@@ -81,9 +82,11 @@ impl<D: LedgerDisk + Drop> RunFiles<D> {
     /// # Errors
     ///
     /// `AllocError` if memory is refused. The lines stay as they are.
+    #[tactic(auto, using(crate::proofs::RunCalls::batch_kept))]
     pub fn add(&mut self, head: LineHead, line: &[u8]) -> Result<(), AllocError>
         requires { vec_len self.old.last.octets ≡ 0 }
-        ensures { (lines : List (List ℕ)) → IsRun (D.files self.old.disk) self.old lines → MatchResult result (λ _. IsRun (D.files self.new.disk) self.new (lines ++ line.now ∷ [])) (λ _. IsRun (D.files self.new.disk) self.new lines) }
+        ensures last { self.new.last ≡ self.old.last }
+        ensures run { (lines : List (List ℕ)) → IsRun (D.files self.old.disk) self.old lines → MatchResult result (λ _. IsRun (D.files self.new.disk) self.new (lines ++ line.now ∷ [])) (λ _. IsRun (D.files self.new.disk) self.new lines) }
     {
         self.batch.add(head, line)?;
         Ok(())

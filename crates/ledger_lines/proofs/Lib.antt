@@ -5,3 +5,4 @@ pub mod Lists
 pub mod Pairs
 pub mod Worth
 pub mod Types
+pub mod Known

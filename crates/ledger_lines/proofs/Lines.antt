@@ -1,7 +1,7 @@
 -- A value that lacks what a line has is none.
-use Rattle.std.proofs.Common.{ℕ, ◌^◌, List, Option, codes, option_copied}
+use Rattle.std.proofs.Common.{ℕ, ◌^◌, List, [], ◌∷◌, Option, codes, option_copied}
 use Rattle.json.specs.Json.{Json}
-use Rattle.ledger_lines.specs.Lines.{Denies, HasText, HasNumber, HasOctets, MayHaveNumber, MayHaveWords, HasMembers, members_of_entry, HasRun, HasTime, HasClient, HasAuthenticator, HasLanes, IsEntry, IsBegin, IsEnd, IsLaneStart, IsLaneCount}
+use Rattle.ledger_lines.specs.Lines.{Denies, HasText, HasNumber, HasOctets, MayHaveNumber, MayHaveWords, HasOnly, keys_of_entry, HasRun, HasTime, HasClient, HasAuthenticator, HasLanes, IsEntry, IsBegin, IsEnd, IsLaneStart, IsLaneCount}
 use Rattle.rad_ledger.specs.declared.entry.Entry.{Entry}
 use Rattle.ledger_lines.specs.declared.begin.Begin.{Begin}
 use Rattle.ledger_lines.specs.declared.begin.End.{End}
@@ -19,8 +19,8 @@ module _ (value : Json) (fault : LineFault) where
   abbrev pub IsEntryThere : Type 0
   IsEntryThere = (x : Entry) × IsEntry value x
 
-  pub entry_members : ¬ HasMembers (members_of_entry value) value → ¬ IsEntryThere
-  entry_members n p = n p.1.its_members
+  pub entry_members : ¬ HasOnly keys_of_entry value → ¬ IsEntryThere
+  entry_members n p = n p.1.no_other
 
   pub entry_run : Denies fault ((x : ℕ) × HasRun value x) → Denies fault IsEntryThere
   entry_run = denied ((x : ℕ) × HasRun value x) IsEntryThere (λ p. (p.0.run, p.1.run)) fault
@@ -73,8 +73,8 @@ module _ (value : Json) (fault : LineFault) where
   abbrev pub IsBeginThere : Type 0
   IsBeginThere = (x : Begin) × IsBegin value x
 
-  pub begin_members : ¬ HasMembers 6 value → ¬ IsBeginThere
-  begin_members n p = n p.1.its_members
+  pub begin_members : ¬ HasOnly (codes "type" ∷ codes "run" ∷ codes "time" ∷ codes "version" ∷ codes "file" ∷ codes "lanes" ∷ []) value → ¬ IsBeginThere
+  begin_members n p = n p.1.no_other
 
   pub begin_run : Denies fault ((x : ℕ) × HasRun value x) → Denies fault IsBeginThere
   begin_run = denied ((x : ℕ) × HasRun value x) IsBeginThere (λ p. (p.0.run, p.1.run)) fault
@@ -94,8 +94,8 @@ module _ (value : Json) (fault : LineFault) where
   abbrev pub IsEndThere : Type 0
   IsEndThere = (x : End) × IsEnd value x
 
-  pub end_members : ¬ HasMembers 4 value → ¬ IsEndThere
-  end_members n p = n p.1.its_members
+  pub end_members : ¬ HasOnly (codes "type" ∷ codes "run" ∷ codes "time" ∷ codes "lanes" ∷ []) value → ¬ IsEndThere
+  end_members n p = n p.1.no_other
 
   pub end_run : Denies fault ((x : ℕ) × HasRun value x) → Denies fault IsEndThere
   end_run = denied ((x : ℕ) × HasRun value x) IsEndThere (λ p. (p.0.run, p.1.run)) fault
@@ -109,8 +109,8 @@ module _ (value : Json) (fault : LineFault) where
   abbrev pub IsStartThere : Type 0
   IsStartThere = (x : LaneStart) × IsLaneStart value x
 
-  pub start_members : ¬ HasMembers 3 value → ¬ IsStartThere
-  start_members n p = n p.1.its_members
+  pub start_members : ¬ HasOnly (codes "lane" ∷ codes "home" ∷ codes "serial" ∷ []) value → ¬ IsStartThere
+  start_members n p = n p.1.no_other
 
   pub start_lane : Denies fault ((x : ℕ) × HasNumber (codes "lane") (2 ^ 16) value x) → Denies fault IsStartThere
   start_lane = denied ((x : ℕ) × HasNumber (codes "lane") (2 ^ 16) value x) IsStartThere (λ p. (p.0.lane, p.1.lane)) fault
@@ -124,8 +124,8 @@ module _ (value : Json) (fault : LineFault) where
   abbrev pub IsCountThere : Type 0
   IsCountThere = (x : LaneCount) × IsLaneCount value x
 
-  pub count_members : ¬ HasMembers 2 value → ¬ IsCountThere
-  count_members n p = n p.1.its_members
+  pub count_members : ¬ HasOnly (codes "lane" ∷ codes "entries" ∷ []) value → ¬ IsCountThere
+  count_members n p = n p.1.no_other
 
   pub count_lane : Denies fault ((x : ℕ) × HasNumber (codes "lane") (2 ^ 16) value x) → Denies fault IsCountThere
   count_lane = denied ((x : ℕ) × HasNumber (codes "lane") (2 ^ 16) value x) IsCountThere (λ p. (p.0.lane, p.1.lane)) fault

@@ -1,14 +1,11 @@
 -- The list of lanes in a line, value by value.
-use Rattle.std.proofs.Common.{◌≡◌, ℕ, zero, suc, ◌+◌, ◌<◌, ◌≤◌, List, [], ◌∷◌, ◌++◌, length, get_or, take, Option, Some, None, IsTrue, nat_eq, refl, sym, ap, ◌∙◌, subst, arith, codes}
-use Rattle.std.proofs.lemmas.Bool.{eqb-true, eq-eqb}
+use Rattle.std.proofs.Common.{◌≡◌, ℕ, zero, suc, ◌+◌, ◌<◌, ◌≤◌, List, [], ◌∷◌, ◌++◌, length, get_or, take, Some, None, sym, ap, ◌∙◌, subst, arith, codes}
 use Rattle.std.proofs.lemmas.List.{take_more, take_all}
-use Rattle.json.specs.Json.{Json, Items, Members, array, object}
+use Rattle.json.specs.Json.{Json, Items, array}
 use Rattle.json.specs.Find.{get}
-use Rattle.json.specs.Strict.{keys}
-use Rattle.json.specs.Value.{value_view, items_view, members_view}
-use Rattle.std.specs.Borrow.{Bor}
+use Rattle.json.specs.Value.{value_view, items_view}
 use Rattle.json.specs.declared.value.Value.{Value}
-use Rattle.ledger_lines.specs.Lines.{Denies, AreEach, as_items, one_if, HasList, HasLanes, HasMembers}
+use Rattle.ledger_lines.specs.Lines.{Denies, AreEach, as_items, HasList, HasLanes}
 use Rattle.ledger_lines.specs.declared.faults.LineFault.{LineFault}
 use Rattle.ledger_lines.specs.declared.faults.LineFault.TheVariants.{NotALine, OutOfMemory}
 use Rattle.ledger_lines.proofs.Lines.{denied}
@@ -28,25 +25,6 @@ module _ (value : Json) where
 
   pub no_list_there : None ≡ get (codes "lanes") value → ¬ ListThere
   no_list_there e p = differ (get (codes "lanes") value) (array p.0) e p.1
-
--- ---- how many members an object has
-
-pub length_keys : {A : Type 0} (ms : List (Bor (List ℕ) × Value A)) → length (keys (members_view ms)) ≡ length ms
-length_keys [] = refl
-length_keys (m ∷ ms) = ap suc (length_keys ms)
-
--- whether an object has so many
-pub members_counted : (j : Json) (ms : Members) (n count : ℕ) → j ≡ object ms → length (keys ms) ≡ n → (IsTrue (nat_eq n count) → HasMembers count j) × (HasMembers count j → IsTrue (nat_eq n count))
-members_counted j ms n count is long = (
-  λ t. subst (HasMembers count) (sym is) (long ∙ eqb-true n count t),
-  λ h. eq-eqb n count (sym long ∙ subst (HasMembers count) is h),
-)
-
-pub one_of : (o : Option Json) (found : Json) → Some found ≡ o → 1 ≡ one_if o
-one_of o found e = ap one_if e
-
-pub none_of : (o : Option Json) → None ≡ o → 0 ≡ one_if o
-none_of o e = ap one_if e
 
 -- ---- its values, one after the other
 

@@ -1,5 +1,6 @@
 -- Lines of a ledger (own): objects of JSON (RFC 8259), with their keys in any order, each once.
-use Rattle.std.specs.Prelude.{◌≡◌, ℕ, ◌<◌, ◌≤◌, ◌*◌, ◌^◌, ◌+◌, List, [], ◌∷◌, length, get_or, codes, Bool, option_copied, IsTrue, cond, ◌==◌, Option, Some, None, Ok, ◌⊎◌, ⊤}
+use Rattle.std.specs.Prelude.{◌≡◌, ℕ, ◌<◌, ◌≤◌, ◌*◌, ◌^◌, List, [], ◌∷◌, length, get_or, codes, Bool, option_copied, IsTrue, cond, ◌==◌, Option, Some, None, Ok, ◌⊎◌, ⊤}
+use Rattle.std.specs.List.{All, Contains}
 use Rattle.std.specs.Int.{w64, from_be_bytes}
 use Rattle.std.specs.Char.{is_ascii_digit}
 use Rattle.std.specs.Str.{IsUtf8}
@@ -53,22 +54,14 @@ abbrev pub MayHaveWords : List ℕ → List ℕ → Json → Option (List ℕ) �
 MayHaveWords key other value None = Lacks key value × Lacks other value
 MayHaveWords key other value (Some octets) = (HasText key value octets × Lacks other value) ⊎ (Lacks key value × HasOctets other value octets)
 
--- An object of so many members. No key stands in it twice (`IsValue`), so it has no others than as many that it is known to have.
-abbrev pub HasMembers : ℕ → Json → Type 0
-HasMembers count null = ⊥
-HasMembers count (boolean b) = ⊥
-HasMembers count (number digits) = ⊥
-HasMembers count (string text) = ⊥
-HasMembers count (array items) = ⊥
-HasMembers count (object members) = length (keys members) ≡ count
-
--- One where an object has this key, and else none.
-abbrev pub one_if : Option Json → ℕ
-one_if None = 0
-one_if (Some found) = 1
-
-abbrev pub one_at : List ℕ → Json → ℕ
-one_at key value = one_if (get key value)
+-- An object that has no keys but these. None stands in it twice (`IsValue`).
+abbrev pub HasOnly : List (List ℕ) → Json → Type 0
+HasOnly known null = ⊥
+HasOnly known (boolean b) = ⊥
+HasOnly known (number digits) = ⊥
+HasOnly known (string text) = ⊥
+HasOnly known (array items) = ⊥
+HasOnly known (object members) = All (Contains known) (keys members)
 
 -- A moment, as `2026-01-31T23:59:59.999Z`: a digit where the form has `d`, and else what the form has.
 abbrev pub has_form : ℕ → ℕ → Bool
@@ -104,14 +97,15 @@ pub record HasClient (value : Json) (client : List ℕ) : Type 0 where
 abbrev pub HasAuthenticator : Json → List ℕ → Type 0
 HasAuthenticator value octets = HasArray (codes "authenticator") 16 value octets
 
--- How many members an entry has: fourteen, and those that it may lack.
-abbrev pub members_of_entry : Json → ℕ
-members_of_entry value =
-    14 + one_at (codes "realm") value + one_at (codes "realm_octets") value + one_at (codes "session") value
-    + one_at (codes "session_octets") value + one_at (codes "status") value
+-- The keys of an entry, with those that it may lack.
+abbrev pub keys_of_entry : List (List ℕ)
+keys_of_entry =
+    codes "type" ∷ codes "run" ∷ codes "time" ∷ codes "home" ∷ codes "lane" ∷ codes "serial" ∷ codes "record" ∷ codes "client" ∷ codes "port"
+    ∷ codes "identifier" ∷ codes "authenticator" ∷ codes "realm" ∷ codes "realm_octets" ∷ codes "session" ∷ codes "session_octets"
+    ∷ codes "status" ∷ codes "sent" ∷ codes "reply" ∷ codes "response" ∷ []
 
 pub record IsEntry (value : Json) (e : Entry) : Type 0 where
-  pub its_members : HasMembers (members_of_entry value) value
+  pub no_other : HasOnly keys_of_entry value
   pub type_is : HasText (codes "type") value (codes "entry")
   pub run : HasRun value e.run
   pub time : HasTime value e.time.now
@@ -154,18 +148,18 @@ pub record HasLanes {X : Type 0} (Is : Json → X → Type 0) (value : Json) (la
   pub are : AreEach Is items lanes
 
 pub record IsLaneStart (value : Json) (start : LaneStart) : Type 0 where
-  pub its_members : HasMembers 3 value
+  pub no_other : HasOnly (codes "lane" ∷ codes "home" ∷ codes "serial" ∷ []) value
   pub lane : HasNumber (codes "lane") (2 ^ 16) value start.lane
   pub home : HasText (codes "home") value start.home.now
   pub serial : HasNumber (codes "serial") (2 ^ 63) value start.serial
 
 pub record IsLaneCount (value : Json) (count : LaneCount) : Type 0 where
-  pub its_members : HasMembers 2 value
+  pub no_other : HasOnly (codes "lane" ∷ codes "entries" ∷ []) value
   pub lane : HasNumber (codes "lane") (2 ^ 16) value count.lane
   pub entries : HasNumber (codes "entries") (2 ^ 64) value count.entries
 
 pub record IsBegin (value : Json) (begin : Begin) : Type 0 where
-  pub its_members : HasMembers 6 value
+  pub no_other : HasOnly (codes "type" ∷ codes "run" ∷ codes "time" ∷ codes "version" ∷ codes "file" ∷ codes "lanes" ∷ []) value
   pub type_is : HasText (codes "type") value (codes "begin")
   pub run : HasRun value begin.run
   pub time : HasTime value begin.time.now
@@ -174,7 +168,7 @@ pub record IsBegin (value : Json) (begin : Begin) : Type 0 where
   pub lanes : HasLanes IsLaneStart value begin.lanes.items
 
 pub record IsEnd (value : Json) (end : End) : Type 0 where
-  pub its_members : HasMembers 4 value
+  pub no_other : HasOnly (codes "type" ∷ codes "run" ∷ codes "time" ∷ codes "lanes" ∷ []) value
   pub type_is : HasText (codes "type") value (codes "end")
   pub run : HasRun value end.run
   pub time : HasTime value end.time.now

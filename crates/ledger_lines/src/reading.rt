@@ -14,8 +14,8 @@ ghost use Rattle.ledger_lines.specs.Lines.{AreEach, Denies, HasLanes, HasText, I
 use crate::begin::{Begin, End, LaneCount, LaneStart};
 use crate::faults::LineFault;
 use crate::values::{
-    authenticator_at, client_at, has_members, lanes_at, members_of_entry, number_at, octet_at,
-    octets_at, read_value, run_at, serial_at, short_at, status_at, text_at, time_at, words_at,
+    authenticator_at, client_at, has_only, lanes_at, number_at, octet_at, octets_at, read_value,
+    run_at, serial_at, short_at, status_at, text_at, time_at, words_at,
 };
 use json::{Scratch, Value};
 use rad_ledger::Entry;
@@ -114,13 +114,36 @@ fn line_of<'a>(
     }
 }
 
+/// The keys of an entry, in the order in which they are written.
+const ENTRY_KEYS: [&str; 19] = [
+    "type",
+    "run",
+    "time",
+    "home",
+    "lane",
+    "serial",
+    "record",
+    "client",
+    "port",
+    "identifier",
+    "authenticator",
+    "realm",
+    "realm_octets",
+    "session",
+    "session_octets",
+    "status",
+    "sent",
+    "reply",
+    "response",
+];
+
 /// The entry that a value is.
 #[tactic(auto, using(crate::proofs::Lines::entry_members))]
 fn entry_of<'a>(value: &Value<'a>, room: &'a mut Octets) -> Result<Entry<'a>, LineFault>
     requires { HasText (codes "type") (value_view value.now) (codes "entry") }
     ensures { MatchResult result (λ entry. IsEntry (value_view value.now) entry) (λ fault. Denies fault ((entry : TheEntry) × IsEntry (value_view value.now) entry)) }
 {
-    if !has_members(value, members_of_entry(value)) {
+    if !has_only(value, &ENTRY_KEYS) {
         return Err(LineFault::NotALine);
     }
     let Octets {
@@ -172,7 +195,7 @@ fn begin_of<'a>(alloc: Global, value: &Value<'a>) -> Result<Begin<'a>, LineFault
     requires { HasText (codes "type") (value_view value.now) (codes "begin") }
     ensures { MatchResult result (λ begin. IsBegin (value_view value.now) begin) (λ fault. Denies fault ((begin : TheBegin) × IsBegin (value_view value.now) begin)) }
 {
-    if !has_members(value, 6) {
+    if !has_only(value, &["type", "run", "time", "version", "file", "lanes"]) {
         return Err(LineFault::NotALine);
     }
     Ok(Begin {
@@ -208,7 +231,7 @@ fn starts_of<'a>(alloc: Global, values: &[Value<'a>]) -> Result<Vec<LaneStart<'a
 fn start_of<'a>(value: &Value<'a>) -> Result<LaneStart<'a>, LineFault>
     ensures { MatchResult result (λ start. IsLaneStart (value_view value.now) start) (λ fault. Denies fault ((start : TheStart) × IsLaneStart (value_view value.now) start)) }
 {
-    if !has_members(value, 3) {
+    if !has_only(value, &["lane", "home", "serial"]) {
         return Err(LineFault::NotALine);
     }
     Ok(LaneStart {
@@ -224,7 +247,7 @@ fn end_of<'a>(alloc: Global, value: &Value<'a>) -> Result<End<'a>, LineFault>
     requires { HasText (codes "type") (value_view value.now) (codes "end") }
     ensures { MatchResult result (λ end. IsEnd (value_view value.now) end) (λ fault. Denies fault ((end : TheEnd) × IsEnd (value_view value.now) end)) }
 {
-    if !has_members(value, 4) {
+    if !has_only(value, &["type", "run", "time", "lanes"]) {
         return Err(LineFault::NotALine);
     }
     Ok(End {
@@ -258,7 +281,7 @@ fn counts_of(alloc: Global, values: &[Value<'_>]) -> Result<Vec<LaneCount>, Line
 fn count_of(value: &Value<'_>) -> Result<LaneCount, LineFault>
     ensures { MatchResult result (λ count. IsLaneCount (value_view value.now) count) (λ fault. Denies fault ((count : TheCount) × IsLaneCount (value_view value.now) count)) }
 {
-    if !has_members(value, 2) {
+    if !has_only(value, &["lane", "entries"]) {
         return Err(LineFault::NotALine);
     }
     Ok(LaneCount {

@@ -1,9 +1,12 @@
 //! What a line has at its keys.
 
-ghost use Rattle.std.specs.Prelude.{◌≡◌, ◌↔◌, ◌^◌, ℕ, List, Option, codes, ◌≤◌, MatchResult, IsTrue, option_copied, option_map};
+ghost use Rattle.std.specs.Prelude.{◌≡◌, ◌↔◌, ◌^◌, ◌<◌, ℕ, List, Option, codes, length, map, MatchOption, MatchResult, IsTrue, option_copied, option_map};
+ghost use Rattle.std.specs.List.{All, Contains};
 ghost use Rattle.json.specs.Json.{Items, Json};
-ghost use Rattle.json.specs.Value.{items_view, value_view};
-ghost use Rattle.ledger_lines.specs.Lines.{as_items, Denies, HasAuthenticator, HasClient, HasList, HasMembers, HasNumber, HasOctets, HasRun, HasText, HasTime, has_form, IsTime, IsValue, MayHaveNumber, MayHaveWords, members_of_entry as the_members_of_entry, one_at as the_one_at};
+ghost use Rattle.json.specs.Strict.{keys};
+ghost use Rattle.json.specs.Value.{items_view, members_view, value_view};
+ghost use Rattle.ledger_lines.specs.internal.Known.{IsAbsent};
+ghost use Rattle.ledger_lines.specs.Lines.{as_items, Denies, HasAuthenticator, HasClient, HasList, HasNumber, HasOctets, HasOnly, HasRun, HasText, HasTime, has_form, IsTime, IsValue, MayHaveNumber, MayHaveWords};
 
 use crate::digits::{fill, octets_of};
 use crate::faults::LineFault;
@@ -30,37 +33,50 @@ pub(crate) fn read_value<'a>(
     }
 }
 
-/// Whether a value is an object of so many members.
-pub(crate) fn has_members(value: &Value<'_>, count: usize) -> bool
-    ensures { IsTrue result ↔ HasMembers count (value_view value.now) }
+/// Whether an object has no keys but these. They are likely in the same order.
+pub(crate) fn has_only(value: &Value<'_>, known: &[&str]) -> bool
+    ensures { IsTrue result ↔ HasOnly (map (λ k. k.now) known.now) (value_view value.now) }
 {
     match value {
-        Value::Object(members) => members.len() == count,
+        Value::Object(members) => are_known(members.as_slice(), known),
         _ => false,
     }
 }
 
-/// How many members an entry has, with those that it may lack.
-pub(crate) fn members_of_entry(value: &Value<'_>) -> usize
-    ensures { result ≡ the_members_of_entry (value_view value.now) }
+/// Whether the keys of members are among these.
+fn are_known(members: &[(&str, Value<'_>)], known: &[&str]) -> bool
+    ensures { IsTrue result ↔ All (Contains (map (λ k. k.now) known.now)) (keys (members_view members.now)) }
 {
-    14 + one_at(value, "realm")
-        + one_at(value, "realm_octets")
-        + one_at(value, "session")
-        + one_at(value, "session_octets")
-        + one_at(value, "status")
+    let mut next = 0;
+    for member in members {
+        match place_near(known, next, member.0) {
+            Some(place) => next = place + 1,
+            None => return false,
+        }
+    }
+    true
 }
 
-/// One where an object has this key, and else none.
-#[tactic(auto, using(crate::proofs::Lists::one_of, crate::proofs::Lists::none_of))]
-fn one_at(value: &Value<'_>, key: &str) -> usize
-    ensures is { result ≡ the_one_at key.now (value_view value.now) }
-    ensures most { result ≤ 1 }
+/// The place of a key among these, which is likely this one or one behind it.
+fn place_near(known: &[&str], likely: usize, key: &str) -> Option<usize>
+    ensures { MatchOption result (¬ Contains (map (λ k. k.now) known.now) key.now) (λ place. (place < length known.now) × Contains (map (λ k. k.now) known.now) key.now) }
 {
-    match value.get(key) {
-        Some(_) => 1,
-        None => 0,
+    match place_from(known, likely, key) {
+        Some(place) => Some(place),
+        None => place_from(known, 0, key),
     }
+}
+
+/// The first place of a key among these, from a place on.
+fn place_from(known: &[&str], from: usize, key: &str) -> Option<usize>
+    ensures { MatchOption result (IsAbsent (map (λ k. k.now) known.now) from key.now) (λ place. (place < length known.now) × Contains (map (λ k. k.now) known.now) key.now) }
+{
+    for place in from..known.len() {
+        if known[place] == key {
+            return Some(place);
+        }
+    }
+    None
 }
 
 /// The text at a key.

@@ -1,8 +1,9 @@
 //! Reading the lines of a file into a room of fixed size.
 
 use ledger_lines::MOST_LINE_OCTETS;
+use memchr::memchr;
 use std::alloc::{AllocError, Global};
-use std::io::{BufRead, Read, Result};
+use std::io::{BufRead, ErrorKind, Result};
 
 /// What was read of a file.
 #[derive(Clone, Copy, Debug, PartialEq, Eq)]
@@ -40,53 +41,57 @@ impl LineRoom {
         self.octets.as_slice()
     }
 
-    /// Reads the next line.
+    /// Reads the next line. Of one that is too long, it keeps the front alone.
     ///
     /// # Errors
     ///
-    /// The reader's own error.
+    /// The reader's own error, or `OutOfMemory` if memory is refused.
     pub fn read<R: BufRead>(&mut self, reader: &mut R) -> Result<Piece> {
         self.octets.clear();
-        let count = read_front(reader, &mut self.octets)?;
-        if count == 0 {
-            return Ok(Piece::End);
+        for _ in 0..u64::MAX {
+            let buffer = match reader.fill_buf() {
+                Ok(buffer) => buffer,
+                Err(error) if error.kind() == ErrorKind::Interrupted => continue,
+                Err(error) => return Err(error),
+            };
+            let end = memchr(b'\n', buffer);
+            let count = end.unwrap_or(buffer.len());
+            self.keep(&buffer[..count])?;
+            if end.is_some() {
+                reader.consume(count + 1);
+                return Ok(self.ended());
+            }
+            if count == 0 {
+                break;
+            }
+            reader.consume(count);
         }
-        if self.octets.last() == Some(&b'\n') {
-            self.octets.pop();
-            return Ok(Piece::Whole);
-        }
+        Ok(self.unended())
+    }
+
+    /// Adds octets of a line, as far as there is room.
+    fn keep(&mut self, octets: &[u8]) -> Result<()> {
+        let room = (MOST_LINE_OCTETS + 1).saturating_sub(self.octets.len());
+        self.octets
+            .extend_from_slice(&octets[..octets.len().min(room)])?;
+        Ok(())
+    }
+
+    /// Returns what the line is that a line feed ended.
+    fn ended(&self) -> Piece {
         if self.octets.len() <= MOST_LINE_OCTETS {
-            return Ok(Piece::Unended);
-        }
-        skip_line(reader)
-    }
-}
-
-/// Reads a line with its line feed, and at most one octet more than a line of a ledger can have.
-fn read_front<R: BufRead>(reader: &mut R, octets: &mut Vec<u8>) -> Result<usize> {
-    reader
-        .by_ref()
-        .take(MOST_LINE_OCTETS as u64 + 1)
-        .read_until(b'\n', octets)
-}
-
-/// Reads the rest of a line, and keeps nothing of it.
-fn skip_line<R: BufRead>(reader: &mut R) -> Result<Piece> {
-    for _ in 0..u64::MAX {
-        let buffer = reader.fill_buf()?;
-        if buffer.is_empty() {
-            return Ok(Piece::Unended);
-        }
-        match buffer.iter().position(|octet| *octet == b'\n') {
-            Some(place) => {
-                reader.consume(place + 1);
-                return Ok(Piece::TooLong);
-            }
-            None => {
-                let count = buffer.len();
-                reader.consume(count);
-            }
+            Piece::Whole
+        } else {
+            Piece::TooLong
         }
     }
-    Ok(Piece::Unended)
+
+    /// Returns what the line is that the end of the file ended.
+    fn unended(&self) -> Piece {
+        if self.octets.is_empty() {
+            Piece::End
+        } else {
+            Piece::Unended
+        }
+    }
 }

@@ -1,5 +1,5 @@
 -- What is counted of the entries of one lane of a run (own): those that are right, in the order of their lines.
-use Rattle.std.specs.Prelude.{◌≡◌, ℕ, ◌+◌, ◌<◌, ◌≤◌, List, [], ◌∷◌, ◌++◌, length, Option, MatchOption, Some, None, ◌⊎◌, IfSome}
+use Rattle.std.specs.Prelude.{◌≡◌, ℕ, ◌+◌, ◌<◌, ◌≤◌, List, ◌∷◌, ◌++◌, length, Option, MatchOption, Some, None, ◌⊎◌, IfSome}
 use Rattle.std.specs.List.{last_or, range_with_len}
 use Rattle.std.specs.Option.{option_map_or}
 use Rattle.rad_ledger.specs.declared.tally.Tally.{Tally}

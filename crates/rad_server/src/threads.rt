@@ -3,26 +3,22 @@
 ghost use denote.Param.Send.{IsSend, IsSync};
 ghost use Rattle.std.specs.Prelude.{IsSome};
 
-use crate::attending::attend;
+use crate::attending::{Console, attend};
 use crate::faults::ServeFault;
-use crate::printing::Output;
-use crate::wiring::Wires;
-use crate::working::Service;
+use crate::working::{Front, Service};
 use rad_desk::{Gate, Inlet, Ledger, Wire};
 use std::io::{Read, Write};
 use std::sync::Wait;
 use std::thread::{self, JoinHandle, Scope, Threads};
 use std::time::Clock;
 
-/// Starts a thread for each wire, writes what the output holds once all have begun, and obeys the reader's commands.
-/// The thread of the front has the ledger. Returns the inlets. All threads have ended when it returns.
+/// Starts a thread for the front and one for each of these wires of the lanes, writes what the output holds once all
+/// have begun, and obeys the reader's commands. Returns the inlets. All threads have ended when it returns.
 pub(crate) fn work<R, W, G, L, I, O>(
     service: Service<'_, R, G>,
-    wires: Wires<W>,
-    ledger: L,
-    inlets: Vec<Inlet>,
-    reader: I,
-    output: &mut Output<O>,
+    front: Front<W, L>,
+    lanes: Vec<W>,
+    console: &mut Console<I, O>,
 ) -> Result<Vec<Inlet>, ServeFault>
 where
     R: Clock + Threads + Wait + Sync,
@@ -38,7 +34,7 @@ where
         service.rt,
         move |scope| -> Result<Vec<Inlet>, ServeFault>
             requires { IsSync R.row × IsSend W.row × IsSync G.row × IsSend L.row × ((wire : W) → IsSome (W.log wire)) }
-        { work_in(scope, service, wires, ledger, inlets, reader, output) },
+        { work_in(scope, service, front, lanes, console) },
     )
 }
 
@@ -46,11 +42,9 @@ where
 fn work_in<'s, E, R, W, G, L, I, O>(
     scope: &Scope<'s, E>,
     service: Service<'s, R, G>,
-    wires: Wires<W>,
-    ledger: L,
-    inlets: Vec<Inlet>,
-    reader: I,
-    output: &mut Output<O>,
+    front: Front<W, L>,
+    lanes: Vec<W>,
+    console: &mut Console<I, O>,
 ) -> Result<Vec<Inlet>, ServeFault>
 where
     R: Clock + Threads + Wait + Sync + 's,
@@ -61,10 +55,9 @@ where
     O: Write + Drop,
     requires keeps { (wire : W) → IsSome (W.log wire) }
 {
-    let Wires { front, lanes } = wires;
-    let front = start_front(scope, service, inlets, front, ledger)?;
+    let front = start_front(scope, service, front)?;
     let outcome = if start_lanes(scope, service, lanes) {
-        attend(service, reader, output)
+        attend(service, console)
     } else {
         Err(ServeFault::Threads)
     };
@@ -80,9 +73,7 @@ where
 fn start_front<'s, E, R, W, G, L>(
     scope: &Scope<'s, E>,
     service: Service<'s, R, G>,
-    inlets: Vec<Inlet>,
-    wire: W,
-    ledger: L,
+    front: Front<W, L>,
 ) -> Result<JoinHandle<Vec<Inlet>>, ServeFault>
 where
     R: Wait + Sync + 's,
@@ -95,11 +86,9 @@ where
         move || -> Vec<Inlet>
             requires { (wire : W) → IsSome (W.log wire) }
         {
-            let mut inlets = inlets;
-            let mut wire = wire;
-            let mut ledger = ledger;
-            service.work_in_front(inlets.as_mut_slice(), &mut wire, &mut ledger);
-            inlets
+            let mut front = front;
+            service.work_in_front(&mut front);
+            front.inlets
         },
     );
     match worker {
@@ -121,11 +110,12 @@ where
     G: Gate + Sync + 's,
     requires keeps { (wire : W) → IsSome (W.log wire) }
 {
-    let mut started = true;
     for (lane, wire) in wires.into_iter().enumerate() {
-        started = started && start_lane(scope, service, lane, wire);
+        if !start_lane(scope, service, lane, wire) {
+            return false;
+        }
     }
-    started
+    true
 }
 
 /// Starts the worker of a lane, and returns whether it could.

@@ -24,7 +24,8 @@ impl AtomicEndpoint {
 
     /// Returns the endpoint that was stored last.
     pub fn load(&self) -> Endpoint {
-        endpoint_of(self.word.load(Ordering::SeqCst))
+        let word = self.word.load(Ordering::SeqCst);
+        endpoint_of(word)
     }
 }
 
@@ -37,9 +38,9 @@ fn word_of(endpoint: Endpoint) -> u64 {
 
 /// Returns the endpoint of a word.
 fn endpoint_of(word: u64) -> Endpoint {
-    let [_, _, a, b, c, d, high, low] = word.to_be_bytes();
+    let octets = word.to_be_bytes();
     Endpoint {
-        address: [a, b, c, d],
-        port: u16::from_be_bytes([high, low]),
+        address: [octets[2], octets[3], octets[4], octets[5]],
+        port: u16::from_be_bytes([octets[6], octets[7]]),
     }
 }

@@ -1,5 +1,7 @@
 //! How many responses the front took of each lane.
 
+ghost use Rattle.std.specs.Prelude.{◌≡◌, ◌≤◌, vec_len};
+
 use std::alloc::{AllocError, Global};
 use std::sync::atomic::{AtomicU64, Ordering};
 
@@ -30,8 +32,10 @@ impl TakenCounts {
         }
     }
 
-    /// Returns how many responses of a lane were taken.
-    pub(crate) fn of_lane(&self, lane: usize) -> u64 {
+    /// Returns how many responses of a lane were taken, or 0 if there is no such lane.
+    pub(crate) fn of_lane(&self, lane: usize) -> u64
+        ensures { vec_len self.now.lanes ≤ lane → result ≡ 0 }
+    {
         match self.lanes.get(lane) {
             Some(count) => count.load(Ordering::SeqCst),
             None => 0,

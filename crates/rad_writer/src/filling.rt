@@ -1,9 +1,12 @@
 //! Filling a batch with the lines of the entries that wait.
 
+ghost use Rattle.std.specs.Prelude.{◌≡◌, [], vec_len, IfOk};
+ghost use Rattle.ledger_files.specs.Batches.{HoldsLines};
+
 use crate::entry_buffer::EntryBuffer;
 use crate::lines::entry_line;
 use crate::run_names::RunNames;
-use ledger_files::{Batch, LineHead, day_of};
+use ledger_files::{Batch, LedgerDisk, LineHead, RunFiles, day_of};
 use std::alloc::{AllocError, Global};
 use std::mem;
 
@@ -21,35 +24,40 @@ const LINES: usize = 1024;
 /// # Errors
 ///
 /// `AllocError` if memory is refused.
-pub(crate) fn new_batch(alloc: Global) -> Result<Batch, AllocError> {
+pub(crate) fn new_batch(alloc: Global) -> Result<Batch, AllocError>
+    ensures { IfOk result (λ batch. HoldsLines batch []) }
+{
     Batch::new(alloc, SIZE + LINE, LINES)
 }
 
-/// Replaces the lines, all of which are written, by those of the next entries of one day, the one of this number or
-/// that of the first of them. Each line is made in `room`.
+/// Replaces the lines of entries, all of which are written, by those of the next entries of one day, the one of this
+/// number or that of the first of them. Each line is made in `room`.
 ///
 /// # Errors
 ///
 /// `AllocError` if memory is refused. The entry whose line is not made is the next one.
-pub(crate) fn fill(
-    batch: &mut Batch,
+pub(crate) fn fill<D: LedgerDisk + Drop>(
+    files: &mut RunFiles<D>,
     room: &mut Vec<u8>,
     alloc: Global,
     names: &RunNames,
     entries: &mut EntryBuffer,
     day: u64,
-) -> Result<(), AllocError> {
-    batch.clear();
+) -> Result<(), AllocError>
+    requires written { files.old.batch.whole ≡ vec_len files.old.batch.ends }
+    requires goes_on { vec_len files.old.last.octets ≡ 0 }
+{
+    files.clear();
     let mut day = day;
     for _ in 0..LINES {
         let Some(parcel) = entries.next() else {
             return Ok(());
         };
         let head = parcel.head;
-        if batch.count() == 0 {
+        if files.batch().count() == 0 {
             day = day.max(day_of(head.time));
         }
-        if batch.size() >= SIZE || day_of(head.time) > day {
+        if files.batch().size() >= SIZE || day_of(head.time) > day {
             return Ok(());
         }
         let mut line = mem::replace(room, Vec::new(alloc));
@@ -60,7 +68,7 @@ pub(crate) fn fill(
             lane: head.lane,
             serial: head.serial,
         };
-        batch.add(line_head, line.as_slice())?;
+        files.add(line_head, line.as_slice())?;
         *room = line;
         entries.pass();
     }

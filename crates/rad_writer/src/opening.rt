@@ -1,12 +1,15 @@
 //! Opening a ledger: the buffer, and the thread that writes what passes through it.
 
+ghost use Rattle.std.specs.Prelude.{◌≡◌, [], length, vec_len, IfOk};
+ghost use Rattle.rad_writer.specs.RunNames.{AreNamesOf};
+
 use crate::counts::TakenCounts;
 use crate::entry_buffer::EntryBuffer;
 use crate::filling::{LINE, new_batch};
 use crate::inlet::{LedgerInlet, time_since_1970};
 use crate::parcel::MOST;
 use crate::run_names::RunNames;
-use crate::writer::LedgerWriter;
+use crate::writer::{LedgerWriter, LineSource};
 use ledger_files::LedgerDisk;
 use rad_desk::Handed;
 use rad_realms::Config;
@@ -66,23 +69,29 @@ pub fn open_ledger<'a, R: Clock + RandomSource>(
     alloc: Global,
     folder: String,
     config: &Config,
-) -> Result<OpenedLedger<'a, R>, AllocError> {
+) -> Result<OpenedLedger<'a, R>, AllocError>
+    ensures kept { IfOk result (λ opened. opened.inlet.handed.responses ≡ []) }
+    ensures folder { IfOk result (λ opened. opened.writer.source.folder ≡ folder) }
+    ensures names { IfOk result (λ opened. AreNamesOf config.now.homes opened.writer.source.names.homes.items) }
+    ensures lanes { IfOk result (λ opened. vec_len opened.writer.source.next ≡ length config.now.homes) }
+{
     let lanes = config.homes().len();
     let taken = Arc::new(alloc, TakenCounts::new(alloc, lanes)?)?;
     let state = Arc::new(alloc, LedgerState::new())?;
     let (producer, consumer) = RingBuffer::new(alloc, ROOM)?;
     let mut next = Vec::with_capacity(alloc, lanes)?;
     next.resize(lanes, 0)?;
-    let writer = LedgerWriter {
+    let batch = new_batch(alloc)?;
+    let source = LineSource {
         folder,
         names: RunNames::new(alloc, draw_name(rt), config.homes())?,
         entries: EntryBuffer::new(alloc, consumer)?,
-        batch: new_batch(alloc)?,
         room: Vec::with_capacity(alloc, LINE)?,
         next,
         taken: Arc::try_clone(&taken)?,
         state: Arc::try_clone(&state)?,
     };
+    let writer = LedgerWriter { source, batch };
     let inlet = LedgerInlet {
         clock: rt,
         time: 0,
@@ -115,6 +124,6 @@ where
     D: LedgerDisk + Drop + Send + 'static,
 {
     let own = *rt;
-    writer.state.start();
+    writer.source.state.start();
     thread::spawn(rt, move || writer.write_all(&own, alloc, disk)).is_ok()
 }

@@ -1,5 +1,8 @@
 //! The thread that writes the entries to files.
 
+ghost use Rattle.std.specs.Prelude.{◌≡◌, [], vec_len};
+ghost use Rattle.ledger_files.specs.Batches.{HoldsLines};
+
 use crate::counts::TakenCounts;
 use crate::entry_buffer::EntryBuffer;
 use crate::faults::ledger_fault;
@@ -8,7 +11,7 @@ use crate::inlet::time_since_1970;
 use crate::lines::{begin_line, end_line};
 use crate::run_names::RunNames;
 use ledger_files::{
-    Batch, DiskFault, FileName, LedgerDisk, OpenFile, Pending, day_of, is_next_due,
+    Batch, DiskFault, FileName, LedgerDisk, LineHead, OpenFile, RunFiles, day_of, is_next_due,
 };
 use rad_telemetry::{LedgerFault, LedgerState};
 use std::alloc::{AllocError, Global};
@@ -27,10 +30,17 @@ const SYNC: u64 = 900;
 /// What the thread that writes a ledger has, before it is started.
 #[derive(Drop)]
 pub struct LedgerWriter {
+    pub(crate) source: LineSource,
+    pub(crate) batch: Batch,
+    ghost empty: { HoldsLines batch [] },
+}
+
+/// What lines are made of.
+#[derive(Drop)]
+pub(crate) struct LineSource {
     pub(crate) folder: String,
     pub(crate) names: RunNames,
     pub(crate) entries: EntryBuffer,
-    pub(crate) batch: Batch,
     /// Where the line of each entry is made.
     pub(crate) room: Vec<u8>,
     /// The serial behind the last entry of each lane that was written.
@@ -44,16 +54,12 @@ pub struct LedgerWriter {
 struct Session<'a, R, D: Drop> {
     rt: &'a R,
     alloc: Global,
-    writer: LedgerWriter,
-    disk: D,
+    source: LineSource,
+    files: RunFiles<D>,
     /// The number of the next file.
     number: u64,
     /// The number of the day of the entries in the file.
     day: u64,
-    /// The line that begins the file.
-    first: Pending,
-    /// The line that ends the run.
-    last: Pending,
     /// Whether the last round failed.
     is_failing: bool,
     /// When the file was synced.
@@ -63,38 +69,47 @@ struct Session<'a, R, D: Drop> {
 impl LedgerWriter {
     /// Writes the entries as they come, until the ledger is ended. The thread does nothing else.
     pub fn write_all<R: Clock + Wait, D: LedgerDisk + Drop>(self, rt: &R, alloc: Global, disk: D) {
+        let LedgerWriter { source, batch } = self;
         let mut session = Session {
             rt,
             alloc,
-            writer: self,
-            disk,
+            source,
+            files: RunFiles::new(alloc, disk, batch),
             number: 0,
             day: 0,
-            first: Pending::new(Vec::new(alloc)),
-            last: Pending::new(Vec::new(alloc)),
             is_failing: false,
             synced: Instant::now(rt).ok(),
         };
         for _ in rt.forever() {
-            let is_last = session.writer.state.begin_round();
+            let is_last = session.source.state.begin_round();
             session.do_round(is_last);
             if is_last {
-                session.writer.state.finish();
+                session.source.state.finish();
                 return;
             }
             let pause = if session.is_failing { AGAIN } else { PAUSE };
-            session.writer.state.sleep(rt, pause);
+            session.source.state.sleep(rt, pause);
         }
     }
+}
 
+impl LineSource {
     /// Makes lines of the next entries, as [`fill`] does.
     ///
     /// # Errors
     ///
     /// `AllocError` if memory is refused.
-    fn fill(&mut self, alloc: Global, day: u64) -> Result<(), AllocError> {
+    fn fill<D: LedgerDisk + Drop>(
+        &mut self,
+        files: &mut RunFiles<D>,
+        alloc: Global,
+        day: u64,
+    ) -> Result<(), AllocError>
+        requires written { files.old.batch.whole ≡ vec_len files.old.batch.ends }
+        requires goes_on { vec_len files.old.last.octets ≡ 0 }
+    {
         fill(
-            &mut self.batch,
+            files,
             &mut self.room,
             alloc,
             &self.names,
@@ -103,20 +118,11 @@ impl LedgerWriter {
         )
     }
 
-    /// Counts the lines that are written whole, and puts the serial behind each one into `next` at the place of its
-    /// lane. It returns how many that are.
-    fn pass_lines(&mut self) -> u64 {
-        let mut count = 0u64;
-        for _ in 0..self.batch.count() {
-            let Some(head) = self.batch.pass_line() else {
-                break;
-            };
-            if let Some(serial) = self.next.get_mut(usize::from(head.lane)) {
-                *serial = head.serial.saturating_add(1);
-            }
-            count = count.saturating_add(1);
+    /// Puts the serial behind an entry that is written into `next`, at the place of its lane.
+    fn pass(&mut self, head: LineHead) {
+        if let Some(serial) = self.next.get_mut(usize::from(head.lane)) {
+            *serial = head.serial.saturating_add(1);
         }
-        count
     }
 }
 
@@ -130,7 +136,7 @@ impl<R: Clock, D: LedgerDisk + Drop> Session<'_, R, D> {
             return;
         };
         self.fail(fault);
-        let is_lost = fault == LedgerFault::Gone || (was_failing && self.disk.size() > 0);
+        let is_lost = fault == LedgerFault::Gone || (was_failing && self.files.disk().size() > 0);
         if is_lost && self.begin_file().is_ok() && self.write_round(is_last).is_ok() {
             self.succeed();
         }
@@ -140,7 +146,7 @@ impl<R: Clock, D: LedgerDisk + Drop> Session<'_, R, D> {
     fn fail(&mut self, fault: LedgerFault) {
         if !self.is_failing {
             self.is_failing = true;
-            self.writer.state.fail(fault);
+            self.source.state.fail(fault);
         }
     }
 
@@ -148,20 +154,20 @@ impl<R: Clock, D: LedgerDisk + Drop> Session<'_, R, D> {
     fn succeed(&mut self) {
         if self.is_failing {
             self.is_failing = false;
-            self.writer.state.goes_on();
+            self.source.state.goes_on();
         }
     }
 
     /// Writes all entries that wait, and in the last round the line that ends the run, if there is to be one. Syncs the
     /// file if that is due. Until entries may come it does nothing, so a program that can't serve leaves no file.
     fn write_round(&mut self, is_last: bool) -> Result<(), LedgerFault> {
-        if !self.writer.state.is_begun() {
+        if !self.source.state.is_begun() {
             return Ok(());
         }
         for _ in 0..u64::MAX {
             self.fill()?;
             self.have_file()?;
-            let is_done = self.writer.batch.is_done();
+            let is_done = self.files.batch().is_done();
             if is_done && is_last {
                 self.make_last_line()?;
             }
@@ -176,30 +182,31 @@ impl<R: Clock, D: LedgerDisk + Drop> Session<'_, R, D> {
 
     /// Makes lines of the next entries, if all lines before them are written.
     fn fill(&mut self) -> Result<(), LedgerFault> {
-        if self.writer.batch.is_done() {
+        if self.files.batch().is_done() && !self.files.is_ended() {
             let alloc = self.alloc;
             let day = self.day;
-            if self.writer.fill(alloc, day).is_err() {
+            if self.source.fill(&mut self.files, alloc, day).is_err() {
                 return Err(LedgerFault::Memory);
             }
         }
-        self.writer.state.set_oldest(self.oldest());
+        self.source.state.set_oldest(self.oldest());
         Ok(())
     }
 
     /// Begins the next file if there is none, if the entries are of a later day, or if the file would have too many
     /// octets.
     fn have_file(&mut self) -> Result<(), LedgerFault> {
-        let open = if self.disk.is_open() {
+        let disk = self.files.disk();
+        let open = if disk.is_open() {
             Some(OpenFile {
-                size: self.disk.size(),
+                size: disk.size(),
                 day: self.day,
             })
         } else {
             None
         };
-        let left = self.writer.batch.left() as u64;
-        if is_next_due(open, self.day_now(), left) && self.first.is_done() {
+        let left = self.files.batch().left() as u64;
+        if is_next_due(open, self.day_now(), left) && self.files.is_begun() {
             self.begin_file()?;
         }
         Ok(())
@@ -207,7 +214,7 @@ impl<R: Clock, D: LedgerDisk + Drop> Session<'_, R, D> {
 
     /// Returns when the first entry was handed over whose line is not written whole.
     fn oldest(&self) -> Option<u64> {
-        match self.writer.batch.oldest() {
+        match self.files.batch().oldest() {
             Some(head) => Some(head.time),
             None => None,
         }
@@ -234,20 +241,17 @@ impl<R: Clock, D: LedgerDisk + Drop> Session<'_, R, D> {
         let Ok(line) = self.first_line(now) else {
             return Err(LedgerFault::Memory);
         };
-        self.disk.create(path).map_err(ledger_fault)?;
+        self.files.begin_file(path, line).map_err(ledger_fault)?;
         self.number = self.number.saturating_add(1);
         self.day = self.day.max(self.day_now());
-        self.first = Pending::new(line);
-        self.last.begin_again();
-        self.writer.batch.begin_line_again();
         Ok(())
     }
 
     /// Returns the path of the next file.
     fn next_path(&self) -> Result<String, AllocError> {
         let name = FileName {
-            folder: self.writer.folder.as_str(),
-            run: self.writer.names.run,
+            folder: self.source.folder.as_str(),
+            run: self.source.names.run,
             number: self.number,
         };
         format!(in self.alloc; "{name}")
@@ -257,30 +261,30 @@ impl<R: Clock, D: LedgerDisk + Drop> Session<'_, R, D> {
     fn first_line(&self, now: u64) -> Result<Vec<u8>, AllocError> {
         begin_line(
             self.alloc,
-            &self.writer.names,
+            &self.source.names,
             now,
             self.number,
-            self.writer.next.as_slice(),
+            self.source.next.as_slice(),
             Vec::new(self.alloc),
         )
     }
 
     /// Makes the line that ends the run, if there is to be one and it is not made yet.
     fn make_last_line(&mut self) -> Result<(), LedgerFault> {
-        if !self.writer.state.is_clean() || !self.last.is_empty() {
+        if !self.source.state.is_clean() || self.files.is_ended() {
             return Ok(());
         }
         let now = time_since_1970(self.rt).unwrap_or(0);
         let line = end_line(
             self.alloc,
-            &self.writer.names,
+            &self.source.names,
             now,
-            &self.writer.taken,
+            &self.source.taken,
             Vec::new(self.alloc),
         );
         match line {
             Ok(line) => {
-                self.last = Pending::new(line);
+                self.files.end_with(line);
                 Ok(())
             }
             Err(AllocError) => Err(LedgerFault::Memory),
@@ -289,7 +293,7 @@ impl<R: Clock, D: LedgerDisk + Drop> Session<'_, R, D> {
 
     /// Writes what is not written, if there is anything.
     fn write_pending(&mut self) -> Result<(), LedgerFault> {
-        if self.first.is_done() && self.writer.batch.is_done() && self.last.is_done() {
+        if self.files.is_done() {
             return Ok(());
         }
         self.write_lines().map_err(ledger_fault)
@@ -298,14 +302,25 @@ impl<R: Clock, D: LedgerDisk + Drop> Session<'_, R, D> {
     /// Writes the line that begins the file, the lines of entries and the line that ends the run, as far as they are
     /// not written, if the file is still at its path.
     fn write_lines(&mut self) -> Result<(), DiskFault> {
-        self.disk.check_place()?;
-        self.first.write(&mut self.disk)?;
-        let outcome = self.writer.batch.write(&mut self.disk);
-        let count = self.writer.pass_lines();
-        self.writer.state.count_written(count);
-        self.writer.state.set_oldest(self.oldest());
+        let outcome = self.files.write();
+        let count = self.pass_lines();
+        self.source.state.count_written(count);
+        self.source.state.set_oldest(self.oldest());
         outcome?;
-        self.last.write(&mut self.disk)
+        self.files.write_end()
+    }
+
+    /// Counts the lines of entries that are written whole, and returns how many that are.
+    fn pass_lines(&mut self) -> u64 {
+        let mut count = 0u64;
+        for _ in 0..self.files.batch().count() {
+            let Some(head) = self.files.pass_line() else {
+                break;
+            };
+            self.source.pass(head);
+            count = count.saturating_add(1);
+        }
+        count
     }
 
     /// Syncs the file, if that is due or `is_now` is set.
@@ -322,6 +337,6 @@ impl<R: Clock, D: LedgerDisk + Drop> Session<'_, R, D> {
             return Ok(());
         }
         self.synced = now;
-        self.disk.sync().map_err(ledger_fault)
+        self.files.sync().map_err(ledger_fault)
     }
 }

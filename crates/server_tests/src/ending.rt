@@ -1,10 +1,12 @@
 //! Tests of what no contract says of a worker that ends by itself: the others end too, its end is reported, and no
 //! input is waited for.
 
-use crate::gates::Ending;
+use crate::comparing::holds;
+use crate::gates::{Rule, TestGate};
+use crate::journal::Journal;
 use crate::serving::ran;
 use crate::streams::Narrow;
-use crate::wires::{LOOKS, pause, quiet_wires, served};
+use crate::wires::{Coming, LOOKS, pause, served, wires_of};
 use rad_console::EndLine;
 use rad_desk::Worker;
 use rad_server::{Descriptors, LocalAddresses, RuntimeAddresses, ServeFault};
@@ -59,12 +61,13 @@ fn is_told(ran: Result<EndLine, ServeFault>, worker: Worker) -> bool {
 }
 
 /// Serves over wires on which nothing comes, and returns whether the worker's end is reported and nothing is printed.
-fn ends_the_service<R: Clock + Threads + Wait + Sync>(
-    rt: &R,
+fn ends_the_service<'a, R: Clock + Threads + Wait + Sync>(
+    rt: &'a R,
     alloc: Global,
+    journal: &'a Journal<'a, R>,
+    sent: &'a [AtomicU64; 3],
     worker: Worker,
 ) -> Result<bool, Fail> {
-    let sent = AtomicU64::new(0);
     let mut taken = Vec::new(alloc);
     let reader = Silent {
         clock: rt,
@@ -74,15 +77,27 @@ fn ends_the_service<R: Clock + Threads + Wait + Sync>(
         taken: &mut taken,
         room: 1000,
     };
-    let wires = quiet_wires(alloc, rt, &sent)?;
-    let served = served(rt, alloc, wires, &Ending(worker), reader, writer)?;
+    let nothing = Coming {
+        front: &[],
+        first: &[],
+        second: &[],
+    };
+    let wires = wires_of(alloc, rt, nothing, journal, sent)?;
+    let rule = Rule::Ending(worker);
+    let gate = TestGate { clock: rt, rule };
+    let served = served(rt, alloc, wires, &gate, reader, writer)?;
     Ok(is_told(served, worker) && taken.is_empty())
 }
 
 #[test]
 fn a_worker_that_ends_ends_the_service(rt: HostRuntime) -> Result<(), Fail> {
+    let sent = [AtomicU64::new(0), AtomicU64::new(0), AtomicU64::new(0)];
+    let journal = Journal::new(&rt, rt.alloc());
     for worker in [Worker::Front, Worker::Lane(0), Worker::Lane(1)] {
-        assert!(rt; ends_the_service(&rt, rt.alloc(), worker)?, "{worker:?}");
+        holds(
+            &rt,
+            ends_the_service(&rt, rt.alloc(), &journal, &sent, worker)?,
+        );
     }
     Ok(())
 }
@@ -109,7 +124,8 @@ where
         input: Some(reader.as_raw_fd()),
         output: None,
     };
-    let gate = Ending(worker);
+    let rule = Rule::Ending(worker);
+    let gate = TestGate { clock: rt, rule };
     let ran = ran(
         rt,
         addresses,
@@ -130,7 +146,7 @@ fn a_worker_that_ends_ends_the_wait_for_input(rt: HostRuntime) -> Result<(), Fai
     let (reader, _silent) = UnixStream::pair(&rt)?;
     for worker in [Worker::Front, Worker::Lane(0)] {
         let is_right = ends_the_wait(&rt, &addresses, rt.alloc(), worker, &reader)?;
-        assert!(rt; is_right, "{worker:?}");
+        holds(&rt, is_right);
     }
     Ok(())
 }

@@ -1,23 +1,27 @@
 //! Tests of a ledger: it begins once all sockets are bound, and each response is handed over to it once, in order, and
 //! before it is sent.
 
+ghost use Rattle.std.specs.Prelude.{IsSome};
+
 use crate::comparing::holds;
-use crate::gates::Open;
+use crate::gates::TestGate;
 use crate::journal::{Journal, LoggedLedger};
 use crate::serving::NO_LINGER;
-use crate::streams::Narrow;
-use crate::threads::{Asking, CLIENT, home, scripted};
-use crate::wires::{LOOKS, Scripted, TWO_HOMES};
+use crate::threads::Asking;
+use crate::wires::{Coming, TWO_HOMES, wires_of};
+use rad_console::EndLine;
+use rad_desk::{Ledger, Wire};
 use rad_realms::read_config;
 use rad_server::{
     Descriptors, Notifiers, RuntimeAddresses, ServeFault, Wires, run_with, serve_with,
 };
-use std::alloc::{AllocError, Global};
-use std::io;
+use std::alloc::Global;
+use std::io::{self, Read};
 use std::net::{Ipv4Addr, SocketAddr, UdpSocket};
 use std::sync::Wait;
-use std::sync::atomic::{AtomicBool, AtomicU64};
+use std::sync::atomic::AtomicU64;
 use std::test::Fail;
+use std::thread::Threads;
 use std::time::Clock;
 use test_octets::homes::{REPLY, SECOND_REPLY};
 use test_octets::nas::{REQUEST, RESPONSE, SECOND_REQUEST, SECOND_RESPONSE};
@@ -41,55 +45,50 @@ const IN_ORDER: [&[u8]; 9] = [
     &SECOND_RESPONSE,
 ];
 
-/// Makes wires on which the front receives the requests and logs what it sends, and the first lane receives the replies
-/// once it has sent both requests.
-fn wires_of<'a, R: Clock + Wait>(
-    alloc: Global,
-    clock: &'a R,
-    journal: &'a Journal<'a, R>,
-    sent: &'a [AtomicU64; 2],
-) -> Result<Wires<Scripted<'a, R>>, AllocError> {
-    let [of_front, of_lanes] = sent;
-    let mut lanes = Vec::new(alloc);
-    lanes.push(scripted(clock, home(0), &REPLIES, 2, of_lanes))?;
-    lanes.push(scripted(clock, home(1), &[], 0, of_lanes))?;
-    let mut front = scripted(clock, CLIENT, &REQUESTS, 0, of_front);
-    front.journal = Some(journal);
-    Ok(Wires { front, lanes })
-}
-
 #[test]
 fn each_response_is_handed_over_and_then_sent(rt: HostRuntime) -> Result<(), Fail> {
-    let sent = [AtomicU64::new(0), AtomicU64::new(0)];
-    let gave_up = AtomicBool::new(false);
+    let sent = [AtomicU64::new(0), AtomicU64::new(0), AtomicU64::new(0)];
     let journal = Journal::new(&rt, rt.alloc());
-    let reader = Asking {
-        clock: &rt,
-        sent: &sent[0],
-        enough: 2,
-        looks: LOOKS,
-        gave_up: &gave_up,
+    let coming = Coming {
+        front: &REQUESTS,
+        first: &REPLIES,
+        second: &[],
     };
-    let mut taken = Vec::new(rt.alloc());
-    let writer = Narrow {
-        taken: &mut taken,
-        room: usize::MAX,
-    };
-    let config = read_config(rt.alloc(), TWO_HOMES)?;
-    let served = serve_with(
+    let wires = wires_of(rt.alloc(), &rt, coming, &journal, &sent)?;
+    let served = served_with(
         &rt,
         rt.alloc(),
-        &config,
-        wires_of(rt.alloc(), &rt, &journal, &sent)?,
-        &Notifiers::none(rt.alloc()),
-        &Open,
+        wires,
         LoggedLedger(&journal),
-        reader,
-        writer,
-    );
+        Asking::until_two(&rt, &sent[0]),
+    )?;
     holds(&rt, matches!(served, Ok(end) if end.is_clean()));
     holds(&rt, journal.is(&IN_ORDER));
     Ok(())
+}
+
+/// Serves one client and two home servers over these wires with a ledger, and returns how that ends.
+fn served_with<R, W, L, I>(
+    rt: &R,
+    alloc: Global,
+    wires: Wires<W>,
+    ledger: L,
+    reader: I,
+) -> Result<Result<EndLine, ServeFault>, Fail>
+where
+    R: Clock + Threads + Wait + Sync,
+    W: Wire + Send + Drop,
+    L: Ledger + Send + Drop,
+    I: Read + Drop,
+    requires keeps { (wire : W) → IsSome (W.log wire) }
+{
+    let config = read_config(alloc, TWO_HOMES)?;
+    let gate = TestGate::open(rt);
+    let notifiers = Notifiers::none(alloc);
+    let writer = io::sink();
+    Ok(serve_with(
+        rt, alloc, &config, wires, &notifiers, &gate, ledger, reader, writer,
+    ))
 }
 
 #[test]
@@ -103,7 +102,7 @@ fn no_ledger_begins_if_a_socket_is_taken(rt: HostRuntime) -> Result<(), Fail> {
         &RuntimeAddresses::new(rt),
         rt.alloc(),
         &config,
-        &Open,
+        &TestGate::open(&rt),
         LoggedLedger(&journal),
         io::empty(),
         io::sink(),

@@ -2,17 +2,21 @@
 //! reported.
 
 use crate::comparing::holds;
-use crate::gates::{EndingLate, Open};
+use crate::gates::{Rule, TestGate};
 use crate::serving::{NO_LINGER, ran};
 use crate::wires::{LOOKS, pause};
 use rad_console::EndLine;
 use rad_desk::Worker;
-use rad_server::{Descriptors, RuntimeAddresses, ServeFault};
+use rad_server::{Descriptors, LocalAddresses, RuntimeAddresses, ServeFault};
+use std::alloc::Global;
 use std::cell::Cell;
 use std::io::{self, Read, Write};
-use std::net::{Ipv4Addr, SocketAddr, UdpSocket};
+use std::net::{Ipv4Addr, Net, SocketAddr, UdpSocket};
+use std::random::RandomSource;
+use std::sync::Wait;
 use std::sync::atomic::{AtomicBool, Ordering};
 use std::test::Fail;
+use std::thread::Threads;
 use std::time::Clock;
 use test_octets::nas::SEVENTH;
 
@@ -75,34 +79,45 @@ fn is_one_left(ran: Result<EndLine, ServeFault>) -> bool {
     }
 }
 
-#[test]
-fn what_lingers_is_left_over(rt: HostRuntime) -> Result<(), Fail> {
-    let any = SocketAddr::from((Ipv4Addr::LOCALHOST, 0));
+/// Serves until a request is accepted, and ends the input then, which is noted. Returns how that ends, if a request was
+/// accepted.
+fn ran_until_accepted<R, A>(
+    rt: &R,
+    addresses: &A,
+    alloc: Global,
+    text: &str,
+    has_ended: &AtomicBool,
+    rule: Rule<'_>,
+) -> Result<Option<Result<EndLine, ServeFault>>, Fail>
+where
+    R: Clock + Net + RandomSource + Threads + Wait + Sync,
+    A: LocalAddresses + Sync,
+{
     let is_accepted = Cell::new(false);
-    let has_ended = AtomicBool::new(false);
     let reader = Sending {
-        clock: &rt,
-        socket: UdpSocket::bind(&rt, any)?,
+        clock: rt,
+        socket: UdpSocket::bind(rt, SocketAddr::from((Ipv4Addr::LOCALHOST, 0)))?,
         is_sent: false,
         is_accepted: &is_accepted,
-        has_ended: &has_ended,
+        has_ended,
         looks: LOOKS,
     };
     let writer = Looking {
         is_accepted: &is_accepted,
     };
-    let ran = ran(
-        &rt,
-        &RuntimeAddresses::new(rt),
-        rt.alloc(),
-        NO_LINGER,
-        &Open,
-        reader,
-        writer,
-        Descriptors::none(),
-    )?;
-    holds(&rt, is_accepted.get());
-    holds(&rt, is_one_left(ran));
+    let gate = TestGate { clock: rt, rule };
+    let none = Descriptors::none();
+    let ran = ran(rt, addresses, alloc, text, &gate, reader, writer, none)?;
+    Ok(if is_accepted.get() { Some(ran) } else { None })
+}
+
+#[test]
+fn what_lingers_is_left_over(rt: HostRuntime) -> Result<(), Fail> {
+    let addresses = RuntimeAddresses::new(rt);
+    let has_ended = AtomicBool::new(false);
+    let rule = Rule::Open;
+    let ran = ran_until_accepted(&rt, &addresses, rt.alloc(), NO_LINGER, &has_ended, rule)?;
+    holds(&rt, ran.is_some_and(is_one_left));
     Ok(())
 }
 
@@ -124,31 +139,11 @@ home = "h1"
 
 #[test]
 fn a_worker_that_ends_while_lanes_linger_is_told(rt: HostRuntime) -> Result<(), Fail> {
-    let any = SocketAddr::from((Ipv4Addr::LOCALHOST, 0));
-    let is_accepted = Cell::new(false);
+    let addresses = RuntimeAddresses::new(rt);
     let has_ended = AtomicBool::new(false);
-    let reader = Sending {
-        clock: &rt,
-        socket: UdpSocket::bind(&rt, any)?,
-        is_sent: false,
-        is_accepted: &is_accepted,
-        has_ended: &has_ended,
-        looks: LOOKS,
-    };
-    let writer = Looking {
-        is_accepted: &is_accepted,
-    };
-    let ran = ran(
-        &rt,
-        &RuntimeAddresses::new(rt),
-        rt.alloc(),
-        LONG_LINGER,
-        &EndingLate(&has_ended),
-        reader,
-        writer,
-        Descriptors::none(),
-    )?;
-    holds(&rt, is_accepted.get());
-    holds(&rt, matches!(ran, Err(ServeFault::Ended(Worker::Lane(0)))));
+    let rule = Rule::EndingLate(&has_ended);
+    let ran = ran_until_accepted(&rt, &addresses, rt.alloc(), LONG_LINGER, &has_ended, rule)?;
+    let is_told = matches!(ran, Some(Err(ServeFault::Ended(Worker::Lane(0)))));
+    holds(&rt, is_told);
     Ok(())
 }

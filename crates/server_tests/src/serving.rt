@@ -1,7 +1,7 @@
 //! Tests of what no contract says of `run`: what it prints, and that a failed read ends it.
 
 use crate::comparing::holds;
-use crate::gates::Open;
+use crate::gates::TestGate;
 use crate::streams::{Narrow, Slow};
 use rad_console::EndLine;
 use rad_desk::Gate;
@@ -72,63 +72,71 @@ where
     ))
 }
 
-/// Does the same with a gate that lets all workers go on and without descriptors, so that the reader never waits. What
-/// is printed is added to `taken`.
-fn ran_open<R, A>(
-    rt: &R,
-    addresses: &A,
-    alloc: Global,
-    text: &str,
-    reader: Slow<'_>,
-    taken: &mut Vec<u8>,
-) -> Result<Result<EndLine, ServeFault>, Fail>
+/// A reader of `run`, and what is printed. If the reader fails, so does `run`, and otherwise its end is clean.
+struct Case {
+    text: &'static str,
+    reader: Slow<'static>,
+    printed: &'static str,
+}
+
+/// Runs a case without descriptors, so that the reader never waits, and returns whether it ends as it should.
+fn ends_well<R, A>(rt: &R, addresses: &A, alloc: Global, case: Case) -> Result<bool, Fail>
 where
     R: Clock + Net + RandomSource + Threads + Wait + Sync,
     A: LocalAddresses + Sync,
 {
-    let writer = Narrow { taken, room: 1000 };
+    let Case {
+        text,
+        reader,
+        printed,
+    } = case;
+    let fails = reader.fails;
+    let mut taken = Vec::new(alloc);
+    let writer = Narrow {
+        taken: &mut taken,
+        room: 1000,
+    };
+    let gate = TestGate::open(rt);
     let none = Descriptors::none();
-    ran(rt, addresses, alloc, text, &Open, reader, writer, none)
+    let ran = ran(rt, addresses, alloc, text, &gate, reader, writer, none)?;
+    let is_right = match ran {
+        Ok(end) => !fails && end.is_clean(),
+        Err(fault) => fails && fault == ServeFault::Input,
+    };
+    Ok(is_right && taken.as_slice() == printed.as_bytes())
 }
 
 #[test]
 fn commands_are_answered(rt: HostRuntime) -> Result<(), Fail> {
-    let addresses = RuntimeAddresses::new(rt);
-    let mut taken = Vec::new(rt.alloc());
-    let reader = Slow {
-        rest: b"state\nturn\n",
-        most: 3,
-        fails: false,
+    let case = Case {
+        text: CONFIGURATION,
+        reader: Slow {
+            rest: b"state\nturn\n",
+            most: 3,
+            fails: false,
+        },
+        printed: "listening 127.0.0.1:1813\n\
+            lane 0 h1 up open accepted 0 queued 0 outstanding 0 answered 0 opening 0\n\
+            lane 1 h2 up open accepted 0 queued 0 outstanding 0 answered 0 opening 0\n\
+            unknown\nend: queued 0 outstanding 0 untaken 0\n",
     };
-    let ran = ran_open(
-        &rt,
-        &addresses,
-        rt.alloc(),
-        CONFIGURATION,
-        reader,
-        &mut taken,
-    )?;
-    holds(&rt, matches!(ran, Ok(end) if end.is_clean()));
-    let printed = "listening 127.0.0.1:1813\n\
-         lane 0 h1 up open accepted 0 queued 0 outstanding 0 answered 0 opening 0\n\
-         lane 1 h2 up open accepted 0 queued 0 outstanding 0 answered 0 opening 0\n\
-         unknown\nend: queued 0 outstanding 0 untaken 0\n";
-    holds(&rt, taken.as_slice() == printed.as_bytes());
+    let addresses = RuntimeAddresses::new(rt);
+    holds(&rt, ends_well(&rt, &addresses, rt.alloc(), case)?);
     Ok(())
 }
 
 #[test]
 fn a_failed_read_ends_the_service(rt: HostRuntime) -> Result<(), Fail> {
-    let addresses = RuntimeAddresses::new(rt);
-    let mut taken = Vec::new(rt.alloc());
-    let reader = Slow {
-        rest: b"turn\n",
-        most: 64,
-        fails: true,
+    let case = Case {
+        text: NO_LINGER,
+        reader: Slow {
+            rest: b"turn\n",
+            most: 64,
+            fails: true,
+        },
+        printed: "listening 127.0.0.1:1815\nunknown\n",
     };
-    let ran = ran_open(&rt, &addresses, rt.alloc(), NO_LINGER, reader, &mut taken)?;
-    holds(&rt, matches!(ran, Err(ServeFault::Input)));
-    let printed = "listening 127.0.0.1:1815\nunknown\n";
-    holds(&rt, taken.as_slice() == printed.as_bytes());
+    let addresses = RuntimeAddresses::new(rt);
+    holds(&rt, ends_well(&rt, &addresses, rt.alloc(), case)?);
     Ok(())
 }

@@ -48,16 +48,39 @@ pub fn pause(clock: &impl Clock) {
 /// A wire in memory: it gives datagrams in order, once it has sent `waits_for` datagrams.
 #[derive(Drop)]
 pub struct Scripted<'a, R> {
-    pub clock: &'a R,
-    pub from: Endpoint,
-    pub gives: &'a [&'a [u8]],
+    clock: &'a R,
+    from: Endpoint,
+    gives: &'a [&'a [u8]],
     /// The index of the datagram that it gives next.
-    pub next: usize,
-    pub waits_for: u64,
-    pub sent: &'a AtomicU64,
+    next: usize,
+    waits_for: u64,
+    sent: &'a AtomicU64,
     /// Where it logs what it sends, if anywhere.
-    pub journal: Option<&'a Journal<'a, R>>,
-    pub traffic: Traffic,
+    journal: Option<&'a Journal<'a, R>>,
+    traffic: Traffic,
+}
+
+impl<'a, R> Scripted<'a, R> {
+    /// Makes a wire that gives these datagrams once it has sent `waits_for` datagrams.
+    fn new(
+        clock: &'a R,
+        from: Endpoint,
+        gives: &'a [&'a [u8]],
+        waits_for: usize,
+        journal: Option<&'a Journal<'a, R>>,
+        sent: &'a AtomicU64,
+    ) -> Scripted<'a, R> {
+        Scripted {
+            clock,
+            from,
+            gives,
+            next: 0,
+            waits_for: waits_for as u64,
+            sent,
+            journal,
+            traffic: Traffic::new(),
+        }
+    }
 }
 
 impl<R: Clock + Wait> Wire for Scripted<'_, R> {
@@ -108,37 +131,50 @@ impl<R: Clock + Wait> Wire for Scripted<'_, R> {
     }
 }
 
-/// Makes a wire in memory on which nothing comes.
-fn quiet<'a, R: Clock>(clock: &'a R, sent: &'a AtomicU64) -> Scripted<'a, R> {
-    Scripted {
-        clock,
-        from: Endpoint {
-            address: [127, 0, 0, 1],
-            port: 2813,
-        },
-        gives: &[],
-        next: 0,
-        waits_for: 0,
-        sent,
-        journal: None,
-        traffic: Traffic::new(),
+/// The datagrams that come over wires: to the front at once, and to each lane once it has sent as many.
+#[derive(Clone, Copy)]
+pub struct Coming<'a> {
+    pub front: &'a [&'a [u8]],
+    pub first: &'a [&'a [u8]],
+    pub second: &'a [&'a [u8]],
+}
+
+const CLIENT: Endpoint = Endpoint {
+    address: [10, 0, 0, 1],
+    port: 40000,
+};
+
+/// Returns the home server of a lane.
+fn home(lane: u16) -> Endpoint {
+    Endpoint {
+        address: [127, 0, 0, 1],
+        port: 2813_u16.saturating_add(lane),
     }
 }
 
-/// Makes such wires for the clients and for two home servers.
-pub fn quiet_wires<'a, R: Clock>(
+/// Makes wires in memory for the front and for two lanes, each of which counts what it sends. The front's logs it too.
+pub fn wires_of<'a, R>(
     alloc: Global,
     clock: &'a R,
-    sent: &'a AtomicU64,
+    coming: Coming<'a>,
+    journal: &'a Journal<'a, R>,
+    sent: &'a [AtomicU64; 3],
 ) -> Result<Wires<Scripted<'a, R>>, AllocError> {
-    let mut lanes = Vec::new(alloc);
-    for _ in 0..2 {
-        lanes.push(quiet(clock, sent))?;
-    }
-    Ok(Wires {
-        front: quiet(clock, sent),
-        lanes,
-    })
+    let [of_front, of_first, of_second] = sent;
+    let Coming {
+        front,
+        first,
+        second,
+    } = coming;
+    let lanes = Vec::from_array(
+        alloc,
+        [
+            Scripted::new(clock, home(0), first, first.len(), None, of_first),
+            Scripted::new(clock, home(1), second, second.len(), None, of_second),
+        ],
+    )?;
+    let front = Scripted::new(clock, CLIENT, front, 0, Some(journal), of_front);
+    Ok(Wires { front, lanes })
 }
 
 /// Serves one client and two home servers over these wires, and returns how that ends.

@@ -79,7 +79,7 @@ const ERRORS: &str =
     event=ledger-fault reason=\"no memory\"\n";
 
 /// Lets a step happen to a ledger.
-fn step(ledger: &LedgerState, log: &MemoryLog, step: Step) {
+fn happen(ledger: &LedgerState, log: &MemoryLog, step: Step) {
     match step {
         Step::Put => ledger.count_put(),
         Step::Write(count) => ledger.count_written(count),
@@ -96,7 +96,7 @@ fn tells(alloc: Global, level: LevelFilter, expected: &str) -> Result<bool, Fail
     let setup = Setup::new(alloc, TWO_HOMES, level)?;
     let ledger = LedgerState::new();
     for next in STEPS {
-        step(&ledger, setup.log(), next);
+        happen(&ledger, setup.log(), next);
     }
     Ok(setup.has_logged(expected))
 }

@@ -44,7 +44,7 @@ const DOWN: &[Event<'static>] = &[
 ];
 
 const UP_BY_A_PROBE: Story<'static> = Story {
-    name: "a probe's answer is told as the reason",
+    // a probe's answer is told as the reason
     more: MORE,
     scenes: &[
         FORWARD,
@@ -63,7 +63,7 @@ const UP_BY_A_PROBE: Story<'static> = Story {
 };
 
 const UP_BY_THE_WAIT: Story<'static> = Story {
-    name: "the end of the wait is told as the reason",
+    // the end of the wait is told as the reason
     more: MORE,
     scenes: &[
         FORWARD,
@@ -80,7 +80,7 @@ const UP_BY_THE_WAIT: Story<'static> = Story {
 const NO_REALM: Telling = Telling::Of(CLIENT, Note::Dropped(Dropped::NoRealm));
 
 const OF_NO_REALM: Story<'static> = Story {
-    name: "a packet whose realm leads nowhere is told",
+    // a packet whose realm leads nowhere is told
     more: MORE,
     scenes: &[&[
         Event::Turn(FRONT, &OTHER_REQUEST, [1, 0, 0], Some(NO_REALM), &[]),
@@ -89,7 +89,7 @@ const OF_NO_REALM: Story<'static> = Story {
 };
 
 const MARKED: Story<'static> = Story {
-    name: "a request with a proxy's mark is told",
+    // a request with a proxy's mark is told
     more: MORE,
     scenes: &[&[
         Event::From(OTHER_PROXY),
@@ -113,7 +113,7 @@ const MARKED: Story<'static> = Story {
     ]],
 };
 
-/// What a gate is notified of besides the notes. A story's name says what it shows.
+/// What a gate is notified of besides the notes. A line in each story says what it shows.
 const STORIES: &[Story<'static>] = &[UP_BY_A_PROBE, UP_BY_THE_WAIT, OF_NO_REALM, MARKED];
 
 #[test]

@@ -85,7 +85,7 @@ fn any_fault_of_the_lanes_wire_is_overcome(rt: HostRuntime) -> Result<(), Fail> 
 }
 
 const SENT_AGAIN: Story<'static> = Story {
-    name: "a failed send is sent again",
+    // a failed send is sent again
     more: "",
     scenes: &[&[
         Event::Fails(LANE, 1),
@@ -112,7 +112,7 @@ const SENT_AGAIN: Story<'static> = Story {
 
 /// The failed send is sent again, in one call of the worker.
 const COUNTED_ONCE: Story<'static> = Story {
-    name: "a failed send counts once",
+    // a failed send counts once
     more: "",
     scenes: &[&[
         Event::Turn(
@@ -135,7 +135,7 @@ const COUNTED_ONCE: Story<'static> = Story {
 };
 
 const RECEIVED_AFTERWARDS: Story<'static> = Story {
-    name: "a failed receive ends nothing",
+    // a failed receive ends nothing
     more: "",
     scenes: &[&[
         Event::Fails(FRONT, 0),
@@ -166,7 +166,7 @@ const RECEIVED_AFTERWARDS: Story<'static> = Story {
 };
 
 const LOST_AND_GIVEN_AGAIN: Story<'static> = Story {
-    name: "a response that is lost is given again",
+    // a response that is lost is given again
     more: "",
     scenes: &[
         FORWARD,
@@ -187,7 +187,7 @@ const LOST_AND_GIVEN_AGAIN: Story<'static> = Story {
     ],
 };
 
-/// How the workers overcome one fault. A story's name says what it shows.
+/// How the workers overcome one fault. A line in each story says what it shows.
 const STORIES: &[Story<'static>] = &[
     SENT_AGAIN,
     COUNTED_ONCE,

@@ -19,7 +19,7 @@ const ACCEPTED_BY_BOTH: &[Event<'static>] = &[
 /// Each lane has turns at 0, 1000 and 2000 milliseconds, and sends its request. By then the limits of the first
 /// lane have its home server marked down.
 const SENT_BY_BOTH: Story<'static> = Story {
-    name: "open gives each lane its home",
+    // open gives each lane its home
     more: TWO_HOMES,
     scenes: &[
         ACCEPTED_BY_BOTH,
@@ -45,7 +45,7 @@ fn open_gives_each_lane_its_home(rt: HostRuntime) -> Result<(), Fail> {
 
 /// The second lane sends its request and hears the reply to it.
 const ANSWERED_BY_SECOND: Story<'static> = Story {
-    name: "a gate is told whose response waits",
+    // a gate is told whose response waits
     more: TWO_HOMES,
     scenes: &[
         ACCEPTED_BY_BOTH,

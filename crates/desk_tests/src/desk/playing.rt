@@ -117,8 +117,6 @@ pub enum Event<'a> {
 
 /// A test: the proxy with the tests' configuration and the lines `more` makes the events of these scenes in order.
 pub struct Story<'a> {
-    /// What the story shows. It is printed if an event has another result.
-    pub name: &'a str,
     pub more: &'a str,
     pub scenes: &'a [&'a [Event<'a>]],
 }
@@ -162,18 +160,18 @@ fn peer_of(worker: Worker) -> Endpoint {
 impl TestProxy {
     /// Makes these events in order, and compares the result of each.
     pub fn play<R: Wait + Abort>(&mut self, rt: &R, events: &[Event<'_>]) {
-        self.play_scene(rt, "", events);
+        self.play_scene(rt, 0, events);
     }
 
-    /// Makes these events of a story in order, and compares the result of each.
-    fn play_scene<R: Wait + Abort>(&mut self, rt: &R, story: &str, events: &[Event<'_>]) {
+    /// Makes these events of the story at a place in order, and compares the result of each.
+    fn play_scene<R: Wait + Abort>(&mut self, rt: &R, story: usize, events: &[Event<'_>]) {
         for (place, event) in events.iter().enumerate() {
             self.meet(rt, (story, place), event);
         }
     }
 
     /// Makes the event at this place of a story, and compares its result.
-    fn meet<R: Wait + Abort>(&mut self, rt: &R, place: (&str, usize), event: &Event<'_>) {
+    fn meet<R: Wait + Abort>(&mut self, rt: &R, place: (usize, usize), event: &Event<'_>) {
         match *event {
             Event::Turn(worker, receives, did, tells, sends) => {
                 self.come(worker, receives);
@@ -295,7 +293,7 @@ impl TestProxy {
 
     /// Has a worker take turns, and compares its tally, the last notification, what it sends, and the datagrams that
     /// the gate was notified of.
-    fn work_at<R: Wait + Abort>(&mut self, rt: &R, place: (&str, usize), turns: &Turns<'_>) {
+    fn work_at<R: Wait + Abort>(&mut self, rt: &R, place: (usize, usize), turns: &Turns<'_>) {
         let did = self.work(rt, turns.worker, turns.asked);
         same(rt, (place, did), (place, tally(turns.taken, turns.did)));
         same(rt, (place, self.gate.told()), (place, turns.tells));
@@ -325,9 +323,19 @@ impl TestProxy {
 
 /// Has a proxy make the events of a story.
 pub fn play<R: Wait + Abort>(rt: &R, alloc: Global, story: &Story<'_>) -> Result<(), Fail> {
+    play_at(rt, alloc, 0, story)
+}
+
+/// Has a proxy make the events of the story at a place.
+fn play_at<R: Wait + Abort>(
+    rt: &R,
+    alloc: Global,
+    place: usize,
+    story: &Story<'_>,
+) -> Result<(), Fail> {
     let mut proxy = TestProxy::new(alloc, story.more)?;
     for scene in story.scenes {
-        proxy.play_scene(rt, story.name, scene);
+        proxy.play_scene(rt, place, scene);
     }
     proxy.end();
     Ok(())
@@ -339,8 +347,8 @@ pub fn play_each<R: Wait + Abort>(
     alloc: Global,
     stories: &[Story<'_>],
 ) -> Result<(), Fail> {
-    for story in stories {
-        play(rt, alloc, story)?;
+    for (place, story) in stories.iter().enumerate() {
+        play_at(rt, alloc, place, story)?;
     }
     Ok(())
 }

@@ -18,7 +18,7 @@ const UNKNOWN: Telling = Telling::Of(HOME, Note::Unheard(DeskFault::Lane(HearFau
 /// port, and then those of the second one up to Identifier 2. Then the clock stands still, and the answer arrives at
 /// each of the two ports.
 const PROBED_BY_THE_SECOND_PORT: Story<'static> = Story {
-    name: "a lane sends and hears by the source port",
+    // a lane sends and hears by the source port
     more: TWO_PORTS,
     scenes: &[
         FORWARD,
@@ -50,7 +50,7 @@ const PROBED_BY_THE_SECOND_PORT: Story<'static> = Story {
 
 /// What is asked at the second socket is answered from it, and the first response is sent from the first one.
 const ASKED_BY_THE_SECOND_SOCKET: Story<'static> = Story {
-    name: "the front answers by the socket that was asked",
+    // the front answers by the socket that was asked
     more: "",
     scenes: &[&[
         Event::Sockets(1, 1),
@@ -77,7 +77,7 @@ const ASKED_BY_THE_SECOND_SOCKET: Story<'static> = Story {
     ]],
 };
 
-/// Which sockets the workers use. A story's name says what it shows.
+/// Which sockets the workers use. A line in each story says what it shows.
 const STORIES: &[Story<'static>] = &[PROBED_BY_THE_SECOND_PORT, ASKED_BY_THE_SECOND_SOCKET];
 
 #[test]

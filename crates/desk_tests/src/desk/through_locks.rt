@@ -28,7 +28,7 @@ const SERVED_BY_SECOND: &[Event<'static>] = &[
 
 /// Two lanes are drained. The second one answered a request, and its book is turned.
 const DRAINED_AND_TURNED: Story<'static> = Story {
-    name: "calls reach their own lane",
+    // calls reach their own lane
     more: TWO_HOMES,
     scenes: &[
         SERVED_BY_SECOND,

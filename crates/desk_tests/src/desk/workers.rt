@@ -17,7 +17,7 @@ use test_octets::nas::{
 
 /// The request is answered, and its response is sent, also for a repeat.
 const EACH_PART: Story<'static> = Story {
-    name: "each worker does its part",
+    // each worker does its part
     more: "",
     scenes: &[
         FORWARD,
@@ -38,7 +38,7 @@ const EACH_PART: Story<'static> = Story {
 
 /// Both requests are accepted, and both are answered. Then both responses are in the ring.
 const BOTH_ANSWERED: Story<'static> = Story {
-    name: "the front holds no response back",
+    // the front holds no response back
     more: "",
     scenes: &[&[
         Event::Tick(1),
@@ -100,7 +100,7 @@ const OTHER_ADDRESS: Endpoint = Endpoint {
 /// The reply comes from each of these endpoints.
 const FROM_ELSEWHERE: &[Story<'static>] = &[
     Story {
-        name: "a reply from elsewhere is dropped",
+        // a reply from elsewhere is dropped
         more: "",
         scenes: &[
             FORWARD,
@@ -118,7 +118,7 @@ const FROM_ELSEWHERE: &[Story<'static>] = &[
         ],
     },
     Story {
-        name: "a reply from elsewhere is dropped",
+        // a reply from elsewhere is dropped
         more: "",
         scenes: &[
             FORWARD,
@@ -140,7 +140,7 @@ const FROM_ELSEWHERE: &[Story<'static>] = &[
 const UNKNOWN_CLIENT: Telling = Telling::Of(HOME, Note::Dropped(Dropped::UnknownClient));
 
 const STATUSES: Story<'static> = Story {
-    name: "the front answers and drops",
+    // the front answers and drops
     more: "",
     scenes: &[&[
         Event::Turn(FRONT, &STATUS, [1, 1, 0], None, &STATUS_ANSWER),
@@ -150,7 +150,7 @@ const STATUSES: Story<'static> = Story {
 };
 
 const WORK_FOR_EACH: Story<'static> = Story {
-    name: "a gate is told whose lane has work",
+    // a gate is told whose lane has work
     more: TWO_HOMES,
     scenes: &[&[
         Event::Turn(
@@ -174,7 +174,7 @@ const WORK_FOR_EACH: Story<'static> = Story {
 const QUEUE_FULL: Telling = Telling::Of(CLIENT, Note::Refused(Refusal::QueueFull));
 
 const ONE_TOO_MANY: Story<'static> = Story {
-    name: "a refusal is of what came last",
+    // a refusal is of what came last
     more: "queue = 1\n",
     scenes: &[&[
         Event::Turn(
@@ -189,7 +189,7 @@ const ONE_TOO_MANY: Story<'static> = Story {
 };
 
 const STOPPED: Story<'static> = Story {
-    name: "a gate stops each worker",
+    // a gate stops each worker
     more: "",
     scenes: &[&[
         Event::Stops(Call::Take),
@@ -207,7 +207,7 @@ const STOPPED: Story<'static> = Story {
 };
 
 const DOWN_AND_UP: Story<'static> = Story {
-    name: "a probe's answer takes a lane up",
+    // a probe's answer takes a lane up
     more: "tries = 1\n",
     scenes: &[
         FORWARD,
@@ -240,7 +240,7 @@ const DOWN_AND_UP: Story<'static> = Story {
 };
 
 const CUT_AT_ONCE: Story<'static> = Story {
-    name: "a half full book is cut",
+    // a half full book is cut
     more: "book = 2\nspan = 0\n",
     scenes: &[
         FORWARD,
@@ -262,7 +262,7 @@ const STANDING: &[Event<'static>] = &[Event::Tick(0)];
 
 /// The request is answered, and a span later it is cut.
 const CUT_AFTER_SPAN: Story<'static> = Story {
-    name: "a request is cut once its span is over",
+    // a request is cut once its span is over
     more: "book = 2\nspan = 30000\n",
     scenes: &[
         STANDING,
@@ -289,12 +289,12 @@ const WITHOUT_WORK: &[Event<'static>] = &[Event::Turns(LANE, 31, 31, [0, 0, 0], 
 /// turn.
 const HALF_FULL: &[Story<'static>] = &[
     Story {
-        name: "each idle step turns a book that is half full",
+        // each idle step turns a book that is half full
         more: "book = 3\n",
         scenes: &[EACH_MILLISECOND, FORWARD, WITHOUT_WORK, &[Event::Turned(0)]],
     },
     Story {
-        name: "each idle step turns a book that is half full",
+        // each idle step turns a book that is half full
         more: "book = 2\n",
         scenes: &[
             EACH_MILLISECOND,
@@ -304,7 +304,7 @@ const HALF_FULL: &[Story<'static>] = &[
         ],
     },
     Story {
-        name: "each idle step turns a book that is half full",
+        // each idle step turns a book that is half full
         more: "book = 1\n",
         scenes: &[
             EACH_MILLISECOND,
@@ -315,7 +315,7 @@ const HALF_FULL: &[Story<'static>] = &[
     },
 ];
 
-/// What the workers do in a turn. A story's name says what it shows.
+/// What the workers do in a turn. A line in each story says what it shows.
 const STORIES: &[Story<'static>] = &[
     EACH_PART,
     BOTH_ANSWERED,

@@ -176,11 +176,13 @@ fn begin_comes_back(alloc: Global, begin: &Begin<'_>) -> Result<bool, Fail> {
     let all = write_begin(alloc, begin, Vec::new(alloc))?;
     let mut room = Room::new(alloc)?;
     match read_line(alloc, line_of(all.as_slice())?, &mut room) {
-        Ok(Line::Begin(again)) => Ok(again.run == begin.run
-            && again.time == begin.time
-            && again.version == begin.version
-            && again.file == begin.file
-            && again.lanes.as_slice() == begin.lanes.as_slice()),
+        Ok(Line::Begin(again)) => Ok(
+            again.run == begin.run
+                && again.time == begin.time
+                && again.version == begin.version
+                && again.file == begin.file
+                && again.lanes.as_slice() == begin.lanes.as_slice(),
+        ),
         _ => Ok(false),
     }
 }
@@ -208,9 +210,11 @@ fn end_comes_back(alloc: Global, end: &End<'_>) -> Result<bool, Fail> {
     let all = write_end(alloc, end, Vec::new(alloc))?;
     let mut room = Room::new(alloc)?;
     match read_line(alloc, line_of(all.as_slice())?, &mut room) {
-        Ok(Line::End(again)) => Ok(again.run == end.run
-            && again.time == end.time
-            && again.lanes.as_slice() == end.lanes.as_slice()),
+        Ok(Line::End(again)) => Ok(
+            again.run == end.run
+                && again.time == end.time
+                && again.lanes.as_slice() == end.lanes.as_slice(),
+        ),
         _ => Ok(false),
     }
 }

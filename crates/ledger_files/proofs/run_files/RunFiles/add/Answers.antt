@@ -1,17 +1,10 @@
 use Rattle.std.proofs.Common.{◌≡◌, ℕ, List, length, ap, ◌∙◌, arith}
 use Rattle.std.specs.Prelude.{string_bytes}
-use Rattle.ledger_files.proofs.RunCalls.{batch_kept, added}
+use Rattle.ledger_files.proofs.RunCalls.{added}
 use Rattle.ledger_files.proofs.run_files.RunFiles.add.Goals as goal
 
-pub returns-in_err-add : goal.returns-in_err-add
-returns-in_err-add g c = λ lines h.
-    let run = c.args.self.now in
-    rw c.from_residual.ensures
-    (batch_kept (g.D.LedgerDisk.files run.disk) run.first run.batch c.add.new.self run.last lines
-    (λ held k. c.in_err-add.ensures.lines held k) c.in_err-add.ensures.same.0 c.in_err-add.ensures.same.1 h)
-
-pub returns : goal.returns
-returns g c = λ lines h.
+pub returns-clause-run : goal.returns-clause-run
+returns-clause-run g c = λ lines h.
     let run = c.args.self.now in
     added (g.D.LedgerDisk.files run.disk) run.first run.batch c.add.new.self run.last lines c.args.line.now
     (omega (arith, c.requires, run.last.octets.ok.0)) (omega (arith, run.last.within, run.last.octets.ok.0)) (omega (arith, run.batch.written.1, run.batch.octets.ok.0))
