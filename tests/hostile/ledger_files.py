@@ -131,7 +131,7 @@ class Trial:
 
     def lines(self, files=None):
         """The lines that stand whole."""
-        return [json.loads(line) for file in files or self.files() for line in file.read_bytes().split(b"\n")[:-1]]
+        return [read_line(file, line) for file in files or self.files() for line in file.read_bytes().split(b"\n")[:-1]]
 
     def entries(self, files=None):
         return [line for line in self.lines(files) if line["type"] == "entry"]
@@ -196,6 +196,14 @@ class Trial:
             self.process.kill()
             self.process.wait()
         subprocess.run(["umount", "-q", str(self.folder)], check=False, stderr=subprocess.DEVNULL)
+
+
+def read_line(file, line):
+    """What a line of a file has."""
+    try:
+        return json.loads(line)
+    except ValueError as fault:
+        raise AssertionError(f"{file.name} has a line that is no JSON: {line[:60]!r}") from fault
 
 
 REASONS = {"NotEntry", "NoPacket", "WrongSent", "WrongReply", "WrongResponse", "SerialNotAbove", "UnknownLane"}
