@@ -61,9 +61,10 @@ fn has_same_request(entry: &Entry<'_>, other: &Entry<'_>) -> bool {
     let time = entry.time == other.time;
     let home = entry.home == other.home;
     let numbers = numbers_of(entry) == numbers_of(other);
-    let port = (entry.port, entry.identifier, entry.client)
-        == (other.port, other.identifier, other.client);
-    time && home && numbers && port
+    let client = entry.client == other.client;
+    let port = entry.port == other.port;
+    let identifier = entry.identifier == other.identifier;
+    time && home && numbers && client && port && identifier
 }
 
 /// Returns the numbers of an entry and of its request.
@@ -187,9 +188,10 @@ const COUNTS: [LaneCount; 2] = [
 fn is_same_begin(begin: &Begin<'_>, other: &Begin<'_>) -> bool {
     let time = begin.time == other.time;
     let version = begin.version == other.version;
-    let numbers = (begin.run, begin.file) == (other.run, other.file);
+    let run = begin.run == other.run;
+    let file = begin.file == other.file;
     let lanes = begin.lanes.as_slice() == other.lanes.as_slice();
-    time && version && numbers && lanes
+    time && version && run && file && lanes
 }
 
 /// Whether a file's first line is read again as it was written.
