@@ -85,10 +85,12 @@ fn has_same_packets(entry: &Entry<'_>, other: &Entry<'_>) -> bool {
 
 /// Whether octets that may be absent are the same as others.
 fn is_same_word(word: Option<&[u8]>, other: Option<&[u8]>) -> bool {
-    match (word, other) {
-        (None, None) => true,
-        (Some(word), Some(other)) => word == other,
-        _ => false,
+    let Some(word) = word else {
+        return other.is_none();
+    };
+    match other {
+        Some(other) => word == other,
+        None => false,
     }
 }
 
