@@ -6,28 +6,11 @@ use crate::printing::{Output, Progress};
 use crate::working::Service;
 use rad_console::{Command, Commands, obey};
 use rad_desk::Gate;
-use std::io::{ErrorKind, Read, Write};
+use std::io::{self, ErrorKind, Read, Write};
 use std::sync::{Wait, WaitMethods};
 use std::time::{Clock, Instant};
 
-/// The commands that are obeyed, and the output for their answers.
-#[derive(Drop)]
-pub(crate) struct Console<I: Drop, O: Drop> {
-    commands: Commands<I>,
-    pub(crate) output: Output<O>,
-}
-
-impl<I: Read + Drop, O: Write + Drop> Console<I, O> {
-    /// Makes it for the commands of a reader.
-    pub(crate) fn new(reader: I, output: Output<O>) -> Console<I, O> {
-        Console {
-            commands: Commands::new(reader),
-            output,
-        }
-    }
-}
-
-/// Writes what the output holds once all workers have begun, and obeys the commands to their end. Then it
+/// Writes what the output holds once all workers have begun, and obeys the commands of a reader to its end. Then it
 /// drains the lanes and waits until they are done or `linger` has passed.
 ///
 /// # Errors
@@ -36,13 +19,14 @@ impl<I: Read + Drop, O: Write + Drop> Console<I, O> {
 /// was refused, and otherwise as [`Output::advance`].
 pub(crate) fn attend<R: Clock + Wait, G: Gate, I: Read + Drop, O: Write + Drop>(
     service: Service<'_, R, G>,
-    console: &mut Console<I, O>,
+    reader: I,
+    output: &mut Output<O>,
 ) -> Result<(), ServeFault> {
     service.supervisor.wait_for_all(service.rt);
-    send(service, &mut console.output)?;
-    obey_each(service, console)?;
+    send(service, output)?;
+    obey_each(service, reader, output)?;
     drain_each(service);
-    linger(service, end_of_input(service.rt, &console.output)?);
+    linger(service, end_of_input(service.rt, output)?);
     check_workers(service)
 }
 
@@ -60,53 +44,34 @@ fn end_of_input<O: Write + Drop>(
     }
 }
 
-/// Obeys the commands to their end.
+/// Obeys the commands of a reader to its end.
 fn obey_each<R: Clock + Wait, G, I: Read + Drop, O: Write + Drop>(
     service: Service<'_, R, G>,
-    console: &mut Console<I, O>,
+    reader: I,
+    output: &mut Output<O>,
 ) -> Result<(), ServeFault> {
+    let mut commands = Commands::new(reader);
     for _ in service.rt.forever() {
-        let read = read_next(&mut console.commands);
-        if !obey_next(service, read, &mut console.output)? {
+        if !obey_next(service, commands.next(), output)? {
             return Ok(());
         }
     }
     unreachable!()
 }
 
-/// What a read gave.
-#[derive(Clone, Copy)]
-enum Next {
-    Command(Command),
-    /// The read was interrupted.
-    Nothing,
-    End,
-    Fault,
-}
-
-/// Reads the next command.
-fn read_next<I: Read + Drop>(commands: &mut Commands<I>) -> Next {
-    match commands.next() {
-        Ok(Some(command)) => Next::Command(command),
-        Ok(None) => Next::End,
-        Err(error) if error.kind() == ErrorKind::Interrupted => Next::Nothing,
-        Err(_) => Next::Fault,
-    }
-}
-
-/// Obeys a command that was read, if all workers go on, and returns whether to read again: also after an interrupted
-/// read.
+/// Obeys the next command, if all workers go on and there is one, and returns whether to read again: also after an
+/// interrupted read.
 fn obey_next<R: Clock + Wait, G, O: Write + Drop>(
     service: Service<'_, R, G>,
-    read: Next,
+    command: io::Result<Option<Command>>,
     output: &mut Output<O>,
 ) -> Result<bool, ServeFault> {
     check_workers(service)?;
-    match read {
-        Next::Command(command) => answer(service, command, output)?,
-        Next::Nothing => {}
-        Next::End => return Ok(false),
-        Next::Fault => return Err(ServeFault::Input),
+    match command {
+        Ok(Some(command)) => answer(service, command, output)?,
+        Ok(None) => return Ok(false),
+        Err(error) if error.kind() == ErrorKind::Interrupted => {}
+        Err(_) => return Err(ServeFault::Input),
     }
     Ok(true)
 }
@@ -135,23 +100,13 @@ fn send<R: Clock + Wait, G, O: Write + Drop>(
     output: &mut Output<O>,
 ) -> Result<(), ServeFault> {
     for _ in service.rt.forever() {
-        if send_next(service, output)? {
-            return Ok(());
+        match output.advance(service.rt)? {
+            Progress::Done => return Ok(()),
+            Progress::Went => {}
+            Progress::Waits => mind(service, output.has_input_ended())?,
         }
     }
     unreachable!()
-}
-
-/// Writes as much as the output accepts, and returns whether that was all.
-fn send_next<R: Clock + Wait, G, O: Write + Drop>(
-    service: Service<'_, R, G>,
-    output: &mut Output<O>,
-) -> Result<bool, ServeFault> {
-    let progress = output.advance(service.rt)?;
-    if progress == Progress::Waits {
-        mind(service, output.has_input_ended())?;
-    }
-    Ok(progress == Progress::Done)
 }
 
 /// Checks the workers while the output is waited for, and drains the lanes if the input has ended.

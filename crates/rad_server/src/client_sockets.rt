@@ -41,79 +41,55 @@ impl ClientSockets {
         listen: Endpoint,
         gate: &G,
     ) -> Result<ClientSockets, ServeFault> {
-        let mut bound = ClientSockets {
-            sockets: Vec::new(alloc),
-            known: None,
+        let first = match bind(rt, listen) {
+            Ok(socket) => socket,
+            Err(error) => return Err(fault_at(listen, listen, &error, gate)),
         };
-        bound.bind_first(rt, listen, gate)?;
-        if listen.address == ALL {
-            bound.bind_local(addresses, alloc, listen, gate)?;
+        let mut sockets = Vec::new(alloc);
+        if sockets.push(first).is_err() {
+            return Err(ServeFault::Memory);
         }
-        Ok(bound)
-    }
-
-    /// Binds the socket at `listen`.
-    fn bind_first<R: Net, G: Gate>(
-        &mut self,
-        rt: &R,
-        listen: Endpoint,
-        gate: &G,
-    ) -> Result<(), ServeFault> {
-        match bind(rt, listen) {
-            Ok(socket) => add(&mut self.sockets, socket),
-            Err(error) => Err(fault_at(listen, listen, &error, gate)),
+        if listen.address != ALL {
+            return Ok(ClientSockets {
+                sockets,
+                known: None,
+            });
         }
-    }
-
-    /// Binds a socket for each address of this machine, if the machine says which these are.
-    fn bind_local<A: LocalAddresses, G: Gate>(
-        &mut self,
-        addresses: &A,
-        alloc: Global,
-        listen: Endpoint,
-        gate: &G,
-    ) -> Result<(), ServeFault> {
         match addresses.read(alloc) {
-            Ok(local) => self.bind_each(alloc, listen, local.as_slice(), gate),
+            Ok(local) => bind_each(alloc, sockets, listen, local.as_slice(), gate),
             Err(error) => {
                 gate.addresses_unread(&error);
-                Ok(())
+                Ok(ClientSockets {
+                    sockets,
+                    known: None,
+                })
             }
         }
     }
-
-    /// Binds a socket for each of these addresses, which are known from then on.
-    fn bind_each<G: Gate>(
-        &mut self,
-        alloc: Global,
-        listen: Endpoint,
-        addresses: &[[u8; 4]],
-        gate: &G,
-    ) -> Result<(), ServeFault> {
-        let Ok(mut known) = KnownAddresses::new(alloc) else {
-            return Err(ServeFault::Memory);
-        };
-        bind_beside_each(&mut self.sockets, &mut known, listen, addresses, gate)?;
-        self.known = Some(known);
-        Ok(())
-    }
 }
 
-/// Adds to these sockets, of which the first is at `listen`, one for each of these addresses that is not known.
-fn bind_beside_each<G: Gate>(
-    sockets: &mut Vec<UdpSocket>,
-    known: &mut KnownAddresses,
+/// Adds to these sockets, of which the first is at `listen`, one for each of these addresses.
+fn bind_each<G: Gate>(
+    alloc: Global,
+    mut sockets: Vec<UdpSocket>,
     listen: Endpoint,
     addresses: &[[u8; 4]],
     gate: &G,
-) -> Result<(), ServeFault> {
-    share_each(sockets, true, listen, gate)?;
+) -> Result<ClientSockets, ServeFault> {
+    let Ok(mut known) = KnownAddresses::new(alloc) else {
+        return Err(ServeFault::Memory);
+    };
+    share_each(&sockets, true, listen, gate)?;
     for address in addresses {
         if known.learn(*address) {
-            bind_next(sockets, listen, *address, gate)?;
+            bind_next(&mut sockets, listen, *address, gate)?;
         }
     }
-    share_each(sockets, false, listen, gate)
+    share_each(&sockets, false, listen, gate)?;
+    Ok(ClientSockets {
+        sockets,
+        known: Some(known),
+    })
 }
 
 /// Adds a socket for this address, unless [`MOST`] addresses have one or the machine no longer has the address.
@@ -129,10 +105,7 @@ fn bind_next<G: Gate>(
     }
     let at = Endpoint { address, ..listen };
     match bind_beside(at) {
-        Ok(socket) => {
-            widen(&socket, RECEIVE_BUFFER);
-            add(sockets, socket)
-        }
+        Ok(socket) => add(sockets, socket),
         Err(error) if error.kind() == ErrorKind::AddrNotAvailable => {
             gate.address_unbound(address);
             Ok(())
@@ -143,6 +116,7 @@ fn bind_next<G: Gate>(
 
 /// Adds a socket.
 fn add(sockets: &mut Vec<UdpSocket>, socket: UdpSocket) -> Result<(), ServeFault> {
+    widen(&socket, RECEIVE_BUFFER);
     match sockets.push(socket) {
         Ok(()) => Ok(()),
         Err(_) => Err(ServeFault::Memory),

@@ -18,19 +18,16 @@ pub(crate) fn linger_of(config: &Config) -> Duration {
 /// Waits until all lanes are done and the front took all their responses, until the configuration's `linger` has passed
 /// since `drained`, or until the workers are stopped.
 pub(crate) fn linger<R: Clock + Wait, G>(service: Service<'_, R, G>, drained: Instant) {
+    let most = linger_of(service.config);
     for _ in service.rt.forever() {
-        if is_over(service, drained) {
+        if has_passed(service.rt, drained, most)
+            || service.supervisor.is_stopped()
+            || are_done(service)
+        {
             return;
         }
         thread::sleep(service.rt, Duration::from_millis(LOOK));
     }
-}
-
-/// Returns whether there is nothing more to wait for, or the wait took as long as allowed.
-fn is_over<R: Clock + Wait, G>(service: Service<'_, R, G>, drained: Instant) -> bool {
-    has_passed(service.rt, drained, linger_of(service.config))
-        || service.supervisor.is_stopped()
-        || are_done(service)
 }
 
 /// Returns whether at least `most` has passed since `start`. If the clock fails, it has.

@@ -233,18 +233,7 @@ fn register_each(
 ) -> io::Result<Vec<ReadySocket>> {
     let mut registered = Vec::with_capacity(alloc, sockets.len())?;
     for (index, socket) in sockets.into_iter().enumerate() {
-        register(&mut registered, poll, index, socket)?;
+        registered.push(ReadySocket::register(poll.registry(), index, socket)?)?;
     }
     Ok(registered)
-}
-
-/// Registers a socket at a poll, under this index, and adds it.
-fn register(
-    registered: &mut Vec<ReadySocket>,
-    poll: &Poll,
-    index: usize,
-    socket: UdpSocket,
-) -> io::Result<()> {
-    registered.push(ReadySocket::register(poll.registry(), index, socket)?)?;
-    Ok(())
 }

@@ -1,21 +1,21 @@
 //! `run` and `serve`: the proxy over UDP sockets, and over any wires.
 
-ghost use Rattle.std.specs.Prelude.{◌≡◌, length, IfOk, IsSome};
+ghost use Rattle.std.specs.Prelude.{length, IfOk, IsSome};
 ghost use Rattle.rad_console.specs.Closing.{IsEndOf};
 
-use crate::attending::Console;
 use crate::faults::ServeFault;
 use crate::lingering::linger_of;
 use crate::local_addresses::LocalAddresses;
 use crate::notifying::Notifiers;
 use crate::printing::Output;
+use crate::sockets::BoundSockets;
 use crate::streams::Descriptors;
 use crate::supervising::Supervisor;
 use crate::threads::work;
-use crate::wiring::{Station, Wires};
-use crate::working::{Front, Service};
+use crate::wiring::{Wires, make_reader, make_wires, notifiers_of};
+use crate::working::Service;
 use rad_console::{EndLine, ListeningLine, close};
-use rad_desk::{Gate, Inlet, Ledger, NoLedger, OpenFault, Proxy, Wire, open};
+use rad_desk::{Gate, Ledger, NoLedger, OpenFault, Wire, open};
 use rad_realms::Config;
 use std::alloc::Global;
 use std::io::{Read, Write};
@@ -97,30 +97,18 @@ where
     O: Write + Drop,
     ensures { IfOk result (IsEndOf (length config.now.homes)) }
 {
-    let output = open_listening(alloc, config, writer, descriptors)?;
-    let Station {
-        wires,
-        reader,
-        notifiers,
-    } = Station::bind(
-        rt,
-        addresses,
-        alloc,
-        config,
-        gate,
-        reader,
-        descriptors.input,
-    )?;
-    let mut console = Console::new(reader, output);
+    let listen = config.listen();
+    let mut output = open_output(alloc, config, writer, descriptors)?;
+    output.add(&ListeningLine { endpoint: listen })?;
+    let sockets = BoundSockets::bind(rt, addresses, alloc, config, gate)?;
+    sockets.tell(gate);
+    let wires = make_wires(rt, addresses, alloc, config, gate, sockets)?;
+    let reader = make_reader(rt, alloc, reader, descriptors.input)?;
+    let Ok(notifiers) = notifiers_of(alloc, &wires, &reader) else {
+        return Err(ServeFault::Memory);
+    };
     serve_over(
-        rt,
-        alloc,
-        config,
-        wires,
-        &notifiers,
-        gate,
-        ledger,
-        &mut console,
+        rt, alloc, config, wires, &notifiers, gate, ledger, reader, output,
     )
 }
 
@@ -190,16 +178,8 @@ where
     ensures { IfOk result (IsEndOf (length config.now.homes)) }
 {
     let output = open_output(alloc, config, writer, Descriptors::none())?;
-    let mut console = Console::new(reader, output);
     serve_over(
-        rt,
-        alloc,
-        config,
-        wires,
-        notifiers,
-        gate,
-        ledger,
-        &mut console,
+        rt, alloc, config, wires, notifiers, gate, ledger, reader, output,
     )
 }
 
@@ -214,19 +194,6 @@ fn open_output<O: Write + Drop>(
     Output::new(alloc, writer, descriptors, lines, linger_of(config))
 }
 
-/// Makes the same output, which holds the line that says where the proxy listens.
-fn open_listening<O: Write + Drop>(
-    alloc: Global,
-    config: &Config,
-    writer: O,
-    descriptors: Descriptors,
-) -> Result<Output<O>, ServeFault> {
-    let mut output = open_output(alloc, config, writer, descriptors)?;
-    let endpoint = config.listen();
-    output.add(&ListeningLine { endpoint })?;
-    Ok(output)
-}
-
 /// Serves as `serve_with` does. What the output already holds is written once all workers have begun.
 fn serve_over<R, W, G, L, I, O>(
     rt: &R,
@@ -235,8 +202,9 @@ fn serve_over<R, W, G, L, I, O>(
     wires: Wires<W>,
     notifiers: &Notifiers,
     gate: &G,
-    ledger: L,
-    console: &mut Console<I, O>,
+    mut ledger: L,
+    reader: I,
+    mut output: Output<O>,
 ) -> Result<EndLine, ServeFault>
 where
     R: Clock + Threads + Wait + Sync,
@@ -248,11 +216,13 @@ where
     requires keeps { (wire : W) → IsSome (W.log wire) }
     ensures { IfOk result (IsEndOf (length config.now.homes)) }
 {
-    let Opened {
-        proxy,
-        inlets,
-        supervisor,
-    } = Opened::new(alloc, config, gate, notifiers)?;
+    let (proxy, inlets) = match open(alloc, config) {
+        Ok(opened) => opened,
+        Err(OpenFault::OutOfMemory) => return Err(ServeFault::Memory),
+    };
+    let Ok(supervisor) = Supervisor::new(alloc, config.homes().len(), gate, notifiers) else {
+        return Err(ServeFault::Memory);
+    };
     let service = Service {
         rt,
         alloc,
@@ -260,67 +230,8 @@ where
         proxy: &proxy,
         supervisor: &supervisor,
     };
-    let Wires { front, lanes } = wires;
-    let mut front = Front {
-        wire: front,
-        inlets,
-        ledger,
-    };
-    front.ledger.begin();
-    let inlets = work(service, front, lanes, console)?;
-    end(rt, alloc, proxy, inlets, &mut console.output)
-}
-
-/// The lanes of a configuration with their inlets, and what supervises their workers.
-#[derive(Drop)]
-struct Opened<'a, G> {
-    proxy: Proxy,
-    inlets: Vec<Inlet>,
-    supervisor: Supervisor<'a, G>,
-}
-
-impl<'a, G> Opened<'a, G> {
-    /// Opens the lanes.
-    ///
-    /// # Errors
-    ///
-    /// `Memory` if a growth is refused.
-    fn new(
-        alloc: Global,
-        config: &Config,
-        gate: &'a G,
-        notifiers: &'a Notifiers,
-    ) -> Result<Opened<'a, G>, ServeFault>
-        ensures { IfOk result (λ opened. opened.proxy ≡ length config.now.homes) }
-    {
-        let Ok(supervisor) = Supervisor::new(alloc, config.homes().len(), gate, notifiers) else {
-            return Err(ServeFault::Memory);
-        };
-        match open(alloc, config) {
-            Ok((proxy, inlets)) => Ok(Opened {
-                proxy,
-                inlets,
-                supervisor,
-            }),
-            Err(OpenFault::OutOfMemory) => Err(ServeFault::Memory),
-        }
-    }
-}
-
-/// Closes the lanes, prints what is left, and returns it.
-///
-/// # Errors
-///
-/// `Memory` if a growth is refused, and otherwise as [`Output::finish`].
-fn end<R: Clock + Wait, O: Write + Drop>(
-    rt: &R,
-    alloc: Global,
-    proxy: Proxy,
-    inlets: Vec<Inlet>,
-    output: &mut Output<O>,
-) -> Result<EndLine, ServeFault>
-    ensures { IfOk result (IsEndOf proxy) }
-{
+    ledger.begin();
+    let inlets = work(service, wires, ledger, inlets, reader, &mut output)?;
     let Ok(end) = close(alloc, proxy, inlets) else {
         return Err(ServeFault::Memory);
     };

@@ -83,27 +83,15 @@ fn bind_lanes<R: Net, G: Gate>(
     };
     for (lane, home) in homes.iter().enumerate() {
         let ports = home.limits().numbers().ports;
-        bind_lane(rt, alloc, &mut lanes, lane, ports, gate)?;
+        let sockets = match bind_ports(rt, alloc, ports) {
+            Ok(sockets) => sockets,
+            Err(error) => return Err(lane_fault(lane, &error, gate)),
+        };
+        if lanes.push(sockets).is_err() {
+            return Err(ServeFault::Memory);
+        }
     }
     Ok(lanes)
-}
-
-/// Adds the sockets of a lane.
-fn bind_lane<R: Net, G: Gate>(
-    rt: &R,
-    alloc: Global,
-    lanes: &mut Vec<Vec<UdpSocket>>,
-    lane: usize,
-    ports: u32,
-    gate: &G,
-) -> Result<(), ServeFault> {
-    match bind_ports(rt, alloc, ports) {
-        Ok(sockets) => match lanes.push(sockets) {
-            Ok(()) => Ok(()),
-            Err(_) => Err(ServeFault::Memory),
-        },
-        Err(error) => Err(lane_fault(lane, &error, gate)),
-    }
 }
 
 /// Reports to the gate that the sockets of a lane can't be bound or set up, and returns the fault.
@@ -120,15 +108,9 @@ pub(crate) fn lane_fault<G: Gate>(lane: usize, error: &Error, gate: &G) -> Serve
 fn bind_ports<R: Net>(rt: &R, alloc: Global, count: u32) -> io::Result<Vec<UdpSocket>> {
     let mut sockets = Vec::with_capacity(alloc, count as usize)?;
     for _ in 0..count {
-        bind_port(rt, &mut sockets)?;
+        sockets.push(bind(rt, ANY)?)?;
     }
     Ok(sockets)
-}
-
-/// Adds a socket, bound to a port that the system chooses.
-fn bind_port<R: Net>(rt: &R, sockets: &mut Vec<UdpSocket>) -> io::Result<()> {
-    sockets.push(bind(rt, ANY)?)?;
-    Ok(())
 }
 
 /// Binds a socket, which is non-blocking.

@@ -3,22 +3,26 @@
 ghost use denote.Param.Send.{IsSend, IsSync};
 ghost use Rattle.std.specs.Prelude.{IsSome};
 
-use crate::attending::{Console, attend};
+use crate::attending::attend;
 use crate::faults::ServeFault;
-use crate::working::{Front, Service};
+use crate::printing::Output;
+use crate::wiring::Wires;
+use crate::working::Service;
 use rad_desk::{Gate, Inlet, Ledger, Wire};
 use std::io::{Read, Write};
 use std::sync::Wait;
 use std::thread::{self, JoinHandle, Scope, Threads};
 use std::time::Clock;
 
-/// Starts a thread for the front and one for each of these wires of the lanes, writes what the output holds once all
-/// have begun, and obeys the reader's commands. Returns the inlets. All threads have ended when it returns.
+/// Starts a thread for each wire, writes what the output holds once all have begun, and obeys the reader's commands.
+/// The thread of the front has the ledger. Returns the inlets. All threads have ended when it returns.
 pub(crate) fn work<R, W, G, L, I, O>(
     service: Service<'_, R, G>,
-    front: Front<W, L>,
-    lanes: Vec<W>,
-    console: &mut Console<I, O>,
+    wires: Wires<W>,
+    ledger: L,
+    inlets: Vec<Inlet>,
+    reader: I,
+    output: &mut Output<O>,
 ) -> Result<Vec<Inlet>, ServeFault>
 where
     R: Clock + Threads + Wait + Sync,
@@ -34,7 +38,7 @@ where
         service.rt,
         move |scope| -> Result<Vec<Inlet>, ServeFault>
             requires { IsSync R.row × IsSend W.row × IsSync G.row × IsSend L.row × ((wire : W) → IsSome (W.log wire)) }
-        { work_in(scope, service, front, lanes, console) },
+        { work_in(scope, service, wires, ledger, inlets, reader, output) },
     )
 }
 
@@ -42,9 +46,11 @@ where
 fn work_in<'s, E, R, W, G, L, I, O>(
     scope: &Scope<'s, E>,
     service: Service<'s, R, G>,
-    front: Front<W, L>,
-    lanes: Vec<W>,
-    console: &mut Console<I, O>,
+    wires: Wires<W>,
+    ledger: L,
+    inlets: Vec<Inlet>,
+    reader: I,
+    output: &mut Output<O>,
 ) -> Result<Vec<Inlet>, ServeFault>
 where
     R: Clock + Threads + Wait + Sync + 's,
@@ -55,9 +61,10 @@ where
     O: Write + Drop,
     requires keeps { (wire : W) → IsSome (W.log wire) }
 {
-    let front = start_front(scope, service, front)?;
+    let Wires { front, lanes } = wires;
+    let front = start_front(scope, service, inlets, front, ledger)?;
     let outcome = if start_lanes(scope, service, lanes) {
-        attend(service, console)
+        attend(service, reader, output)
     } else {
         Err(ServeFault::Threads)
     };
@@ -73,7 +80,9 @@ where
 fn start_front<'s, E, R, W, G, L>(
     scope: &Scope<'s, E>,
     service: Service<'s, R, G>,
-    front: Front<W, L>,
+    inlets: Vec<Inlet>,
+    wire: W,
+    ledger: L,
 ) -> Result<JoinHandle<Vec<Inlet>>, ServeFault>
 where
     R: Wait + Sync + 's,
@@ -86,9 +95,11 @@ where
         move || -> Vec<Inlet>
             requires { (wire : W) → IsSome (W.log wire) }
         {
-            let mut front = front;
-            service.work_in_front(&mut front);
-            front.inlets
+            let mut inlets = inlets;
+            let mut wire = wire;
+            let mut ledger = ledger;
+            service.work_in_front(inlets.as_mut_slice(), &mut wire, &mut ledger);
+            inlets
         },
     );
     match worker {
@@ -110,12 +121,11 @@ where
     G: Gate + Sync + 's,
     requires keeps { (wire : W) → IsSome (W.log wire) }
 {
+    let mut started = true;
     for (lane, wire) in wires.into_iter().enumerate() {
-        if !start_lane(scope, service, lane, wire) {
-            return false;
-        }
+        started = started && start_lane(scope, service, lane, wire);
     }
-    true
+    started
 }
 
 /// Starts the worker of a lane, and returns whether it could.

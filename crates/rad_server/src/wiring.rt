@@ -6,7 +6,6 @@ use crate::client_sockets::{ClientSockets, fault_at};
 use crate::faults::ServeFault;
 use crate::interrupting::Interruptible;
 use crate::known_addresses::KnownAddresses;
-use crate::local_addresses::LocalAddresses;
 use crate::notifying::{Notifier, Notifiers};
 use crate::origins::Origins;
 use crate::polling::PolledSockets;
@@ -54,14 +53,16 @@ impl<'a, R: Clock + Net + RandomSource, G: Gate, A> WireMaker<'a, R, G, A> {
         sockets: ClientSockets,
         clients: &[Client],
     ) -> io::Result<UdpWire<'a, R, G, A>> {
-        let mut random: StdRng = make_rng(self.rt)?;
         let ClientSockets { sockets, known } = sockets;
-        let answering = self.answer(clients, known, random.next_u64())?;
+        let mut random: StdRng = make_rng(self.rt)?;
+        let answering = match known {
+            Some(known) => Some(self.answer(clients, known, random.next_u64())?),
+            None => None,
+        };
         self.make(random, sockets, answering)
     }
 
-    /// Makes what answers each datagram from the front's socket that it came to, if all addresses of this machine are
-    /// served.
+    /// Makes what answers each datagram from the front's socket that it came to.
     ///
     /// # Errors
     ///
@@ -69,15 +70,12 @@ impl<'a, R: Clock + Net + RandomSource, G: Gate, A> WireMaker<'a, R, G, A> {
     fn answer(
         &self,
         clients: &[Client],
-        known: Option<KnownAddresses>,
+        known: KnownAddresses,
         random: u64,
-    ) -> Result<Option<Answering<'a, R, G, A>>, AllocError> {
-        let Some(known) = known else {
-            return Ok(None);
-        };
-        let monitor = AddressMonitor::new(self.rt, self.addresses, self.alloc, self.gate, known);
+    ) -> Result<Answering<'a, R, G, A>, AllocError> {
         let origins = Origins::new(self.alloc, clients, random)?;
-        Ok(Some(Answering::new(origins, monitor)))
+        let monitor = AddressMonitor::new(self.rt, self.addresses, self.alloc, self.gate, known);
+        Ok(Answering::new(origins, monitor))
     }
 
     /// Makes a wire over these sockets.
@@ -135,85 +133,30 @@ impl<'a, R: Clock + Net + RandomSource, G: Gate, A> WireMaker<'a, R, G, A> {
             return Err(ServeFault::Memory);
         };
         for (lane, sockets) in lanes.into_iter().enumerate() {
-            self.add_lane(&mut wires, lane, sockets)?;
+            let wire = self.make_lane(lane, sockets)?;
+            if wires.push(wire).is_err() {
+                return Err(ServeFault::Memory);
+            }
         }
         Ok(wires)
     }
-
-    /// Adds the wire of a lane over these sockets.
-    fn add_lane(
-        &self,
-        wires: &mut Vec<UdpWire<'a, R, G, A>>,
-        lane: usize,
-        sockets: Vec<UdpSocket>,
-    ) -> Result<(), ServeFault> {
-        let wire = self.make_lane(lane, sockets)?;
-        match wires.push(wire) {
-            Ok(()) => Ok(()),
-            Err(_) => Err(ServeFault::Memory),
-        }
-    }
 }
 
-/// The wires over the sockets of a configuration, a reader that a notification interrupts, and the notifiers of all of
-/// these.
-#[derive(Drop)]
-pub(crate) struct Station<'a, R, G, A, I: Drop> {
-    pub(crate) wires: Wires<UdpWire<'a, R, G, A>>,
-    pub(crate) reader: Interruptible<I>,
-    pub(crate) notifiers: Notifiers,
-}
-
-impl<'a, R, G, A, I> Station<'a, R, G, A, I>
-where
-    R: Clock + Net + RandomSource,
-    G: Gate,
-    A: LocalAddresses,
-    I: Read + Drop,
-{
-    /// Binds the sockets of a configuration. What the system refuses, and each address that this machine gets later, is
-    /// reported to the gate. The reader reads from `input`, if it may wait.
-    ///
-    /// # Errors
-    ///
-    /// `Listen` or `LaneSocket` if a socket can't be bound or set up, `InputWait` if a wait for the reader can't be set
-    /// up, `Memory` if a growth is refused, and `Clock` if the clock fails.
-    pub(crate) fn bind(
-        rt: &'a R,
-        addresses: &'a A,
-        alloc: Global,
-        config: &Config,
-        gate: &'a G,
-        reader: I,
-        input: Option<RawFd>,
-    ) -> Result<Station<'a, R, G, A, I>, ServeFault> {
-        let wires = bind_wires(rt, addresses, alloc, config, gate)?;
-        let reader = make_reader(rt, alloc, reader, input)?;
-        match notifiers_of(alloc, &wires, &reader) {
-            Ok(notifiers) => Ok(Station {
-                wires,
-                reader,
-                notifiers,
-            }),
-            Err(_) => Err(ServeFault::Memory),
-        }
-    }
-}
-
-/// Binds the sockets of a configuration, and makes the wires over them.
+/// Makes the wires over these sockets of a configuration. Their moments count from now. An address that this machine
+/// gets later, and what the system refuses, is reported to the gate.
 ///
 /// # Errors
 ///
-/// As [`BoundSockets::bind`] and [`make_wires`].
-fn bind_wires<'a, R: Clock + Net + RandomSource, G: Gate, A: LocalAddresses>(
+/// `Listen` or `LaneSocket` if the system refuses a wire, `Memory` if a growth is refused, and `Clock` if the clock
+/// fails.
+pub(crate) fn make_wires<'a, R: Clock + Net + RandomSource, G: Gate, A>(
     rt: &'a R,
     addresses: &'a A,
     alloc: Global,
     config: &Config,
     gate: &'a G,
+    sockets: BoundSockets,
 ) -> Result<Wires<UdpWire<'a, R, G, A>>, ServeFault> {
-    let sockets = BoundSockets::bind(rt, addresses, alloc, config, gate)?;
-    sockets.tell(gate);
     let Ok(start) = Instant::now(rt) else {
         return Err(ServeFault::Clock);
     };
@@ -224,31 +167,16 @@ fn bind_wires<'a, R: Clock + Net + RandomSource, G: Gate, A: LocalAddresses>(
         start,
         gate,
     };
-    make_wires(&maker, config, sockets)
-}
-
-/// Makes the wires over these sockets of a configuration.
-///
-/// # Errors
-///
-/// `Listen` or `LaneSocket` if the system refuses a wire, and `Memory` if a growth is refused.
-fn make_wires<'a, R: Clock + Net + RandomSource, G: Gate, A>(
-    maker: &WireMaker<'a, R, G, A>,
-    config: &Config,
-    sockets: BoundSockets,
-) -> Result<Wires<UdpWire<'a, R, G, A>>, ServeFault> {
     let BoundSockets { front, lanes } = sockets;
-    let listen = config.listen();
-    let front = match maker.make_front(front, config.clients()) {
+    let mut front = match maker.make_front(front, config.clients()) {
         Ok(wire) => wire,
-        Err(error) => return Err(fault_at(listen, listen, &error, maker.gate)),
+        Err(error) => return Err(fault_at(config.listen(), config.listen(), &error, gate)),
     };
-    let lanes = maker.make_lanes(lanes)?;
-    let mut wires = Wires { front, lanes };
-    match set_neighbours(maker.alloc, &mut wires) {
-        Ok(()) => Ok(wires),
-        Err(_) => Err(ServeFault::Memory),
+    let mut lanes = maker.make_lanes(lanes)?;
+    if set_neighbours(alloc, &mut front, lanes.as_mut_slice()).is_err() {
+        return Err(ServeFault::Memory);
     }
+    Ok(Wires { front, lanes })
 }
 
 /// Gives each worker the notifiers of those that it has work for: the front those of all lanes, and each lane that of
@@ -259,12 +187,12 @@ fn make_wires<'a, R: Clock + Net + RandomSource, G: Gate, A>(
 /// `AllocError` if memory is refused.
 fn set_neighbours<R, G, A>(
     alloc: Global,
-    wires: &mut Wires<UdpWire<'_, R, G, A>>,
+    front: &mut UdpWire<'_, R, G, A>,
+    lanes: &mut [UdpWire<'_, R, G, A>],
 ) -> Result<(), AllocError> {
-    let others = notifiers_of_wires(alloc, wires.lanes.as_slice())?;
-    wires.front.set_neighbours(others);
-    for lane in &mut wires.lanes {
-        lane.set_neighbours(notifiers_of_wires(alloc, slice::from_ref(&wires.front))?);
+    front.set_neighbours(notifiers_of_wires(alloc, lanes)?);
+    for lane in lanes {
+        lane.set_neighbours(notifiers_of_wires(alloc, slice::from_ref(front))?);
     }
     Ok(())
 }
@@ -274,7 +202,7 @@ fn set_neighbours<R, G, A>(
 /// # Errors
 ///
 /// `AllocError` if memory is refused.
-fn notifiers_of<R, G, A, I: Read + Drop>(
+pub(crate) fn notifiers_of<R, G, A, I: Read + Drop>(
     alloc: Global,
     wires: &Wires<UdpWire<'_, R, G, A>>,
     reader: &Interruptible<I>,
@@ -310,7 +238,7 @@ fn notifiers_of_wires<R, G, A>(
 /// # Errors
 ///
 /// `Memory` if a growth is refused, and otherwise `InputWait`.
-fn make_reader<I: Read + Drop>(
+pub(crate) fn make_reader<I: Read + Drop>(
     net: &impl Net,
     alloc: Global,
     reader: I,

@@ -29,20 +29,17 @@ impl<R, G> Clone for Service<'_, R, G> {
 
 impl<R, G> Copy for Service<'_, R, G> {}
 
-/// What the worker of the clients' side works with.
-#[derive(Drop)]
-pub(crate) struct Front<W: Drop, L: Drop> {
-    pub(crate) wire: W,
-    pub(crate) inlets: Vec<Inlet>,
-    pub(crate) ledger: L,
-}
-
 impl<R: Wait, G: Gate> Service<'_, R, G> {
     /// Serves the clients until the worker is stopped, and hands each response over to the ledger.
-    pub(crate) fn work_in_front<W: Wire + Drop, L: Ledger + Drop>(self, front: &mut Front<W, L>)
-        requires { IsSome (W.log front.old.wire) }
-        ensures works { Passes (WorksInFront self.entry.config.now front.old.inlets.items front.new.inlets.items) (W.log front.old.wire) (W.log front.new.wire) }
-        ensures hands_over { Passes (HandsOver self.entry.config.now front.old.inlets.items front.new.inlets.items (L.kept front.old.ledger) (L.kept front.new.ledger)) (W.log front.old.wire) (W.log front.new.wire) }
+    pub(crate) fn work_in_front<W: Wire, L: Ledger>(
+        self,
+        inlets: &mut [Inlet],
+        wire: &mut W,
+        ledger: &mut L,
+    )
+        requires { IsSome (W.log wire.old) }
+        ensures works { Passes (WorksInFront self.entry.config.now inlets.old inlets.new) (W.log wire.old) (W.log wire.new) }
+        ensures hands_over { Passes (HandsOver self.entry.config.now inlets.old inlets.new (L.kept ledger.old) (L.kept ledger.new)) (W.log wire.old) (W.log wire.new) }
     {
         self.supervisor.begin(self.rt);
         let _ = front_worker_with(
@@ -50,9 +47,9 @@ impl<R: Wait, G: Gate> Service<'_, R, G> {
             self.alloc,
             self.proxy,
             self.config,
-            front.inlets.as_mut_slice(),
-            &mut front.wire,
-            &mut front.ledger,
+            inlets,
+            wire,
+            ledger,
             self.supervisor,
             u64::MAX,
         );
