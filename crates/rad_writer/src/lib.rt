@@ -6,6 +6,10 @@
 //!
 //! A file is named `RUN-NNNNNN.jsonl`: RUN is what names the run, and NNNNNN the number of the file in the run. The next
 //! one is begun before a file has more than 256 MiB, and at midnight UTC. No file is ever removed or replaced.
+//!
+//! The definitions that the contracts cite are in specs: `Parcels` has the form of a response in the buffer, `Entries` the
+//! entry that it is written as, and `RunNames` the names in it. No contract says what passes from one thread to the other,
+//! such as a count; tests check that.
 #![tactic(auto)]
 
 mod counts;
