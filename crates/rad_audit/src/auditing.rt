@@ -1,10 +1,11 @@
 //! The audit of files.
 
-ghost use Rattle.std.specs.Prelude.{◌≡◌, ◌↔◌, ◌<◌, ◌^◌, IfOk, IsTrue, find, option_copied, option_map};
+ghost use Rattle.std.specs.Prelude.{◌≡◌, ◌↔◌, ◌<◌, ◌^◌, IfErr, IfOk, IsTrue, find, option_copied, option_map};
 ghost use Rattle.std.specs.Str.{bytes_eq};
 ghost use Rattle.rad_realms.specs.Realm.{client_of};
 ghost use Rattle.rad_audit.specs.Lines.{IsFront};
 ghost use Rattle.rad_audit.specs.Statuses.{status_at};
+ghost use Rattle.rad_audit.specs.declared.faults.Fault.TheVariants.{Output};
 ghost use Rattle.rad_audit.specs.declared.printing.Findings.{Findings as TheFindings};
 
 use crate::faults::Fault;
@@ -183,7 +184,8 @@ impl<'a, W: Write> Audit<'a, W> {
 
     /// Prints what each lane of each run has, and returns the status.
     fn end(self) -> Result<u8, Fault>
-        ensures { IfOk result (λ status. (found : TheFindings) × (status ≡ status_at found)) }
+        ensures status { IfOk result (λ status. (found : TheFindings) × (status ≡ status_at found)) }
+        ensures fault { IfErr result (λ fault. fault ≡ Output) }
     {
         let Audit { runs, report, .. } = self;
         let mut report = report;

@@ -11,9 +11,9 @@ mod shown;
 mod taking;
 mod words;
 
-ghost use Rattle.std.specs.Prelude.{◌≡◌, ◌≤◌, ℕ, List, length, IfOk, Ok};
+ghost use Rattle.std.specs.Prelude.{◌≡◌, ◌≤◌, ℕ, List, length, IfErr, IfOk, Ok};
 ghost use Rattle.rad_console.specs.Configurations.{ReadsOctets};
-ghost use Rattle.rad_audit.specs.Statuses.{status_at};
+ghost use Rattle.rad_audit.specs.Statuses.{status_at, status_of};
 ghost use Rattle.rad_audit.specs.declared.printing.Findings.{Findings as TheFindings};
 
 use auditing::audit_files;
@@ -68,7 +68,8 @@ where
 fn load<R: Files>(rt: &R, alloc: Global, path: &str) -> Result<Config, Fault>
 where
     R::File: Drop,
-    ensures { IfOk result (λ config. (text : List ℕ) × (length text ≤ MOST_FILE_OCTETS) × ReadsOctets text (Ok config)) }
+    ensures config { IfOk result (λ config. (text : List ℕ) × (length text ≤ MOST_FILE_OCTETS) × ReadsOctets text (Ok config)) }
+    ensures fault { IfErr result (λ fault. 2 ≤ status_of fault) }
 {
     let file = match fs::open(rt, path) {
         Ok(file) => file,

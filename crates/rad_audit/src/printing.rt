@@ -152,7 +152,8 @@ impl<W: Write> Report<'_, W> {
     ///
     /// `Output` if it can't be printed. This is so of each of these calls.
     pub fn wrong(&mut self, line: WrongLine<'_>) -> Result<(), Fault>
-        ensures { self.new.findings ≡ record self.old.findings { wrong = true } }
+        ensures findings { self.new.findings ≡ record self.old.findings { wrong = true } }
+        ensures fault { IfErr result (λ fault. fault ≡ Output) }
     {
         self.findings.wrong = true;
         written(writeln!(self.output, "{line}"))
@@ -160,14 +161,16 @@ impl<W: Write> Report<'_, W> {
 
     /// Tells of a line that was cut short. That is no fault.
     pub fn torn(&mut self, line: TornLine<'_>) -> Result<(), Fault>
-        ensures { self.new.findings ≡ self.old.findings }
+        ensures findings { self.new.findings ≡ self.old.findings }
+        ensures fault { IfErr result (λ fault. fault ≡ Output) }
     {
         written(writeln!(self.output, "{line}"))
     }
 
     /// Tells of responses that are missing.
     pub fn gap(&mut self, line: GapLine<'_>) -> Result<(), Fault>
-        ensures { self.new.findings ≡ record self.old.findings { gap = true } }
+        ensures findings { self.new.findings ≡ record self.old.findings { gap = true } }
+        ensures fault { IfErr result (λ fault. fault ≡ Output) }
     {
         self.findings.gap = true;
         written(writeln!(self.output, "{line}"))
@@ -175,7 +178,8 @@ impl<W: Write> Report<'_, W> {
 
     /// Tells what a lane of a run has.
     pub fn lane(&mut self, line: LaneLine<'_>) -> Result<(), Fault>
-        ensures { self.new.findings ≡ record self.old.findings { gap = self.old.findings.gap || the_is_missing line.entry.counts.verdict } }
+        ensures findings { self.new.findings ≡ record self.old.findings { gap = self.old.findings.gap || the_is_missing line.entry.counts.verdict } }
+        ensures fault { IfErr result (λ fault. fault ≡ Output) }
     {
         if is_missing(line.counts.verdict) {
             self.findings.gap = true;

@@ -58,25 +58,40 @@ fn is_same(entry: &Entry<'_>, other: &Entry<'_>) -> bool {
 }
 
 fn has_same_request(entry: &Entry<'_>, other: &Entry<'_>) -> bool {
-    entry.run == other.run
-        && entry.time == other.time
-        && entry.home == other.home
-        && entry.lane == other.lane
-        && entry.serial == other.serial
-        && entry.number == other.number
-        && entry.client == other.client
-        && entry.port == other.port
-        && entry.identifier == other.identifier
+    let time = entry.time == other.time;
+    let home = entry.home == other.home;
+    let numbers = numbers_of(entry) == numbers_of(other);
+    let client = entry.client == other.client;
+    let port = entry.port == other.port;
+    let identifier = entry.identifier == other.identifier;
+    time && home && numbers && client && port && identifier
+}
+
+/// Returns the numbers of an entry and of its request.
+fn numbers_of(entry: &Entry<'_>) -> [u64; 4] {
+    [entry.run, u64::from(entry.lane), entry.serial, entry.number]
 }
 
 fn has_same_packets(entry: &Entry<'_>, other: &Entry<'_>) -> bool {
-    entry.authenticator == other.authenticator
-        && entry.sent == other.sent
-        && entry.reply == other.reply
-        && entry.response == other.response
-        && entry.realm == other.realm
-        && entry.session == other.session
-        && entry.status == other.status
+    let authenticator = entry.authenticator == other.authenticator;
+    let sent = entry.sent == other.sent;
+    let reply = entry.reply == other.reply;
+    let response = entry.response == other.response;
+    let realm = is_same_word(entry.realm, other.realm);
+    let session = is_same_word(entry.session, other.session);
+    let status = entry.status == other.status;
+    authenticator && sent && reply && response && realm && session && status
+}
+
+/// Whether octets that may be absent are the same as others.
+fn is_same_word(word: Option<&[u8]>, other: Option<&[u8]>) -> bool {
+    let Some(word) = word else {
+        return other.is_none();
+    };
+    match other {
+        Some(other) => word == other,
+        None => false,
+    }
 }
 
 /// Returns the line that stands before the last line end.
@@ -171,18 +186,22 @@ const COUNTS: [LaneCount; 2] = [
     },
 ];
 
+/// Whether a file's first line has what another one has.
+fn is_same_begin(begin: &Begin<'_>, other: &Begin<'_>) -> bool {
+    let time = begin.time == other.time;
+    let version = begin.version == other.version;
+    let run = begin.run == other.run;
+    let file = begin.file == other.file;
+    let lanes = begin.lanes.as_slice() == other.lanes.as_slice();
+    time && version && run && file && lanes
+}
+
 /// Whether a file's first line is read again as it was written.
 fn begin_comes_back(alloc: Global, begin: &Begin<'_>) -> Result<bool, Fail> {
     let all = write_begin(alloc, begin, Vec::new(alloc))?;
     let mut room = Room::new(alloc)?;
     match read_line(alloc, line_of(all.as_slice())?, &mut room) {
-        Ok(Line::Begin(again)) => Ok(
-            again.run == begin.run
-                && again.time == begin.time
-                && again.version == begin.version
-                && again.file == begin.file
-                && again.lanes.as_slice() == begin.lanes.as_slice(),
-        ),
+        Ok(Line::Begin(again)) => Ok(is_same_begin(begin, &again)),
         _ => Ok(false),
     }
 }
@@ -205,16 +224,19 @@ fn a_first_line_is_read_as_it_was_written(rt: HostRuntime) -> Result<(), Fail> {
     Ok(())
 }
 
+/// Whether an end line has what another one has.
+fn is_same_end(end: &End<'_>, other: &End<'_>) -> bool {
+    let time = end.time == other.time;
+    let lanes = end.lanes.as_slice() == other.lanes.as_slice();
+    time && lanes && end.run == other.run
+}
+
 /// Whether an end line is read again as it was written.
 fn end_comes_back(alloc: Global, end: &End<'_>) -> Result<bool, Fail> {
     let all = write_end(alloc, end, Vec::new(alloc))?;
     let mut room = Room::new(alloc)?;
     match read_line(alloc, line_of(all.as_slice())?, &mut room) {
-        Ok(Line::End(again)) => Ok(
-            again.run == end.run
-                && again.time == end.time
-                && again.lanes.as_slice() == end.lanes.as_slice(),
-        ),
+        Ok(Line::End(again)) => Ok(is_same_end(end, &again)),
         _ => Ok(false),
     }
 }
