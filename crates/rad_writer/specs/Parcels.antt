@@ -5,6 +5,7 @@ use Rattle.std.specs.Int.{w16, w64, to_be_bytes}
 use Rattle.rad_auth.specs.Mark.{mark_value}
 use Rattle.rad_auth.specs.declared.mark.Mark.{Mark}
 use Rattle.rad_lane.specs.declared.outgoing.Outgoing.{Outgoing}
+use Rattle.rad_writer.specs.declared.entry_buffer.Parcel.{Parcel}
 use Rattle.rad_writer.specs.declared.parcel.ParcelHead.{ParcelHead}
 
 -- The octets of a head.
@@ -48,3 +49,10 @@ pub record IsHeadOf (now : ℕ) (outgoing : Outgoing) (head : ParcelHead) : Type
   pub sent : length outgoing.reply.sending < 2 ^ 16 → head.sent ≡ length outgoing.reply.sending
   pub reply : length outgoing.reply.reply < 2 ^ 16 → head.reply ≡ length outgoing.reply.reply
   pub response : length outgoing.reply.response < 2 ^ 16 → head.response ≡ length outgoing.reply.response
+
+-- The parcel has this head and these packets.
+pub record HasPackets (parcel : Parcel) (its_head : ParcelHead) (its_sent its_reply its_response : List ℕ) : Type 0 where
+  pub head : parcel.head ≡ its_head
+  pub sent : parcel.sent.now ≡ its_sent
+  pub reply : parcel.reply.now ≡ its_reply
+  pub response : parcel.response.now ≡ its_response

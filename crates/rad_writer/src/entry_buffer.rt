@@ -1,5 +1,7 @@
 //! The writer's end of the buffer.
 
+ghost use Rattle.std.specs.Prelude.{◌≡◌, ◌++◌, ℕ, List, length};
+
 use crate::parcel::{HEAD, MOST, ParcelHead};
 use rtrb::Consumer;
 use std::alloc::{AllocError, Global};
@@ -21,6 +23,25 @@ pub(crate) struct Parcel<'a> {
     pub(crate) sent: &'a [u8],
     pub(crate) reply: &'a [u8],
     pub(crate) response: &'a [u8],
+}
+
+impl<'a> Parcel<'a> {
+    ghost use Rattle.rad_writer.specs.Parcels.{HasPackets};
+
+    /// Returns the parcel of this head. Its packets are the first of these octets.
+    fn of(head: ParcelHead, packets: &'a [u8]) -> Parcel<'a>
+        ensures { (sent reply response rest : List ℕ) → packets.now ≡ sent ++ (reply ++ (response ++ rest)) → head.sent ≡ length sent → head.reply ≡ length reply → head.response ≡ length response → HasPackets result head sent reply response }
+    {
+        let (sent, more) = split(packets, usize::from(head.sent));
+        let (reply, more) = split(more, usize::from(head.reply));
+        let (response, _) = split(more, usize::from(head.response));
+        Parcel {
+            head,
+            sent,
+            reply,
+            response,
+        }
+    }
 }
 
 impl EntryBuffer {
@@ -48,16 +69,7 @@ impl EntryBuffer {
             self.take();
         }
         let head = self.head?;
-        let packets = self.packets.as_slice();
-        let (sent, more) = split(packets, usize::from(head.sent));
-        let (reply, more) = split(more, usize::from(head.reply));
-        let (response, _) = split(more, usize::from(head.response));
-        Some(Parcel {
-            head,
-            sent,
-            reply,
-            response,
-        })
+        Some(Parcel::of(head, self.packets.as_slice()))
     }
 
     /// Ends the parcel that was taken.
@@ -81,6 +93,8 @@ impl EntryBuffer {
 }
 
 /// Splits octets after so many, or at their end if they are fewer.
-fn split(octets: &[u8], count: usize) -> (&[u8], &[u8]) {
+fn split(octets: &[u8], count: usize) -> (&[u8], &[u8])
+    ensures { (front rest : List ℕ) → octets.now ≡ front ++ rest → count ≡ length front → (result.0.now ≡ front) × (result.1.now ≡ rest) }
+{
     octets.split_at(count.min(octets.len()))
 }
