@@ -1,6 +1,6 @@
 //! The files of a run, and the lines that are to be written to the one that is open.
 
-ghost use Rattle.std.specs.Prelude.{◌≡◌, ◌↔◌, ◌<◌, [], ◌∷◌, ◌++◌, List, ℕ, Some, vec_len, IsTrue, OnOk, MatchOption, MatchResult};
+ghost use Rattle.std.specs.Prelude.{◌≡◌, ◌↔◌, ◌<◌, ◌+◌, [], ◌∷◌, ◌++◌, List, ℕ, Some, vec_len, IfSome, IsTrue, MatchResult};
 ghost use Rattle.ledger_files.specs.Batches.{HoldsLines, IsHeadOf};
 ghost use Rattle.ledger_files.specs.Runs.{IsRun};
 
@@ -64,7 +64,9 @@ impl<D: LedgerDisk + Drop> RunFiles<D> {
     }
 
     /// Returns whether all lines are written.
-    pub fn is_done(&self) -> bool {
+    pub fn is_done(&self) -> bool
+        ensures { IsTrue result ↔ ((self.now.first.done ≡ vec_len self.now.first.octets) × (self.now.batch.whole ≡ vec_len self.now.batch.ends) × (self.now.last.done ≡ vec_len self.now.last.octets)) }
+    {
         self.first.is_done() && self.batch.is_done() && self.last.is_done()
     }
 
@@ -136,7 +138,8 @@ impl<D: LedgerDisk + Drop> RunFiles<D> {
 
     /// Counts the next line of an entry as written whole, if it is, and returns what it is of.
     pub fn pass_line(&mut self) -> Option<LineHead>
-        ensures { (lines : List (List ℕ)) → IsRun (D.files self.old.disk) self.old lines → IsRun (D.files self.new.disk) self.new lines }
+        ensures passed { IfSome result (λ head. (self.new.batch.whole ≡ self.old.batch.whole + 1) × IsHeadOf self.old.batch head) }
+        ensures run { (lines : List (List ℕ)) → IsRun (D.files self.old.disk) self.old lines → IsRun (D.files self.new.disk) self.new lines }
     {
         if !self.disk.is_open() || !self.first.is_done() {
             return None;

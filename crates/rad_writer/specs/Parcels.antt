@@ -1,6 +1,6 @@
 -- The form in which a response passes through the buffer (own): a head of 55 octets, then the packet to the home server,
 -- the home server's reply and the response. Numbers have their most significant octet first.
-use Rattle.std.specs.Prelude.{◌≡◌, ℕ, ◌<◌, ◌^◌, List, [], ◌∷◌, ◌++◌, length}
+use Rattle.std.specs.Prelude.{◌≡◌, ℕ, ◌<◌, ◌^◌, List, ◌∷◌, ◌++◌, length}
 use Rattle.std.specs.Int.{w16, w64, to_be_bytes}
 use Rattle.rad_auth.specs.Mark.{mark_value}
 use Rattle.rad_auth.specs.declared.mark.Mark.{Mark}

@@ -79,7 +79,8 @@ fn outgoing(alloc: Global, asked: &Asked) -> Result<Outgoing, Fail> {
         return Err(Fail::from("no home server"));
     };
     let (client, home) = (Secret::new(NAS)?, Secret::new(home)?);
-    let (request, reply) = (read(asked.request)?, read(asked.reply)?);
+    let request = read(asked.request)?;
+    let reply = read(asked.reply)?;
     let mark = Mark {
         lane: asked.lane,
         number: asked.number,
@@ -159,7 +160,12 @@ const CASES: [Case; 6] = [
 ];
 
 /// Ends a run, and returns whether it wrote what is wanted.
-fn ends_as<R: Wait + AllocGlobal>(rt: &R, case: &Case) -> Result<bool, Fail> {
+fn ends_as<R: Wait + AllocGlobal>(
+    rt: &R,
+    gives: Gives,
+    asked: &[Asked],
+    wanted: &str,
+) -> Result<bool, Fail> {
     let alloc = rt.alloc();
     let Ok(config) = read_config(alloc, TWO_HOMES) else {
         return Err(Fail::from("no configuration"));
@@ -172,8 +178,9 @@ fn ends_as<R: Wait + AllocGlobal>(rt: &R, case: &Case) -> Result<bool, Fail> {
         state,
     } = open_ledger(&still, alloc, folder, &config)?;
     inlet.begin();
-    for asked in case.asked {
-        inlet.keep(&outgoing(alloc, asked)?);
+    for one in asked {
+        let outgoing = outgoing(alloc, one)?;
+        inlet.keep(&outgoing);
     }
     let start = Instant::now(&still)?;
     state.end(&still, true, start, Duration::from_millis(0));
@@ -182,16 +189,16 @@ fn ends_as<R: Wait + AllocGlobal>(rt: &R, case: &Case) -> Result<bool, Fail> {
         alloc,
         written: &written,
         size: None,
-        gives: case.gives,
+        gives,
     };
     writer.write_all(&still, alloc, disk);
-    Ok(written.take(alloc).as_slice() == case.wanted.as_bytes())
+    Ok(written.take(alloc).as_slice() == wanted.as_bytes())
 }
 
 #[test]
 fn runs_are_written(rt: HostRuntime) -> Result<(), Fail> {
     for case in &CASES {
-        holds(&rt, ends_as(&rt, case)?);
+        holds(&rt, ends_as(&rt, case.gives, case.asked, case.wanted)?);
     }
     Ok(())
 }

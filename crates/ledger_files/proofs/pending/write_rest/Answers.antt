@@ -1,4 +1,4 @@
-use Rattle.std.proofs.Common.{◌≡◌, length, refl, arith, length-drop}
+use Rattle.std.proofs.Common.{refl, arith, length-drop}
 use Rattle.std.proofs.lemmas.List.{take_rest}
 use Rattle.ledger_files.proofs.Writes.{writes_begin, writes_go_on}
 use Rattle.ledger_files.proofs.pending.write_rest.Goals as goal

@@ -1,5 +1,4 @@
-use Rattle.std.proofs.Common.{◌≡◌, ℕ, List, length, ap, ◌∙◌, arith}
-use Rattle.std.specs.Prelude.{string_bytes}
+use Rattle.std.proofs.Common.{arith}
 use Rattle.ledger_files.proofs.RunCalls.{added}
 use Rattle.ledger_files.proofs.run_files.RunFiles.add.Goals as goal
 

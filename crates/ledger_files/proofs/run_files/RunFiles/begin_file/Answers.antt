@@ -1,4 +1,4 @@
-use Rattle.std.proofs.Common.{◌≡◌, ℕ, List, length, ap, ◌∙◌, arith}
+use Rattle.std.proofs.Common.{ap}
 use Rattle.std.specs.Prelude.{string_bytes}
 use Rattle.ledger_files.proofs.RunCalls.{begun}
 use Rattle.ledger_files.proofs.run_files.RunFiles.begin_file.Goals as goal

@@ -1,16 +1,15 @@
-use Rattle.std.proofs.Common.{◌≡◌, ℕ, List, length, ap, ◌∙◌, arith}
-use Rattle.std.specs.Prelude.{string_bytes}
+use Rattle.std.proofs.Common.{arith}
 use Rattle.ledger_files.proofs.RunCalls.{batch_kept, passed, is_open}
 use Rattle.ledger_files.proofs.run_files.RunFiles.pass_line.Goals as goal
 
-pub returns-in_err-head : goal.returns-in_err-head
-returns-in_err-head g c = λ lines h.
+pub returns-in_err-head-clause-run : goal.returns-in_err-head-clause-run
+returns-in_err-head-clause-run g c = λ lines h.
     let run = c.args.self.now in
     batch_kept (g.D.LedgerDisk.files run.disk) run.first run.batch c.pass_line.new.self run.last lines
     (λ held k. c.pass_line.ensures.lines held k) c.pass_line.ensures.done c.in_err-head.ensures.passed h
 
-pub returns : goal.returns
-returns g c = λ lines h.
+pub returns-clause-run : goal.returns-clause-run
+returns-clause-run g c = λ lines h.
     let run = c.args.self.now in
     let opens = is_open (g.D.LedgerDisk.files run.disk) c.is_open.result c.is_open.ensures c.if-not-is_open.false in
     passed (g.D.LedgerDisk.files run.disk) run.first run.batch c.pass_line.new.self run.last lines opens

@@ -1,5 +1,4 @@
-use Rattle.std.proofs.Common.{◌≡◌, ℕ, List, length, ap, ◌∙◌, arith}
-use Rattle.std.specs.Prelude.{string_bytes}
+use Rattle.std.proofs.Common.{◌≡◌, length, ap, arith}
 use Rattle.ledger_files.proofs.RunCalls.{first_wrote, entries_wrote, is_open, open_after}
 use Rattle.ledger_files.proofs.run_files.RunFiles.write.Goals as goal
 

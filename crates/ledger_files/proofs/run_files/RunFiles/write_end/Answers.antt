@@ -1,5 +1,4 @@
-use Rattle.std.proofs.Common.{◌≡◌, ℕ, List, length, ap, ◌∙◌, arith}
-use Rattle.std.specs.Prelude.{string_bytes}
+use Rattle.std.proofs.Common.{ap, arith}
 use Rattle.ledger_files.proofs.RunCalls.{end_wrote, is_open}
 use Rattle.ledger_files.proofs.run_files.RunFiles.write_end.Goals as goal
 

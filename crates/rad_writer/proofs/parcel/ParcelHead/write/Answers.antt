@@ -1,4 +1,4 @@
-use Rattle.std.proofs.Common.{◌≡◌, ℕ, List, [], ◌∷◌, ◌++◌, refl, ◌∙◌}
+use Rattle.std.proofs.Common.{ℕ, List, [], ◌∷◌, ◌++◌, refl, ◌∙◌}
 use Rattle.std.specs.Int.{w16, w64, to_be_bytes}
 use Rattle.rad_writer.proofs.Parcels.{with_more, eleven_joined}
 use Rattle.rad_writer.proofs.parcel.ParcelHead.write.Goals as goal
