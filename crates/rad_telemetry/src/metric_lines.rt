@@ -72,7 +72,7 @@ impl<'a> Side<'a> {
         ensures { result ≡ side_labels self kind }
     {
         match self {
-            Side::Clients => client_labels(kind),
+            Side::Clients => labels_of_front(kind),
             Side::Home(lane, home) => match kind.metric() {
                 Metric::Dropped | Metric::Refused => None,
                 Metric::Unheard => Some(Labels::HomeReason(lane, home, kind)),
@@ -83,7 +83,7 @@ impl<'a> Side<'a> {
 }
 
 /// Returns the labels of the front's counter of a kind, if it has one.
-fn client_labels<'a>(kind: EventKind) -> Option<Labels<'a>>
+fn labels_of_front<'a>(kind: EventKind) -> Option<Labels<'a>>
     ensures { result ≡ client_labels (metric_of kind) kind }
 {
     match kind.metric() {
