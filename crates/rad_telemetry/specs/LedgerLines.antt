@@ -1,5 +1,5 @@
--- The log lines of the ledger, without their line feeds, and the age of its oldest entry (own).
-use Rattle.std.specs.Prelude.{ℕ, ◌-◌, ◌==◌, if◌then◌else◌, List, ◌++◌, codes, Option, Some, None}
+-- The log lines of the ledger, without their line feeds (own).
+use Rattle.std.specs.Prelude.{ℕ, List, ◌++◌, codes, Option, Some, None}
 use Rattle.std.specs.Fmt.{decimal}
 use Rattle.rad_telemetry.specs.LedgerFaults.{fault_text}
 use Rattle.rad_telemetry.specs.declared.ledger_fault.LedgerFault.{LedgerFault}
@@ -16,7 +16,3 @@ ledger_line (line.Fault fault) = fault_line (fault_text fault)
 ledger_line line.Back = Some (codes "event=ledger-back")
 ledger_line (line.Dropped count) = Some (codes "event=ledger-dropped count=" ++ decimal count)
 ledger_line (line.Left count) = Some (codes "event=ledger-left count=" ++ decimal count)
-
--- How long ago the oldest entry that waits was handed over; 0 if none waits.
-abbrev pub oldest_age : ℕ → ℕ → ℕ
-oldest_age oldest now = if oldest == 0 then 0 else now - oldest

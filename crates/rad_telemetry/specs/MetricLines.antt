@@ -1,14 +1,9 @@
 -- The counters in Prometheus' text format, line by line without the line feeds (own).
-use Rattle.std.specs.Prelude.{ℕ, ◌≡◌, ◌<◌, ◌^◌, List, ◌++◌, codes, Option, Some, None}
+use Rattle.std.specs.Prelude.{ℕ, List, ◌++◌, codes}
 use Rattle.std.specs.Fmt.{decimal}
-use Rattle.rad_desk.specs.declared.gate.Worker.{Worker}
-use Rattle.rad_desk.specs.declared.gate.Worker.TheVariants as worker
-use Rattle.rad_telemetry.specs.EventKinds.{metric_of, reason_text, metric_help, metric_name}
+use Rattle.rad_telemetry.specs.EventKinds.{reason_text, metric_help, metric_name}
 use Rattle.rad_telemetry.specs.declared.event_kind.EventKind.{EventKind}
 use Rattle.rad_telemetry.specs.declared.metric.Metric.{Metric}
-use Rattle.rad_telemetry.specs.declared.metric.Metric.TheVariants as metric
-use Rattle.rad_telemetry.specs.declared.metric_lines.Side.{Side}
-use Rattle.rad_telemetry.specs.declared.metric_lines.Side.TheVariants as side
 use Rattle.rad_telemetry.specs.declared.metric_lines.CounterLine.{CounterLine}
 use Rattle.rad_telemetry.specs.declared.metric_lines.Labels.{Labels}
 use Rattle.rad_telemetry.specs.declared.metric_lines.Labels.TheVariants.{Clients, Reason, Home, HomeReason}
@@ -39,28 +34,3 @@ type_line m = codes "# TYPE rad_proxy_" ++ metric_name m ++ codes " counter"
 -- The line that precedes that one: what the metric counts.
 abbrev pub help_line : Metric → List ℕ
 help_line m = codes "# HELP rad_proxy_" ++ metric_name m ++ codes " " ++ metric_help m
-
--- The labels of the front's counter of a kind, if it has one of this metric.
-abbrev pub client_labels : Metric → EventKind → Option Labels
-client_labels metric.Dropped kind = Some (Reason kind)
-client_labels metric.Refused kind = Some (Reason kind)
-client_labels metric.SendFault kind = Some Clients
-client_labels metric.ReceiveFault kind = Some Clients
-client_labels m kind = None
-
--- The labels of a lane's counter of a metric, if it has one: those with a reason, or those without.
-abbrev pub lane_labels : Metric → Labels → Labels → Option Labels
-lane_labels metric.Dropped reason plain = None
-lane_labels metric.Refused reason plain = None
-lane_labels metric.Unheard reason plain = Some reason
-lane_labels m reason plain = Some plain
-
--- The labels of a side's counter of a kind, if it has one.
-abbrev pub side_labels : Side → EventKind → Option Labels
-side_labels side.Clients kind = client_labels (metric_of kind) kind
-side_labels (side.Home lane home) kind = lane_labels (metric_of kind) (HomeReason lane home kind) (Home lane home)
-
--- The worker that counts for a side.
-abbrev pub Counts : Side → Worker → Type 0
-Counts side.Clients w = w ≡ worker.Front
-Counts (side.Home lane home) w = lane < 2 ^ 16 → w ≡ worker.Lane lane

@@ -24,8 +24,7 @@ impl AtomicEndpoint {
 
     /// Returns the endpoint that was stored last.
     pub fn load(&self) -> Endpoint {
-        let word = self.word.load(Ordering::SeqCst);
-        endpoint_of(word)
+        endpoint_of(self.word.load(Ordering::SeqCst))
     }
 }
 
@@ -38,9 +37,9 @@ fn word_of(endpoint: Endpoint) -> u64 {
 
 /// Returns the endpoint of a word.
 fn endpoint_of(word: u64) -> Endpoint {
-    let octets = word.to_be_bytes();
+    let [_, _, a, b, c, d, high, low] = word.to_be_bytes();
     Endpoint {
-        address: [octets[2], octets[3], octets[4], octets[5]],
-        port: u16::from_be_bytes([octets[6], octets[7]]),
+        address: [a, b, c, d],
+        port: u16::from_be_bytes([high, low]),
     }
 }

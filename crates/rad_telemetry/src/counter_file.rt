@@ -62,20 +62,13 @@ where
     fn replace(&self, path: &str, text: &[u8]) -> Result<(), FileFault> {
         check_regular(&self.rt, path)?;
         let name = new_name(&self.rt, path)?;
-        replace_by(&self.rt, name.as_str(), path, text)
+        let new = name.as_str();
+        if create(&self.rt, new, text)? && fs::rename(&self.rt, new, path).is_ok() {
+            return Ok(());
+        }
+        let _ = fs::remove_file(&self.rt, new);
+        Err(FileFault::NotWritten)
     }
-}
-
-/// Writes a text to a new file of this name, which then replaces the file at a path.
-fn replace_by<R: Files>(files: &R, new: &str, path: &str, text: &[u8]) -> Result<(), FileFault>
-where
-    R::File: Drop,
-{
-    if create(files, new, text)? && fs::rename(files, new, path).is_ok() {
-        return Ok(());
-    }
-    let _ = fs::remove_file(files, new);
-    Err(FileFault::NotWritten)
 }
 
 /// Fails if something other than a regular file is at a path. A link is not a regular file, wherever it leads.

@@ -5,7 +5,7 @@ use crate::delta_lines::CutDelta;
 use crate::last_datagram::LastDatagram;
 use crate::packet_words::DatagramWords;
 use crate::peer_text::{ClientText, PeerText};
-use crate::telling::{tell, warn_of_reason};
+use crate::telling::tell;
 use crate::watch_lines::{DownLine, UpLine};
 use crate::workers::worker_name;
 use log::{Level, Log, log_enabled};
@@ -104,7 +104,11 @@ impl<'a, L: Log> EventLog<'a, L> {
 
     /// Logs that a request of a lane was answered.
     pub fn answered(&self, lane: u16, serial: u64) {
-        self.replied("answered", lane, serial);
+        let home = self.name(Worker::Lane(lane));
+        self.tell(
+            Level::Trace,
+            &format_args!("event=answered home={home} serial={serial}"),
+        );
     }
 
     /// Logs that a lane's home server is marked down, since this request is unanswered.
@@ -131,7 +135,10 @@ impl<'a, L: Log> EventLog<'a, L> {
 
     /// Logs that the addresses of this machine can't be read.
     pub fn addresses_unread(&self, error: &Error) {
-        warn_of_reason(self.log, "addresses-unread", error);
+        self.tell(
+            Level::Warn,
+            &format_args!("event=addresses-unread reason=\"{error}\""),
+        );
     }
 
     /// Logs that no socket is bound to this address of this machine alone.
@@ -154,15 +161,10 @@ impl<'a, L: Log> EventLog<'a, L> {
     }
 
     fn returned(&self, lane: u16, serial: u64) {
-        self.replied("returned", lane, serial);
-    }
-
-    /// Logs an event of a lane's response.
-    fn replied(&self, event: &str, lane: u16, serial: u64) {
         let home = self.name(Worker::Lane(lane));
         self.tell(
             Level::Trace,
-            &format_args!("event={event} home={home} serial={serial}"),
+            &format_args!("event=returned home={home} serial={serial}"),
         );
     }
 
@@ -190,20 +192,20 @@ impl<'a, L: Log> EventLog<'a, L> {
     }
 
     fn dropped(&self, worker: Worker, from: Endpoint, reason: Dropped) {
-        self.unserved("dropped", worker, from, &reason);
-    }
-
-    fn refused(&self, worker: Worker, from: Endpoint, reason: Refusal) {
-        self.unserved("refused", worker, from, &reason);
-    }
-
-    /// Logs an event of the datagram that a worker received last, and its reason.
-    fn unserved<R: Display>(&self, event: &str, worker: Worker, from: Endpoint, reason: &R) {
         let from = ClientText(from);
         let packet = self.last.words(worker);
         self.tell(
             Level::Debug,
-            &format_args!("event={event} {from}{packet} reason=\"{reason}\""),
+            &format_args!("event=dropped {from}{packet} reason=\"{reason}\""),
+        );
+    }
+
+    fn refused(&self, worker: Worker, from: Endpoint, reason: Refusal) {
+        let from = ClientText(from);
+        let packet = self.last.words(worker);
+        self.tell(
+            Level::Debug,
+            &format_args!("event=refused {from}{packet} reason=\"{reason}\""),
         );
     }
 

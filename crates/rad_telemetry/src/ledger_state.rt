@@ -1,9 +1,5 @@
 //! What the thread that writes the ledger shares with the front and with the reporter.
 
-ghost use Rattle.std.specs.Prelude.{◌≡◌};
-ghost use Rattle.rad_telemetry.specs.LedgerLines.{oldest_age};
-
-use crate::counters::since;
 use crate::ledger_fault::LedgerFault;
 use crate::ledger_lines::LedgerLine;
 use crate::telling::tell;
@@ -136,11 +132,17 @@ impl LedgerState {
     /// Returns the counts, at this moment in milliseconds since 1970.
     pub fn reading(&self, now: u64) -> LedgerReading {
         let written = self.written.load(Ordering::SeqCst);
+        let oldest = self.oldest.load(Ordering::SeqCst);
+        let age = if oldest == 0 {
+            0
+        } else {
+            now.saturating_sub(oldest)
+        };
         LedgerReading {
             written,
-            waiting: since(written, self.put.load(Ordering::SeqCst)),
+            waiting: self.put.load(Ordering::SeqCst).saturating_sub(written),
             dropped: self.dropped.load(Ordering::SeqCst),
-            age: age_of(self.oldest.load(Ordering::SeqCst), now),
+            age,
         }
     }
 
@@ -151,7 +153,7 @@ impl LedgerState {
             tell(log, Level::Info, &LedgerLine::Back);
         }
         let dropped = self.dropped.load(Ordering::SeqCst);
-        let count = since(self.told.swap(dropped, Ordering::SeqCst), dropped);
+        let count = dropped.saturating_sub(self.told.swap(dropped, Ordering::SeqCst));
         if count != 0 {
             tell(log, Level::Error, &LedgerLine::Dropped(count));
         }
@@ -171,17 +173,6 @@ impl LedgerState {
         if count != 0 {
             tell(log, Level::Error, &LedgerLine::Left(count));
         }
-    }
-}
-
-/// Returns how long ago the oldest entry that waits was handed over, in milliseconds; 0 if none waits.
-fn age_of(oldest: u64, now: u64) -> u64
-    ensures { result ≡ oldest_age oldest now }
-{
-    if oldest == 0 {
-        0
-    } else {
-        now.saturating_sub(oldest)
     }
 }
 

@@ -1,23 +1,8 @@
 //! The lines of the counters in their file, in Prometheus' text format.
 
-ghost use Rattle.std.specs.Prelude.{◌≡◌};
-ghost use Rattle.rad_telemetry.specs.EventKinds.{metric_of};
-ghost use Rattle.rad_telemetry.specs.MetricLines.{client_labels, side_labels, Counts};
-
 use crate::event_kind::{EventKind, ReasonText};
 use crate::metric::Metric;
-use crate::workers::worker_of_lane;
-use rad_desk::Worker;
 use std::fmt;
-
-/// Of whom something is counted.
-#[derive(Clone, Copy)]
-pub enum Side<'a> {
-    /// The clients' side.
-    Clients,
-    /// A lane, with its home server's name.
-    Home(usize, &'a str),
-}
 
 /// The labels that say of whom something is counted.
 #[derive(Clone, Copy)]
@@ -55,43 +40,6 @@ pub struct TypeLine(pub Metric);
 /// The `# HELP` line of a metric: what it counts. It precedes the `# TYPE` line.
 #[derive(Clone, Copy)]
 pub struct HelpLine(pub Metric);
-
-impl<'a> Side<'a> {
-    /// Returns the worker that counts.
-    pub fn worker(self) -> Worker
-        ensures { Counts self result }
-    {
-        match self {
-            Side::Clients => Worker::Front,
-            Side::Home(lane, _) => worker_of_lane(lane),
-        }
-    }
-
-    /// Returns the labels of the counter of a kind, if the side has one.
-    pub fn labels(self, kind: EventKind) -> Option<Labels<'a>>
-        ensures { result ≡ side_labels self kind }
-    {
-        match self {
-            Side::Clients => client_labels(kind),
-            Side::Home(lane, home) => match kind.metric() {
-                Metric::Dropped | Metric::Refused => None,
-                Metric::Unheard => Some(Labels::HomeReason(lane, home, kind)),
-                _ => Some(Labels::Home(lane, home)),
-            },
-        }
-    }
-}
-
-/// Returns the labels of the front's counter of a kind, if it has one.
-fn client_labels<'a>(kind: EventKind) -> Option<Labels<'a>>
-    ensures { result ≡ client_labels (metric_of kind) kind }
-{
-    match kind.metric() {
-        Metric::Dropped | Metric::Refused => Some(Labels::Reason(kind)),
-        Metric::SendFault | Metric::ReceiveFault => Some(Labels::Clients),
-        _ => None,
-    }
-}
 
 impl fmt::Display for ReasonLabel {
     ghost use Rattle.std.specs.Prelude.{Some};

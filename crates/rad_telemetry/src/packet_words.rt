@@ -65,26 +65,22 @@ impl fmt::Display for PacketWords<'_> {
 
 impl fmt::Display for SessionWord<'_> {
     fn fmt<W: fmt::Write>(&self, f: &mut fmt::Formatter<W>) -> fmt::Result {
-        match self.0 {
-            Some(session) => write_word(f, "session", session),
-            None => Ok(()),
-        }
+        let Some(session) = self.0 else {
+            return Ok(());
+        };
+        let session = Escaped(session);
+        write!(f, " session={session}")
     }
 }
 
 impl fmt::Display for RealmWord<'_> {
     fn fmt<W: fmt::Write>(&self, f: &mut fmt::Formatter<W>) -> fmt::Result {
-        match self.0 {
-            Some(realm) => write_word(f, "realm", realm),
-            None => Ok(()),
-        }
+        let Some(realm) = self.0 else {
+            return Ok(());
+        };
+        let realm = Escaped(realm);
+        write!(f, " realm={realm}")
     }
-}
-
-/// Writes a key and its value, with a space before them.
-fn write_word<W: fmt::Write>(f: &mut fmt::Formatter<W>, key: &str, value: &[u8]) -> fmt::Result {
-    let value = Escaped(value);
-    write!(f, " {key}={value}")
 }
 
 impl fmt::Display for DatagramWords<'_> {

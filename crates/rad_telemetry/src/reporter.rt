@@ -9,7 +9,7 @@ use crate::event_kind::{EVENT_KINDS, EventKind};
 use crate::last_realm::LastRealm;
 use crate::ledger_state::LedgerState;
 use crate::metric::{METRICS, Metric};
-use crate::metric_lines::{CounterLine, HelpLine, Labels, Side, TypeLine};
+use crate::metric_lines::{CounterLine, HelpLine, Labels, TypeLine};
 use crate::stop_flag::StopFlag;
 use crate::telling::tell;
 use crate::workers::{worker_name, worker_of_lane};
@@ -165,38 +165,73 @@ impl<L: Log, R> Reporter<'_, L, R> {
     /// Writes the counters of a metric: the front's, then those of the lanes in order.
     fn write_metric<W: Write>(&self, writer: &mut W, metric: Metric) -> io::Result<()> {
         write_head(writer, metric)?;
-        self.write_side(writer, metric, Side::Clients)?;
+        self.write_front(writer, metric)?;
         for (lane, home) in self.config.homes().iter().enumerate() {
-            self.write_side(writer, metric, Side::Home(lane, home.name()))?;
+            self.write_lane(writer, metric, lane, home.name())?;
         }
         Ok(())
     }
 
-    /// Writes the counters of a metric that a side has.
-    fn write_side<W: Write>(
-        &self,
-        writer: &mut W,
-        metric: Metric,
-        side: Side<'_>,
-    ) -> io::Result<()> {
+    /// Writes the front's counters of a metric, if it has any.
+    fn write_front<W: Write>(&self, writer: &mut W, metric: Metric) -> io::Result<()> {
         for kind in EVENT_KINDS {
             if kind.metric() == metric {
-                self.write_kind(writer, side, kind)?;
+                self.write_front_kind(writer, metric, kind)?;
             }
         }
         Ok(())
     }
 
-    /// Writes the counter of a kind, if the side has one.
-    fn write_kind<W: Write>(
+    /// Writes the front's counter of one kind of a metric, if it has one.
+    fn write_front_kind<W: Write>(
         &self,
         writer: &mut W,
-        side: Side<'_>,
+        metric: Metric,
         kind: EventKind,
     ) -> io::Result<()> {
-        match side.labels(kind) {
-            Some(labels) => self.write_counter(writer, side.worker(), kind, labels),
-            None => Ok(()),
+        match metric {
+            Metric::Dropped | Metric::Refused => {
+                self.write_counter(writer, Worker::Front, kind, Labels::Reason(kind))
+            }
+            Metric::SendFault | Metric::ReceiveFault => {
+                self.write_counter(writer, Worker::Front, kind, Labels::Clients)
+            }
+            _ => Ok(()),
+        }
+    }
+
+    /// Writes a lane's counters of a metric, if it has any.
+    fn write_lane<W: Write>(
+        &self,
+        writer: &mut W,
+        metric: Metric,
+        lane: usize,
+        home: &str,
+    ) -> io::Result<()> {
+        for kind in EVENT_KINDS {
+            if kind.metric() == metric {
+                self.write_lane_kind(writer, metric, kind, lane, home)?;
+            }
+        }
+        Ok(())
+    }
+
+    /// Writes a lane's counter of one kind of a metric, if it has one.
+    fn write_lane_kind<W: Write>(
+        &self,
+        writer: &mut W,
+        metric: Metric,
+        kind: EventKind,
+        lane: usize,
+        home: &str,
+    ) -> io::Result<()> {
+        let worker = worker_of_lane(lane);
+        match metric {
+            Metric::Dropped | Metric::Refused => Ok(()),
+            Metric::Unheard => {
+                self.write_counter(writer, worker, kind, Labels::HomeReason(lane, home, kind))
+            }
+            _ => self.write_counter(writer, worker, kind, Labels::Home(lane, home)),
         }
     }
 
