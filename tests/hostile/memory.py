@@ -169,13 +169,18 @@ class Nas:
         return self.proxy.accepted() - before
 
     def ask_until(self, out, wanted):
-        """Sends requests until so many were accepted, and gives how many were."""
-        accepted = 0
+        """Sends requests until so many were accepted, and gives how many were. All requests of a call may be refused, where the book is
+        full and its lane sleeps for some milliseconds."""
+        accepted, last = 0, time.monotonic()
         while accepted < wanted:
             more = self.ask(out, wanted - accepted, PATIENCE)
-            if more == 0:
-                raise Failed(f"no request was accepted, in {PATIENCE} seconds")
             accepted += more
+            if more:
+                last = time.monotonic()
+            elif time.monotonic() - last > PATIENCE:
+                raise Failed(f"no request was accepted, in {PATIENCE} seconds")
+            else:
+                time.sleep(APART)
         return accepted
 
 
