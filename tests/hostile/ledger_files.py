@@ -159,7 +159,8 @@ class Trial:
         return [line for line in self.log.read_text().splitlines() if f"event={word}" in line]
 
     def number(self, name):
-        """A metric of the last text."""
+        """A metric of the last text. The first one is waited for."""
+        until("the counters", self.counters.exists)
         found = re.search(rf"^rad_proxy_{name} ([0-9.]+)$", self.counters.read_text(), re.MULTILINE)
         return float(found[1]) if found else None
 
