@@ -377,8 +377,9 @@ def writes_of_ten_seconds_lose_nothing(trial):
 
 
 def slow_writes_lose_nothing(trial):
-    """Where each write of the ledger takes a second, all entries are there in the end."""
-    trial.start(LD_PRELOAD=built(trial.room, "slow"), SLOW_PATH=str(trial.folder), SLOW_WRITE="1000")
+    """Where each write of the ledger takes half a second, all entries are there in the end: the program waits for the writer for twice
+    as long."""
+    trial.start(LD_PRELOAD=built(trial.room, "slow"), SLOW_PATH=str(trial.folder), SLOW_WRITE="500")
     for _ in range(8):
         trial.ask(100)
         time.sleep(0.3)
