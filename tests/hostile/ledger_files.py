@@ -39,7 +39,7 @@ OUTSTANDING, AGAIN, LATE = 32, 1.0, 2.0
 # A write is due within 100 ms, and a sync within a second. This much more is left to the machine.
 WRITTEN, SYNCED, SLACK = 0.1, 1.0, 0.4
 # The middle answer beside a ledger that fails is at most this many times that of a program without one, and this much later.
-TIMES, LATER = 1.5, 0.01
+TIMES, LATER = 1.5, 0.05
 # How many octets may wait, and how many more of memory a ledger may take for its lines.
 BOUND, ROOM = 64 * 2**20, 4 * 2**20
 
