@@ -1,14 +1,20 @@
 -- What a request repeats, as it is found by the last number of its key.
 use Rattle.std.proofs.Common.{◌≡◌, ℕ, List, Option, Some, None, refl, sym, ap, ◌∙◌}
-use Rattle.std.specs.Prelude.{◌≤◌, IfSome, option_map}
+use Rattle.std.specs.Prelude.{◌≤◌, IfSome, option_map, Ok}
 use Rattle.std.specs.FinMap as map
 use Rattle.rad_tables.specs.declared.duplicates.Key.{Key}
 use Rattle.rad_tables.specs.Keys.{key_cmp}
+use Rattle.rad_realms.specs.Checking.{Request}
 use Rattle.rad_lane.specs.declared.stamp.Stamp.{Stamp}
-use Rattle.rad_lane.specs.Book.{Book}
+use Rattle.rad_lane.specs.declared.accepting.Taken.{Taken}
+use Rattle.rad_lane.specs.declared.accepting.Taken.TheVariants.{New, Waiting, Again}
+use Rattle.rad_lane.specs.Datagrams.{Datagrams}
+use Rattle.rad_lane.specs.Accepts.{Accepts, request_key}
+use Rattle.rad_lane.specs.Book.{Book, moment_in}
 use Rattle.rad_lane.specs.Outstanding.{AnswerKept}
 use Rattle.rad_lane.specs.Repeat.{Repeats, fresh, repeats, repeats_last, repeats_answered, of_key, last_of, answer_to}
 use Rattle.rad_lane.specs.internal.Invariant.{last_number, repeats_number}
+use Rattle.rad_lane.specs.internal.Taking.{TakesRepeat}
 
 none_last : (book : Book) (now : ℕ) (last : Option Stamp) → option_map (λ (s : Stamp). s.number) last ≡ None → fresh ≡ repeats_last book now last
 none_last book now None h = refl
@@ -47,3 +53,16 @@ module _ (book value : Book) (same : book ≡ value) (numbers : map.FinMap key_c
 pub since_opening : (numbers : map.FinMap key_cmp ℕ) (opening : ℕ) → ((key : Key) (number : ℕ) → map.get numbers key ≡ Some number → opening ≤ number) → (key : Key) (last : Option ℕ) → last ≡ map.get numbers key → IfSome last (λ number. opening ≤ number)
 since_opening numbers opening h key None is = tt
 since_opening numbers opening h key (Some number) is = h key number (sym is)
+
+-- a repeat is accepted as it was found
+module _ (old : Book) (request : Request) (moment now : ℕ) (at : now ≡ moment_in old moment) (told : Repeats) (is : repeats old (request_key request) now ≡ told) where
+  found_then : repeats old (request_key request) (moment_in old moment) ≡ told
+  found_then = ap (λ n. repeats old (request_key request) n) (sym at) ∙ is
+
+  passed_then : (new : Book) → new ≡ (let b : Book = record old { last = now } in b) → new ≡ (let b : Book = record old { last = moment_in old moment } in b)
+  passed_then new same = same ∙ ap (λ n. let b : Book = record old { last = n } in b) at
+
+  pub repeat_accepted : (taken : Taken) (d : Datagrams) (new : Book) → TakesRepeat told (Some taken) d → new ≡ (let b : Book = record old { last = now } in b) → Accepts old request moment (Ok taken) d new
+  repeat_accepted (Waiting number) d new takes same = (found_then ∙ takes.0, passed_then new same, takes.1)
+  repeat_accepted (Again number) d new takes same = (found_then ∙ takes, passed_then new same)
+  repeat_accepted (New number) d new takes same = absurd takes

@@ -1,3 +1,4 @@
+pub mod Taking
 pub mod KeepAnswer
 pub mod Cutting
 pub mod NextDue

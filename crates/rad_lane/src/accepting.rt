@@ -1,7 +1,9 @@
 //! Accepting a request.
 
-ghost use Rattle.std.specs.Prelude.{◌≡◌, ◌+◌, ◌≤◌, length, IfOk, MatchResult, IsTrue, ◌↔◌};
-ghost use Rattle.rad_lane.specs.Repeat.{repeats, fresh};
+ghost use Rattle.std.specs.Prelude.{◌≡◌, ◌+◌, ◌≤◌, [], ◌∷◌, ◌++◌, length, None, IfOk, OnErr, MatchResult, IsTrue, ◌↔◌};
+ghost use Rattle.rad_lane.specs.Stamp.{IsRecord};
+ghost use Rattle.rad_lane.specs.Repeat.{repeats, fresh, found};
+ghost use Rattle.rad_lane.specs.internal.Taking.{TakesRepeat};
 ghost use Rattle.rad_lane.specs.internal.Invariant.{HasRoom};
 ghost use Rattle.rad_lane.specs.Datagrams.{Datagrams};
 ghost use Rattle.rad_lane.specs.Accepts.{Accepts, IsTaken, IsRefused, request_key, stamp_of as the_stamp, record_of as the_record};
@@ -139,18 +141,11 @@ impl<Q: Fifo<Record>> Lane<Q> {
         ensures { Accepts self.old request.now moment result (record { before = datagram.old; after = datagram.new }) self.new }
     {
         let now = self.moment_of(moment);
-        match self.find_repeat(&key_of(request), now) {
-            Repeat::Fresh => Err(refusal),
-            Repeat::Waits(number) => {
-                self.set_last(now);
-                Ok(Taken::Waiting(number))
-            }
-            Repeat::Answered(number, answer) => {
-                datagram.load(&response_of(answer));
-                self.set_last(now);
-                Ok(Taken::Again(number))
-            }
-        }
+        let Some(taken) = taken_as(self.find_repeat(&key_of(request), now), datagram) else {
+            return Err(refusal);
+        };
+        self.set_last(now);
+        Ok(taken)
     }
 
     /// Takes a request while new ones are not refused. One search finds the last number of the request's key and
@@ -173,34 +168,40 @@ impl<Q: Fifo<Record>> Lane<Q> {
         let Ok(last) = self.duplicates.replace(key, number) else {
             return Err(Refusal::OutOfMemory);
         };
-        match seen.repeat_of(last, now) {
-            Repeat::Fresh => {
-                let Ok(record) = record_of(alloc, request, number, now) else {
-                    self.duplicates.restore(&key, last);
-                    return Err(Refusal::OutOfMemory);
-                };
-                let Ok(()) = make_room(&mut self.accepted, &mut self.indices, &mut self.queued)
-                else {
-                    self.duplicates.restore(&key, last);
-                    return Err(Refusal::OutOfMemory);
-                };
-                self.accepted.push(record.stamp());
-                self.indices.push(None);
-                self.queued.push_back(record);
-                self.last = now;
-                Ok(Taken::New(number))
-            }
-            Repeat::Waits(number) => {
-                self.duplicates.restore(&key, last);
-                self.set_last(now);
-                Ok(Taken::Waiting(number))
-            }
-            Repeat::Answered(number, answer) => {
-                datagram.load(&response_of(answer));
-                self.duplicates.restore(&key, last);
-                self.set_last(now);
-                Ok(Taken::Again(number))
-            }
+        if let Some(taken) = taken_as(seen.repeat_of(last, now), datagram) {
+            self.duplicates.restore(&key, last);
+            self.set_last(now);
+            return Ok(taken);
+        }
+        let Ok(record) = record_of(alloc, request, number, now) else {
+            self.duplicates.restore(&key, last);
+            return Err(Refusal::OutOfMemory);
+        };
+        let Ok(()) = add(
+            record,
+            &mut self.accepted,
+            &mut self.indices,
+            &mut self.queued,
+        ) else {
+            self.duplicates.restore(&key, last);
+            return Err(Refusal::OutOfMemory);
+        };
+        self.last = now;
+        Ok(Taken::New(number))
+    }
+}
+
+/// Returns how a request is taken that repeats another, and writes the response into the datagram if there is one.
+/// Returns nothing for a new request.
+fn taken_as(repeat: Repeat<'_>, datagram: &mut Datagram) -> Option<Taken>
+    ensures { TakesRepeat (found repeat.entry) result (record { before = datagram.old; after = datagram.new }) }
+{
+    match repeat {
+        Repeat::Fresh => None,
+        Repeat::Waits(number) => Some(Taken::Waiting(number)),
+        Repeat::Answered(number, answer) => {
+            datagram.load(&response_of(answer));
+            Some(Taken::Again(number))
         }
     }
 }
@@ -247,6 +248,30 @@ fn record_of(
     let spare = Buffer::with_room(alloc, octets.len() + MARK_LENGTH)?;
     let stamp = stamp_of(request, number, moment);
     Ok(Record::new(stamp, text, *request.secret(), spare))
+}
+
+/// Adds a record: its stamp, a place for the index of its answer, and the record itself to the queue. It makes room
+/// in each before it adds anything. A refusal drops the record.
+fn add<Q: Fifo<Record>>(
+    kept: Record,
+    accepted: &mut SlidingList<Stamp>,
+    indices: &mut SlidingList<Option<AnswerIndex>>,
+    queued: &mut Q,
+) -> Result<(), AllocError>
+    ensures is_record { IsRecord kept.recorded }
+    ensures accepted { IfOk result (λ _. accepted.new.items ≡ accepted.old.items ++ kept.recorded.stamp ∷ []) }
+    ensures indices { IfOk result (λ _. indices.new.items ≡ indices.old.items ++ None ∷ []) }
+    ensures queued { IfOk result (λ _. Q.items queued.new ≡ Q.items queued.old ++ kept ∷ []) }
+    ensures same_accepted { OnErr result (accepted.new.items ≡ accepted.old.items) }
+    ensures same_indices { OnErr result (indices.new.items ≡ indices.old.items) }
+    ensures same_queued { OnErr result (Q.items queued.new ≡ Q.items queued.old) }
+{
+    let stamp = kept.stamp();
+    make_room(accepted, indices, queued)?;
+    accepted.push(stamp);
+    indices.push(None);
+    queued.push_back(kept);
+    Ok(())
 }
 
 /// Makes room for one more item in each list and in the queue.

@@ -8,7 +8,7 @@ ghost use Rattle.rad_lane.specs.declared.watch.Watch.TheVariants.{Up as up, Down
 ghost use Rattle.rad_lane.specs.Outstanding.{Outstanding};
 ghost use Rattle.rad_lane.specs.Datagrams.{Datagrams};
 ghost use Rattle.rad_lane.specs.Dues.{IsNextDue, NoneDue, as_moment};
-ghost use Rattle.rad_lane.specs.Steps.{AllotsAnother, Steps, StepsWhileUp, NothingToSend};
+ghost use Rattle.rad_lane.specs.Steps.{AllotsAnother, Steps, StepsWhileDown, StepsWhileUp, NothingToSend};
 ghost use Rattle.rad_lane.specs.internal.NextDue.{FindsNextDue, MaySend, earlier as the_earlier};
 
 use crate::{Entry, Lane, Record, Sending, Setup, Watch};
@@ -61,17 +61,34 @@ impl<Q: Fifo<Record>> Lane<Q> {
                 until,
                 next_probe,
                 probe,
-            } => {
-                if until <= now.get() {
-                    self.go_up(now);
-                    Action::WentUp
-                } else if next_probe <= now.get() {
-                    Action::Probed(self.probe(now, until, probe, random, datagram))
-                } else {
-                    self.set_last(now);
-                    Action::Idle(Some(moment_at(until.min(next_probe))))
-                }
-            }
+            } => self.step_while_down(now, until, next_probe, probe, random, datagram),
+        }
+    }
+
+    /// Takes the next step of a lane whose home server is marked down until a moment, with the moment of the next
+    /// probe and the pair of an outstanding one.
+    fn step_while_down(
+        &mut self,
+        now: Moment,
+        until: u64,
+        next_probe: u64,
+        out: Option<Slot>,
+        random: [u8; 16],
+        datagram: &mut Datagram,
+    ) -> Action
+        requires later { self.old.last ≤ now }
+        requires is_down { self.old.watch ≡ down until next_probe out }
+        ensures steps { StepsWhileDown self.old now random until next_probe out result (record { before = datagram.old; after = datagram.new }) self.new }
+        ensures another { AllotsAnother self.old result }
+    {
+        if until <= now.get() {
+            self.go_up(now);
+            Action::WentUp
+        } else if next_probe <= now.get() {
+            Action::Probed(self.probe(now, until, out, random, datagram))
+        } else {
+            self.set_last(now);
+            Action::Idle(Some(moment_at(until.min(next_probe))))
         }
     }
 

@@ -1,12 +1,16 @@
-use Rattle.std.proofs.Common.{◌≡◌, ◌≤◌, ap, sym, ◌∙◌, subst, arith, List, ℕ}
+use Rattle.std.proofs.Common.{rules, ◌≡◌, ◌≤◌, refl, ap, sym, ◌∙◌, subst, arith, List, ℕ}
 use Rattle.rad_auth.specs.Forwarding.{forwarded}
 use Rattle.rad_auth.specs.Mark.{EndsWithMark}
 use Rattle.rad_auth.specs.Replied.{Replied, IsAnswer}
+use Rattle.rad_auth.specs.Refusing.{RefusesReply}
 use Rattle.rad_auth.specs.declared.mark.Mark.{Mark}
 use Rattle.rad_auth.specs.declared.reply.RequestHead.{RequestHead}
+use Rattle.rad_auth.specs.declared.responding.ReplyFault.{ReplyFault}
+use Rattle.rad_auth.specs.declared.responding.ReplyFault.TheVariants.{OutOfMemory}
 use Rattle.rad_auth.proofs.Forwards.{forwarded-ends}
 use Rattle.rad_lane.specs.declared.stamp.Stamp.{Stamp}
-use Rattle.rad_lane.specs.Outstanding.{Outstanding, IsForwarded, IsAnswered}
+use Rattle.rad_lane.specs.Hears.{KeepsAnswer}
+use Rattle.rad_lane.specs.Outstanding.{Outstanding, AnswerKept, IsForwarded, IsAnswered}
 use Rattle.rad_lane.specs.Stamp.{Recorded, IsRecord}
 use Rattle.rad_lane.proofs.sending.Sending.answer.Goals as goal
 
@@ -52,3 +56,63 @@ new-requires c =
     let forwarded_here : IsForwarded c.args.self.now = let P : Outstanding → Type 0 = λ o. IsForwarded o in subst P c.self.view_is c.self.invariant in
     answers_sending c.args.self.now c.stamp-stamp.result c.args.now c.args.serial c.in_ok-reply.reply forwarded_here c.in_ok-reply.ensures.answers stamp
     (ap (λ (h : RequestHead). h.identifier) made.0) (ap (λ (h : RequestHead). h.authenticator) made.0) sent client home since
+
+-- a reply is refused for its sending as it is for the octets and the secret that were compared
+refused_here : (o : Outstanding) (sending packet home : List ℕ) (fault : ReplyFault) → sending ≡ o.octets → home ≡ o.home → RefusesReply sending packet home fault → RefusesReply o.octets packet o.home fault
+refused_here o sending packet home fault octets secret refused =
+    let P : List ℕ → Type 0 = λ text. RefusesReply text packet home fault in
+    let Q : List ℕ → Type 0 = λ text. RefusesReply o.octets packet text fault in
+    subst Q secret (subst P octets refused)
+
+-- memory may be refused after a reply that is verified
+memory_refused : (o : Outstanding) (packet : List ℕ) (made : Replied) → IsAnswer made → made.sending ≡ o.octets → made.reply ≡ packet → made.home ≡ o.home → RefusesReply o.octets packet o.home OutOfMemory
+memory_refused o packet made answers sending reply home =
+    rw (sym sending, sym reply, sym home) (answers.verified, answers.no_message_authenticator, (answers.mark, answers.before, answers.after, answers.returned))
+
+-- the answer that is kept
+keeps_made : (o : Outstanding) (packet : List ℕ) (stamp : Stamp) (now serial : ℕ) (made : Replied) (answer : AnswerKept) → answer ≡ record { stamp = stamp; moment = now; serial = serial; reply = made } → IsAnswer made
+    → stamp ≡ o.request.stamp → made.head.identifier ≡ stamp.identifier → made.head.authenticator ≡ stamp.authenticator
+    → made.sending ≡ o.octets → made.reply ≡ packet → made.client ≡ o.request.client_secret → made.home ≡ o.home → KeepsAnswer o.home now serial o packet answer
+keeps_made o packet stamp now serial made answer is answers same identifier authenticator sending reply client home =
+    rw is record {
+      stamp = same;
+      moment = refl;
+      serial = refl;
+      head_identifier = identifier ∙ ap (λ (s : Stamp). s.identifier) same;
+      head_authenticator = authenticator ∙ ap (λ (s : Stamp). s.authenticator) same;
+      sending = sending;
+      reply = reply;
+      client = client;
+      home = home;
+      answers = rw (sym sending, sym reply, sym client, sym home) answers;
+    }
+
+pub returns-in_err-reply-clause-err : goal.returns-in_err-reply-clause-err
+returns-in_err-reply-clause-err c =
+    let home = ap (λ (o : Outstanding). o.home) c.self.view_is in
+    let refused = refused_here c.args.self.now c.packet.result c.args.packet.now c.self.inside.home c.in_err-reply.field-0.0 c.packet.ensures home c.in_err-reply.ensures.refused in
+    search (rules, refused)
+
+pub returns-in_err-answer-clause-err : goal.returns-in_err-answer-clause-err
+returns-in_err-answer-clause-err c =
+    let made = c.in_ok-reply.ensures.made in
+    let home = made.4 ∙ ap (λ (o : Outstanding). o.home) c.self.view_is in
+    let refused = memory_refused c.args.self.now c.args.packet.now c.in_ok-reply.reply c.in_ok-reply.ensures.answers (made.1 ∙ c.packet.ensures) made.2 home in
+    search (rules, refused)
+
+pub returns-in_err-outgoing-clause-err : goal.returns-in_err-outgoing-clause-err
+returns-in_err-outgoing-clause-err c =
+    let made = c.in_ok-reply.ensures.made in
+    let home = made.4 ∙ ap (λ (o : Outstanding). o.home) c.self.view_is in
+    let refused = memory_refused c.args.self.now c.args.packet.now c.in_ok-reply.reply c.in_ok-reply.ensures.answers (made.1 ∙ c.packet.ensures) made.2 home in
+    search (rules, refused)
+
+pub returns-clause-kept : goal.returns-clause-kept
+returns-clause-kept c =
+    let made = c.in_ok-reply.ensures.made in
+    let stamp : c.stamp-stamp.result ≡ c.args.self.now.request.stamp = c.stamp-stamp.ensures.value ∙ ap (λ (o : Outstanding). o.request.stamp) c.self.view_is in
+    let client : c.in_ok-reply.reply.client ≡ c.args.self.now.request.client_secret =
+    made.3 ∙ c.client_secret-client.ensures ∙ ap (λ (o : Outstanding). o.request.client_secret) c.self.view_is in
+    let home : c.in_ok-reply.reply.home ≡ c.args.self.now.home = made.4 ∙ ap (λ (o : Outstanding). o.home) c.self.view_is in
+    keeps_made c.args.self.now c.args.packet.now c.stamp-stamp.result c.args.now c.args.serial c.in_ok-reply.reply c.in_ok-answer.answer c.in_ok-answer.ensures c.in_ok-reply.ensures.answers stamp
+    (ap (λ (h : RequestHead). h.identifier) made.0) (ap (λ (h : RequestHead). h.authenticator) made.0) (made.1 ∙ c.packet.ensures) made.2 client home
