@@ -6,7 +6,7 @@ ghost use Rattle.rad_console.specs.Totals.{count_in_all};
 
 use crate::lines::EndLine;
 use block_queue::Fifo;
-use rad_desk::{CloseFault, Inlet, LaneEnd, Proxy, Report, Rest};
+use rad_desk::{Inlet, LaneEnd, Proxy, Report, Rest};
 use std::alloc::{AllocError, Global};
 
 /// Closes a proxy with its inlets, and returns what is left.
@@ -18,8 +18,12 @@ pub fn close(alloc: Global, proxy: Proxy, inlets: Vec<Inlet>) -> Result<EndLine,
     ensures { IfOk result (λ end. Closes proxy inlets.items end) }
 {
     match proxy.close(alloc, inlets) {
-        Ok(report) => Ok(end_of(&report)),
-        Err(CloseFault::OutOfMemory(..)) => Err(AllocError),
+        Ok(report) => {
+            let end = end_of(&report);
+            report.discard();
+            Ok(end)
+        }
+        Err(fault) => Err(fault.into()),
     }
 }
 

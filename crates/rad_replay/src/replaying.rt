@@ -7,7 +7,7 @@ use crate::faults::ReplayFault;
 use crate::script::Script;
 use rad_console::{EndLine, Pieces, read_at_most, read_configuration};
 use rad_realms::{Config, ConfigFault};
-use std::alloc::Global;
+use std::alloc::{AllocError, Global};
 use std::io::{BufWriter, ErrorKind, Read, Write};
 use std::sync::Wait;
 
@@ -54,10 +54,10 @@ fn run<T: Wait, W: Write + Drop>(
     let Ok(mut output) = BufWriter::new(alloc, writer) else {
         return Err(ReplayFault::Memory);
     };
-    let Ok(script) = Script::new(alloc, config) else {
-        return Err(ReplayFault::Memory);
+    let ran = match Script::new(alloc, config) {
+        Ok(script) => script.run(rt, events, &mut output),
+        Err(AllocError) => Err(ReplayFault::Memory),
     };
-    let ran = script.run(rt, events, &mut output);
     if output.flush().is_err() {
         return Err(ReplayFault::Output);
     }

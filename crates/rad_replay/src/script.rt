@@ -24,7 +24,8 @@ use std::sync::Wait;
 /// The octets that every step gets in place of random ones.
 const RANDOM: [u8; 16] = [0x5a; 16];
 
-/// A running script: the proxy, the moment, and the room for a datagram.
+/// A running script: the proxy, the moment, and the room for a datagram. It ends with [`Script::run`], which closes the
+/// proxy.
 #[derive(Drop)]
 pub struct Script<'a> {
     alloc: Global,
@@ -75,13 +76,27 @@ impl<'a> Script<'a> {
     ) -> Result<EndLine, ReplayFault>
         ensures { IfOk result IsEnd }
     {
-        self.answer_all(rt, events, output)?;
-        let Ok(end) = close(self.alloc, self.proxy, self.inlets) else {
-            return Err(ReplayFault::Memory);
-        };
+        let answered = self.answer_all(rt, events, output);
+        let closed = self.close();
+        answered?;
+        let end = closed?;
         match print(output, &end) {
             Ok(()) => Ok(end),
             Err(_) => Err(ReplayFault::Output),
+        }
+    }
+
+    /// Closes the proxy, and returns what is left.
+    ///
+    /// # Errors
+    ///
+    /// `Memory` if a growth is refused.
+    fn close(self) -> Result<EndLine, ReplayFault>
+        ensures { IfOk result IsEnd }
+    {
+        match close(self.alloc, self.proxy, self.inlets) {
+            Ok(end) => Ok(end),
+            Err(_) => Err(ReplayFault::Memory),
         }
     }
 

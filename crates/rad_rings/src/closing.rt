@@ -22,6 +22,13 @@ pub enum CloseFault {
     OutOfMemory(Proxy, Series<Inlet>),
 }
 
+/// Keeps that memory was refused. The proxy and the inlets are dropped.
+impl From<CloseFault> for AllocError {
+    fn from(_fault: CloseFault) -> AllocError {
+        AllocError
+    }
+}
+
 /// The room that closing a proxy needs, besides that of its inlets.
 #[derive(Drop)]
 struct Room {
@@ -58,11 +65,11 @@ fn make_room(alloc: Global, lanes: usize, inlets: &mut [Inlet]) -> Result<Room, 
     ensures desks { IfOk result (λ room. (room.desks.items ≡ []) × (lanes ≤ vec_capacity room.desks)) }
     ensures ends { IfOk result (λ room. (room.ends.items ≡ []) × (lanes ≤ vec_capacity room.ends)) }
 {
-    let desks = Vec::with_capacity(alloc, lanes)?;
-    let ends = Vec::with_capacity(alloc, lanes)?;
     for inlet in inlets.iter_mut() {
         inlet.make_room(alloc)?;
     }
+    let desks = Vec::with_capacity(alloc, lanes)?;
+    let ends = Vec::with_capacity(alloc, lanes)?;
     Ok(Room { desks, ends })
 }
 

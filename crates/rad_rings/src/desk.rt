@@ -60,10 +60,10 @@ impl Desk {
     {
         let number = setup.lane();
         let places = setup.limits().numbers().ring as usize;
-        let Ok(lane) = Lane::new(alloc, setup) else {
+        let Ok((giver, taker)) = RingBuffer::with_protocol::<Global, Numbered>(alloc, places) else {
             return Err(OpenFault::OutOfMemory);
         };
-        let Ok((giver, taker)) = RingBuffer::with_protocol::<Global, Numbered>(alloc, places) else {
+        let Ok(lane) = Lane::new(alloc, setup) else {
             return Err(OpenFault::OutOfMemory);
         };
         Ok((Desk { lane, giver }, Inlet::new(number, taker)))

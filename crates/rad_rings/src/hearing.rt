@@ -1,10 +1,14 @@
 //! Hearing the home server, if the ring has a place for the response.
 
+ghost use Rattle.std.specs.Prelude.{◌≡◌, ◌<◌, ◌+◌, [], ◌∷◌, ◌++◌, length};
+ghost use Rattle.rtrb.specs.Ring.{sent, known_free, SameProducer};
 ghost use Rattle.rad_rings.specs.Tells.{Tells};
 
 use crate::desk::Desk;
-use rad_lane::{HearFault, Heard};
+use crate::numbered::Numbered;
+use rad_lane::{HearFault, Heard, Outgoing};
 use rad_tables::Moment;
+use rtrb::Producer;
 use std::alloc::Global;
 use std::fmt;
 
@@ -62,12 +66,25 @@ impl Desk {
         }
         match self.lane.hear(alloc, moment, port, datagram) {
             Ok(Heard::Answer(response)) => {
-                let serial = response.serial;
-                self.giver.push_reserved(response);
+                let serial = give(&mut self.giver, response);
                 Ok(Told::Answer(serial))
             }
             Ok(Heard::ProbeAnswered) => Ok(Told::ProbeAnswered),
             Err(fault) => Err(DeskFault::Lane(fault)),
         }
     }
+}
+
+/// Adds a response to a ring that has a free place, and returns its serial.
+fn give(giver: &mut Producer<Outgoing, Global, Numbered>, response: Outgoing) -> u64
+    requires place { 0 < known_free giver.old }
+    requires next { response.serial ≡ length (sent giver.old) }
+    ensures serial { result ≡ response.serial }
+    ensures sent { sent giver.new ≡ sent giver.old ++ response ∷ [] }
+    ensures free { known_free giver.old ≡ known_free giver.new + 1 }
+    ensures ring { SameProducer giver.old giver.new }
+{
+    let serial = response.serial;
+    giver.push_reserved(response);
+    serial
 }

@@ -1,6 +1,6 @@
 //! The calls of a desk's lane. None of them adds to the ring; [`Desk::hear`], in a file of its own, does.
 
-ghost use Rattle.std.specs.Prelude.{◌≡◌, ◌↔◌, IsTrue, IsSome};
+ghost use Rattle.std.specs.Prelude.{◌≡◌, ◌↔◌, IsTrue, IsSome, IfSome};
 ghost use Rattle.rad_lane.specs.Accepts.{Accepts, IsTaken};
 ghost use Rattle.rad_lane.specs.Datagrams.{Datagrams};
 ghost use Rattle.rad_lane.specs.Steps.{Steps, AllotsAnother};
@@ -9,10 +9,11 @@ ghost use Rattle.rad_lane.specs.Counting.{counts_of, IsDone};
 ghost use Rattle.rad_lane.specs.Lawful.{IsLawful};
 ghost use Rattle.rad_rings.specs.Outlet.{IsOutlet};
 ghost use Rattle.rad_rings.specs.Desk.{book, given, SameOutlet};
-ghost use Rattle.rad_rings.specs.Departures.{Departs, Returns, AcceptsLawfully};
+ghost use Rattle.rad_rings.specs.Departures.{Departs, Returns, StepsHolding, AcceptsLawfully, UnlessWrongLane};
 ghost use Rattle.rad_lane.specs.Setup.{IsOf};
 
 use crate::desk::Desk;
+use crate::proxy::Stepped;
 use rad_auth::Secret;
 use rad_lane::{Action, Counts, Refusal, Taken};
 use rad_packet::Datagram;
@@ -60,6 +61,27 @@ impl Desk {
         taken
     }
 
+    /// Passes a request to the lane, if it leads to this lane.
+    ///
+    /// # Errors
+    ///
+    /// `WrongLane` if it does not; otherwise the reason for which the lane refuses it. The datagram is unchanged.
+    pub(crate) fn accept_if_taken(
+        &mut self,
+        alloc: Global,
+        request: &Checked<'_>,
+        moment: Moment,
+        datagram: &mut Datagram,
+    ) -> Result<Taken, Refusal>
+        ensures returns { Returns result (record { before = datagram.old; after = datagram.new }) }
+        ensures accepts { UnlessWrongLane result (AcceptsLawfully request.now moment result (record { before = datagram.old; after = datagram.new })) }
+    {
+        if !self.takes(request) {
+            return Err(Refusal::WrongLane);
+        }
+        self.accept(alloc, request, moment, datagram)
+    }
+
     /// Does the lane's next step at this moment. `random` is the Authenticator of a probe.
     pub fn step(&mut self, moment: Moment, random: [u8; 16], datagram: &mut Datagram) -> Action
         ensures steps { Steps (book self.old) moment random result (record { before = datagram.old; after = datagram.new }) (book self.new) }
@@ -72,6 +94,29 @@ impl Desk {
         let action = self.lane.step(moment, random, datagram);
         let _ = self.lane.accepted();
         action
+    }
+
+    /// Does the lane's next step like [`Desk::step`], if the lane has this number and its home server this secret, and
+    /// otherwise does nothing. It returns the action with the number of requests that the book then holds.
+    pub(crate) fn step_for(
+        &mut self,
+        number: u16,
+        secret: &Secret,
+        moment: Moment,
+        random: [u8; 16],
+        datagram: &mut Datagram,
+    ) -> Option<Stepped>
+        ensures { IfSome result (λ stepped. StepsHolding number secret.now moment random stepped.action stepped.held (record { before = datagram.old; after = datagram.new })) }
+    {
+        if !self.is_of(number, secret) {
+            return None;
+        }
+        let action = self.step(moment, random, datagram);
+        let counts = self.counts();
+        Some(Stepped {
+            action,
+            held: counts.accepted - counts.opening,
+        })
     }
 
     /// Drains the lane: it accepts no new request from now on. Returns how many requests the lane had accepted in all

@@ -111,12 +111,8 @@ impl Proxy {
         if request.lane() >= self.lanes() {
             return Err(Refusal::WrongLane);
         }
-        let mut guard = self.lock(rt, request.lane());
-        let desk = &mut *guard;
-        if !desk.takes(request) {
-            return Err(Refusal::WrongLane);
-        }
-        desk.accept(alloc, request, moment, datagram)
+        self.lock(rt, request.lane())
+            .accept_if_taken(alloc, request, moment, datagram)
     }
 
     /// Does a lane's next step at this moment. `random` is the Authenticator of a probe.
@@ -149,17 +145,8 @@ impl Proxy {
         requires { lane < self.now }
         ensures { IfSome result (λ stepped. StepsHolding lane secret.now moment random stepped.action stepped.held (record { before = datagram.old; after = datagram.new })) }
     {
-        let mut guard = self.lock(rt, lane);
-        let desk = &mut *guard;
-        if !desk.is_of(lane, secret) {
-            return None;
-        }
-        let action = desk.step(moment, random, datagram);
-        let counts = desk.counts();
-        Some(Stepped {
-            action,
-            held: counts.accepted - counts.opening,
-        })
+        self.lock(rt, lane)
+            .step_for(lane, secret, moment, random, datagram)
     }
 
     /// Passes a datagram that came to a source port of a lane from its home server to the lane.

@@ -13,6 +13,11 @@ pub struct Report {
     pub queued: RecordQueue,
 }
 
+impl Report {
+    /// Drops what is left.
+    pub fn discard(self) {}
+}
+
 /// What is left of a lane, except its queue.
 #[derive(Drop)]
 pub struct LaneEnd {

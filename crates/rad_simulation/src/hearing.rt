@@ -82,9 +82,7 @@ impl Book {
                 self.answer(now, number, reply)?;
                 let serial = self.answers.len() as u64;
                 self.answers.push(number)?;
-                if place < self.out.len() {
-                    self.out.remove(place);
-                }
+                self.remove_out(place);
                 Hearing::Answer(serial)
             }
             None => Hearing::ProbeAnswered,

@@ -41,7 +41,7 @@ impl Nases {
             return self.repeat(chance);
         }
         let mut mail = self.letter(chance, setting)?;
-        self.keep(mail.copy(self.alloc)?)?;
+        self.keep(&mail)?;
         spoil(&mut mail, chance)?;
         Ok(mail)
     }
@@ -66,12 +66,12 @@ impl Nases {
         })
     }
 
-    /// Keeps a datagram that was sent.
-    fn keep(&mut self, letter: Mail) -> Result<(), Rule> {
+    /// Keeps a copy of a datagram that was sent.
+    fn keep(&mut self, letter: &Mail) -> Result<(), Rule> {
         if self.letters.len() >= KEPT {
             self.letters.remove(0);
         }
-        self.letters.push(letter)?;
+        self.letters.push(letter.copy(self.alloc)?)?;
         Ok(())
     }
 

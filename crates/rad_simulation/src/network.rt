@@ -63,10 +63,14 @@ impl Network {
             return Ok(());
         }
         if chance.strikes(setting.losses) {
-            let twice = mail.copy(self.alloc)?;
-            self.fly(now.saturating_add(chance.below(300)), lane, twice)?;
+            self.fly_twice(now.saturating_add(chance.below(300)), lane, &mail)?;
         }
         self.fly(now.saturating_add(delay(chance, setting)), lane, mail)
+    }
+
+    /// Puts a copy of a datagram on its way.
+    fn fly_twice(&mut self, at: u64, lane: Option<u16>, mail: &Mail) -> Result<(), Rule> {
+        self.fly(at, lane, mail.copy(self.alloc)?)
     }
 
     fn fly(&mut self, at: u64, lane: Option<u16>, mail: Mail) -> Result<(), Rule> {

@@ -11,11 +11,11 @@ use crate::network::Network;
 use crate::planning::Plan;
 use crate::rules::Rule;
 use crate::setting::Setting;
-use crate::trace::{Trace, TraceGate, TraceWire};
+use crate::trace::{Arrival, Trace, TraceGate, TraceWire};
 use crate::walk::Walk;
 use rad_desk::{Inlet, Proxy, Tally, Worker, front_worker, lane_worker, open};
 use rad_realms::{Config, read_config};
-use std::alloc::Global;
+use std::alloc::{AllocError, Global};
 use std::cell::Cell;
 use std::sync::Wait;
 
@@ -126,8 +126,12 @@ fn books_of(alloc: Global, setting: &Setting) -> Result<Books, Rule> {
 /// Closes a proxy, and compares its report with the books.
 fn close(alloc: Global, proxy: Proxy, inlets: Vec<Inlet>, books: &[Book]) -> Result<(), Rule> {
     match proxy.close(alloc, inlets) {
-        Ok(mut report) => compare_end(&mut report, books),
-        Err(_) => Err(Rule::MEMORY),
+        Ok(mut report) => {
+            let compared = compare_end(&mut report, books);
+            report.discard();
+            compared
+        }
+        Err(fault) => Err(AllocError::from(fault).into()),
     }
 }
 
@@ -142,7 +146,8 @@ impl Run {
 
     /// Runs a proxy with the configuration that the setting's text describes.
     fn serve_text(&mut self, rt: &impl Wait) -> Result<(), Rule> {
-        let text = self.setting.text(self.alloc)?;
+        let setting = &self.setting;
+        let text = format!(in self.alloc; "{setting}")?;
         match read_config(self.alloc, text.as_str()) {
             Ok(config) => self.serve(rt, &config),
             Err(_) => Err(Rule::CONFIGURATION),
@@ -237,12 +242,11 @@ impl Run {
     ) -> Result<(), Rule> {
         let plan = self.plan();
         let (lane, turns) = (plan.lane, plan.turns);
-        let Some(tally) = self.work(rt, served, inlets, plan)? else {
-            return Err(Rule::MEMORY);
-        };
-        match self.trace.take() {
-            Some(events) => self.follow(lane, turns, events.as_slice(), tally),
-            None => Err(Rule::MEMORY),
+        let (tally, arrivals) = self.work(rt, served, inlets, plan);
+        self.network.give_back(arrivals, self.clock, lane)?;
+        match (self.trace.take(), tally) {
+            (Some(events), Some(tally)) => self.follow(lane, turns, events.as_slice(), tally),
+            _ => Err(Rule::MEMORY),
         }
     }
 
@@ -258,14 +262,14 @@ impl Run {
         self.react(lane, events)
     }
 
-    /// Runs a worker. Returns its tally, if there is such a worker.
+    /// Runs a worker. Returns its tally, if there is such a worker, and what it did not receive.
     fn work(
         &mut self,
         rt: &impl Wait,
         served: Served<'_>,
         inlets: &mut [Inlet],
         plan: Plan,
-    ) -> Result<Option<Tally>, Rule> {
+    ) -> (Option<Tally>, Vec<Arrival>) {
         let Plan {
             lane,
             turns,
@@ -291,8 +295,7 @@ impl Run {
         );
         self.clock = wire.clock;
         let TraceWire { arrivals, .. } = wire;
-        self.network.give_back(arrivals, self.clock, lane)?;
-        Ok(tally)
+        (tally, arrivals)
     }
 
     /// Compares what a worker did with the rules.

@@ -5,6 +5,7 @@ use crate::rules::Rule;
 use rad_auth::Secret;
 use rad_realms::{Endpoint, LimitNumbers};
 use std::alloc::Global;
+use std::fmt;
 
 /// The tables of each home server and of its realm, without its limits.
 const FIRST_HOME: &str = r#"
@@ -118,18 +119,21 @@ impl Setting {
         })?;
         Ok(())
     }
+}
 
-    /// Returns the text of the configuration.
-    pub fn text(&self, alloc: Global) -> Result<String, Rule> {
-        let mut text = String::from_str(alloc, "listen = \"127.0.0.1:1813\"\n")?;
+/// A setting is printed as the text of its configuration.
+impl fmt::Display for Setting {
+    fn fmt<W: fmt::Write>(&self, f: &mut fmt::Formatter<W>) -> fmt::Result {
+        f.write_str("listen = \"127.0.0.1:1813\"\n")?;
         if self.has_default {
-            text.push_str("default_home = \"h0\"\n")?;
+            f.write_str("default_home = \"h0\"\n")?;
         }
-        text.push_str(CLIENTS)?;
+        f.write_str(CLIENTS)?;
         for (place, home) in self.homes.as_slice().iter().enumerate() {
-            push_home(alloc, &mut text, (place & 3) as u16, home)?;
+            f.write_str(tables((place & 3) as u16))?;
+            write_limits(&home.limits, f)?;
         }
-        Ok(text)
+        Ok(())
     }
 }
 
@@ -169,12 +173,10 @@ fn one_of(chance: &mut Chance, numbers: &[u32]) -> u32 {
     chance.pick(numbers).copied().unwrap_or(1)
 }
 
-/// Adds the tables of a home server and of its realm.
-fn push_home(alloc: Global, text: &mut String, place: u16, home: &Home) -> Result<(), Rule> {
-    text.push_str(tables(place))?;
-    for (key, number) in keys(&home.limits) {
-        let line = format!(in alloc; "{key} = {number}\n")?;
-        text.push_str(line.as_str())?;
+/// Writes the lines of a home server's limits, which follow its tables.
+fn write_limits<W: fmt::Write>(limits: &LimitNumbers, f: &mut fmt::Formatter<W>) -> fmt::Result {
+    for (key, number) in keys(limits) {
+        writeln!(f, "{key} = {number}")?;
     }
     Ok(())
 }

@@ -32,7 +32,26 @@ impl Book {
     }
 
     fn forget_probe(&mut self) {
-        self.out.retain(|out| out.number.is_some());
+        if let Some(place) = self.find_probe() {
+            self.remove_out(place);
+        }
+    }
+
+    /// Returns the place of the probe, of which there is at most one.
+    fn find_probe(&self) -> Option<usize> {
+        for (place, out) in self.out.as_slice().iter().enumerate() {
+            if out.number.is_none() {
+                return Some(place);
+            }
+        }
+        None
+    }
+
+    /// Removes the outstanding request or the probe at a place.
+    pub fn remove_out(&mut self, place: usize) {
+        if place < self.out.len() {
+            self.out.remove(place);
+        }
     }
 
     /// Makes the next step, with these octets as a probe's Authenticator.

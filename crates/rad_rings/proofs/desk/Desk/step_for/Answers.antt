@@ -1,14 +1,14 @@
 use Rattle.std.proofs.Common.{◌≡◌, ℕ, ◌+◌, ◌-◌, ◌∙◌, ap, arith, length}
 use Rattle.rad_lane.specs.declared.counts.Counts.{Counts}
-use Rattle.rad_rings.proofs.proxy.Proxy.step_for.Goals as goal
+use Rattle.rad_rings.proofs.desk.Desk.step_for.Goals as goal
 
 rest : (opening count : ℕ) → opening + count - opening ≡ count
 rest opening count = omega arith
 
 pub returns : goal.returns
-returns g c = record {
+returns c = record {
   steps = record {
-    old = c.deref_mut-desk.result.now.lane;
+    old = c.args.self.now.lane;
     new = c.step-action.new.self.lane;
     lawful = c.step-action.ensures.lawful.0;
     stays = c.step-action.ensures.lawful.1;
