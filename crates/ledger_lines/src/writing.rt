@@ -3,7 +3,7 @@
 ghost use Rattle.std.specs.Prelude.{◌≡◌, IfOk, OnOk};
 ghost use Rattle.ledger_lines.specs.Written.{HasLineBehind};
 
-use crate::begin::{Begin, End};
+use crate::begin::{Begin, End, LaneCount, LaneStart};
 use json::Writer;
 use rad_ledger::Entry;
 use std::alloc::{AllocError, Global};
@@ -16,19 +16,8 @@ use std::alloc::{AllocError, Global};
 pub fn write_begin(alloc: Global, begin: &Begin<'_>, out: Vec<u8>) -> Result<Vec<u8>, AllocError>
     ensures { IfOk result (λ all. HasLineBehind out.items all.items) }
 {
-    let mut writer = open_line(alloc, out, "begin", begin.run, begin.time)?;
-    text(&mut writer, "version", begin.version)?;
-    number(&mut writer, "file", begin.file)?;
-    writer.key("lanes")?;
-    writer.begin_array()?;
-    for lane in begin.lanes.iter() {
-        writer.begin_object()?;
-        number(&mut writer, "lane", u64::from(lane.lane))?;
-        text(&mut writer, "home", lane.home)?;
-        number(&mut writer, "serial", lane.serial)?;
-        writer.end_object()?;
-    }
-    writer.end_array()?;
+    let mut writer = Writer::new(out);
+    begin_members(alloc, &mut writer, begin)?;
     close_line(writer)
 }
 
@@ -40,31 +29,8 @@ pub fn write_begin(alloc: Global, begin: &Begin<'_>, out: Vec<u8>) -> Result<Vec
 pub fn write_entry(alloc: Global, entry: &Entry<'_>, out: Vec<u8>) -> Result<Vec<u8>, AllocError>
     ensures { IfOk result (λ all. HasLineBehind out.items all.items) }
 {
-    let mut writer = open_line(alloc, out, "entry", entry.run, entry.time)?;
-    text(&mut writer, "home", entry.home)?;
-    number(&mut writer, "lane", u64::from(entry.lane))?;
-    number(&mut writer, "serial", entry.serial)?;
-    number(&mut writer, "record", entry.number)?;
-    let [a, b, c, d] = entry.client;
-    let client = format!(in alloc; "{a}.{b}.{c}.{d}")?;
-    text(&mut writer, "client", client.as_str())?;
-    number(&mut writer, "port", u64::from(entry.port))?;
-    number(&mut writer, "identifier", u64::from(entry.identifier))?;
-    digits(alloc, &mut writer, "authenticator", &entry.authenticator)?;
-    words(alloc, &mut writer, "realm", "realm_octets", entry.realm)?;
-    words(
-        alloc,
-        &mut writer,
-        "session",
-        "session_octets",
-        entry.session,
-    )?;
-    if let Some(status) = entry.status {
-        number(&mut writer, "status", u64::from(status))?;
-    }
-    digits(alloc, &mut writer, "sent", entry.sent)?;
-    digits(alloc, &mut writer, "reply", entry.reply)?;
-    digits(alloc, &mut writer, "response", entry.response)?;
+    let mut writer = Writer::new(out);
+    entry_members(alloc, &mut writer, entry)?;
     close_line(writer)
 }
 
@@ -76,46 +42,114 @@ pub fn write_entry(alloc: Global, entry: &Entry<'_>, out: Vec<u8>) -> Result<Vec
 pub fn write_end(alloc: Global, end: &End<'_>, out: Vec<u8>) -> Result<Vec<u8>, AllocError>
     ensures { IfOk result (λ all. HasLineBehind out.items all.items) }
 {
-    let mut writer = open_line(alloc, out, "end", end.run, end.time)?;
-    writer.key("lanes")?;
-    writer.begin_array()?;
-    for lane in end.lanes.iter() {
-        writer.begin_object()?;
-        number(&mut writer, "lane", u64::from(lane.lane))?;
-        number(&mut writer, "entries", lane.entries)?;
-        writer.end_object()?;
-    }
-    writer.end_array()?;
+    let mut writer = Writer::new(out);
+    end_members(alloc, &mut writer, end)?;
     close_line(writer)
 }
 
-/// Begins a line of a type, with its run and its moment.
-fn open_line(
-    alloc: Global,
-    out: Vec<u8>,
-    kind: &str,
-    run: u64,
-    time: &str,
-) -> Result<Writer, AllocError>
-    ensures { IfOk result (λ writer. writer.before ≡ out.items) }
-{
-    let mut writer = Writer::new(out);
-    writer.begin_object()?;
-    text(&mut writer, "type", kind)?;
-    digits(alloc, &mut writer, "run", &run.to_be_bytes())?;
-    text(&mut writer, "time", time)?;
-    Ok(writer)
-}
-
-/// Ends a line.
+/// Returns what these octets are, and the line that was written behind them, with its line end.
 fn close_line(writer: Writer) -> Result<Vec<u8>, AllocError>
     ensures { IfOk result (λ all. HasLineBehind writer.before all.items) }
 {
-    let mut writer = writer;
-    writer.end_object()?;
     let mut out = writer.into_inner();
     out.push(b'\n')?;
     Ok(out)
+}
+
+/// Writes the object of a line that names a run.
+fn begin_members(alloc: Global, writer: &mut Writer, begin: &Begin<'_>) -> Result<(), AllocError>
+    ensures { OnOk result (writer.new.before ≡ writer.old.before) }
+{
+    first_members(alloc, writer, "begin", begin.run, begin.time)?;
+    text(writer, "version", begin.version)?;
+    number(writer, "file", begin.file)?;
+    writer.key("lanes")?;
+    writer.begin_array()?;
+    for lane in begin.lanes.iter() {
+        lane_start(writer, lane)?;
+    }
+    writer.end_array()?;
+    writer.end_object()
+}
+
+/// Writes a lane of such a line.
+fn lane_start(writer: &mut Writer, lane: &LaneStart<'_>) -> Result<(), AllocError>
+    ensures { OnOk result (writer.new.before ≡ writer.old.before) }
+{
+    writer.begin_object()?;
+    number(writer, "lane", u64::from(lane.lane))?;
+    text(writer, "home", lane.home)?;
+    number(writer, "serial", lane.serial)?;
+    writer.end_object()
+}
+
+/// Writes the object of an entry.
+fn entry_members(alloc: Global, writer: &mut Writer, entry: &Entry<'_>) -> Result<(), AllocError>
+    ensures { OnOk result (writer.new.before ≡ writer.old.before) }
+{
+    first_members(alloc, writer, "entry", entry.run, entry.time)?;
+    text(writer, "home", entry.home)?;
+    number(writer, "lane", u64::from(entry.lane))?;
+    number(writer, "serial", entry.serial)?;
+    number(writer, "record", entry.number)?;
+    request_members(alloc, writer, entry)?;
+    words(alloc, writer, "realm", "realm_octets", entry.realm)?;
+    words(alloc, writer, "session", "session_octets", entry.session)?;
+    number_if_any(writer, "status", entry.status)?;
+    digits(alloc, writer, "sent", entry.sent)?;
+    digits(alloc, writer, "reply", entry.reply)?;
+    digits(alloc, writer, "response", entry.response)?;
+    writer.end_object()
+}
+
+/// Writes what names the request of an entry.
+fn request_members(alloc: Global, writer: &mut Writer, entry: &Entry<'_>) -> Result<(), AllocError>
+    ensures { OnOk result (writer.new.before ≡ writer.old.before) }
+{
+    address(alloc, writer, "client", entry.client)?;
+    number(writer, "port", u64::from(entry.port))?;
+    number(writer, "identifier", u64::from(entry.identifier))?;
+    digits(alloc, writer, "authenticator", &entry.authenticator)
+}
+
+/// Writes the object of a line that ends a run.
+fn end_members(alloc: Global, writer: &mut Writer, end: &End<'_>) -> Result<(), AllocError>
+    ensures { OnOk result (writer.new.before ≡ writer.old.before) }
+{
+    first_members(alloc, writer, "end", end.run, end.time)?;
+    writer.key("lanes")?;
+    writer.begin_array()?;
+    for lane in end.lanes.iter() {
+        lane_count(writer, lane)?;
+    }
+    writer.end_array()?;
+    writer.end_object()
+}
+
+/// Writes a lane of such a line.
+fn lane_count(writer: &mut Writer, lane: &LaneCount) -> Result<(), AllocError>
+    ensures { OnOk result (writer.new.before ≡ writer.old.before) }
+{
+    writer.begin_object()?;
+    number(writer, "lane", u64::from(lane.lane))?;
+    number(writer, "entries", lane.entries)?;
+    writer.end_object()
+}
+
+/// Begins the object of a line of a type, with its run and its moment.
+fn first_members(
+    alloc: Global,
+    writer: &mut Writer,
+    kind: &str,
+    run: u64,
+    time: &str,
+) -> Result<(), AllocError>
+    ensures { OnOk result (writer.new.before ≡ writer.old.before) }
+{
+    writer.begin_object()?;
+    text(writer, "type", kind)?;
+    digits(alloc, writer, "run", &run.to_be_bytes())?;
+    text(writer, "time", time)
 }
 
 fn text(writer: &mut Writer, key: &str, value: &str) -> Result<(), AllocError>
@@ -130,6 +164,30 @@ fn number(writer: &mut Writer, key: &str, value: u64) -> Result<(), AllocError>
 {
     writer.key(key)?;
     writer.u64(value)
+}
+
+/// A number, where there is one.
+fn number_if_any(writer: &mut Writer, key: &str, value: Option<u32>) -> Result<(), AllocError>
+    ensures { OnOk result (writer.new.before ≡ writer.old.before) }
+{
+    match value {
+        Some(value) => number(writer, key, u64::from(value)),
+        None => Ok(()),
+    }
+}
+
+/// An address, as four decimal numbers with dots between them.
+fn address(
+    alloc: Global,
+    writer: &mut Writer,
+    key: &str,
+    address: [u8; 4],
+) -> Result<(), AllocError>
+    ensures { OnOk result (writer.new.before ≡ writer.old.before) }
+{
+    let [a, b, c, d] = address;
+    let words = format!(in alloc; "{a}.{b}.{c}.{d}")?;
+    text(writer, key, words.as_str())
 }
 
 fn digits(alloc: Global, writer: &mut Writer, key: &str, octets: &[u8]) -> Result<(), AllocError>

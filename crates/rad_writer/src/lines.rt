@@ -42,10 +42,19 @@ pub(crate) fn entry_line(
         reply,
         response,
     } = *parcel;
-    let time = UtcTime::of(head.time);
-    let time = format!(in alloc; "{time}")?;
+    let time = time_text(alloc, head.time)?;
     let entry = entry_of(names, head, sent, reply, response, time.as_str());
     write_entry(alloc, &entry, out)
+}
+
+/// Returns a time in milliseconds since 1970, as a line has it.
+///
+/// # Errors
+///
+/// `AllocError` if memory is refused.
+fn time_text(alloc: Global, time: u64) -> Result<String, AllocError> {
+    let time = UtcTime::of(time);
+    format!(in alloc; "{time}")
 }
 
 /// Returns the entry that a parcel's head and packets are, with this text for its time.
@@ -59,7 +68,9 @@ fn entry_of<'a>(
 ) -> Entry<'a>
     ensures { IsEntryOf names.now head sent.now reply.now response.now time.now result }
 {
-    let packet = read(sent).ok();
+    let told = told_in(sent);
+    let client = head.client;
+    let authenticator = head.authenticator;
     Entry {
         run: names.run,
         time,
@@ -67,24 +78,39 @@ fn entry_of<'a>(
         lane: head.lane,
         serial: head.serial,
         number: head.number,
-        client: head.client,
+        client,
         port: head.port,
         identifier: head.identifier,
-        authenticator: head.authenticator,
+        authenticator,
         sent,
         reply,
         response,
-        realm: match &packet {
-            Some(packet) => realm_of_packet(packet),
-            None => None,
+        realm: told.realm,
+        session: told.session,
+        status: told.status,
+    }
+}
+
+/// What a request tells besides its head.
+#[derive(Clone, Copy)]
+struct Told<'a> {
+    realm: Option<&'a [u8]>,
+    session: Option<&'a [u8]>,
+    status: Option<u32>,
+}
+
+/// Returns what the packet of these octets tells, or nothing if they are no packet.
+fn told_in(sent: &[u8]) -> Told<'_> {
+    match read(sent) {
+        Ok(packet) => Told {
+            realm: realm_of_packet(&packet),
+            session: session_of(&packet),
+            status: status_of(&packet),
         },
-        session: match &packet {
-            Some(packet) => session_of(packet),
-            None => None,
-        },
-        status: match &packet {
-            Some(packet) => status_of(packet),
-            None => None,
+        Err(_) => Told {
+            realm: None,
+            session: None,
+            status: None,
         },
     }
 }
@@ -118,9 +144,8 @@ pub(crate) fn begin_line(
 ) -> Result<Vec<u8>, AllocError>
     ensures { IfOk result (λ all. HasLineBehind out.items all.items) }
 {
+    let time = time_text(alloc, time)?;
     let lanes = lane_starts(alloc, names, next)?;
-    let time = UtcTime::of(time);
-    let time = format!(in alloc; "{time}")?;
     let begin = Begin {
         run: names.run,
         time: time.as_str(),
@@ -197,9 +222,8 @@ pub(crate) fn end_line(
 ) -> Result<Vec<u8>, AllocError>
     ensures { IfOk result (λ all. HasLineBehind out.items all.items) }
 {
+    let time = time_text(alloc, time)?;
     let lanes = lane_counts(alloc, names, taken)?;
-    let time = UtcTime::of(time);
-    let time = format!(in alloc; "{time}")?;
     let end = End {
         run: names.run,
         time: time.as_str(),

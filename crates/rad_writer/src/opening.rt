@@ -12,9 +12,10 @@ use crate::run_names::RunNames;
 use crate::writer::{LedgerWriter, LineSource};
 use ledger_files::LedgerDisk;
 use rad_desk::Handed;
-use rad_realms::Config;
-use rad_telemetry::{LedgerFault, LedgerState, Log, log_ledger_fault};
-use rtrb::RingBuffer;
+use rad_log::Log;
+use rad_realms::{Config, Home};
+use rad_telemetry::{LedgerFault, LedgerState, log_ledger_fault};
+use rtrb::{Consumer, Producer, RingBuffer};
 use std::alloc::{AllocError, AllocGlobal, Global};
 use std::env::{self, Env, VarError};
 use std::random::RandomSource;
@@ -75,37 +76,99 @@ pub fn open_ledger<'a, R: Clock + RandomSource>(
     ensures names { IfOk result (λ opened. AreNamesOf config.now.homes opened.writer.source.names.homes.items) }
     ensures lanes { IfOk result (λ opened. vec_len opened.writer.source.next ≡ length config.now.homes) }
 {
-    let lanes = config.homes().len();
-    let taken = Arc::new(alloc, TakenCounts::new(alloc, lanes)?)?;
-    let state = Arc::new(alloc, LedgerState::new())?;
+    let shared = Shared {
+        taken: Arc::new(alloc, TakenCounts::new(alloc, config.homes().len())?)?,
+        state: Arc::new(alloc, LedgerState::new())?,
+    };
     let (producer, consumer) = RingBuffer::new(alloc, ROOM)?;
-    let mut next = Vec::with_capacity(alloc, lanes)?;
-    next.resize(lanes, 0)?;
-    let batch = new_batch(alloc)?;
-    let source = LineSource {
+    let inlet = open_inlet(rt, alloc, producer, &shared)?;
+    let source = open_source(
+        alloc,
+        draw_name(rt),
         folder,
-        names: RunNames::new(alloc, draw_name(rt), config.homes())?,
-        entries: EntryBuffer::new(alloc, consumer)?,
-        room: Vec::with_capacity(alloc, LINE)?,
-        next,
-        taken: Arc::try_clone(&taken)?,
-        state: Arc::try_clone(&state)?,
-    };
+        config.homes(),
+        consumer,
+        &shared,
+    )?;
+    let batch = new_batch(alloc)?;
     let writer = LedgerWriter { source, batch };
-    let inlet = LedgerInlet {
-        clock: rt,
-        time: 0,
-        parcel: Vec::with_capacity(alloc, MOST)?,
-        buffer: producer,
-        taken,
-        state: Arc::try_clone(&state)?,
-        handed: Handed::new(),
-    };
     Ok(OpenedLedger {
         inlet,
         writer,
-        state,
+        state: shared.state,
     })
+}
+
+/// What both ends of a ledger share.
+#[derive(Drop)]
+struct Shared {
+    taken: Arc<TakenCounts>,
+    state: Arc<LedgerState>,
+}
+
+/// Makes the front's end over this end of the buffer.
+///
+/// # Errors
+///
+/// `AllocError` if memory is refused.
+fn open_inlet<'a, R: Clock>(
+    rt: &'a R,
+    alloc: Global,
+    buffer: Producer<u8, Global>,
+    shared: &Shared,
+) -> Result<LedgerInlet<'a, R>, AllocError>
+    ensures { IfOk result (λ inlet. inlet.handed.responses ≡ []) }
+{
+    Ok(LedgerInlet {
+        clock: rt,
+        time: 0,
+        parcel: Vec::with_capacity(alloc, MOST)?,
+        buffer,
+        taken: Arc::try_clone(&shared.taken)?,
+        state: Arc::try_clone(&shared.state)?,
+        handed: Handed::new(),
+    })
+}
+
+/// Makes what the writer's lines come from, over this end of the buffer.
+///
+/// # Errors
+///
+/// `AllocError` if memory is refused.
+fn open_source(
+    alloc: Global,
+    run: u64,
+    folder: String,
+    homes: &[Home],
+    buffer: Consumer<u8, Global>,
+    shared: &Shared,
+) -> Result<LineSource, AllocError>
+    ensures folder { IfOk result (λ source. source.folder ≡ folder) }
+    ensures names { IfOk result (λ source. AreNamesOf homes.now source.names.homes.items) }
+    ensures lanes { IfOk result (λ source. vec_len source.next ≡ length homes.now) }
+{
+    Ok(LineSource {
+        folder,
+        names: RunNames::new(alloc, run, homes)?,
+        entries: EntryBuffer::new(alloc, buffer)?,
+        room: Vec::with_capacity(alloc, LINE)?,
+        next: first_serials(alloc, homes.len())?,
+        taken: Arc::try_clone(&shared.taken)?,
+        state: Arc::try_clone(&shared.state)?,
+    })
+}
+
+/// Makes the serial of the next entry of each of so many lanes.
+///
+/// # Errors
+///
+/// `AllocError` if memory is refused.
+fn first_serials(alloc: Global, lanes: usize) -> Result<Vec<u64>, AllocError>
+    ensures { IfOk result (λ next. vec_len next ≡ lanes) }
+{
+    let mut next = Vec::with_capacity(alloc, lanes)?;
+    next.resize(lanes, 0)?;
+    Ok(next)
 }
 
 /// Draws what names a run. If the system gives no random octets, it is the time.

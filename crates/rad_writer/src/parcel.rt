@@ -44,11 +44,24 @@ fn split_front<const N: usize>(octets: &[u8]) -> ([u8; N], &[u8])
     requires { N ≤ length octets.now }
     ensures parts { octets.now ≡ result.0 ++ result.1.now }
     ensures count { length result.0 ≡ N }
+    ensures left { length result.1.now + N ≡ length octets.now }
 {
     let (front, rest) = octets.split_at(N);
     let mut array = [0; N];
     array.copy_from_slice(front);
     (array, rest)
+}
+
+/// Adds octets at the end.
+///
+/// # Errors
+///
+/// `AllocError` if memory is needed and refused.
+fn put(out: &mut Vec<u8>, octets: &[u8]) -> Result<(), AllocError>
+    ensures { OnOk result (out.new.items ≡ out.old.items ++ octets.now) }
+{
+    out.extend_from_slice(octets)?;
+    Ok(())
 }
 
 /// Returns a packet's length. No packet has more than 4096 octets.
@@ -138,17 +151,17 @@ impl ParcelHead {
     fn write(&self, out: &mut Vec<u8>) -> Result<(), AllocError>
         ensures { OnOk result (out.new.items ≡ out.old.items ++ head_octets self.now) }
     {
-        out.extend_from_slice(&self.time.to_be_bytes())?;
-        out.extend_from_slice(&self.serial.to_be_bytes())?;
-        out.extend_from_slice(&self.number.to_be_bytes())?;
-        out.extend_from_slice(&self.lane.to_be_bytes())?;
-        out.extend_from_slice(&self.client)?;
-        out.extend_from_slice(&self.port.to_be_bytes())?;
-        out.push(self.identifier)?;
-        out.extend_from_slice(&self.authenticator)?;
-        out.extend_from_slice(&self.sent.to_be_bytes())?;
-        out.extend_from_slice(&self.reply.to_be_bytes())?;
-        out.extend_from_slice(&self.response.to_be_bytes())?;
+        put(out, &self.time.to_be_bytes())?;
+        put(out, &self.serial.to_be_bytes())?;
+        put(out, &self.number.to_be_bytes())?;
+        put(out, &self.lane.to_be_bytes())?;
+        put(out, &self.client)?;
+        put(out, &self.port.to_be_bytes())?;
+        put(out, &[self.identifier])?;
+        put(out, &self.authenticator)?;
+        put(out, &self.sent.to_be_bytes())?;
+        put(out, &self.reply.to_be_bytes())?;
+        put(out, &self.response.to_be_bytes())?;
         Ok(())
     }
 
@@ -174,8 +187,8 @@ pub(crate) fn pack(
 {
     out.clear();
     head.write(out)?;
-    out.extend_from_slice(outgoing.reply.sending())?;
-    out.extend_from_slice(outgoing.reply.reply())?;
-    out.extend_from_slice(outgoing.reply.response())?;
+    put(out, outgoing.reply.sending())?;
+    put(out, outgoing.reply.reply())?;
+    put(out, outgoing.reply.response())?;
     Ok(())
 }
