@@ -1,9 +1,9 @@
 #!/usr/bin/env python3
 """Makes the octets that the tests of the crates expect, by Python's hashlib and hmac alone.
 
-usage: vectors.py                    prints each array, as it stands in a test
+usage: vectors.py                    prints each array and line, as it stands in a test
        vectors.py CRATE [NAME ..]    prints those of one crate, or those of these names
-       vectors.py --check            compares the arrays that stand in the tests with those made here
+       vectors.py --check            compares what stands in the tests with what is made here
 
 A packet is made from its code, identifier and attributes (RFC 2865 section 3). An Accounting-Request and its answer are
 signed as RFC 2866 section 3 says, a Status-Server as RFC 5997 section 3 does. For an array more, add a line to the
@@ -218,7 +218,7 @@ def of_ledgers():
     begin, entry = run.begin(), run.entry(status=3, more=FROM_NAS)
     binary = run.entry(user=b"bob@\xff", session=b"\xfe", status=None)
     lines = {"BEGIN_LINE": begin, "ENTRY_LINE": entry, "BINARY_LINE": binary, "END_LINE": run.end()}
-    return {name: ledger.text([line])[:-1].encode() for name, line in lines.items()}
+    return {name: ledger.text([line])[:-1] for name, line in lines.items()}
 
 
 def made():
@@ -233,26 +233,29 @@ def made():
 
 SUM = re.compile(r"const (\w+): u64 = 0x([0-9a-f_]+);")
 ARRAY = re.compile(r"const (\w+): \[u8; \d+\] = \[((?:\s*0x[0-9a-f]{2},?)+)\s*\];")
+LINE = re.compile(r'const (\w+): &str =\s+r#"(\{"type":.*)"#;')
 
 
 def as_written(name, octets):
-    """A sum or an array as a test has it, sixteen octets to a line."""
+    """A sum, a line or an array as a test has it, the array with sixteen octets to a line."""
     if isinstance(octets, int):
         return f"const {name}: u64 = 0x{octets:_x};"
+    if isinstance(octets, str):
+        return f'const {name}: &str =\n    r#"{octets}"#;'
     lines = [octets[at : at + 16] for at in range(0, len(octets), 16)]
     rows = "".join(f"    {', '.join(f'0x{octet:02x}' for octet in line)},\n" for line in lines)
     return f"const {name}: [u8; {len(octets)}] = [\n{rows}];"
 
 
 def standing():
-    """The arrays and sums in hexadecimal that stand in the tests: the crate and the name, the file, and the value."""
+    """The arrays and sums in hexadecimal and the lines that stand in the tests: the crate and the name, the file, and the value."""
     found = []
     for file in sorted(TOP.glob("crates/*/src/**/*.rt")):
         path = file.relative_to(TOP)
         if "test" in str(path):
             text = file.read_text(encoding="utf-8")
             values = [(name, bytes.fromhex("".join(re.findall(r"0x(..)", array)))) for name, array in ARRAY.findall(text)]
-            values += [(name, int(value, 16)) for name, value in SUM.findall(text)]
+            values += [(name, int(value, 16)) for name, value in SUM.findall(text)] + LINE.findall(text)
             found += [((path.parts[1], name), path, value) for name, value in values]
     return found
 

@@ -2,12 +2,13 @@
 //! printed.
 
 use crate::comparing::{holds, same};
-use crate::streams::{Narrow, Slow};
+use crate::streams::{Narrow, Source};
 use rad_console::{Command, Commands, EndLine, close, obey};
 use rad_desk::{Proxy, open};
 use rad_realms::{Config, read_config};
-use std::alloc::Global;
+use std::alloc::{AllocError, Global};
 use std::io;
+use std::process::Abort;
 use std::result::Result;
 use std::sync::Wait;
 use std::test::Fail;
@@ -45,32 +46,43 @@ lane 0 h1 up done accepted 0 queued 0 outstanding 0 answered 0 opening 0
 lane 1 h2 up done accepted 0 queued 0 outstanding 0 answered 0 opening 0
 ";
 
-/// Returns the commands of a text that is read at most `most` octets at a time.
-fn commands(text: &[u8], most: usize) -> Commands<Slow<'_>> {
-    Commands::new(Slow {
-        rest: text,
-        most,
-        fails: false,
-    })
+/// Returns eight lines, of which the first one and the last two are commands.
+fn lines(alloc: Global) -> Result<Vec<u8>, AllocError> {
+    let mut text = Vec::new(alloc);
+    text.extend_from_slice(b"drain\nstate\r\n\n\xff\nstate state\n")?;
+    text.extend_from_slice(&[b' '; 64])?;
+    text.extend_from_slice(b"state\nstate\nstate")?;
+    Ok(text)
+}
+
+/// The commands of these lines, and the end, which stays.
+const COMMANDS: [Option<Command>; 10] = [
+    Some(Command::Drain),
+    Some(Command::Unknown),
+    Some(Command::Unknown),
+    Some(Command::Unknown),
+    Some(Command::Unknown),
+    Some(Command::Unknown),
+    Some(Command::State),
+    Some(Command::State),
+    None,
+    None,
+];
+
+/// Compares the commands of a text that is read at most `most` octets at a time.
+fn compare_commands(rt: &impl Abort, text: &[u8], most: usize) -> io::Result<()> {
+    let mut commands = Commands::new(Source::new(text, most));
+    for wanted in COMMANDS {
+        same(rt, (most, commands.next()?), (most, wanted));
+    }
+    Ok(())
 }
 
 #[test]
 fn each_line_is_a_command(rt: HostRuntime) -> Result<(), Fail> {
-    let mut text = Vec::new(rt.alloc());
-    text.extend_from_slice(b"drain\nstate\r\n\n\xff\nstate state\n")?;
-    text.extend_from_slice(&[b' '; 64])?;
-    text.extend_from_slice(b"state\nstate\nstate")?;
+    let text = lines(rt.alloc())?;
     for most in [1, 7, 64, 4096] {
-        let mut commands = commands(text.as_slice(), most);
-        same(&rt, commands.next()?, Some(Command::Drain));
-        for _ in 0..5 {
-            same(&rt, commands.next()?, Some(Command::Unknown));
-        }
-        for _ in 0..2 {
-            same(&rt, commands.next()?, Some(Command::State));
-        }
-        same(&rt, commands.next()?, None);
-        same(&rt, commands.next()?, None);
+        compare_commands(&rt, text.as_slice(), most)?;
     }
     Ok(())
 }
@@ -94,7 +106,7 @@ fn obey_each(
     Ok(())
 }
 
-/// Closes a proxy that executed them, and returns what is left.
+/// Closes a proxy of a configuration that executed them, and returns what is left.
 fn end_of(
     rt: &impl Wait,
     alloc: Global,
@@ -102,16 +114,22 @@ fn end_of(
     taken: &mut Vec<u8>,
 ) -> Result<EndLine, Fail> {
     let (proxy, inlets) = open(alloc, config)?;
-    obey_each(rt, config, &proxy, taken)?;
-    Ok(close(alloc, proxy, inlets)?)
+    let obeyed = obey_each(rt, config, &proxy, taken);
+    let end = close(alloc, proxy, inlets);
+    obeyed?;
+    Ok(end?)
+}
+
+/// Does the same for the proxy of two home servers.
+fn end_of_two_homes(rt: &impl Wait, alloc: Global, taken: &mut Vec<u8>) -> Result<EndLine, Fail> {
+    let config = read_config(alloc, TWO_HOMES)?;
+    end_of(rt, alloc, &config, taken)
 }
 
 #[test]
 fn each_command_is_obeyed(rt: HostRuntime) -> Result<(), Fail> {
-    let alloc = rt.alloc();
-    let config = read_config(alloc, TWO_HOMES)?;
-    let mut taken = Vec::new(alloc);
-    let end = end_of(&rt, alloc, &config, &mut taken)?;
+    let mut taken = Vec::new(rt.alloc());
+    let end = end_of_two_homes(&rt, rt.alloc(), &mut taken)?;
     holds(&rt, taken.as_slice() == PRINTED.as_bytes());
     holds(&rt, end.is_clean());
     Ok(())
@@ -132,17 +150,22 @@ fn is_cut(
     obeyed.is_err() && output.taken.len() == room
 }
 
+/// Checks that each command fails where its writes do.
+fn cut_each<R: Wait + Abort>(rt: &R, config: &Config, proxy: &Proxy, taken: &mut Vec<u8>) {
+    for command in [Command::State, Command::Drain, Command::Unknown] {
+        for room in [0, 7] {
+            let is_right = is_cut(rt, config, proxy, command, room, taken);
+            same(rt, (command, room, is_right), (command, room, true));
+        }
+    }
+}
+
 #[test]
 fn a_failed_write_ends_a_command(rt: HostRuntime) -> Result<(), Fail> {
     let alloc = rt.alloc();
     let config = read_config(alloc, TWO_HOMES)?;
     let (proxy, _inlets) = open(alloc, &config)?;
     let mut taken = Vec::new(alloc);
-    for command in [Command::State, Command::Drain, Command::Unknown] {
-        for room in [0, 7] {
-            let is_right = is_cut(&rt, &config, &proxy, command, room, &mut taken);
-            same(&rt, (command, room, is_right), (command, room, true));
-        }
-    }
+    cut_each(&rt, &config, &proxy, &mut taken);
     Ok(())
 }

@@ -1,10 +1,12 @@
 //! Tests of what no clause says of a replay: the octets that it writes, whatever reads and writes do.
 
-use crate::comparing::{holds, same};
-use crate::streams::{Narrow, Padded, Slow, Starved};
+use crate::comparing::same;
+use crate::streams::{Narrow, Source};
 use rad_console::EndLine;
 use rad_replay::{ReplayFault, replay};
 use std::alloc::{AllocError, Global};
+use std::io::ErrorKind;
+use std::process::Abort;
 use std::result::Result;
 use std::sync::Wait;
 use std::test::Fail;
@@ -21,8 +23,18 @@ const EVENTS: &str =
 const ANSWERS: &str =
     "nas: new 0 0\nstep: sent 4 0 59 0111626f62406578616d706c652e6f72672806000000012c045331210c00000000000000000000\nend: queued 0 outstanding 1 untaken 0\n";
 
+/// How a replay ends: how many requests were never sent, how many were outstanding, and how many responses were not
+/// taken.
+type End = Result<(usize, usize, Option<usize>), ReplayFault>;
+
+/// How that request ends.
+const OUTSTANDING: End = Ok((0, 1, Some(0)));
+
 /// The number of steps whose results fill more than one buffer.
 const MANY: usize = 2000;
+
+/// How many octets these results have.
+const WHOLE: usize = 11 * MANY + 38;
 
 fn input(alloc: Global, events: &str) -> Result<String, AllocError> {
     let mut text = String::from_str(alloc, HEAD)?;
@@ -38,130 +50,104 @@ fn many_steps(alloc: Global) -> Result<String, AllocError> {
     Ok(text)
 }
 
+/// Replays a source into a list of octets that has this much room.
 fn run(
     rt: &impl Wait,
     alloc: Global,
-    reader: Slow<'_>,
+    source: Source<'_>,
     room: usize,
     taken: &mut Vec<u8>,
 ) -> Result<EndLine, ReplayFault> {
     taken.clear();
-    replay(rt, alloc, reader, Narrow { taken, room })
+    replay(rt, alloc, source, Narrow { taken, room })
+}
+
+/// Replays a source. Returns how that ends, and whether it prints this.
+fn outcome(rt: &impl Wait, alloc: Global, source: Source<'_>, printed: &str) -> (End, bool) {
+    let mut taken = Vec::new(alloc);
+    let end = match run(rt, alloc, source, 1000, &mut taken) {
+        Ok(end) => Ok((end.queued, end.outstanding, end.untaken)),
+        Err(fault) => Err(fault),
+    };
+    (end, taken.as_slice() == printed.as_bytes())
+}
+
+/// Checks how the replay of a source ends, and what it prints.
+fn compare<R: Wait + Abort>(rt: &R, alloc: Global, source: Source<'_>, end: End, printed: &str) {
+    let outcome = outcome(rt, alloc, source, printed);
+    same(rt, (source.most, outcome), (source.most, (end, true)));
 }
 
 #[test]
 fn forwards_one_request(rt: HostRuntime) -> Result<(), Fail> {
-    let alloc = rt.alloc();
-    let text = input(alloc, EVENTS)?;
-    let mut taken = Vec::new(alloc);
+    let text = input(rt.alloc(), EVENTS)?;
     for most in [1, 7, 64, 4096] {
-        let reader = Slow {
-            rest: text.as_bytes(),
-            most,
-            fails: false,
-        };
-        let end = run(&rt, alloc, reader, 1000, &mut taken)?;
-        let is_right = taken.as_slice() == ANSWERS.as_bytes();
-        same(&rt, (most, is_right), (most, true));
-        let left = (end.queued, end.outstanding, end.untaken);
-        same(&rt, left, (0, 1, Some(0)));
+        let source = Source::new(text.as_bytes(), most);
+        compare(&rt, rt.alloc(), source, OUTSTANDING, ANSWERS);
     }
     Ok(())
 }
 
+/// Returns whether a replay that has this much room fails, after it printed a start of `whole`.
+fn is_cut(rt: &impl Wait, alloc: Global, source: Source<'_>, room: usize, whole: &[u8]) -> bool {
+    let mut taken = Vec::new(alloc);
+    let ran = run(rt, alloc, source, room, &mut taken);
+    matches!(ran, Err(ReplayFault::Output)) && whole.starts_with(taken.as_slice())
+}
+
 #[test]
 fn a_failed_write_ends_the_replay(rt: HostRuntime) -> Result<(), Fail> {
-    let alloc = rt.alloc();
-    let text = many_steps(alloc)?;
-    let mut whole = Vec::new(alloc);
-    let mut taken = Vec::new(alloc);
-    let reader = Slow {
-        rest: text.as_bytes(),
-        most: 4096,
-        fails: false,
-    };
-    run(&rt, alloc, reader, usize::MAX, &mut whole)?;
-    assert_eq!(rt; whole.len(), 11 * MANY + 38);
-    for room in [0, 1, 8192, 10_000, whole.len() - 1] {
-        let reader = Slow {
-            rest: text.as_bytes(),
-            most: 4096,
-            fails: false,
-        };
-        let ran = run(&rt, alloc, reader, room, &mut taken);
-        let is_output = matches!(ran, Err(ReplayFault::Output));
-        let is_start = whole.starts_with(taken.as_slice());
-        same(&rt, (room, is_output, is_start), (room, true, true));
+    let text = many_steps(rt.alloc())?;
+    let source = Source::new(text.as_bytes(), 4096);
+    let mut whole = Vec::new(rt.alloc());
+    run(&rt, rt.alloc(), source, usize::MAX, &mut whole)?;
+    same(&rt, whole.len(), WHOLE);
+    for room in [0, 1, 8192, 10_000, WHOLE - 1] {
+        let is_cut = is_cut(&rt, rt.alloc(), source, room, whole.as_slice());
+        same(&rt, (room, is_cut), (room, true));
     }
     Ok(())
 }
 
 #[test]
 fn a_failed_read_ends_the_replay(rt: HostRuntime) -> Result<(), Fail> {
-    let alloc = rt.alloc();
-    let text = input(alloc, EVENTS)?;
-    let mut taken = Vec::new(alloc);
-    let reader = Slow {
-        rest: text.as_bytes(),
-        most: 64,
-        fails: true,
+    let text = input(rt.alloc(), EVENTS)?;
+    let source = Source {
+        fault: Some(ErrorKind::Other),
+        ..Source::new(text.as_bytes(), 64)
     };
-    let ran = run(&rt, alloc, reader, 1000, &mut taken);
-    holds(&rt, matches!(ran, Err(ReplayFault::Input)));
-    holds(&rt, taken.is_empty());
+    compare(&rt, rt.alloc(), source, Err(ReplayFault::Input), "");
     Ok(())
 }
 
 #[test]
 fn refused_memory_ends_the_replay(rt: HostRuntime) -> Result<(), Fail> {
-    let alloc = rt.alloc();
-    let mut taken = Vec::new(alloc);
-    let narrow = Narrow {
-        taken: &mut taken,
-        room: 1000,
+    let source = Source {
+        fault: Some(ErrorKind::OutOfMemory),
+        ..Source::new(b"", 64)
     };
-    holds(
-        &rt,
-        matches!(
-            replay(&rt, alloc, Starved, narrow),
-            Err(ReplayFault::Memory)
-        ),
-    );
-    holds(&rt, taken.is_empty());
+    compare(&rt, rt.alloc(), source, Err(ReplayFault::Memory), "");
     Ok(())
 }
 
 #[test]
 fn the_longest_input_is_read(rt: HostRuntime) -> Result<(), Fail> {
-    let alloc = rt.alloc();
-    let mut taken = Vec::new(alloc);
-    let text = input(alloc, EVENTS)?;
-    for (count, is_read) in [(16_777_216, true), (16_777_217, false)] {
-        taken.clear();
-        let padded = Padded {
-            text: text.as_bytes(),
+    let text = input(rt.alloc(), EVENTS)?;
+    for (count, end, printed) in [
+        (16_777_216, OUTSTANDING, ANSWERS),
+        (16_777_217, Err(ReplayFault::Input), ""),
+    ] {
+        let source = Source {
             count,
+            ..Source::new(text.as_bytes(), count)
         };
-        let narrow = Narrow {
-            taken: &mut taken,
-            room: 1000,
-        };
-        let ran = replay(&rt, alloc, padded, narrow);
-        same(&rt, (count, ran.is_ok()), (count, is_read));
-        if is_read {
-            holds(&rt, taken.as_slice() == ANSWERS.as_bytes());
-        } else {
-            holds(&rt, matches!(ran, Err(ReplayFault::Input)));
-            holds(&rt, taken.is_empty());
-        }
+        compare(&rt, rt.alloc(), source, end, printed);
     }
     Ok(())
 }
 
-#[test]
-fn lines_of_a_configuration_end_in_cr_lf_too(rt: HostRuntime) -> Result<(), Fail> {
-    let alloc = rt.alloc();
-    let mut taken = Vec::new(alloc);
+/// Returns the one request behind a configuration whose lines end in CR LF.
+fn with_carriage_returns(alloc: Global) -> Result<String, AllocError> {
     let mut text = String::new(alloc);
     for line in HEAD.trim_end_matches("%%\n").lines() {
         text.push_str(line)?;
@@ -169,12 +155,13 @@ fn lines_of_a_configuration_end_in_cr_lf_too(rt: HostRuntime) -> Result<(), Fail
     }
     text.push_str("%%\n")?;
     text.push_str(EVENTS)?;
-    let reader = Slow {
-        rest: text.as_bytes(),
-        most: 4096,
-        fails: false,
-    };
-    run(&rt, alloc, reader, 1000, &mut taken)?;
-    holds(&rt, taken.as_slice() == ANSWERS.as_bytes());
+    Ok(text)
+}
+
+#[test]
+fn lines_of_a_configuration_end_in_cr_lf_too(rt: HostRuntime) -> Result<(), Fail> {
+    let text = with_carriage_returns(rt.alloc())?;
+    let source = Source::new(text.as_bytes(), 4096);
+    compare(&rt, rt.alloc(), source, OUTSTANDING, ANSWERS);
     Ok(())
 }

@@ -2,12 +2,14 @@
 
 use std::io::{Error, ErrorKind, Read, Result, Write};
 
-/// A reader that returns a text at most `most` octets at a time, and then fails if `fails` is set.
-#[derive(Drop)]
-pub struct Slow<'a> {
-    pub rest: &'a [u8],
+/// A reader that returns `count` octets, at most `most` at a time: a text, and then `#`, a comment that need not be
+/// stored. Then it fails if there is a fault.
+#[derive(Clone, Copy)]
+pub struct Source<'a> {
+    pub text: &'a [u8],
+    pub count: usize,
     pub most: usize,
-    pub fails: bool,
+    pub fault: Option<ErrorKind>,
 }
 
 /// A writer that takes octets as long as there is room, and then fails.
@@ -17,45 +19,32 @@ pub struct Narrow<'a> {
     pub room: usize,
 }
 
-/// A reader that returns a text and then `#`, `count` octets in all: a comment that need not be stored.
-#[derive(Drop)]
-pub struct Padded<'a> {
-    pub text: &'a [u8],
-    pub count: usize,
-}
-
-/// A reader that fails at once, since memory is refused.
-#[derive(Drop)]
-pub struct Starved;
-
-impl Read for Slow<'_> {
-    fn read(&mut self, buf: &mut [u8]) -> Result<usize> {
-        if self.rest.is_empty() && self.fails {
-            return Err(Error::from(ErrorKind::Other));
+impl<'a> Source<'a> {
+    /// Returns a reader that returns a text and nothing else.
+    pub fn new(text: &'a [u8], most: usize) -> Source<'a> {
+        Source {
+            text,
+            count: text.len(),
+            most,
+            fault: None,
         }
-        let count = self.most.min(self.rest.len()).min(buf.len());
-        let (given, rest) = self.rest.split_at(count);
-        buf[..count].copy_from_slice(given);
-        self.rest = rest;
-        Ok(count)
     }
 }
 
-impl Read for Padded<'_> {
+impl Read for Source<'_> {
     fn read(&mut self, buf: &mut [u8]) -> Result<usize> {
-        let count = self.count.min(buf.len());
+        if self.count == 0 {
+            if let Some(fault) = self.fault {
+                return Err(Error::from(fault));
+            }
+        }
+        let count = self.most.min(self.count).min(buf.len());
         let (given, rest) = self.text.split_at(self.text.len().min(count));
         buf[..count].fill(b'#');
         buf[..given.len()].copy_from_slice(given);
         self.text = rest;
         self.count -= count;
         Ok(count)
-    }
-}
-
-impl Read for Starved {
-    fn read(&mut self, _buf: &mut [u8]) -> Result<usize> {
-        Err(Error::from(ErrorKind::OutOfMemory))
     }
 }
 

@@ -78,10 +78,22 @@ fn numbered(
     end: u64,
 ) -> Result<BlockQueue<u64>, AllocError> {
     let mut queue = BlockQueue::new(alloc);
-    push_each(rt, &mut queue, 0, popped)?;
-    push_each(rt, &mut queue, first, end)?;
-    pop_each(rt, &mut queue, 0, popped);
+    push_behind(rt, &mut queue, popped, first, end)?;
     Ok(queue)
+}
+
+/// Pushes the numbers up to `popped` and those from `first` up to `end` into an empty queue, and pops the former.
+fn push_behind(
+    rt: &impl Abort,
+    queue: &mut BlockQueue<u64>,
+    popped: u64,
+    first: u64,
+    end: u64,
+) -> Result<(), AllocError> {
+    push_each(rt, queue, 0, popped)?;
+    push_each(rt, queue, first, end)?;
+    pop_each(rt, queue, 0, popped);
+    Ok(())
 }
 
 /// Appends a queue to another one. Both must be short.
@@ -111,21 +123,19 @@ struct Shortened {
     left: u64,
 }
 
-/// Makes a queue and appends another one. Together they have the numbers from 0 on.
-fn joined(
+/// Puts items into an empty queue and appends another one. Together they have the numbers from 0 on.
+fn join(
     rt: &impl Abort,
     alloc: Global,
+    queue: &mut BlockQueue<u64>,
     one: Shortened,
     other: Shortened,
-) -> Result<BlockQueue<u64>, AllocError> {
+) -> Result<(), AllocError> {
     let end = one.left.wrapping_add(other.left);
-    let mut queue = numbered(rt, alloc, one.popped, 0, one.left)?;
-    append(
-        rt,
-        &mut queue,
-        numbered(rt, alloc, other.popped, one.left, end)?,
-    );
-    Ok(queue)
+    push_behind(rt, queue, one.popped, 0, one.left)?;
+    let other = numbered(rt, alloc, other.popped, one.left, end)?;
+    append(rt, queue, other);
+    Ok(())
 }
 
 /// Joins two queues from which some items were popped, pushes up to `end` items, and checks the result.
@@ -136,8 +146,20 @@ fn joined_are_right(
     other: Shortened,
     end: u64,
 ) -> Result<(), AllocError> {
-    let mut queue = joined(rt, alloc, one, other)?;
-    has_each_up_to(rt, &mut queue, one.left.wrapping_add(other.left), end)
+    let mut queue = BlockQueue::new(alloc);
+    is_joined(rt, alloc, &mut queue, (one, other), end)
+}
+
+/// Joins two queues in an empty one, pushes up to `end` items, and checks the result.
+fn is_joined(
+    rt: &impl Abort,
+    alloc: Global,
+    queue: &mut BlockQueue<u64>,
+    (one, other): (Shortened, Shortened),
+    end: u64,
+) -> Result<(), AllocError> {
+    join(rt, alloc, queue, one, other)?;
+    has_each_up_to(rt, queue, one.left.wrapping_add(other.left), end)
 }
 
 /// Pushes the numbers from `count` up to `end` to a queue of those before, and checks that it then has each.
@@ -245,8 +267,19 @@ fn room_stays(
     other: Shortened,
     popped: u64,
 ) -> Result<(), AllocError> {
-    let mut queue = joined(rt, alloc, whole(32), other)?;
-    keeps_its_room(rt, &mut queue, popped)
+    let mut queue = BlockQueue::new(alloc);
+    joined_keeps_its_room(rt, alloc, &mut queue, other, popped)
+}
+
+fn joined_keeps_its_room(
+    rt: &impl Abort,
+    alloc: Global,
+    queue: &mut BlockQueue<u64>,
+    other: Shortened,
+    popped: u64,
+) -> Result<(), AllocError> {
+    join(rt, alloc, queue, whole(32), other)?;
+    keeps_its_room(rt, queue, popped)
 }
 
 /// A block between the first one and the last one may have one item only.
@@ -284,16 +317,15 @@ impl Drop for Counted<'_> {
     }
 }
 
-/// Makes a queue of 65 items that count their drops.
-fn counted_items<'a>(
-    alloc: Global,
+/// Pushes 65 items that count their drops.
+fn push_65<'a>(
+    queue: &mut BlockQueue<Counted<'a>>,
     drops: &'a AtomicU64,
-) -> Result<BlockQueue<Counted<'a>>, AllocError> {
-    let mut queue = BlockQueue::new(alloc);
+) -> Result<(), AllocError> {
     for _ in 0..65 {
-        push_counted(&mut queue, drops)?;
+        push_counted(queue, drops)?;
     }
-    Ok(queue)
+    Ok(())
 }
 
 /// Pushes an item that counts its drop.
@@ -306,16 +338,17 @@ fn push_counted<'a>(
     Ok(())
 }
 
-/// Moves 40 items into another queue.
-fn take<'a>(
-    alloc: Global,
+/// Pushes 65 items that count their drops, and moves 40 of them into another queue.
+fn push_and_move<'a>(
     queue: &mut BlockQueue<Counted<'a>>,
-) -> Result<BlockQueue<Counted<'a>>, AllocError> {
-    let mut kept = BlockQueue::new(alloc);
+    kept: &mut BlockQueue<Counted<'a>>,
+    drops: &'a AtomicU64,
+) -> Result<(), AllocError> {
+    push_65(queue, drops)?;
     for _ in 0..40 {
-        move_one(queue, &mut kept)?;
+        move_one(queue, kept)?;
     }
-    Ok(kept)
+    Ok(())
 }
 
 /// Moves the first item, if there is one, into another queue.
@@ -333,14 +366,18 @@ fn move_one<'a>(
 #[test]
 fn each_item_is_dropped_once(rt: HostRuntime) -> Result<(), Fail> {
     let drops = AtomicU64::new(0);
-    let mut queue = counted_items(rt.alloc(), &drops)?;
-    let kept = take(rt.alloc(), &mut queue)?;
-    holds(&rt, (queue.len(), kept.len()) == (25, 40));
-    holds(&rt, drops.load(Ordering::SeqCst) == 0);
+    let mut queue = BlockQueue::new(rt.alloc());
+    let mut kept = BlockQueue::new(rt.alloc());
+    let moved = push_and_move(&mut queue, &mut kept, &drops);
+    let lengths = (queue.len(), kept.len());
+    let none = drops.load(Ordering::SeqCst);
     drop(queue);
-    holds(&rt, drops.load(Ordering::SeqCst) == 25);
+    let some = drops.load(Ordering::SeqCst);
     drop(kept);
-    holds(&rt, drops.load(Ordering::SeqCst) == 65);
+    let all = drops.load(Ordering::SeqCst);
+    moved?;
+    holds(&rt, lengths == (25, 40));
+    holds(&rt, [none, some, all] == [0, 25, 65]);
     Ok(())
 }
 

@@ -1,12 +1,6 @@
 //! Comparisons that end a test if they fail. Each is proved once here, and not in each test.
 
-use std::fmt::Debug;
 use std::process::Abort;
-
-/// Checks that a value is the wanted one.
-pub fn same<T: PartialEq + Debug + Copy>(rt: &impl Abort, given: T, wanted: T) {
-    assert_eq!(rt; given, wanted);
-}
 
 /// Checks that a condition is true.
 pub fn holds(rt: &impl Abort, is_right: bool) {
@@ -16,4 +10,9 @@ pub fn holds(rt: &impl Abort, is_right: bool) {
 /// Checks that a condition is true, and says what it is about if it is not.
 pub fn holds_of(rt: &impl Abort, what: &str, is_right: bool) {
     assert!(rt; is_right, "{what}");
+}
+
+/// Checks that the row of a table at this place is right.
+pub fn holds_at(rt: &impl Abort, place: usize, is_right: bool) {
+    assert!(rt; is_right, "row {place}");
 }

@@ -13,3 +13,5 @@ mod configurations;
 mod packets;
 #[cfg(test)]
 mod signed;
+#[cfg(test)]
+mod texts;

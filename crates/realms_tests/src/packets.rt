@@ -1,6 +1,6 @@
 //! Reading and writing packets, and the printed faults.
 
-use crate::comparing::{holds, same};
+use crate::comparing::{holds, holds_at};
 use rad_packet::{
     AttributePlace, Datagram, PacketRef, ReadFault, WriteFault, authenticator_of, read,
 };
@@ -26,7 +26,7 @@ const CHANGED: [u8; 30] = [
 /// Checks that a datagram has these octets.
 fn has(rt: &impl Abort, datagram: &Datagram, octets: &[u8]) {
     holds(rt, datagram.bytes() == octets);
-    same(rt, datagram.len(), octets.len());
+    holds(rt, datagram.len() == octets.len());
 }
 
 /// Writes the request.
@@ -51,16 +51,16 @@ fn attributes_are_told(rt: &impl Abort, packet: &PacketRef<'_>) {
         place: 20,
         length: 5,
     };
-    same(rt, packet.first_of(1), Some(place));
-    same(rt, packet.last_of(1), Some(place));
-    same(rt, packet.first_of(2), None);
-    same(rt, packet.count_of(1), 1);
+    holds(rt, packet.first_of(1) == Some(place));
+    holds(rt, packet.last_of(1) == Some(place));
+    holds(rt, packet.first_of(2).is_none());
+    holds(rt, packet.count_of(1) == 1);
 }
 
 #[test]
 fn a_request_is_read(rt: HostRuntime) -> Result<(), Fail> {
     let packet = read(&REQUEST)?;
-    same(&rt, (packet.code(), packet.identifier()), (4, 7));
+    holds(&rt, packet.code() == 4 && packet.identifier() == 7);
     holds(&rt, packet.authenticator() == AUTHENTICATOR);
     holds(&rt, authenticator_of(&REQUEST) == AUTHENTICATOR);
     attributes_are_told(&rt, &packet);
@@ -88,8 +88,7 @@ fn a_copy_changes_alone(rt: HostRuntime) {
 
 /// Appends a Class with this Value, and checks the result.
 fn push_gives(rt: &impl Abort, datagram: &mut Datagram, value: &[u8], fault: Option<WriteFault>) {
-    let given = (value.len(), datagram.push(25, value).err());
-    same(rt, given, (value.len(), fault));
+    holds_at(rt, value.len(), datagram.push(25, value).err() == fault);
 }
 
 #[test]
@@ -101,18 +100,18 @@ fn refuses_what_does_not_fit(rt: HostRuntime) {
         push_gives(&rt, &mut datagram, &value[..253], None);
     }
     push_gives(&rt, &mut datagram, &value[..249], None);
-    same(&rt, datagram.len(), 4096);
+    holds(&rt, datagram.len() == 4096);
     for length in 0..254usize {
         let fault = Some(WriteFault::PacketTooLong);
         push_gives(&rt, &mut datagram, &value[..length], fault);
     }
     push_gives(&rt, &mut datagram, &value, Some(WriteFault::ValueTooLong));
-    same(&rt, datagram.len(), 4096);
+    holds(&rt, datagram.len() == 4096);
 }
 
 /// Checks that reading these octets has this fault, or none.
 fn reads(rt: &impl Abort, octets: &[u8], fault: Option<ReadFault>) {
-    same(rt, read(octets).err(), fault);
+    holds_at(rt, octets.len(), read(octets).err() == fault);
 }
 
 /// Fills a packet of this Length with attributes without a Value, and reads 4097 octets of it.

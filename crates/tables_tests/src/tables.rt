@@ -87,16 +87,28 @@ fn put_next(slots: &mut Slots<Note>, entry: Note) -> Option<Slot> {
     Some(slot)
 }
 
+/// Numbers, each with whether it is a moment.
+const MOMENTS: [(u64, bool); 4] = [
+    (0, true),
+    (4_611_686_018_427_387_903, true),
+    (1 << 62, false),
+    (u64::MAX, false),
+];
+
+/// Whether a number is a moment, or is none.
+fn is_moment(number: u64, is_wanted: bool) -> bool {
+    match Moment::new(number) {
+        Some(moment) => is_wanted && moment.get() == number,
+        None => !is_wanted,
+    }
+}
+
 #[test]
-fn moments_end_below_two_to_62(rt: HostRuntime) -> Result<(), Fail> {
-    holds(&rt, Moment::new(1 << 62).is_none());
-    holds(&rt, Moment::new(u64::MAX).is_none());
-    let last = Moment::new((1 << 62) - 1).ok_or("the last moment")?;
-    holds(&rt, last.get() == 4_611_686_018_427_387_903);
-    let first = Moment::new(0).ok_or("the first moment")?;
-    holds(&rt, first.get() == 0);
-    holds(&rt, first < last);
-    Ok(())
+fn moments_end_below_two_to_62(rt: HostRuntime) {
+    for (number, is_wanted) in MOMENTS {
+        holds(&rt, is_moment(number, is_wanted));
+    }
+    holds(&rt, Moment::new(0) < Moment::new((1 << 62) - 1));
 }
 
 #[test]
@@ -176,9 +188,15 @@ fn are_due(rt: &impl Abort, slots: &Slots<Note>, unspent: Option<Slot>, spent: O
 
 /// Checks when the entry that is due first is due.
 fn is_due_at(rt: &impl Abort, slots: &Slots<Note>, spent: bool, due: u64) {
-    let first = slots.first_due(spent);
-    holds(rt, first.is_some_and(|first| first.due == due));
-    holds(rt, first.map(|first| first.slot) == slots.least_due(spent));
+    holds(rt, has_first_due(slots, spent, due));
+}
+
+/// Whether the entry that is due first is due then.
+fn has_first_due(slots: &Slots<Note>, spent: bool, due: u64) -> bool {
+    match slots.first_due(spent) {
+        Some(first) => first.due == due && slots.least_due(spent) == Some(first.slot),
+        None => false,
+    }
 }
 
 /// Marks the entry under a pair as spent.
@@ -220,16 +238,19 @@ fn has_nothing(rt: &impl Abort, slots: &mut Slots<Note>, slot: Slot) {
     takes(rt, slots, slot, None);
 }
 
+/// Whether the entry under a pair has this number.
+fn has_number(slots: &Slots<Note>, slot: Slot, number: u64) -> bool {
+    match slots.get(slot) {
+        Some(entry) => entry.number == number,
+        None => false,
+    }
+}
+
 fn answers_none(rt: &impl Abort, slots: &mut Slots<Note>)
     requires { slots.old.ports ≡ 1 }
 {
     put_at(slots, pair(0, 255), unspent(1, 7));
-    holds(
-        rt,
-        slots
-            .get(pair(0, 255))
-            .is_some_and(|entry| entry.number == 7),
-    );
+    holds(rt, has_number(slots, pair(0, 255), 7));
     has_nothing(rt, slots, pair(1, 0));
     has_nothing(rt, slots, pair(1, 255));
     has_nothing(rt, slots, pair(u16::MAX, 255));
@@ -259,19 +280,23 @@ fn finds(rt: &impl Abort, duplicates: &Duplicates, key: &Key, number: Option<u64
     holds(rt, duplicates.find(key) == number);
 }
 
+fn keep_the_last_number(rt: &impl Abort, duplicates: &mut Duplicates) -> Result<(), Fail> {
+    finds(rt, duplicates, &key(7), None);
+    duplicates.insert(key(7), 0)?;
+    duplicates.insert(key(8), 1)?;
+    finds(rt, duplicates, &key(7), Some(0));
+    duplicates.insert(key(7), u64::MAX)?;
+    finds(rt, duplicates, &key(7), Some(u64::MAX));
+    duplicates.remove(&key(7));
+    finds(rt, duplicates, &key(7), None);
+    finds(rt, duplicates, &key(8), Some(1));
+    Ok(())
+}
+
 #[test]
 fn duplicates_keep_the_last_number(rt: HostRuntime) -> Result<(), Fail> {
     let mut duplicates = Duplicates::new(rt.alloc());
-    finds(&rt, &duplicates, &key(7), None);
-    duplicates.insert(key(7), 0)?;
-    duplicates.insert(key(8), 1)?;
-    finds(&rt, &duplicates, &key(7), Some(0));
-    duplicates.insert(key(7), u64::MAX)?;
-    finds(&rt, &duplicates, &key(7), Some(u64::MAX));
-    duplicates.remove(&key(7));
-    finds(&rt, &duplicates, &key(7), None);
-    finds(&rt, &duplicates, &key(8), Some(1));
-    Ok(())
+    keep_the_last_number(&rt, &mut duplicates)
 }
 
 /// Checks which number an insertion replaces, and that it can be undone.
@@ -290,10 +315,14 @@ fn replaces(
     Ok(())
 }
 
+fn replaces_each(rt: &impl Abort, duplicates: &mut Duplicates) -> Result<(), Fail> {
+    duplicates.insert(key(8), 1)?;
+    replaces(rt, duplicates, key(7), 2, None)?;
+    replaces(rt, duplicates, key(8), 3, Some(1))
+}
+
 #[test]
 fn a_replaced_number_is_restored(rt: HostRuntime) -> Result<(), Fail> {
     let mut duplicates = Duplicates::new(rt.alloc());
-    duplicates.insert(key(8), 1)?;
-    replaces(&rt, &mut duplicates, key(7), 2, None)?;
-    replaces(&rt, &mut duplicates, key(8), 3, Some(1))
+    replaces_each(&rt, &mut duplicates)
 }

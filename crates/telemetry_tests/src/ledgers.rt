@@ -2,8 +2,8 @@
 
 use crate::comparing::{holds, same};
 use crate::shared::{MemoryLog, Setup, TWO_HOMES};
-use rad_metrics::LedgerReading;
-use rad_telemetry::{LedgerFault, LedgerState, LevelFilter};
+use rad_log::LevelFilter;
+use rad_telemetry::{LedgerFault, LedgerState};
 use std::alloc::Global;
 use std::result::Result;
 use std::test::Fail;
@@ -120,28 +120,35 @@ fn what_happens_to_a_ledger_is_logged_once(rt: HostRuntime) -> Result<(), Fail> 
     Ok(())
 }
 
+/// When the oldest entry that waits was handed over, the moment of a reading, and the age that it has there.
+#[derive(Clone, Copy)]
+struct Age(Option<u64>, u64, u64);
+
+const AGES: [Age; 3] = [
+    Age(Some(8_433), 9_000, 567),
+    Age(Some(8_433), 8_000, 0),
+    Age(None, 9_000, 0),
+];
+
 #[test]
 fn the_entries_are_counted(rt: HostRuntime) {
     let ledger = five_entries();
-    let LedgerReading {
-        written,
-        waiting,
-        dropped,
-        age,
-    } = ledger.reading(9_000);
-    holds(
-        &rt,
-        written == 2 && waiting == 3 && dropped == 1 && age == 0,
-    );
-    ledger.set_oldest(Some(8_433));
-    same(&rt, ledger.reading(9_000).age, 567);
-    same(&rt, ledger.reading(8_000).age, 0);
-    ledger.set_oldest(None);
     same(&rt, ledger.reading(9_000).age, 0);
+    for age in &AGES {
+        let Age(oldest, now, wanted) = *age;
+        ledger.set_oldest(oldest);
+        let reading = ledger.reading(now);
+        holds(
+            &rt,
+            reading.written == 2 && reading.waiting == 3 && reading.dropped == 1,
+        );
+        same(&rt, reading.age, wanted);
+    }
 }
 
 #[test]
 fn a_ledger_begins_and_ends(rt: HostRuntime) -> Result<(), Fail> {
+    let start = Instant::now(&rt)?;
     let ledger = LedgerState::new();
     holds(&rt, !ledger.is_begun() && !ledger.begin_round());
     ledger.begin();
@@ -149,7 +156,7 @@ fn a_ledger_begins_and_ends(rt: HostRuntime) -> Result<(), Fail> {
         &rt,
         ledger.is_begun() && !ledger.begin_round() && !ledger.is_clean(),
     );
-    ledger.end(&rt, true, Instant::now(&rt)?, Duration::from_millis(0));
+    ledger.end(&rt, true, start, Duration::from_millis(0));
     holds(&rt, ledger.begin_round() && ledger.is_clean());
     Ok(())
 }

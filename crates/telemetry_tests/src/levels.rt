@@ -1,7 +1,7 @@
 //! Tests of what no clause says of the level: the environment variable that names it.
 
 use crate::comparing::holds;
-use rad_telemetry::{LevelFilter, level_of, read_level};
+use rad_log::{LevelFilter, level_of, read_level};
 use std::env::{Env, FillError};
 use std::result::Result;
 
@@ -30,25 +30,39 @@ impl Env for Given<'_> {
     }
 }
 
+/// A word, and the level that it names.
+#[derive(Clone, Copy)]
+struct Word(&'static str, Option<LevelFilter>);
+
+const WORDS: [Word; 5] = [
+    Word("off", Some(LevelFilter::Off)),
+    Word("trace", Some(LevelFilter::Trace)),
+    Word("Debug", Some(LevelFilter::Debug)),
+    Word("verbose", None),
+    Word("", None),
+];
+
+/// The value of the variable, if it is there, and the level that it names.
+#[derive(Clone, Copy)]
+struct Variable(Option<&'static str>, Option<LevelFilter>);
+
+const VARIABLES: [Variable; 4] = [
+    Variable(None, Some(LevelFilter::Info)),
+    Variable(Some("warn"), Some(LevelFilter::Warn)),
+    Variable(Some("loud"), None),
+    Variable(Some("a word of more than sixteen"), None),
+];
+
 #[test]
 fn a_word_names_a_level(rt: HostRuntime) {
-    holds(&rt, level_of("off") == Some(LevelFilter::Off));
-    holds(&rt, level_of("trace") == Some(LevelFilter::Trace));
-    holds(&rt, level_of("Debug") == Some(LevelFilter::Debug));
-    holds(&rt, level_of("verbose").is_none());
-    holds(&rt, level_of("").is_none());
+    for word in &WORDS {
+        holds(&rt, level_of(word.0) == word.1);
+    }
 }
 
 #[test]
 fn the_environment_names_a_level(rt: HostRuntime) {
-    holds(&rt, read_level(&Given(None)) == Some(LevelFilter::Info));
-    holds(
-        &rt,
-        read_level(&Given(Some("warn"))) == Some(LevelFilter::Warn),
-    );
-    holds(&rt, read_level(&Given(Some("loud"))).is_none());
-    holds(
-        &rt,
-        read_level(&Given(Some("a word of more than sixteen"))).is_none(),
-    );
+    for variable in &VARIABLES {
+        holds(&rt, read_level(&Given(variable.0)) == variable.1);
+    }
 }

@@ -21,6 +21,8 @@ mod packets;
 #[cfg(test)]
 mod reporting;
 #[cfg(test)]
+mod reports;
+#[cfg(test)]
 mod shared;
 #[cfg(test)]
 mod stories;

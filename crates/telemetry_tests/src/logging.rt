@@ -1,14 +1,15 @@
-//! The lines of notes and events, with what they have of the datagram that the note is about, and a test of what is
-//! escaped in them.
+//! Reports of notes and events, and their lines, with what they have of the datagram that the note is about; and a test
+//! of what is escaped in them.
 
 use crate::comparing::holds;
 use crate::packets::SHORT;
-use crate::shared::{HOME, MemoryLog, NAS, Still};
-use rad_desk::{DeskFault, Gate, Note, Session, Spent, UpReason, Worker};
+use crate::reports::Report;
+use crate::shared::{HOME, NAS};
+use rad_desk::{DeskFault, Note, UpReason, Worker};
 use rad_lane::{HearFault, Refusal};
 use rad_packet::read;
 use rad_realms::Dropped;
-use rad_telemetry::{PacketWords, Telemetry};
+use rad_telemetry::PacketWords;
 use std::result::Result;
 use std::test::Fail;
 use test_octets::homes::NAME_ONLY_REPLY;
@@ -68,55 +69,47 @@ const ODD: [u8; 39] = [
     b'x', b' ', b'=', b'"', 127, b'.', 44, 7, b'S', b' ', b'1', 255, b'@',
 ];
 
-/// Returns a request whose session has an octet that is escaped in a log line.
-fn spent() -> Spent {
-    Spent {
-        number: 3,
-        client: NAS,
-        session: Some(Session::of("S 1".as_bytes())),
-        age: 14_000,
-    }
-}
+/// A datagram of a home server that answers nothing that is outstanding.
+const UNKNOWN: DeskFault = DeskFault::Lane(HearFault::Unknown);
 
-/// Reports each event that is not about a received datagram.
-pub fn tell_events(telemetry: &Telemetry<'_, MemoryLog, Still>) {
-    telemetry.tell_end(Worker::Lane(0));
-    telemetry.note(Worker::Lane(1), Note::WentDown);
-    telemetry.went_down(1, &spent());
-    telemetry.note(Worker::Lane(1), Note::WentUp);
-    telemetry.went_up(1, UpReason::DownWaitOver);
-    telemetry.note(Worker::Lane(1), Note::Cut(3));
-    telemetry.note(Worker::Front, Note::ReceiveFault);
-    telemetry.sends(Worker::Lane(1), HOME, &SHORT);
-    telemetry.note(Worker::Lane(1), Note::SendFault);
-    telemetry.answered(1, 5);
-    telemetry.note(Worker::Front, Note::Took(1, 5));
-}
+/// Each event that is not about a received datagram.
+pub const TELL_EVENTS: [Report; 11] = [
+    Report::Ended(Worker::Lane(0)),
+    Report::Noted(Worker::Lane(1), Note::WentDown),
+    Report::WentDown(1),
+    Report::Noted(Worker::Lane(1), Note::WentUp),
+    Report::WentUp(1, UpReason::DownWaitOver),
+    Report::Noted(Worker::Lane(1), Note::Cut(3)),
+    Report::Noted(Worker::Front, Note::ReceiveFault),
+    Report::Sends(Worker::Lane(1), HOME, &SHORT),
+    Report::Noted(Worker::Lane(1), Note::SendFault),
+    Report::Answered(1, 5),
+    Report::Noted(Worker::Front, Note::Took(1, 5)),
+];
 
-/// Reports the datagrams that the second lane received, and a full ring of the first lane.
-pub fn tell_of_lanes(telemetry: &Telemetry<'_, MemoryLog, Still>) {
-    let unknown = DeskFault::Lane(HearFault::Unknown);
-    telemetry.received(Worker::Lane(1), HOME, &NAME_ONLY_REPLY);
-    telemetry.note(Worker::Lane(1), Note::Unheard(unknown));
-    telemetry.received(Worker::Lane(1), NAS, &NAME_ONLY_REPLY);
-    telemetry.note(Worker::Lane(1), Note::NotHome);
-    telemetry.note(Worker::Lane(0), Note::Unheard(DeskFault::RingFull));
-}
+/// The datagrams that the second lane received, and a full ring of the first lane.
+pub const TELL_OF_LANES: [Report; 5] = [
+    Report::Received(Worker::Lane(1), HOME, &NAME_ONLY_REPLY),
+    Report::Noted(Worker::Lane(1), Note::Unheard(UNKNOWN)),
+    Report::Received(Worker::Lane(1), NAS, &NAME_ONLY_REPLY),
+    Report::Noted(Worker::Lane(1), Note::NotHome),
+    Report::Noted(Worker::Lane(0), Note::Unheard(DeskFault::RingFull)),
+];
 
-/// Reports the datagrams that the front received, and one that it sends.
-pub fn tell_of_the_front(telemetry: &Telemetry<'_, MemoryLog, Still>) {
-    telemetry.received(Worker::Front, NAS, &SEVENTH);
-    telemetry.accepted(0, 3);
-    telemetry.note(Worker::Front, Note::Refused(Refusal::BookFull));
-    telemetry.received(Worker::Front, NAS, &SHORT);
-    telemetry.sends(Worker::Front, NAS, &NAME_ONLY_REQUEST);
-}
+/// The datagrams that the front received, and one that it sends.
+pub const TELL_OF_THE_FRONT: [Report; 5] = [
+    Report::Received(Worker::Front, NAS, &SEVENTH),
+    Report::Accepted(0, 3),
+    Report::Noted(Worker::Front, Note::Refused(Refusal::BookFull)),
+    Report::Received(Worker::Front, NAS, &SHORT),
+    Report::Sends(Worker::Front, NAS, &NAME_ONLY_REQUEST),
+];
 
-/// Reports a datagram that the front dropped.
-pub fn tell_of_a_drop(telemetry: &Telemetry<'_, MemoryLog, Still>) {
-    telemetry.received(Worker::Front, NAS, &SEVENTH);
-    telemetry.note(Worker::Front, Note::Dropped(Dropped::NoRealm));
-}
+/// A datagram that the front dropped.
+pub const TELL_OF_A_DROP: [Report; 2] = [
+    Report::Received(Worker::Front, NAS, &SEVENTH),
+    Report::Noted(Worker::Front, Note::Dropped(Dropped::NoRealm)),
+];
 
 #[test]
 fn odd_octets_are_escaped(rt: HostRuntime) -> Result<(), Fail> {

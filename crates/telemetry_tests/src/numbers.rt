@@ -5,14 +5,16 @@ use crate::comparing::{holds, same};
 use crate::number_texts::{
     CLIENTS, HOMES, LIMITS, PROGRAM, REPLIES, RESPONSES, SOCKETS, TABLE, UPS,
 };
-use crate::shared::{HOME, MemoryLog, NAS, Setup, Still, TWO_HOMES};
-use rad_desk::{Gate, Note, Repeat, Standing, UpReason, Worker};
+use crate::reports::{Report, Stand, tell};
+use crate::shared::{HOME, NAS, Setup, Still, TWO_HOMES};
+use rad_desk::{Gate, Note, Repeat, UpReason, Worker};
 use rad_lane::{Counts, Refusal};
-use rad_metrics::{CLIENT_EVENTS, write_numbers};
-use rad_realms::{Dropped, Endpoint};
-use rad_tables::{Moment, Slot};
-use rad_telemetry::{LevelFilter, Telemetry};
-use std::alloc::Global;
+use rad_log::LevelFilter;
+use rad_metrics::{CLIENT_EVENTS, Draft, Numbers, UdpSockets};
+use rad_realms::{Config, Dropped, Endpoint};
+use rad_tables::Slot;
+use std::alloc::{AllocError, Global};
+use std::io;
 use std::result::Result;
 use std::sync::Wait;
 use std::test::Fail;
@@ -23,95 +25,104 @@ const STRANGER: Endpoint = Endpoint {
     port: 40_000,
 };
 
-/// The counts of a lane that has accepted nothing. It is drained, and its home server is marked down.
-const EMPTY: Counts = Counts {
-    opening: 0,
-    accepted: 0,
-    answered: 0,
-    queued: 0,
-    outstanding: 0,
-    up: false,
-    draining: true,
+/// A lane that has accepted nothing. It is drained, and its home server is marked down.
+const EMPTY: Stand = Stand {
+    counts: Counts {
+        opening: 0,
+        accepted: 0,
+        answered: 0,
+        queued: 0,
+        outstanding: 0,
+        up: false,
+        draining: true,
+    },
+    first_queued: None,
+    first_held: None,
 };
 
-/// The counts of the first lane: of nine requests one was removed from its book, and four are queued.
-const BUSY: Counts = Counts {
-    opening: 1,
-    accepted: 9,
-    answered: 3,
-    queued: 4,
-    outstanding: 2,
-    up: true,
-    draining: false,
+/// The first lane: of nine requests one was removed from its book, and four are queued.
+const BUSY: Stand = Stand {
+    counts: Counts {
+        opening: 1,
+        accepted: 9,
+        answered: 3,
+        queued: 4,
+        outstanding: 2,
+        up: true,
+        draining: false,
+    },
+    first_queued: Some(4060),
+    first_held: Some(1007),
 };
 
-/// Returns a moment, given in milliseconds.
-fn at(milliseconds: u64) -> Option<Moment> {
-    Moment::new(milliseconds)
-}
+/// The pair under which a request is outstanding.
+const SLOT: Slot = Slot {
+    port: 0,
+    identifier: 255,
+};
 
-/// Reports that the front received a datagram of the client.
-fn come(telemetry: &Telemetry<'_, MemoryLog, Still>) {
-    telemetry.received(Worker::Front, NAS, &[]);
-}
+/// The front received a datagram of the client.
+const CAME: Report = Report::Received(Worker::Front, NAS, &[]);
 
-/// Reports what the clients sent.
-fn tell_clients(telemetry: &Telemetry<'_, MemoryLog, Still>) {
-    telemetry.received(Worker::Front, STRANGER, &[]);
-    telemetry.note(Worker::Front, Note::Dropped(Dropped::UnknownClient));
-    come(telemetry);
-    telemetry.accepted(0, 0);
-    come(telemetry);
-    telemetry.repeated(Repeat::Waiting);
-    come(telemetry);
-    telemetry.repeated(Repeat::Answered);
-    telemetry.sends(Worker::Front, NAS, &[5]);
-    come(telemetry);
-    telemetry.note(Worker::Front, Note::Refused(Refusal::BookFull));
-    come(telemetry);
-    telemetry.note(Worker::Front, Note::Dropped(Dropped::NoRealm));
-}
+/// A request was sent to the first home server.
+const SENT: Report = Report::Sends(Worker::Lane(0), NAS, &[4]);
 
-/// Reports the standing of a lane. The first request of its queue and that of its book, if any, were accepted at
-/// these moments.
-fn stand(
-    telemetry: &Telemetry<'_, MemoryLog, Still>,
-    lane: u16,
-    counts: Counts,
-    first_queued: Option<Moment>,
-    first_held: Option<Moment>,
-) {
-    let standing = Standing {
-        counts,
-        first_queued,
-        first_held,
-        last_answered: None,
-    };
-    telemetry.stands(lane, Moment::new(5067).unwrap(), standing);
-}
+/// What the clients sent.
+const OF_CLIENTS: [Report; 13] = [
+    Report::Received(Worker::Front, STRANGER, &[]),
+    Report::Noted(Worker::Front, Note::Dropped(Dropped::UnknownClient)),
+    CAME,
+    Report::Accepted(0, 0),
+    CAME,
+    Report::Repeated(Repeat::Waiting),
+    CAME,
+    Report::Repeated(Repeat::Answered),
+    Report::Sends(Worker::Front, NAS, &[5]),
+    CAME,
+    Report::Noted(Worker::Front, Note::Refused(Refusal::BookFull)),
+    CAME,
+    Report::Noted(Worker::Front, Note::Dropped(Dropped::NoRealm)),
+];
 
-/// Reports what happened to the home servers.
-fn tell_homes(telemetry: &Telemetry<'_, MemoryLog, Still>) {
-    telemetry.woke(Worker::Lane(0));
-    for _ in 0..7 {
-        telemetry.sends(Worker::Lane(0), NAS, &[4]);
+/// What happened to the home servers and their sockets.
+const OF_HOMES: [Report; 22] = [
+    Report::Woke(Worker::Lane(0)),
+    SENT,
+    SENT,
+    SENT,
+    SENT,
+    SENT,
+    SENT,
+    SENT,
+    Report::FirstSent(0, 4, SLOT),
+    Report::Replied(0, 1, SLOT),
+    Report::Noted(Worker::Front, Note::Took(0, 1)),
+    Report::FirstSent(0, 5, SLOT),
+    Report::Noted(Worker::Front, Note::Took(0, 2)),
+    Report::Replied(0, 2, SLOT),
+    Report::Answered(0, 2),
+    Report::Noted(Worker::Lane(1), Note::WentUp),
+    Report::WentUp(1, UpReason::ProbeAnswered),
+    Report::Noted(Worker::Lane(1), Note::WentDown),
+    Report::Stands(0, BUSY),
+    Report::Stands(1, EMPTY),
+    Report::Bound(Worker::Front, NAS, 212_992),
+    Report::Bound(Worker::Lane(1), HOME, 1_048_576),
+];
+
+/// The text of all numbers after these reports.
+const PIECES: [&str; 8] = [
+    PROGRAM, CLIENTS, LIMITS, HOMES, UPS, REPLIES, RESPONSES, SOCKETS,
+];
+
+/// A machine that lists the sockets of the table.
+struct Listed;
+
+impl UdpSockets for Listed {
+    fn read(&self, table: &mut Vec<u8>) {
+        table.clear();
+        let _ = table.extend_from_slice(TABLE.as_bytes());
     }
-    let slot = Slot {
-        port: 0,
-        identifier: 255,
-    };
-    telemetry.first_sent(0, 4, slot);
-    telemetry.replied(0, 1, slot);
-    telemetry.note(Worker::Front, Note::Took(0, 1));
-    telemetry.first_sent(0, 5, slot);
-    telemetry.note(Worker::Front, Note::Took(0, 2));
-    telemetry.replied(0, 2, slot);
-    telemetry.answered(0, 2);
-    telemetry.note(Worker::Lane(1), Note::WentUp);
-    telemetry.went_up(1, UpReason::ProbeAnswered);
-    telemetry.note(Worker::Lane(1), Note::WentDown);
-    stand(telemetry, 0, BUSY, at(4060), at(1007));
-    stand(telemetry, 1, EMPTY, None, None);
 }
 
 /// Returns what follows a piece at the start of a text, if the text starts with it.
@@ -134,36 +145,45 @@ fn is_of(text: &[u8], pieces: &[&str]) -> bool {
     rest.is_empty()
 }
 
-/// Returns the text of all numbers after these reports.
-fn text_of(rt: &impl Wait, alloc: Global) -> Result<Vec<u8>, Fail> {
-    let setup = Setup::new(alloc, TWO_HOMES, LevelFilter::Off)?;
+/// Writes the text of all numbers, once the above is reported.
+fn write_told(rt: &impl Wait, alloc: Global, setup: &Setup, draft: &mut Draft) -> io::Result<()> {
     let telemetry = setup.telemetry(alloc)?;
-    tell_clients(&telemetry);
-    tell_homes(&telemetry);
-    let mut readings = Vec::new(alloc);
-    telemetry.numbers().read_each(rt, &mut readings)?;
-    telemetry.bound(Worker::Front, NAS, 212_992);
-    telemetry.bound(Worker::Lane(1), HOME, 1_048_576);
-    let mut sockets = Vec::new(alloc);
-    telemetry.numbers().read_sockets(rt, TABLE, &mut sockets)?;
-    let mut text = Vec::new(alloc);
-    write_numbers(
-        &mut text,
-        setup.config(),
-        telemetry.numbers(),
-        readings.as_slice(),
-        sockets.as_slice(),
-    )?;
-    Ok(text)
+    tell(&telemetry, &OF_CLIENTS);
+    tell(&telemetry, &OF_HOMES);
+    write(rt, setup.config(), telemetry.numbers(), draft)
+}
+
+/// Writes the text of all numbers.
+fn write(
+    rt: &impl Wait,
+    config: &Config,
+    numbers: &Numbers<'_, Still>,
+    draft: &mut Draft,
+) -> io::Result<()> {
+    draft.read(rt, &Listed, numbers)?;
+    draft.finish(config, numbers)
+}
+
+/// Returns whether a lane is asked for its standing once all are, until it has told it.
+fn asks_until_told(alloc: Global, setup: &Setup) -> Result<bool, AllocError> {
+    let telemetry = setup.telemetry(alloc)?;
+    let before = telemetry.asks(0);
+    telemetry.numbers().ask_each();
+    tell(&telemetry, &[Report::Stands(0, EMPTY)]);
+    Ok(!before && !telemetry.asks(0) && telemetry.asks(1) && !telemetry.asks(2))
 }
 
 #[test]
 fn numbers_are_written(rt: HostRuntime) -> Result<(), Fail> {
-    let text = text_of(&rt, rt.alloc())?;
-    let pieces = [
-        PROGRAM, CLIENTS, LIMITS, HOMES, UPS, REPLIES, RESPONSES, SOCKETS,
-    ];
-    holds(&rt, is_of(text.as_slice(), &pieces));
+    let alloc = rt.alloc();
+    let setup = Setup::new(alloc, TWO_HOMES, LevelFilter::Off)?;
+    let mut draft = Draft::new(alloc);
+    let written = write_told(&rt, alloc, &setup, &mut draft);
+    drop(setup);
+    let is_right = is_of(draft.text().as_slice(), &PIECES);
+    drop(draft);
+    written?;
+    holds(&rt, is_right);
     Ok(())
 }
 
@@ -178,13 +198,8 @@ fn each_event_of_a_client_stands_in_its_place(rt: HostRuntime) {
 fn a_lane_is_asked_until_it_has_told(rt: HostRuntime) -> Result<(), Fail> {
     let alloc = rt.alloc();
     let setup = Setup::new(alloc, TWO_HOMES, LevelFilter::Off)?;
-    let telemetry = setup.telemetry(alloc)?;
-    let before = telemetry.asks(0);
-    telemetry.numbers().ask_each();
-    stand(&telemetry, 0, EMPTY, None, None);
-    holds(
-        &rt,
-        !before && !telemetry.asks(0) && telemetry.asks(1) && !telemetry.asks(2),
-    );
+    let is_right = asks_until_told(alloc, &setup);
+    drop(setup);
+    holds(&rt, is_right?);
     Ok(())
 }

@@ -3,15 +3,16 @@
 
 use crate::comparing::{holds, holds_of};
 use crate::ledgers::five_entries;
-use crate::shared::{HOME, MemoryLog, NAS, Setup, Still, Story, TWO_HOMES, logs};
-use rad_desk::{Gate, Note, Worker};
+use crate::reports::{Report, tell};
+use crate::shared::{HOME, MemoryLog, NAS, Setup, Still, TWO_HOMES};
+use rad_desk::{Note, Worker};
 use rad_lane::Refusal;
+use rad_log::LevelFilter;
 use rad_metrics::{Draft, UdpSockets};
 use rad_realms::{Dropped, Endpoint};
-use rad_telemetry::{
-    CounterFile, CounterTexts, FileFault, LedgerState, LevelFilter, ReplaceFile, Telemetry,
-};
-use std::alloc::Global;
+use rad_telemetry::{CounterFile, CounterTexts, FileFault, LedgerState, ReplaceFile, Telemetry};
+use std::alloc::{AllocError, Global};
+use std::io;
 use std::result::Result;
 use std::sync::{Mutex, Wait};
 use std::test::Fail;
@@ -201,65 +202,35 @@ const EARLIER: Endpoint = Endpoint {
     port: 40_001,
 };
 
-/// Reports what is counted in the texts above.
-fn tell_all(telemetry: &Telemetry<'_, MemoryLog, Still>) {
-    telemetry.note(Worker::Front, Note::Dropped(Dropped::UnknownClient));
-    telemetry.note(Worker::Front, Note::Refused(Refusal::BookFull));
-    telemetry.note(Worker::Lane(0), Note::NotHome);
-    telemetry.note(Worker::Lane(1), Note::WentDown);
-    telemetry.note(Worker::Lane(1), Note::Cut(2));
-    telemetry.note(Worker::Lane(1), Note::Cut(3));
-    telemetry.came_marked(0, NAS, 4);
-    telemetry.sends(Worker::Lane(1), HOME, &[4]);
-    telemetry.sends(Worker::Lane(1), HOME, &[4]);
-    telemetry.sends(Worker::Lane(0), HOME, &[12]);
-    telemetry.sends(Worker::Front, NAS, &[5]);
-}
+/// What is counted in the texts above.
+const COUNTED: [Report; 11] = [
+    Report::Noted(Worker::Front, Note::Dropped(Dropped::UnknownClient)),
+    Report::Noted(Worker::Front, Note::Refused(Refusal::BookFull)),
+    Report::Noted(Worker::Lane(0), Note::NotHome),
+    Report::Noted(Worker::Lane(1), Note::WentDown),
+    Report::Noted(Worker::Lane(1), Note::Cut(2)),
+    Report::Noted(Worker::Lane(1), Note::Cut(3)),
+    Report::Marked(0, NAS, 4),
+    Report::Sends(Worker::Lane(1), HOME, &[4]),
+    Report::Sends(Worker::Lane(1), HOME, &[4]),
+    Report::Sends(Worker::Lane(0), HOME, &[12]),
+    Report::Sends(Worker::Front, NAS, &[5]),
+];
 
-/// Reports what is summed up above.
-fn tell_sums(telemetry: &Telemetry<'_, MemoryLog, Still>) {
-    for from in [EARLIER, NAS] {
-        telemetry.received(Worker::Front, from, &[]);
-        telemetry.note(Worker::Front, Note::Dropped(Dropped::NoRealm));
-    }
-    telemetry.note(Worker::Front, Note::Refused(Refusal::BookFull));
-    telemetry.note(Worker::Front, Note::SendFault);
-    telemetry.note(Worker::Lane(1), Note::NotHome);
-    telemetry.note(Worker::Lane(1), Note::ReceiveFault);
-    telemetry.sends(Worker::Lane(1), HOME, &[4]);
-}
-
-/// Reports what is summed up above, and logs the sums twice.
-pub fn tell_sums_twice(telemetry: &Telemetry<'_, MemoryLog, Still>) {
-    tell_sums(telemetry);
-    for _ in 0..2 {
-        telemetry.reporter(None).log_deltas();
-    }
-}
-
-/// Returns whether the text of all counters begins and ends like this.
-fn writes(
-    alloc: Global,
-    telemetry: &Telemetry<'_, MemoryLog, Still>,
-    head: &str,
-    tail: &str,
-) -> Result<bool, Fail> {
-    let mut text = Vec::new(alloc);
-    telemetry.reporter(None).write(&mut text)?;
-    Ok(text.starts_with(head.as_bytes()) && text.ends_with(tail.as_bytes()))
-}
-
-/// Texts of the counters that are left to a thread, and a file in memory for them.
-#[derive(Drop)]
-struct Texts<'a, R> {
-    rt: &'a R,
-    alloc: Global,
-    texts: CounterTexts,
-    file: CounterFile,
-    memory: &'a Memory,
-    ledger: Option<&'a LedgerState>,
-    case: &'a Case,
-}
+/// What is summed up above. The sums are logged twice.
+pub const TELL_SUMS: [Report; 11] = [
+    Report::Received(Worker::Front, EARLIER, &[]),
+    Report::Noted(Worker::Front, Note::Dropped(Dropped::NoRealm)),
+    Report::Received(Worker::Front, NAS, &[]),
+    Report::Noted(Worker::Front, Note::Dropped(Dropped::NoRealm)),
+    Report::Noted(Worker::Front, Note::Refused(Refusal::BookFull)),
+    Report::Noted(Worker::Front, Note::SendFault),
+    Report::Noted(Worker::Lane(1), Note::NotHome),
+    Report::Noted(Worker::Lane(1), Note::ReceiveFault),
+    Report::Sends(Worker::Lane(1), HOME, &[4]),
+    Report::LogSums,
+    Report::LogSums,
+];
 
 /// A machine that lists no UDP socket.
 struct NoSockets;
@@ -270,65 +241,117 @@ impl UdpSockets for NoSockets {
     }
 }
 
-impl<R: Wait> Texts<'_, R> {
+/// Texts of the counters that are left to a thread, and a file in memory for them.
+#[derive(Drop)]
+struct Texts {
+    draft: Draft,
+    texts: CounterTexts,
+    file: CounterFile,
+    memory: Memory,
+}
+
+impl Texts {
+    /// Makes a file in memory to which nothing was left yet. Each write to it fails with `fault`, if there is one.
+    fn new(alloc: Global, fault: Option<FileFault>) -> Result<Texts, AllocError> {
+        let path = String::from_str(alloc, "some/file")?;
+        Ok(Texts {
+            draft: Draft::new(alloc),
+            texts: CounterTexts::new(alloc),
+            file: CounterFile::new(path),
+            memory: Memory::new(alloc, fault),
+        })
+    }
+
     /// Leaves a text.
-    fn leave(&self, telemetry: &Telemetry<'_, MemoryLog, Still>, draft: &mut Draft) {
+    fn leave(
+        &mut self,
+        rt: &impl Wait,
+        telemetry: &Telemetry<'_, MemoryLog, Still>,
+        ledger: Option<&LedgerState>,
+    ) {
         telemetry
             .reporter(Some(&self.texts))
-            .with_ledger(self.ledger)
-            .leave_text(self.rt, &NoSockets, draft);
+            .with_ledger(ledger)
+            .leave_text(rt, &NoSockets, &mut self.draft);
     }
 
     /// Writes the last text.
-    fn write_last(&self) {
+    fn write_last(&self, rt: &impl Wait, alloc: Global) {
         self.texts.end();
-        self.texts
-            .write_all(self.rt, self.alloc, &self.file, self.memory);
+        self.texts.write_all(rt, alloc, &self.file, &self.memory);
     }
 }
 
-impl<R: Wait> Story for Texts<'_, R> {
-    fn tell<'x>(&'x self, telemetry: &'x Telemetry<'_, MemoryLog, Still>) {
-        let mut draft = Draft::new(self.alloc);
-        for _ in 0..self.case.written {
-            self.leave(telemetry, &mut draft);
-            self.write_last();
-        }
-        for _ in 0..self.case.untaken {
-            self.leave(telemetry, &mut draft);
-        }
+/// Leaves the texts of a case, and writes those of them that are written.
+fn leave_each(
+    rt: &impl Wait,
+    alloc: Global,
+    setup: &Setup,
+    texts: &mut Texts,
+    case: &Case,
+    ledger: &LedgerState,
+) -> Result<(), AllocError> {
+    let telemetry = setup.telemetry(alloc)?;
+    let ledger = case.has_ledger.then_some(ledger);
+    for _ in 0..case.written {
+        texts.leave(rt, &telemetry, ledger);
+        texts.write_last(rt, alloc);
     }
+    for _ in 0..case.untaken {
+        texts.leave(rt, &telemetry, ledger);
+    }
+    Ok(())
+}
+
+/// Returns whether the file is as the case has it.
+fn is_written(
+    rt: &impl Wait,
+    alloc: Global,
+    setup: &Setup,
+    case: &Case,
+    ledger: &LedgerState,
+) -> Result<bool, AllocError> {
+    let mut texts = Texts::new(alloc, case.fault)?;
+    let left = leave_each(rt, alloc, setup, &mut texts, case, ledger);
+    let is_right = texts.memory.has(case.start, case.end);
+    drop(texts);
+    left?;
+    Ok(is_right)
 }
 
 /// Returns whether the file and the log are as the case has them.
-fn is_right<R: Wait>(
-    rt: &R,
+fn is_right(
+    rt: &impl Wait,
     alloc: Global,
     case: &Case,
     ledger: &LedgerState,
 ) -> Result<bool, Fail> {
-    let memory = Memory::new(alloc, case.fault);
-    let story = Texts {
-        rt,
-        alloc,
-        texts: CounterTexts::new(alloc),
-        file: CounterFile::new(String::from_str(alloc, "some/file")?),
-        memory: &memory,
-        ledger: case.has_ledger.then_some(ledger),
-        case,
-    };
-    let is_logged = logs(alloc, LevelFilter::Warn, &story, case.lines)?;
-    Ok(is_logged && memory.has(case.start, case.end))
+    let setup = Setup::new(alloc, TWO_HOMES, LevelFilter::Warn)?;
+    let is_written = is_written(rt, alloc, &setup, case, ledger);
+    let is_logged = setup.has_logged(case.lines);
+    drop(setup);
+    Ok(is_written? && is_logged)
+}
+
+/// Writes the text of all counters, once the above is counted.
+fn write_counted(alloc: Global, setup: &Setup, text: &mut Vec<u8>) -> io::Result<()> {
+    let telemetry = setup.telemetry(alloc)?;
+    tell(&telemetry, &COUNTED);
+    telemetry.reporter(None).write(text)
 }
 
 #[test]
 fn counters_are_written(rt: HostRuntime) -> Result<(), Fail> {
     let alloc = rt.alloc();
     let setup = Setup::new(alloc, TWO_HOMES, LevelFilter::Warn)?;
-    let telemetry = setup.telemetry(alloc)?;
-    tell_all(&telemetry);
-    let is_right = writes(alloc, &telemetry, HEAD, TAIL)?;
-    holds(&rt, is_right);
+    let mut text = Vec::new(alloc);
+    let written = write_counted(alloc, &setup, &mut text);
+    drop(setup);
+    written?;
+    holds(
+        &rt,
+        text.starts_with(HEAD.as_bytes()) && text.ends_with(TAIL.as_bytes()),
+    );
     Ok(())
 }
 

@@ -1,7 +1,9 @@
 //! Shared by the tests: a configuration, endpoints and a log in memory.
 
+use crate::reports::{Report, tell};
+use rad_log::{LevelFilter, Log, Logged, Metadata, Record, Source, Spans};
 use rad_realms::{Config, Endpoint, read_config};
-use rad_telemetry::{LevelFilter, Log, Logged, Metadata, Record, Source, Spans, Telemetry};
+use rad_telemetry::Telemetry;
 use std::alloc::{AllocError, Global};
 use std::fmt::Display;
 use std::io::{self, Write};
@@ -90,6 +92,13 @@ impl Setup {
         Telemetry::new(alloc, &self.clock, &self.config, &self.log)
     }
 
+    /// Passes these reports to a telemetry over them.
+    fn tell(&self, alloc: Global, reports: &[Report]) -> Result<(), AllocError> {
+        let telemetry = self.telemetry(alloc)?;
+        tell(&telemetry, reports);
+        Ok(())
+    }
+
     /// Returns the configuration.
     pub fn config(&self) -> &Config {
         &self.config
@@ -106,22 +115,20 @@ impl Setup {
     }
 }
 
-/// The reports that a telemetry gets.
-pub trait Story {
-    fn tell<'x>(&'x self, telemetry: &'x Telemetry<'_, MemoryLog, Still>);
-}
-
 /// Returns whether exactly these lines are logged, up to a level, if a telemetry over two home servers gets these
 /// reports.
-pub fn logs<S: Story>(
+pub fn logs(
     alloc: Global,
     level: LevelFilter,
-    story: &S,
+    reports: &[Report],
     expected: &str,
 ) -> Result<bool, Fail> {
     let setup = Setup::new(alloc, TWO_HOMES, level)?;
-    story.tell(&setup.telemetry(alloc)?);
-    Ok(setup.has_logged(expected))
+    let told = setup.tell(alloc, reports);
+    let is_right = setup.has_logged(expected);
+    drop(setup);
+    told?;
+    Ok(is_right)
 }
 
 impl Kept {

@@ -2,100 +2,73 @@
 
 use crate::comparing::holds_of;
 use crate::logging::{
-    DETAILS, ERRORS, EVENTS, INFOS, NOTES_OF_LANES, NOTES_OF_THE_FRONT, WARNINGS, tell_events,
-    tell_of_a_drop, tell_of_lanes, tell_of_the_front,
+    DETAILS, ERRORS, EVENTS, INFOS, NOTES_OF_LANES, NOTES_OF_THE_FRONT, TELL_EVENTS,
+    TELL_OF_A_DROP, TELL_OF_LANES, TELL_OF_THE_FRONT, WARNINGS,
 };
-use crate::reporting::{SUMS, tell_sums_twice};
-use crate::shared::{MemoryLog, Still, Story, logs};
-use crate::summing::{CUTS, DROPS, LOOPS, MARKS, tell_cuts, tell_drops, tell_marks};
-use rad_telemetry::{LevelFilter, Telemetry};
+use crate::reporting::{SUMS, TELL_SUMS};
+use crate::reports::Report;
+use crate::shared::logs;
+use crate::summing::{CUTS, DROPS, LOOPS, MARKS, TELL_CUTS, TELL_DROPS, TELL_MARKS};
+use rad_log::LevelFilter;
 use std::result::Result;
 use std::test::Fail;
 
-/// What is reported.
-#[derive(Clone, Copy)]
-enum Told {
-    Lanes,
-    Front,
-    Events,
-    Drop,
-    Drops,
-    Cuts,
-    Marks,
-    Sums,
-}
-
-impl Story for Told {
-    fn tell<'x>(&'x self, telemetry: &'x Telemetry<'_, MemoryLog, Still>) {
-        match self {
-            Told::Lanes => tell_of_lanes(telemetry),
-            Told::Front => tell_of_the_front(telemetry),
-            Told::Events => tell_events(telemetry),
-            Told::Drop => tell_of_a_drop(telemetry),
-            Told::Drops => tell_drops(telemetry),
-            Told::Cuts => tell_cuts(telemetry),
-            Told::Marks => tell_marks(telemetry),
-            Told::Sums => tell_sums_twice(telemetry),
-        }
-    }
-}
-
 /// What is reported, and the lines that are logged then, up to a level.
 #[derive(Clone, Copy)]
-struct Row(&'static str, Told, LevelFilter, &'static str);
+struct Row(&'static str, &'static [Report], LevelFilter, &'static str);
 
 const ROWS: [Row; 14] = [
     Row(
         "notes of lanes",
-        Told::Lanes,
+        &TELL_OF_LANES,
         LevelFilter::Trace,
         NOTES_OF_LANES,
     ),
     Row(
         "notes of the front",
-        Told::Front,
+        &TELL_OF_THE_FRONT,
         LevelFilter::Trace,
         NOTES_OF_THE_FRONT,
     ),
-    Row("events", Told::Events, LevelFilter::Trace, EVENTS),
+    Row("events", &TELL_EVENTS, LevelFilter::Trace, EVENTS),
     Row(
         "events up to debug",
-        Told::Events,
+        &TELL_EVENTS,
         LevelFilter::Debug,
         DETAILS,
     ),
-    Row("events up to info", Told::Events, LevelFilter::Info, INFOS),
+    Row("events up to info", &TELL_EVENTS, LevelFilter::Info, INFOS),
     Row(
         "events up to warn",
-        Told::Events,
+        &TELL_EVENTS,
         LevelFilter::Warn,
         WARNINGS,
     ),
     Row(
         "events up to error",
-        Told::Events,
+        &TELL_EVENTS,
         LevelFilter::Error,
         ERRORS,
     ),
-    Row("no events", Told::Events, LevelFilter::Off, ""),
+    Row("no events", &TELL_EVENTS, LevelFilter::Off, ""),
     Row(
         "nothing of a datagram above debug",
-        Told::Drop,
+        &TELL_OF_A_DROP,
         LevelFilter::Info,
         "",
     ),
-    Row("the last realm", Told::Drops, LevelFilter::Info, DROPS),
-    Row("cuts", Told::Cuts, LevelFilter::Info, CUTS),
-    Row("marks", Told::Marks, LevelFilter::Info, MARKS),
-    Row("loops", Told::Marks, LevelFilter::Warn, LOOPS),
-    Row("sums", Told::Sums, LevelFilter::Info, SUMS),
+    Row("the last realm", &TELL_DROPS, LevelFilter::Info, DROPS),
+    Row("cuts", &TELL_CUTS, LevelFilter::Info, CUTS),
+    Row("marks", &TELL_MARKS, LevelFilter::Info, MARKS),
+    Row("loops", &TELL_MARKS, LevelFilter::Warn, LOOPS),
+    Row("sums", &TELL_SUMS, LevelFilter::Info, SUMS),
 ];
 
 #[test]
 fn each_report_has_its_lines(rt: HostRuntime) -> Result<(), Fail> {
     for row in &ROWS {
-        let Row(name, told, level, lines) = *row;
-        holds_of(&rt, name, logs(rt.alloc(), level, &told, lines)?);
+        let Row(name, reports, level, lines) = *row;
+        holds_of(&rt, name, logs(rt.alloc(), level, reports, lines)?);
     }
     Ok(())
 }

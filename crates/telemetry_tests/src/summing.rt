@@ -1,10 +1,10 @@
-//! The lines of sums: which realm a sum of drops names, what the sum of cuts counts, and how many Proxy-States a loop
+//! Reports, and the lines of their sums: which realm a sum of drops names, what the sum of cuts counts, and how many Proxy-States a loop
 //! makes.
 
-use crate::shared::{MemoryLog, NAS, Still};
-use rad_desk::{Gate, Note, Worker};
+use crate::reports::Report;
+use crate::shared::NAS;
+use rad_desk::{Note, Worker};
 use rad_realms::{Dropped, Endpoint};
-use rad_telemetry::Telemetry;
 use test_octets::nas::{NAME_ONLY_REQUEST, SEVENTH};
 
 /// The endpoint of another proxy like this one.
@@ -24,7 +24,7 @@ const ODD_REALM: [u8; 28] = [
     255,
 ];
 
-/// The sums of drops, one for each call of [`log_deltas`].
+/// The sums of drops, one for each time that sums are logged.
 pub const DROPS: &str =
     "event=dropped reason=\"NoRealm\" count=2 client=10.0.0.1 client_port=40000 realm=example.net\n\
     event=dropped reason=\"NoRealm\" count=1 client=10.0.0.1 client_port=40000 realm=%20%22%0a%ff\n\
@@ -45,47 +45,46 @@ pub const LOOPS: &str =
     "event=marked home=h1 count=2 proxy_states=7 client=10.0.0.2 client_port=1813\n\
     event=marked home=h1 count=1 proxy_states=2 client=10.0.0.1 client_port=40000\n";
 
-/// Reports a packet that is dropped for its realm.
-fn drop_for_its_realm(telemetry: &Telemetry<'_, MemoryLog, Still>, packet: &[u8]) {
-    telemetry.received(Worker::Front, NAS, packet);
-    telemetry.no_realm(packet);
-    telemetry.note(Worker::Front, Note::Dropped(Dropped::NoRealm));
-}
+/// The note that a packet is dropped for its realm.
+const NO_REALM: Report = Report::Noted(Worker::Front, Note::Dropped(Dropped::NoRealm));
 
-/// Logs what was counted since the last call.
-fn log_deltas(telemetry: &Telemetry<'_, MemoryLog, Still>) {
-    telemetry.reporter(None).log_deltas();
-}
+/// Drops, and their sums one after the other.
+pub const TELL_DROPS: [Report; 17] = [
+    Report::Received(Worker::Front, NAS, &SEVENTH),
+    Report::NoRealm(&SEVENTH),
+    NO_REALM,
+    Report::Received(Worker::Front, NAS, &NAME_ONLY_REQUEST),
+    Report::NoRealm(&NAME_ONLY_REQUEST),
+    NO_REALM,
+    Report::LogSums,
+    Report::Received(Worker::Front, NAS, &ODD_REALM),
+    Report::NoRealm(&ODD_REALM),
+    NO_REALM,
+    Report::LogSums,
+    Report::Received(Worker::Front, NAS, &BARE),
+    Report::NoRealm(&BARE),
+    NO_REALM,
+    Report::LogSums,
+    Report::Noted(Worker::Front, Note::Dropped(Dropped::WrongCode)),
+    Report::LogSums,
+];
 
-/// Reports drops, and logs their sums one after the other.
-pub fn tell_drops(telemetry: &Telemetry<'_, MemoryLog, Still>) {
-    drop_for_its_realm(telemetry, &SEVENTH);
-    drop_for_its_realm(telemetry, &NAME_ONLY_REQUEST);
-    log_deltas(telemetry);
-    drop_for_its_realm(telemetry, &ODD_REALM);
-    log_deltas(telemetry);
-    drop_for_its_realm(telemetry, &BARE);
-    log_deltas(telemetry);
-    telemetry.note(Worker::Front, Note::Dropped(Dropped::WrongCode));
-    log_deltas(telemetry);
-}
+/// Requests with different numbers of Proxy-States of this proxy's form, and their sums.
+pub const TELL_MARKS: [Report; 8] = [
+    Report::Marked(0, NAS, 1),
+    Report::Marked(0, OTHER_PROXY, 1),
+    Report::LogSums,
+    Report::Marked(0, OTHER_PROXY, 7),
+    Report::Marked(0, OTHER_PROXY, 3),
+    Report::LogSums,
+    Report::Marked(0, NAS, 2),
+    Report::LogSums,
+];
 
-/// Reports requests with different numbers of Proxy-States of this proxy's form, and logs their sums.
-pub fn tell_marks(telemetry: &Telemetry<'_, MemoryLog, Still>) {
-    telemetry.came_marked(0, NAS, 1);
-    telemetry.came_marked(0, OTHER_PROXY, 1);
-    log_deltas(telemetry);
-    telemetry.came_marked(0, OTHER_PROXY, 7);
-    telemetry.came_marked(0, OTHER_PROXY, 3);
-    log_deltas(telemetry);
-    telemetry.came_marked(0, NAS, 2);
-    log_deltas(telemetry);
-}
-
-/// Reports two cuts, and logs their sum.
-pub fn tell_cuts(telemetry: &Telemetry<'_, MemoryLog, Still>) {
-    telemetry.note(Worker::Lane(1), Note::Cut(3));
-    telemetry.note(Worker::Lane(1), Note::Cut(5));
-    log_deltas(telemetry);
-    log_deltas(telemetry);
-}
+/// Two cuts, and their sum.
+pub const TELL_CUTS: [Report; 4] = [
+    Report::Noted(Worker::Lane(1), Note::Cut(3)),
+    Report::Noted(Worker::Lane(1), Note::Cut(5)),
+    Report::LogSums,
+    Report::LogSums,
+];

@@ -7,9 +7,10 @@ use crate::comparing::holds;
 use crate::packets::SHORT;
 use crate::shared::{MemoryLog, NAS, Setup, Still};
 use rad_desk::{Delivery, Received, Traffic, Wire, front_worker, open};
+use rad_log::LevelFilter;
 use rad_realms::{Config, Endpoint};
 use rad_tables::Moment;
-use rad_telemetry::{LevelFilter, Telemetry};
+use rad_telemetry::Telemetry;
 use std::alloc::Global;
 use std::result::Result;
 use std::sync::Wait;
@@ -115,11 +116,20 @@ fn work(
     Ok(())
 }
 
+/// Lets the front work over a setup.
+fn work_over(rt: &impl Wait, alloc: Global, setup: &Setup) -> Result<(), Fail> {
+    let telemetry = setup.telemetry(alloc)?;
+    work(rt, alloc, setup.config(), &telemetry, 4)
+}
+
 #[test]
 fn a_drop_tells_of_its_datagram(rt: HostRuntime) -> Result<(), Fail> {
     let alloc = rt.alloc();
     let setup = Setup::new(alloc, OTHER_REALMS, LevelFilter::Debug)?;
-    work(&rt, alloc, setup.config(), &setup.telemetry(alloc)?, 4)?;
-    holds(&rt, setup.has_logged(DROPS));
+    let worked = work_over(&rt, alloc, &setup);
+    let is_right = setup.has_logged(DROPS);
+    drop(setup);
+    worked?;
+    holds(&rt, is_right);
     Ok(())
 }

@@ -2,7 +2,7 @@
 //! was cut short.
 
 use crate::comparing::{holds, holds_of};
-use rad_telemetry::{LineOutput, LineRoom, LineWriter};
+use rad_log::{LineOutput, LineRoom, LineWriter};
 use std::alloc::{AllocError, Global};
 use std::result::Result;
 use std::sync::Mutex;

@@ -4,14 +4,15 @@ use crate::comparing::holds;
 use crate::memory_disk::{Gives, MemoryDisk, Written};
 use crate::responses::{ASKED, Asked, CUT, WHOLE};
 use ledger_files::DiskFault;
-use rad_auth::{ACCOUNTING_RESPONSE, Mark, RequestHead, Secret, forward, respond};
+use rad_auth::{ACCOUNTING_RESPONSE, Mark, Reply, RequestHead, Secret, forward, respond};
 use rad_desk::Ledger;
 use rad_lane::Outgoing;
 use rad_packet::{Datagram, read};
-use rad_realms::read_config;
-use rad_writer::{OpenedLedger, open_ledger};
-use std::alloc::{AllocGlobal, Global};
+use rad_realms::{Config, read_config};
+use rad_writer::{LedgerInlet, LedgerWriter, OpenedLedger, open_ledger};
+use std::alloc::Global;
 use std::io;
+use std::process::Abort;
 use std::random::RandomSource;
 use std::sync::Wait;
 use std::test::Fail;
@@ -75,6 +76,18 @@ const HOMES: [&[u8]; 2] = [b"home-secret", b"home2-secret"];
 
 /// Returns the response to a request, as its lane gives it.
 fn outgoing(alloc: Global, asked: &Asked) -> Result<Outgoing, Fail> {
+    let mut datagram = Datagram::new();
+    let reply = replied(alloc, asked, &mut datagram)?;
+    Ok(Outgoing {
+        serial: 0,
+        client: [10, 0, 0, 1],
+        port: asked.port,
+        reply,
+    })
+}
+
+/// Forwards a request in this datagram, and returns the response that the reply to it gives.
+fn replied(alloc: Global, asked: &Asked, datagram: &mut Datagram) -> Result<Reply, Fail> {
     let Some(home) = HOMES.get(usize::from(asked.lane)) else {
         return Err(Fail::from("no home server"));
     };
@@ -85,8 +98,7 @@ fn outgoing(alloc: Global, asked: &Asked) -> Result<Outgoing, Fail> {
         lane: asked.lane,
         number: asked.number,
     };
-    let mut datagram = Datagram::new();
-    forward(&request, mark, asked.identifier, &home, &mut datagram)?;
+    forward(&request, mark, asked.identifier, &home, datagram)?;
     let sending = datagram.packet();
     if reply.code() != ACCOUNTING_RESPONSE || reply.identifier() != sending.identifier() {
         return Err(Fail::from("a reply answers its sending"));
@@ -95,12 +107,7 @@ fn outgoing(alloc: Global, asked: &Asked) -> Result<Outgoing, Fail> {
         identifier: request.identifier(),
         authenticator: request.authenticator(),
     };
-    Ok(Outgoing {
-        serial: 0,
-        client: [10, 0, 0, 1],
-        port: asked.port,
-        reply: respond(alloc, head, &sending, &reply, &client, &home)?,
-    })
+    Ok(respond(alloc, head, &sending, &reply, &client, &home)?)
 }
 
 /// A run.
@@ -159,31 +166,41 @@ const CASES: [Case; 6] = [
     },
 ];
 
-/// Ends a run, and returns whether it wrote what is wanted.
-fn ends_as<R: Wait + AllocGlobal>(
-    rt: &R,
-    gives: Gives,
-    asked: &[Asked],
-    wanted: &str,
-) -> Result<bool, Fail> {
-    let alloc = rt.alloc();
-    let Ok(config) = read_config(alloc, TWO_HOMES) else {
-        return Err(Fail::from("no configuration"));
-    };
+/// Opens a ledger of a configuration in the folder.
+fn opened<'a, R: Wait>(
+    still: &'a Still<'a, R>,
+    alloc: Global,
+    config: &Config,
+) -> Result<OpenedLedger<'a, Still<'a, R>>, Fail> {
     let folder = String::from_str(alloc, "folder")?;
-    let still = Still { _rt: rt };
-    let OpenedLedger {
-        mut inlet,
-        writer,
-        state,
-    } = open_ledger(&still, alloc, folder, &config)?;
+    Ok(open_ledger(still, alloc, folder, config)?)
+}
+
+/// Has the front keep the responses to these requests.
+fn keep_each<R: Clock>(
+    alloc: Global,
+    inlet: &mut LedgerInlet<'_, R>,
+    asked: &[Asked],
+) -> Result<(), Fail> {
     inlet.begin();
     for one in asked {
-        let outgoing = outgoing(alloc, one)?;
-        inlet.keep(&outgoing);
+        keep(inlet, &outgoing(alloc, one)?);
     }
-    let start = Instant::now(&still)?;
-    state.end(&still, true, start, Duration::from_millis(0));
+    Ok(())
+}
+
+fn keep<R: Clock>(inlet: &mut LedgerInlet<'_, R>, outgoing: &Outgoing) {
+    inlet.keep(outgoing);
+}
+
+/// Runs a writer whose run has ended, and returns whether it writes this.
+fn writes<R: Wait>(
+    still: &Still<'_, R>,
+    alloc: Global,
+    writer: LedgerWriter,
+    gives: Gives,
+    wanted: &str,
+) -> bool {
     let written = Written::new(alloc);
     let disk = MemoryDisk {
         alloc,
@@ -191,14 +208,42 @@ fn ends_as<R: Wait + AllocGlobal>(
         size: None,
         gives,
     };
-    writer.write_all(&still, alloc, disk);
-    Ok(written.take(alloc).as_slice() == wanted.as_bytes())
+    writer.write_all(still, alloc, disk);
+    written.take(alloc).as_slice() == wanted.as_bytes()
+}
+
+/// Ends a run, and returns whether it wrote what is wanted. A refusal of memory is told once the run has ended.
+fn ends_as<R: Wait>(
+    still: &Still<'_, R>,
+    alloc: Global,
+    config: &Config,
+    case: &Case,
+) -> Result<bool, Fail> {
+    let start = Instant::now(still)?;
+    let OpenedLedger {
+        mut inlet,
+        writer,
+        state,
+    } = opened(still, alloc, config)?;
+    let kept = keep_each(alloc, &mut inlet, case.asked);
+    state.end(still, true, start, Duration::from_millis(0));
+    let is_right = writes(still, alloc, writer, case.gives, case.wanted);
+    kept?;
+    Ok(is_right)
+}
+
+fn each_ends<R: Wait + Abort>(rt: &R, alloc: Global, config: &Config) -> Result<(), Fail> {
+    let still = Still { _rt: rt };
+    for case in &CASES {
+        holds(rt, ends_as(&still, alloc, config, case)?);
+    }
+    Ok(())
 }
 
 #[test]
 fn runs_are_written(rt: HostRuntime) -> Result<(), Fail> {
-    for case in &CASES {
-        holds(&rt, ends_as(&rt, case.gives, case.asked, case.wanted)?);
-    }
-    Ok(())
+    let Ok(config) = read_config(rt.alloc(), TWO_HOMES) else {
+        return Err(Fail::from("no configuration"));
+    };
+    each_ends(&rt, rt.alloc(), &config)
 }

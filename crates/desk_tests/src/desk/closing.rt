@@ -133,20 +133,34 @@ fn with_exchanged_inlets_nothing_is_known(rt: HostRuntime) -> Result<(), Fail> {
     Ok(())
 }
 
-/// Gives a proxy an inlet of another one. Returns false if memory is refused.
-fn add_surplus(proxy: &mut TestProxy, other: &mut TestProxy) -> bool {
-    match other.inlets.pop() {
-        Some(inlet) => proxy.inlets.push(inlet).is_ok(),
+/// Moves an inlet of one proxy to another. Returns false if memory is refused.
+fn move_inlet(from: &mut TestProxy, to: &mut TestProxy) -> bool {
+    match from.inlets.pop() {
+        Some(inlet) => to.give_back(inlet),
         None => false,
     }
 }
 
+/// Gives a proxy an inlet of another one, which then ends.
+fn add_surplus<R: Wait + Abort>(rt: &R, proxy: &mut TestProxy) -> Result<(), Fail> {
+    let mut other = left_over(rt, proxy.alloc)?;
+    let is_moved = move_inlet(&mut other, proxy);
+    other.end();
+    holds(rt, is_moved);
+    Ok(())
+}
+
 #[test]
 fn a_surplus_inlet_is_dropped(rt: HostRuntime) -> Result<(), Fail> {
-    let mut other = left_over(&rt, rt.alloc())?;
     let mut proxy = left_over(&rt, rt.alloc())?;
-    holds(&rt, add_surplus(&mut proxy, &mut other));
-    other.end();
-    same(&rt, knows(proxy)?, Some((true, true)));
-    Ok(())
+    match add_surplus(&rt, &mut proxy) {
+        Ok(()) => {
+            same(&rt, knows(proxy)?, Some((true, true)));
+            Ok(())
+        }
+        Err(fail) => {
+            proxy.end();
+            Err(fail)
+        }
+    }
 }

@@ -166,18 +166,18 @@ impl TestProxy {
     /// Makes these events of the story at a place in order, and compares the result of each.
     fn play_scene<R: Wait + Abort>(&mut self, rt: &R, story: usize, events: &[Event<'_>]) {
         for (place, event) in events.iter().enumerate() {
-            self.meet(rt, (story, place), event);
+            let is_met = self.meets(rt, event);
+            same(rt, (story, place, is_met), (story, place, true));
         }
     }
 
-    /// Makes the event at this place of a story, and compares its result.
-    fn meet<R: Wait + Abort>(&mut self, rt: &R, place: (usize, usize), event: &Event<'_>) {
+    /// Makes an event, and returns whether it has its result.
+    fn meets(&mut self, rt: &impl Wait, event: &Event<'_>) -> bool {
         match *event {
             Event::Turn(worker, receives, did, tells, sends) => {
                 self.come(worker, receives);
-                self.work_at(
+                self.takes_turns(
                     rt,
-                    place,
                     &Turns {
                         worker,
                         asked: 1,
@@ -187,89 +187,65 @@ impl TestProxy {
                         tells,
                         sends,
                     },
-                );
+                )
             }
-            Event::Receives(worker, receives, did, tells, sends) => {
-                self.work_at(
-                    rt,
-                    place,
-                    &Turns {
-                        worker,
-                        asked: 1,
-                        taken: 1,
-                        receives,
-                        did,
-                        tells,
-                        sends,
-                    },
-                );
+            Event::Receives(worker, receives, did, tells, sends) => self.takes_turns(
+                rt,
+                &Turns {
+                    worker,
+                    asked: 1,
+                    taken: 1,
+                    receives,
+                    did,
+                    tells,
+                    sends,
+                },
+            ),
+            Event::Turns(worker, asked, taken, did, tells, sends) => self.takes_turns(
+                rt,
+                &Turns {
+                    worker,
+                    asked,
+                    taken,
+                    receives: &[],
+                    did,
+                    tells,
+                    sends,
+                },
+            ),
+            Event::Turned(turns) => self.gate.turns() == turns,
+            Event::Beside(told) => self.gate.beside() == told,
+            Event::Lanes(lanes, inlets) => {
+                (self.proxy.lanes(), self.inlets.len()) == (lanes, inlets)
             }
-            Event::Turns(worker, asked, taken, did, tells, sends) => {
-                self.work_at(
-                    rt,
-                    place,
-                    &Turns {
-                        worker,
-                        asked,
-                        taken,
-                        receives: &[],
-                        did,
-                        tells,
-                        sends,
-                    },
-                );
+            Event::Stands(lane, counts) => self.counts(rt, lane) == Some(counts),
+            Event::Accept(request, taken) => self.accept(rt, request) == Some(taken),
+            Event::Send(lane, number, identifier, octets) => {
+                let sent = Action::Sent(number, slot(identifier));
+                self.step(rt, lane) == Some(sent) && self.octets() == octets
             }
+            Event::Idle(lane) => self.step(rt, lane) == Some(Action::Idle(None)),
+            Event::Hear(lane, reply, told) => self.hear(rt, lane, reply) == Some(told),
+            Event::Cut(lane, turned) => self.turn(rt, lane) == Some(turned),
+            Event::Drain(lane, left) => self.drain(rt, lane) == Some(left),
+            Event::Take(lane, response) => self.takes(lane, response),
+            _ => {
+                self.prepare(event);
+                true
+            }
+        }
+    }
+
+    /// Prepares what comes after an event that has no result.
+    fn prepare(&mut self, event: &Event<'_>) {
+        match *event {
             Event::Sockets(to, by) => self.sockets = (to, by),
             Event::From(from) => self.from = Some(from),
             Event::Fails(worker, passing) => self.wire(worker).fail_after(passing),
             Event::Tick(tick) => self.lane.tick = tick,
             Event::Start(first) => self.lane.start_at(first),
             Event::Stops(call) => self.gate.stops = Some(call),
-            Event::Turned(turns) => same(rt, (place, self.gate.turns()), (place, turns)),
-            Event::Beside(told) => same(rt, (place, self.gate.beside()), (place, told)),
-            Event::Lanes(lanes, inlets) => {
-                let there = (self.proxy.lanes(), self.inlets.len());
-                same(rt, (place, there), (place, (lanes, inlets)));
-            }
-            Event::Stands(lane, counts) => same(
-                rt,
-                (place, self.counts(rt, lane)),
-                (place, Some(counts)),
-            ),
-            Event::Accept(request, taken) => same(
-                rt,
-                (place, self.accept(rt, request)),
-                (place, Some(taken)),
-            ),
-            Event::Send(lane, number, identifier, octets) => {
-                let sent = Action::Sent(number, slot(identifier));
-                same(rt, (place, self.step(rt, lane)), (place, Some(sent)));
-                same(rt, (place, self.octets() == octets), (place, true));
-            }
-            Event::Idle(lane) => {
-                let idle = Action::Idle(None);
-                same(rt, (place, self.step(rt, lane)), (place, Some(idle)));
-            }
-            Event::Hear(lane, reply, told) => same(
-                rt,
-                (place, self.hear(rt, lane, reply)),
-                (place, Some(told)),
-            ),
-            Event::Cut(lane, turned) => same(
-                rt,
-                (place, self.turn(rt, lane)),
-                (place, Some(turned)),
-            ),
-            Event::Drain(lane, left) => same(
-                rt,
-                (place, self.drain(rt, lane)),
-                (place, Some(left)),
-            ),
-            Event::Take(lane, response) => same(
-                rt,
-                (place, self.takes(lane, response)),
-                (place, true),
-            ),
+            _ => {}
         }
     }
 
@@ -291,14 +267,14 @@ impl TestProxy {
         self.wire(worker).comes(to, from, octets);
     }
 
-    /// Has a worker take turns, and compares its tally, the last notification, what it sends, and the datagrams that
-    /// the gate was notified of.
-    fn work_at<R: Wait + Abort>(&mut self, rt: &R, place: (usize, usize), turns: &Turns<'_>) {
+    /// Has a worker take turns, and returns whether its tally, the last notification, what it sends, and the datagrams
+    /// that the gate was notified of are those expected.
+    fn takes_turns(&mut self, rt: &impl Wait, turns: &Turns<'_>) -> bool {
         let did = self.work(rt, turns.worker, turns.asked);
-        same(rt, (place, did), (place, tally(turns.taken, turns.did)));
-        same(rt, (place, self.gate.told()), (place, turns.tells));
-        let datagrams = (self.has_received(turns), self.has_sent(turns));
-        same(rt, (place, datagrams), (place, (true, true)));
+        did == tally(turns.taken, turns.did)
+            && self.gate.told() == turns.tells
+            && self.has_received(turns)
+            && self.has_sent(turns)
     }
 
     /// Returns whether the gate was notified of the datagram that was received last, of which the first 4096 octets

@@ -177,44 +177,33 @@ impl TestDesk {
         self.datagram.bytes()
     }
 
-    /// Makes the event at this place, and compares its result.
-    fn meet(&mut self, rt: &impl Abort, place: usize, event: &DeskEvent<'_>) {
+    /// Makes an event, and returns whether it has its result.
+    fn meets(&mut self, event: &DeskEvent<'_>) -> bool {
         match *event {
-            DeskEvent::Accept(moment, request, taken) => {
-                same(rt, (place, self.accept(moment, request)), (place, taken));
-            }
+            DeskEvent::Accept(moment, request, taken) => self.accept(moment, request) == taken,
             DeskEvent::Send(moment, number, identifier, octets) => {
-                let sent = Action::Sent(number, slot(identifier));
-                same(rt, (place, self.step(moment)), (place, sent));
-                same(rt, (place, self.octets() == octets), (place, true));
+                self.steps(moment, Action::Sent(number, slot(identifier)), octets)
             }
             DeskEvent::Probe(moment, identifier, octets) => {
-                let probed = Action::Probed(slot(identifier));
-                same(rt, (place, self.step(moment)), (place, probed));
-                same(rt, (place, self.octets() == octets), (place, true));
+                self.steps(moment, Action::Probed(slot(identifier)), octets)
             }
-            DeskEvent::GoDown(moment) => {
-                same(rt, (place, self.step(moment)), (place, Action::WentDown));
-            }
-            DeskEvent::Hear(moment, reply, told) => {
-                same(rt, (place, self.hear(moment, reply)), (place, told));
-            }
-            DeskEvent::Turn(moment, turned) => {
-                same(rt, (place, self.turn(moment)), (place, turned));
-            }
-            DeskEvent::Drain(left) => same(rt, (place, self.drain()), (place, left)),
-            DeskEvent::IsDraining(is) => same(rt, (place, self.is_draining()), (place, is)),
-            DeskEvent::IsDone(is) => same(rt, (place, self.is_done()), (place, is)),
-            DeskEvent::Stands(counts) => same(rt, (place, self.counts()), (place, counts)),
-            DeskEvent::Waiting(count) => same(rt, (place, self.waiting()), (place, count)),
-            DeskEvent::Take(serial, response) => {
-                same(rt, (place, self.takes(serial, response)), (place, true));
-            }
-            DeskEvent::TakeNothing => same(rt, (place, self.has_no_response()), (place, true)),
-            DeskEvent::Octets(octets) => {
-                same(rt, (place, self.octets() == octets), (place, true));
-            }
+            DeskEvent::GoDown(moment) => self.step(moment) == Action::WentDown,
+            DeskEvent::Hear(moment, reply, told) => self.hear(moment, reply) == told,
+            DeskEvent::Turn(moment, turned) => self.turn(moment) == turned,
+            DeskEvent::Drain(left) => self.drain() == left,
+            DeskEvent::IsDraining(is) => self.is_draining() == is,
+            DeskEvent::IsDone(is) => self.is_done() == is,
+            DeskEvent::Stands(counts) => self.counts() == counts,
+            DeskEvent::Waiting(count) => self.waiting() == count,
+            DeskEvent::Take(serial, response) => self.takes(serial, response),
+            DeskEvent::TakeNothing => self.has_no_response(),
+            DeskEvent::Octets(octets) => self.octets() == octets,
         }
+    }
+
+    /// Makes a step, and returns whether the desk did this and wrote these octets.
+    fn steps(&mut self, moment: u32, action: Action, octets: &[u8]) -> bool {
+        self.step(moment) == action && self.octets() == octets
     }
 
     /// Drops the desk here, so that no test has to prove that it may.
@@ -226,7 +215,7 @@ pub fn play_desk(rt: &impl Abort, alloc: Global, events: &[DeskEvent<'_>]) -> Re
     let mut desk = TestDesk::new(alloc)?;
     same(rt, desk.lane(), 0);
     for (place, event) in events.iter().enumerate() {
-        desk.meet(rt, place, event);
+        same(rt, (place, desk.meets(event)), (place, true));
     }
     desk.end();
     Ok(())

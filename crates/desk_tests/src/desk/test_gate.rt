@@ -6,7 +6,7 @@ use std::alloc::Global;
 use std::cell::Cell;
 
 /// A notification of a gate.
-#[derive(Clone, Copy, Debug, PartialEq, Eq)]
+#[derive(Clone, Copy, PartialEq, Eq)]
 pub enum Telling {
     /// A note that is not about a datagram.
     Note(Note),

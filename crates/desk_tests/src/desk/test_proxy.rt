@@ -145,6 +145,11 @@ impl TestProxy {
             .take()
     }
 
+    /// Adds an inlet behind the others. Returns false if memory is refused.
+    pub fn give_back(&mut self, inlet: Inlet) -> bool {
+        self.inlets.push(inlet).is_ok()
+    }
+
     pub fn close(self) -> Result<Report, CloseFault> {
         close(self.alloc, self.proxy, self.inlets)
     }

@@ -32,26 +32,42 @@ const LEFT: usize = 2;
 /// How often a thread looks again, at intervals of a millisecond.
 const LOOKS: u32 = 10_000;
 
-/// Has all requests accepted, sent and answered. Returns their numbers.
-fn answer_all<R: Wait + Clock>(
+/// Has the requests accepted, sent and answered in order. Returns how many were, before the first that was not.
+fn answer_all<R: Wait + Clock>(rt: &R, alloc: Global, proxy: &Proxy, config: &Config) -> u16 {
+    for count in 0..REQUESTS {
+        if !is_served(rt, alloc, proxy, config, count) {
+            return count;
+        }
+    }
+    REQUESTS
+}
+
+/// Has the request made from `count` accepted, sent and answered. Returns whether its number and its serial are
+/// `count`.
+fn is_served<R: Wait + Clock>(
     rt: &R,
     alloc: Global,
     proxy: &Proxy,
     config: &Config,
-) -> Option<Vec<u64>> {
-    let mut numbers = Vec::new(alloc);
-    for count in 0..REQUESTS {
-        let request = request(count)?;
-        match accept(rt, alloc, proxy, config, request.bytes())? {
-            Ok(Taken::New(number)) => numbers.push(number).ok()?,
-            _ => return None,
-        }
-        let serial = answer(rt, alloc, proxy)?;
-        if serial != u64::from(count) {
-            return None;
-        }
+    count: u16,
+) -> bool {
+    accept_new(rt, alloc, proxy, config, count) == Some(u64::from(count))
+        && answer(rt, alloc, proxy) == Some(u64::from(count))
+}
+
+/// Has the request made from `count` accepted. Returns its number.
+fn accept_new(
+    rt: &impl Wait,
+    alloc: Global,
+    proxy: &Proxy,
+    config: &Config,
+    count: u16,
+) -> Option<u64> {
+    let request = request(count)?;
+    match accept(rt, alloc, proxy, config, request.bytes()) {
+        Some(Ok(Taken::New(number))) => Some(number),
+        _ => None,
     }
-    Some(numbers)
 }
 
 /// Sends the first request of the queue, and hears its reply once the ring has a place. Returns the serial.
@@ -71,19 +87,26 @@ fn answer<R: Wait + Clock>(rt: &R, alloc: Global, proxy: &Proxy) -> Option<u64> 
     None
 }
 
-/// Takes most of the responses, and returns them with the inlet.
-fn take_most<R: Clock>(rt: &R, alloc: Global, mut inlet: Inlet) -> Option<(Inlet, Vec<Outgoing>)> {
-    let mut taken = Vec::with_capacity(alloc, TAKEN).ok()?;
+/// Takes most of the responses, and returns them with the inlet; fewer if they don't come, or if memory is refused.
+fn take_most(rt: &impl Clock, alloc: Global, mut inlet: Inlet) -> (Inlet, Vec<Outgoing>) {
+    let mut taken = Vec::new(alloc);
     for _ in 0..LOOKS {
-        match inlet.take() {
-            Some(response) => taken.push(response).ok()?,
-            None => thread::sleep(rt, Duration::from_millis(1)),
-        }
-        if taken.len() == TAKEN {
-            return Some((inlet, taken));
+        if !take_next(rt, &mut inlet, &mut taken) || taken.len() == TAKEN {
+            break;
         }
     }
-    None
+    (inlet, taken)
+}
+
+/// Adds the next response to those that were taken, or sleeps if there is none. Returns false if memory is refused.
+fn take_next(rt: &impl Clock, inlet: &mut Inlet, taken: &mut Vec<Outgoing>) -> bool {
+    match inlet.take() {
+        Some(response) => taken.push(response).is_ok(),
+        None => {
+            thread::sleep(rt, Duration::from_millis(1));
+            true
+        }
+    }
 }
 
 /// Returns the response at this place: first those that were taken, then the rest.
@@ -132,18 +155,16 @@ fn is_of(stamp: &Stamp, count: u16) -> bool {
     }
 }
 
-/// Compares the accepted requests with those that were made, and with the numbers that they got.
-fn compare_requests(rt: &impl Abort, accepted: &[Stamp], numbers: &[u64]) {
-    let lengths = (accepted.len(), numbers.len());
-    same(rt, lengths, (usize::from(REQUESTS), usize::from(REQUESTS)));
-    for ((count, stamp), number) in (0..REQUESTS).zip(accepted).zip(numbers) {
+/// Compares the accepted requests with those that were made.
+fn compare_requests(rt: &impl Abort, accepted: &[Stamp]) {
+    same(rt, accepted.len(), usize::from(REQUESTS));
+    for (count, stamp) in (0..REQUESTS).zip(accepted) {
         same(rt, (count, is_of(stamp, count)), (count, true));
-        same(rt, *number, u64::from(count));
     }
 }
 
-/// The results of the two threads: the numbers of the requests, and the inlet with the responses that were taken.
-type Both = (Option<Vec<u64>>, Option<(Inlet, Vec<Outgoing>)>);
+/// The results of the two threads: how many requests were answered, and the inlet with the responses that were taken.
+type Both = (u16, (Inlet, Vec<Outgoing>));
 
 /// Answers all requests in one thread, while another takes most of the responses.
 fn in_threads<R: Clock + Threads + Wait + Sync>(
@@ -161,7 +182,7 @@ fn in_threads<R: Clock + Threads + Wait + Sync>(
 }
 
 /// Compares the responses that were taken, and those that were left, with what the only lane kept.
-fn compare(rt: &impl Abort, taken: &[Outgoing], end: &LaneEnd, numbers: &[u64]) {
+fn compare(rt: &impl Abort, taken: &[Outgoing], end: &LaneEnd) {
     match known(end) {
         Some(rest) => {
             same(rt, (taken.len(), rest.len()), (TAKEN, LEFT));
@@ -169,40 +190,40 @@ fn compare(rt: &impl Abort, taken: &[Outgoing], end: &LaneEnd, numbers: &[u64]) 
         }
         None => holds(rt, false),
     }
-    compare_requests(rt, end.accepted.as_slice(), numbers);
+    compare_requests(rt, end.accepted.as_slice());
 }
 
-/// Puts the inlet back into the proxy. Returns false if memory is refused.
-fn give_back(proxy: &mut TestProxy, inlet: Inlet) -> bool {
-    proxy.inlets.push(inlet).is_ok()
-}
-
-/// Compares the end of the only lane with the responses that were taken and with the numbers of the requests.
-fn compare_end(rt: &impl Abort, report: &Report, taken: &[Outgoing], numbers: &[u64]) {
+/// Compares the end of the only lane with the responses that were taken.
+fn compare_end(rt: &impl Abort, report: &Report, taken: &[Outgoing]) {
     match report.ends.as_slice() {
-        [end] => compare(rt, taken, end, numbers),
+        [end] => compare(rt, taken, end),
         _ => holds(rt, false),
     }
 }
 
-/// Answers all requests, and takes most of the responses. Returns the numbers of the requests, and the responses.
+/// Answers all requests, and takes most of the responses, which it returns.
 fn give_all<R: Clock + Threads + Wait + Abort + Sync>(
     rt: &R,
-    alloc: Global,
     proxy: &mut TestProxy,
-) -> (Vec<u64>, Vec<Outgoing>) {
+) -> Vec<Outgoing> {
     let inlet = proxy.inlets.pop().expect(rt, "an inlet");
-    let (numbers, took) = in_threads(rt, alloc, &proxy.proxy, &proxy.config, inlet);
-    let (inlet, taken) = took.expect(rt, "responses");
-    holds(rt, give_back(proxy, inlet));
-    (numbers.expect(rt, "an answer to each request"), taken)
+    let (answered, (inlet, taken)) = in_threads(
+        rt,
+        proxy.alloc,
+        &proxy.proxy,
+        &proxy.config,
+        inlet,
+    );
+    same(rt, answered, REQUESTS);
+    holds(rt, proxy.give_back(inlet));
+    taken
 }
 
 #[test]
 fn each_response_goes_through_once(rt: HostRuntime) -> Result<(), Fail> {
     let mut proxy = TestProxy::new(rt.alloc(), FOUR_PLACES)?;
-    let (numbers, taken) = give_all(&rt, rt.alloc(), &mut proxy);
+    let taken = give_all(&rt, &mut proxy);
     let report = proxy.report()?;
-    compare_end(&rt, &report, taken.as_slice(), numbers.as_slice());
+    compare_end(&rt, &report, taken.as_slice());
     Ok(())
 }

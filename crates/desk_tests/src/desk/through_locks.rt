@@ -78,20 +78,23 @@ name = "other.org"
 home = "h1"
 "#;
 
-/// Checks that a request is refused that was checked against another configuration, the tests' one with the lines
-/// `more`.
-fn refuse_other<R: Wait + Abort>(rt: &R, proxy: &TestProxy, more: &str) -> Result<(), Fail> {
+/// Passes a request to a proxy that was checked against another configuration, the tests' one with the lines `more`.
+fn accept_other(
+    rt: &impl Wait,
+    proxy: &TestProxy,
+    more: &str,
+) -> Result<Option<Result<Taken, Refusal>>, Fail> {
     let other = config(proxy.alloc, more)?;
-    let taken = accept(rt, proxy.alloc, &proxy.proxy, &other, &OTHER_REQUEST);
-    same(rt, taken, Some(Err(Refusal::WrongLane)));
-    Ok(())
+    Ok(accept(rt, proxy.alloc, &proxy.proxy, &other, &OTHER_REQUEST))
 }
 
 /// Checks that requests that were checked against other configurations are refused, and then that one of the proxy's
 /// own is accepted.
 fn accept_each<R: Wait + Abort>(rt: &R, proxy: &TestProxy) -> Result<(), Fail> {
-    refuse_other(rt, proxy, TWO_HOMES)?;
-    refuse_other(rt, proxy, OTHER_REALM)?;
+    for more in [TWO_HOMES, OTHER_REALM] {
+        let taken = accept_other(rt, proxy, more)?;
+        same(rt, taken, Some(Err(Refusal::WrongLane)));
+    }
     same(rt, proxy.accept(rt, &REQUEST), Some(Ok(Taken::New(0))));
     Ok(())
 }

@@ -1,6 +1,6 @@
 //! What a closed lane leaves, and whether two left the same.
 
-use super::comparing::same;
+use super::comparing::holds;
 use super::script::Call::{Made, Step};
 use super::script::Gives::Until;
 use super::script::Made::{AcceptEach, Hear, SendEach};
@@ -108,31 +108,20 @@ const ONE_OF_EACH: [Row<'static>; 6] = [
     (2000, Step, PROBED_AS_2, &SECOND_PROBE),
 ];
 
-/// How many stamps there are, how many of them were sent, how many are queued and outstanding, and how many answers.
-fn lengths(left: &Leftover<BlockQueue<Record>>) -> [usize; 5] {
-    [
-        left.accepted().len(),
-        left.sent().len(),
-        left.queued().len(),
-        left.outstanding().used(),
-        left.answered().len(),
-    ]
-}
-
-/// The lengths of what a new lane leaves after a script.
-fn left_lengths(
-    rt: &impl Abort,
-    alloc: Global,
-    home: Home<'_>,
-    script: &[Row<'_>],
-) -> Result<[usize; 5], Fail> {
-    Ok(lengths(&leave(rt, alloc, home, script)?))
+/// Whether there are so many stamps, so many of them were sent, so many are queued and outstanding, and so many answers.
+fn has_lengths(left: &Leftover<BlockQueue<Record>>, lengths: [usize; 5]) -> bool {
+    let [accepted, sent, queued, outstanding, answered] = lengths;
+    left.accepted().len() == accepted
+        && left.sent().len() == sent
+        && left.queued().len() == queued
+        && left.outstanding().used() == outstanding
+        && left.answered().len() == answered
 }
 
 #[test]
 fn a_closed_lane_leaves_no_probe(rt: HostRuntime) -> Result<(), Fail> {
     let home = (0, "window = 1\ntries = 1\n");
-    let lengths = left_lengths(&rt, rt.alloc(), home, &ONE_OF_EACH)?;
-    same(&rt, lengths, [3, 2, 1, 1, 1]);
+    let left = leave(&rt, rt.alloc(), home, &ONE_OF_EACH)?;
+    holds(&rt, has_lengths(&left, [3, 2, 1, 1, 1]));
     Ok(())
 }

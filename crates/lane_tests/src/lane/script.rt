@@ -1,6 +1,6 @@
 //! Scripts of a lane's calls, each with what it answers.
 
-use super::comparing::holds;
+use super::comparing::{holds, holds_at};
 use super::leaving::is_same;
 use super::test_lane::{CLIENT, CLIENT_PORT, TestLane};
 use block_queue::BlockQueue;
@@ -162,10 +162,7 @@ pub fn play(
     for place in 0..script.len() {
         if script[place].2.is_refused() {
             let (before, after) = (&script[..place], &script[..place + 1]);
-            assert!(rt;
-                leave_same(rt, alloc, home, before, after)?,
-                "changed by call {place}"
-            );
+            holds_at(rt, place, leave_same(rt, alloc, home, before, after)?);
         }
     }
     Ok(())

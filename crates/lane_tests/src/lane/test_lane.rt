@@ -1,3 +1,4 @@
+use super::comparing::holds_at;
 use super::script::{Call, Gives, Home, Row, Told, moment};
 use super::serving::NO_OCTETS;
 use block_queue::BlockQueue;
@@ -65,7 +66,7 @@ impl TestLane {
     pub fn play(&mut self, rt: &impl Abort, script: &[Row<'_>]) {
         for (moment, call, gives, octets) in script {
             let is_given = self.call(*moment, *call) == *gives;
-            assert!(rt; is_given && self.octets() == *octets, "at {moment}");
+            holds_at(rt, *moment as usize, is_given && self.octets() == *octets);
         }
     }
 

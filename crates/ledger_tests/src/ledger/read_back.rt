@@ -1,12 +1,10 @@
 //! Lines that are written, as they are read again.
 
 use super::comparing::holds;
-use ledger_lines::{
-    Begin, End, LaneCount, LaneStart, Line, Room, read_line, write_begin, write_end, write_entry,
-};
+use super::lines::{line_of, written};
+use ledger_lines::{Begin, End, LaneCount, LaneStart, Line, Room, read_line};
 use rad_ledger::Entry;
-use std::alloc::{AllocGlobal, Global};
-use std::process::Abort;
+use std::alloc::{AllocError, Global};
 use std::test::Fail;
 
 const TIME: &str = "2026-01-31T23:59:59.999Z";
@@ -94,31 +92,47 @@ fn is_same_word(word: Option<&[u8]>, other: Option<&[u8]>) -> bool {
     }
 }
 
-/// Returns the line that stands before the last line end.
-fn line_of(all: &[u8]) -> Result<&[u8], Fail> {
-    match all.split_last() {
-        Some((b'\n', line)) => Ok(line),
-        _ => Err(Fail::from("a line end")),
+/// Whether a line is read again as it was written.
+fn comes_back(alloc: Global, line: &Line<'_>) -> Result<bool, AllocError> {
+    let octets = written(alloc, line)?;
+    is_read_as(alloc, octets.as_slice(), line)
+}
+
+/// Whether these octets, with their line end, are read as this line.
+fn is_read_as(alloc: Global, octets: &[u8], line: &Line<'_>) -> Result<bool, AllocError> {
+    let mut room = Room::new(alloc)?;
+    Ok(is_read_over(alloc, &mut room, octets, line))
+}
+
+fn is_read_over(alloc: Global, room: &mut Room, octets: &[u8], line: &Line<'_>) -> bool {
+    match line_of(octets) {
+        Some(octets) => match read_line(alloc, octets, room) {
+            Ok(again) => is_same_line(line, &again),
+            Err(_) => false,
+        },
+        None => false,
+    }
+}
+
+/// Whether a line has what another one has.
+fn is_same_line(line: &Line<'_>, other: &Line<'_>) -> bool {
+    match (line, other) {
+        (Line::Begin(begin), Line::Begin(other)) => is_same_begin(begin, other),
+        (Line::Entry(entry), Line::Entry(other)) => is_same(entry, other),
+        (Line::End(end), Line::End(other)) => is_same_end(end, other),
+        _ => false,
     }
 }
 
 /// Whether an entry is read again as it was written.
-fn comes_back(alloc: Global, entry: &Entry<'_>) -> Result<bool, Fail> {
-    let all = write_entry(alloc, entry, Vec::new(alloc))?;
-    let mut room = Room::new(alloc)?;
-    match read_line(alloc, line_of(all.as_slice())?, &mut room) {
-        Ok(Line::Entry(again)) => Ok(is_same(entry, &again)),
-        _ => Ok(false),
-    }
+fn entry_comes_back(alloc: Global, entry: Entry<'_>) -> Result<bool, AllocError> {
+    comes_back(alloc, &Line::Entry(entry))
 }
 
 #[test]
 fn an_entry_is_read_as_it_was_written(rt: HostRuntime) -> Result<(), Fail> {
-    let alloc = rt.alloc();
-    let is_back = comes_back(alloc, &plain())?;
-    holds(&rt, is_back);
-    let is_back = comes_back(alloc, &greatest())?;
-    holds(&rt, is_back);
+    holds(&rt, entry_comes_back(rt.alloc(), plain())?);
+    holds(&rt, entry_comes_back(rt.alloc(), greatest())?);
     Ok(())
 }
 
@@ -139,18 +153,21 @@ const WORDS: [&[u8]; 12] = [
     b"\xf5\x80\x80\x80",
 ];
 
+/// An entry with this realm and session.
+fn with_words<'a>(realm: &'a [u8], session: &'a [u8]) -> Entry<'a> {
+    Entry {
+        realm: Some(realm),
+        session: Some(session),
+        ..plain()
+    }
+}
+
 #[test]
 fn a_realm_and_a_session_are_read_as_they_were_written(rt: HostRuntime) -> Result<(), Fail> {
-    let alloc = rt.alloc();
     for realm in WORDS {
         for session in WORDS {
-            let entry = Entry {
-                realm: Some(realm),
-                session: Some(session),
-                ..plain()
-            };
-            let is_back = comes_back(alloc, &entry)?;
-            holds(&rt, is_back);
+            let entry = with_words(realm, session);
+            holds(&rt, entry_comes_back(rt.alloc(), entry)?);
         }
     }
     Ok(())
@@ -196,31 +213,23 @@ fn is_same_begin(begin: &Begin<'_>, other: &Begin<'_>) -> bool {
     time && version && run && file && lanes
 }
 
-/// Whether a file's first line is read again as it was written.
-fn begin_comes_back(alloc: Global, begin: &Begin<'_>) -> Result<bool, Fail> {
-    let all = write_begin(alloc, begin, Vec::new(alloc))?;
-    let mut room = Room::new(alloc)?;
-    match read_line(alloc, line_of(all.as_slice())?, &mut room) {
-        Ok(Line::Begin(again)) => Ok(is_same_begin(begin, &again)),
-        _ => Ok(false),
-    }
-}
-
-#[test]
-fn a_first_line_is_read_as_it_was_written(rt: HostRuntime) -> Result<(), Fail> {
-    let alloc = rt.alloc();
-    let mut begin = Begin {
+/// Whether a first line of these lanes is read again as it was written.
+fn begin_comes_back(alloc: Global, lanes: &[LaneStart<'_>]) -> Result<bool, AllocError> {
+    let lanes = lanes.to_vec(alloc)?;
+    let begin = Begin {
         run: u64::MAX,
         time: TIME,
         version: "0.1.0 \"x\"",
         file: u64::MAX,
-        lanes: Vec::new(alloc),
+        lanes,
     };
-    let is_back = begin_comes_back(alloc, &begin)?;
-    holds(&rt, is_back);
-    begin.lanes.extend_from_slice(&STARTS)?;
-    let is_back = begin_comes_back(alloc, &begin)?;
-    holds(&rt, is_back);
+    comes_back(alloc, &Line::Begin(begin))
+}
+
+#[test]
+fn a_first_line_is_read_as_it_was_written(rt: HostRuntime) -> Result<(), Fail> {
+    holds(&rt, begin_comes_back(rt.alloc(), &[])?);
+    holds(&rt, begin_comes_back(rt.alloc(), &STARTS)?);
     Ok(())
 }
 
@@ -231,28 +240,20 @@ fn is_same_end(end: &End<'_>, other: &End<'_>) -> bool {
     time && lanes && end.run == other.run
 }
 
-/// Whether an end line is read again as it was written.
-fn end_comes_back(alloc: Global, end: &End<'_>) -> Result<bool, Fail> {
-    let all = write_end(alloc, end, Vec::new(alloc))?;
-    let mut room = Room::new(alloc)?;
-    match read_line(alloc, line_of(all.as_slice())?, &mut room) {
-        Ok(Line::End(again)) => Ok(is_same_end(end, &again)),
-        _ => Ok(false),
-    }
+/// Whether an end line of these lanes is read again as it was written.
+fn end_comes_back(alloc: Global, lanes: &[LaneCount]) -> Result<bool, AllocError> {
+    let lanes = lanes.to_vec(alloc)?;
+    let end = End {
+        run: 0,
+        time: TIME,
+        lanes,
+    };
+    comes_back(alloc, &Line::End(end))
 }
 
 #[test]
 fn an_end_line_is_read_as_it_was_written(rt: HostRuntime) -> Result<(), Fail> {
-    let alloc = rt.alloc();
-    let mut end = End {
-        run: 0,
-        time: TIME,
-        lanes: Vec::new(alloc),
-    };
-    let is_back = end_comes_back(alloc, &end)?;
-    holds(&rt, is_back);
-    end.lanes.extend_from_slice(&COUNTS)?;
-    let is_back = end_comes_back(alloc, &end)?;
-    holds(&rt, is_back);
+    holds(&rt, end_comes_back(rt.alloc(), &[])?);
+    holds(&rt, end_comes_back(rt.alloc(), &COUNTS)?);
     Ok(())
 }

@@ -1,17 +1,22 @@
 //! The faults of home servers' addresses.
 
-use crate::comparing::{holds, same};
+use crate::comparing::{holds, holds_at};
+use crate::texts::joined;
 use rad_advice::{AddressFault, HomeAdvice, advise_homes};
 use rad_realms::{Config, read_config};
 use std::alloc::{AllocError, Global};
 use std::test::Fail;
 
-/// Returns a configuration that listens on one address and port, and has one home server at another.
-fn configuration(alloc: Global, listen: &str, home: &str) -> Result<Config, Fail> {
-    let text = format!(in alloc;
-        "listen = \"{listen}\"\n[[client]]\naddress = \"10.0.0.1\"\nsecret = \"s\"\n[[home]]\nname = \"h1\"\naddress = \"{home}\"\nsecret = \"s\"\n"
-    )?;
-    match read_config(alloc, text.as_str()) {
+/// Returns the text of a configuration that listens on one address and port, and has one home server at another.
+fn text_of(alloc: Global, listen: &str, home: &str) -> Result<String, AllocError> {
+    let client = "\"\n[[client]]\naddress = \"10.0.0.1\"\nsecret = \"s\"\n";
+    let name = "[[home]]\nname = \"h1\"\naddress = \"";
+    let secret = "\"\nsecret = \"s\"\n";
+    joined(alloc, &["listen = \"", listen, client, name, home, secret])
+}
+
+fn configuration(alloc: Global, text: &str) -> Result<Config, Fail> {
+    match read_config(alloc, text) {
         Ok(config) => Ok(config),
         Err(_) => Err(Fail::from("a configuration")),
     }
@@ -110,15 +115,15 @@ fn told_of_one(alloc: Global, config: &Config) -> Result<Option<AddressFault>, F
 
 /// Returns the fault of a home server's address, for a proxy that listens on another one.
 fn told_of(alloc: Global, listen: &str, home: &str) -> Result<Option<AddressFault>, Fail> {
-    let config = configuration(alloc, listen, home)?;
+    let text = text_of(alloc, listen, home)?;
+    let config = configuration(alloc, text.as_str())?;
     told_of_one(alloc, &config)
 }
 
 #[test]
 fn each_address_is_judged(rt: HostRuntime) -> Result<(), Fail> {
     for (place, &(listen, home, wanted)) in HOMES.iter().enumerate() {
-        let told = told_of(rt.alloc(), listen, home)?;
-        same(&rt, (place, told), (place, wanted));
+        holds_at(&rt, place, told_of(rt.alloc(), listen, home)? == wanted);
     }
     Ok(())
 }
@@ -175,13 +180,16 @@ fn add_lines(alloc: Global, told: &mut String, config: &Config) -> Result<(), Al
 }
 
 /// Returns the lines for the home servers of a configuration.
-fn lines_of(alloc: Global, text: &str) -> Result<String, Fail> {
-    let Ok(config) = read_config(alloc, text) else {
-        return Err(Fail::from("a configuration"));
-    };
+fn lines_for(alloc: Global, config: &Config) -> Result<String, Fail> {
     let mut told = String::new(alloc);
-    add_lines(alloc, &mut told, &config)?;
+    add_lines(alloc, &mut told, config)?;
     Ok(told)
+}
+
+/// Returns the lines for the home servers of the configuration of a text.
+fn lines_of(alloc: Global, text: &str) -> Result<String, Fail> {
+    let config = configuration(alloc, text)?;
+    lines_for(alloc, &config)
 }
 
 #[test]

@@ -1,24 +1,40 @@
 //! The keys that are not read, and their places.
 
-use crate::comparing::{holds, same};
-use rad_advice::unread_keys;
+use crate::comparing::{holds, holds_at};
+use crate::texts::{Piece, push_pieces, push_times};
+use rad_advice::{UnreadKey, UnreadKeys, unread_keys};
 use std::alloc::{AllocError, Global};
 use std::test::Fail;
 
-/// Returns the lines of a text's keys that are not read, and the number of the others if it is not 0.
-fn printed(alloc: Global, text: &[u8]) -> Result<String, AllocError> {
-    let keys = unread_keys(alloc, text)?;
-    let mut lines = String::new(alloc);
+/// Appends the line of a key.
+fn add_line(alloc: Global, lines: &mut String, key: &UnreadKey) -> Result<(), AllocError> {
+    let line = format!(in alloc; "{key}\n")?;
+    lines.push_str(line.as_str())
+}
+
+/// Appends the lines of keys, and the number of the others if it is not 0.
+fn add_lines(alloc: Global, lines: &mut String, keys: &UnreadKeys) -> Result<(), AllocError> {
     for key in keys.listed() {
-        let line = format!(in alloc; "{key}\n")?;
-        lines.push_str(line.as_str())?;
+        add_line(alloc, lines, key)?;
     }
     if keys.more() > 0 {
-        let more = keys.more();
-        let line = format!(in alloc; "{more} more\n")?;
-        lines.push_str(line.as_str())?;
+        let pieces = [Piece::Number(keys.more()), Piece::Text(" more\n")];
+        push_pieces(alloc, lines, &pieces)?;
     }
-    Ok(lines)
+    Ok(())
+}
+
+/// Whether these lines are printed for keys that are not read.
+fn are_printed(alloc: Global, keys: &UnreadKeys, wanted: &str) -> Result<bool, AllocError> {
+    let mut lines = String::new(alloc);
+    add_lines(alloc, &mut lines, keys)?;
+    Ok(lines.as_str() == wanted)
+}
+
+/// Whether these lines are printed for a text.
+fn prints(alloc: Global, text: &[u8], wanted: &str) -> Result<bool, AllocError> {
+    let keys = unread_keys(alloc, text)?;
+    are_printed(alloc, &keys, wanted)
 }
 
 /// Every key that is read.
@@ -185,46 +201,69 @@ static TEXTS: [(&str, &str); 40] = [
 #[test]
 fn each_key_is_told_with_its_place(rt: HostRuntime) -> Result<(), Fail> {
     for (place, &(text, wanted)) in TEXTS.iter().enumerate() {
-        let told = printed(rt.alloc(), text.as_bytes())?;
-        same(&rt, (place, told.as_str() == wanted), (place, true));
+        holds_at(&rt, place, prints(rt.alloc(), text.as_bytes(), wanted)?);
     }
     Ok(())
 }
 
 #[test]
 fn octets_that_are_no_text_have_no_keys(rt: HostRuntime) -> Result<(), Fail> {
-    let told = printed(rt.alloc(), b"windw = 1\n# \xff\n")?;
-    holds(&rt, told.as_str() == "");
+    holds(&rt, prints(rt.alloc(), b"windw = 1\n# \xff\n", "")?);
     Ok(())
+}
+
+/// Returns the text of a table with so many keys that are not read.
+fn table_of(alloc: Global, count: usize) -> Result<String, AllocError> {
+    let mut text = String::from_str(alloc, "[[home]]\n")?;
+    add_pairs(alloc, &mut text, count)?;
+    Ok(text)
+}
+
+fn add_pairs(alloc: Global, text: &mut String, count: usize) -> Result<(), AllocError> {
+    for number in 0..count {
+        let pair = [
+            Piece::Text("key-"),
+            Piece::Number(number),
+            Piece::Text(" = 1\n"),
+        ];
+        push_pieces(alloc, text, &pair)?;
+    }
+    Ok(())
+}
+
+/// Whether so many keys of a text are listed, and so many more are not.
+fn has_keys(alloc: Global, text: &[u8], listed: usize, more: usize) -> Result<bool, AllocError> {
+    let keys = unread_keys(alloc, text)?;
+    Ok(keys.listed().len() == listed && keys.more() == more)
 }
 
 #[test]
 fn twenty_are_listed(rt: HostRuntime) -> Result<(), Fail> {
-    for (count, more) in [(19, 0), (20, 0), (21, 1), (1000, 980)] {
-        let mut text = String::from_str(rt.alloc(), "[[home]]\n")?;
-        for number in 0..count {
-            let line = format!(in rt.alloc(); "key-{number} = 1\n")?;
-            text.push_str(line.as_str())?;
-        }
-        let keys = unread_keys(rt.alloc(), text.as_bytes())?;
-        let counts = (keys.more(), keys.listed().len());
-        same(&rt, (count, counts), (count, (more, count - more)));
+    for (count, listed, more) in [(19, 19, 0), (20, 20, 0), (21, 20, 1), (1000, 20, 980)] {
+        let text = table_of(rt.alloc(), count)?;
+        holds_at(
+            &rt,
+            count,
+            has_keys(rt.alloc(), text.as_bytes(), listed, more)?,
+        );
     }
     Ok(())
+}
+
+/// Returns a text of 300 tables, and a key behind them that is not read.
+fn many_tables(alloc: Global) -> Result<String, AllocError> {
+    let mut text = String::new(alloc);
+    let table = "[[home]]\nname = \"h[1]\"\nwindow = [ 1, { a = 2 } ]\n";
+    push_times(&mut text, table, 300)?;
+    text.push_str("windw = 3\n")?;
+    Ok(text)
 }
 
 /// A key in the last of 300 tables has its place.
 #[test]
 fn the_last_of_many_is_found(rt: HostRuntime) -> Result<(), Fail> {
-    let mut text = String::new(rt.alloc());
-    for _ in 0..300 {
-        text.push_str("[[home]]\nname = \"h[1]\"\nwindow = [ 1, { a = 2 } ]\n")?;
-    }
-    text.push_str("windw = 3\n")?;
-    let told = printed(rt.alloc(), text.as_bytes())?;
-    holds(
-        &rt,
-        told.as_str() == "home 299 windw at line 901, column 1\n",
-    );
+    let text = many_tables(rt.alloc())?;
+    let line = "home 299 windw at line 901, column 1\n";
+    holds(&rt, prints(rt.alloc(), text.as_bytes(), line)?);
     Ok(())
 }

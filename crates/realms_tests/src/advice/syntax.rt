@@ -1,6 +1,7 @@
 //! The places where texts stop being TOML.
 
-use crate::comparing::{holds, same};
+use crate::comparing::{holds, holds_at};
+use crate::texts::{Piece, push_pieces, push_times};
 use rad_advice::{Place, place_of, syntax_error};
 use std::alloc::{AllocError, Global};
 use std::test::Fail;
@@ -13,6 +14,27 @@ fn printed(alloc: Global, text: &[u8]) -> Result<String, AllocError> {
     }
 }
 
+/// Returns the line of a fault.
+fn line_of(alloc: Global, line: usize, column: usize, message: &str) -> Result<String, AllocError> {
+    let mut text = String::new(alloc);
+    let pieces = [
+        Piece::Text("line "),
+        Piece::Number(line),
+        Piece::Text(", column "),
+        Piece::Number(column),
+        Piece::Text(": "),
+        Piece::Text(message),
+    ];
+    push_pieces(alloc, &mut text, &pieces)?;
+    Ok(text)
+}
+
+/// Returns whether this line is printed for a text.
+fn prints(alloc: Global, text: &[u8], wanted: &str) -> Result<bool, AllocError> {
+    let told = printed(alloc, text)?;
+    Ok(told.as_str() == wanted)
+}
+
 /// Returns whether this message, with this place, is printed for a text.
 fn is_printed(
     alloc: Global,
@@ -21,9 +43,8 @@ fn is_printed(
     column: usize,
     message: &str,
 ) -> Result<bool, AllocError> {
-    let told = printed(alloc, text)?;
-    let wanted = format!(in alloc; "line {line}, column {column}: {message}")?;
-    Ok(told.as_str() == wanted.as_str())
+    let wanted = line_of(alloc, line, column, message)?;
+    prints(alloc, text, wanted.as_str())
 }
 
 const VALUE: &str =
@@ -85,7 +106,7 @@ static FAULTS: [(&[u8], usize, usize, &str); 14] = [
 fn each_fault_has_its_place(rt: HostRuntime) -> Result<(), Fail> {
     for (place, &(text, line, column, message)) in FAULTS.iter().enumerate() {
         let is_right = is_printed(rt.alloc(), text, line, column, message)?;
-        same(&rt, (place, is_right), (place, true));
+        holds_at(&rt, place, is_right);
     }
     Ok(())
 }
@@ -108,7 +129,7 @@ static OCTETS: [(&[u8], usize, usize); 6] = [
 fn octets_that_are_no_text_have_their_place(rt: HostRuntime) -> Result<(), Fail> {
     for (place, &(text, line, column)) in OCTETS.iter().enumerate() {
         let is_right = is_printed(rt.alloc(), text, line, column, "no UTF-8")?;
-        same(&rt, (place, is_right), (place, true));
+        holds_at(&rt, place, is_right);
     }
     Ok(())
 }
@@ -123,8 +144,7 @@ fn nothing_is_told_of_toml(rt: HostRuntime) -> Result<(), Fail> {
         "[[client]]\r\naddress = '10.0.0.1'\r\n",
         "d = 1979-05-27 07:32:00Z\n",
     ] {
-        let told = printed(rt.alloc(), text.as_bytes())?;
-        holds(&rt, told.as_str() == "TOML");
+        holds(&rt, prints(rt.alloc(), text.as_bytes(), "TOML")?);
     }
     Ok(())
 }
@@ -143,27 +163,37 @@ fn places_count_lines_and_characters(rt: HostRuntime) {
         (10, 3, 4),
         (11, 4, 1),
     ] {
-        let given = (offset, place_of(text, offset));
-        same(&rt, given, (offset, Place { line, column }));
+        holds_at(
+            &rt,
+            offset,
+            place_of(text, offset) == Place { line, column },
+        );
+    }
+}
+
+/// Returns a text of 100,000 lines, and one more that is not TOML.
+fn long_text(alloc: Global) -> Result<String, AllocError> {
+    let mut text = String::new(alloc);
+    push_times(&mut text, "# seven\n", 100_000)?;
+    text.push_str("listen = ?")?;
+    Ok(text)
+}
+
+/// Whether a text stops being TOML at this place, since a value is missing.
+fn lacks_a_value_at(alloc: Global, text: &str, place: Place) -> Result<bool, AllocError> {
+    match syntax_error(alloc, text.as_bytes())? {
+        Some(fault) => Ok(fault.place() == place && fault.message() == VALUE),
+        None => Ok(false),
     }
 }
 
 #[test]
 fn a_long_text_has_its_last_place(rt: HostRuntime) -> Result<(), Fail> {
-    let mut text = String::new(rt.alloc());
-    for _ in 0..100_000 {
-        text.push_str("# seven\n")?;
-    }
-    text.push_str("listen = ?")?;
-    let fault = syntax_error(rt.alloc(), text.as_bytes())?;
-    let Some(fault) = fault else {
-        return Err(Fail::from("a fault"));
-    };
+    let text = long_text(rt.alloc())?;
     let last = Place {
         line: 100_001,
         column: 10,
     };
-    same(&rt, fault.place(), last);
-    holds(&rt, fault.message() == VALUE);
+    holds(&rt, lacks_a_value_at(rt.alloc(), text.as_str(), last)?);
     Ok(())
 }

@@ -1,7 +1,7 @@
 //! The results of checking datagrams, and the parts of each.
 
-use super::reading::{configuration, counts_of, lane_of};
-use crate::comparing::{holds, holds_of, same};
+use super::reading::{configuration, configuration_of, has_counts, leads_to};
+use crate::comparing::{holds, holds_of};
 use rad_packet::ReadFault;
 use rad_realms::{
     Checked, CheckedStatus, Config, Dropped, Endpoint, Incoming, LimitNumbers, check_in,
@@ -47,7 +47,7 @@ home = "h1"
 "#;
 
 /// The result for a datagram: the lane of a request, a Status-Server, or the reason to drop it.
-#[derive(Clone, Copy, PartialEq, Eq)]
+#[derive(Clone, Copy, PartialEq)]
 enum Told {
     Lane(u16),
     Status,
@@ -152,6 +152,9 @@ fn each_datagram_has_its_answer(rt: HostRuntime) -> Result<(), Fail> {
     Ok(())
 }
 
+/// The second home server is the default one.
+const DEFAULT: &str = "default_home = \"h2\"\n";
+
 const DEFAULT_ANSWERS: [(&str, [u8; 4], &[u8], Told); 4] = [
     ("no realm", CLIENT, &BARE, Told::Lane(1)),
     ("no name", CLIENT, &NAMELESS, Told::Lane(1)),
@@ -171,11 +174,10 @@ const DEFAULT_ANSWERS: [(&str, [u8; 4], &[u8], Told); 4] = [
 
 #[test]
 fn a_default_home_takes_what_has_no_realm(rt: HostRuntime) -> Result<(), Fail> {
-    let text = format!(in rt.alloc(); "default_home = \"h2\"\n{TEXT}")?;
-    let config = configuration(rt.alloc(), text.as_str())?;
+    let config = configuration_of(rt.alloc(), &[DEFAULT, TEXT])?;
     each_is_told(&rt, &config, DEFAULT_ANSWERS.as_slice());
-    let lanes = (lane_of(&config, None), lane_of(&config, Some(b"a@THIRD")));
-    same(&rt, lanes, (Some(1), Some(0)));
+    holds(&rt, leads_to(&config, None, Some(1)));
+    holds(&rt, leads_to(&config, Some(b"a@THIRD"), Some(0)));
     Ok(())
 }
 
@@ -187,38 +189,31 @@ fn request_of<'a>(config: &'a Config, datagram: &'a [u8]) -> Option<Checked<'a>>
     }
 }
 
-/// Returns the octets of its packet, its client, port and secret, and its realm.
-fn parts_of_request<'a>(
-    request: &'a Checked<'_>,
-) -> (&'a [u8], [u8; 4], u16, &'a [u8], Option<&'a [u8]>) {
-    (
-        request.packet().octets(),
-        request.client(),
-        request.port(),
-        request.secret().octets(),
-        request.realm(),
-    )
-}
-
-/// Checks that a request has these parts.
+/// Whether a request, if there is one, comes from the client at port 40,001 and has these octets, secret and realm.
 fn request_tells(
-    rt: &impl Abort,
-    request: &Checked<'_>,
+    request: Option<&Checked<'_>>,
     octets: &[u8],
     secret: &[u8],
     realm: &[u8],
-) {
-    let wanted = (octets, CLIENT, 40_001, secret, Some(realm));
-    same(rt, parts_of_request(request), wanted);
+) -> bool {
+    match request {
+        Some(request) => {
+            request.packet().octets() == octets
+                && request.client() == CLIENT
+                && request.port() == 40_001
+                && request.secret().octets() == secret
+                && request.realm() == Some(realm)
+        }
+        None => false,
+    }
 }
 
 #[test]
 fn checked_requests_tell_their_parts(rt: HostRuntime) -> Result<(), Fail> {
     let config = configuration(rt.alloc(), TEXT)?;
-    let Some(request) = request_of(&config, &SEVENTH) else {
-        return Err(Fail::from("a request"));
-    };
-    request_tells(&rt, &request, &SEVENTH, b"nas-secret", b"example.org");
+    let request = request_of(&config, &SEVENTH);
+    let is_right = request_tells(request.as_ref(), &SEVENTH, b"nas-secret", b"example.org");
+    holds(&rt, is_right);
     Ok(())
 }
 
@@ -246,8 +241,7 @@ fn rank_of(config: &Config, datagram: &[u8]) -> Option<Option<usize>> {
 
 #[test]
 fn checked_requests_tell_their_ranks(rt: HostRuntime) -> Result<(), Fail> {
-    let text = format!(in rt.alloc(); "default_home = \"h2\"\n{TEXT}{FOURTH}")?;
-    let config = configuration(rt.alloc(), text.as_str())?;
+    let config = configuration_of(rt.alloc(), &[DEFAULT, TEXT, FOURTH])?;
     for (what, datagram, rank) in RANKS {
         holds_of(&rt, what, rank_of(&config, datagram) == Some(rank));
     }
@@ -262,53 +256,20 @@ fn status_of<'a>(config: &'a Config, datagram: &'a [u8]) -> Option<CheckedStatus
     }
 }
 
-/// Returns the octets of its packet, and its secret.
-fn parts_of_status<'a>(status: &'a CheckedStatus<'_>) -> (&'a [u8], &'a [u8]) {
-    (status.packet().octets(), status.secret().octets())
-}
-
-/// Checks that a Status-Server has these parts.
-fn status_tells(rt: &impl Abort, status: &CheckedStatus<'_>, octets: &[u8], secret: &[u8]) {
-    same(rt, parts_of_status(status), (octets, secret));
+/// Whether a Status-Server, if there is one, has these octets and this secret.
+fn status_tells(status: Option<&CheckedStatus<'_>>, octets: &[u8], secret: &[u8]) -> bool {
+    match status {
+        Some(status) => { status.packet().octets() == octets && status.secret().octets() == secret }
+        None => false,
+    }
 }
 
 #[test]
 fn checked_statuses_tell_their_parts(rt: HostRuntime) -> Result<(), Fail> {
     let config = configuration(rt.alloc(), TEXT)?;
-    let Some(status) = status_of(&config, &STATUS) else {
-        return Err(Fail::from("a Status-Server"));
-    };
-    status_tells(&rt, &status, &STATUS, b"nas-secret");
+    let status = status_of(&config, &STATUS);
+    holds(&rt, status_tells(status.as_ref(), &STATUS, b"nas-secret"));
     Ok(())
-}
-
-/// Returns where the configuration listens, and its `linger`.
-fn top_of(config: &Config) -> (Endpoint, u32) {
-    (config.listen(), config.linger())
-}
-
-/// Returns the address and secret of the client with an address.
-fn client_of(config: &Config, address: [u8; 4]) -> Option<([u8; 4], &[u8])> {
-    let client = config.client_of(address)?;
-    Some((client.address(), client.secret().octets()))
-}
-
-/// Returns the name, address, port and secret of a lane's home server, and the numbers of its limits.
-fn home_of(config: &Config, lane: usize) -> Option<(&str, [u8; 4], u16, &[u8], LimitNumbers)> {
-    let home = config.homes().get(lane)?;
-    Some((
-        home.name(),
-        home.address(),
-        home.port(),
-        home.secret().octets(),
-        home.limits().numbers(),
-    ))
-}
-
-/// Returns the name and lane of the realm at an index.
-fn realm_at(config: &Config, place: usize) -> Option<(&str, u16)> {
-    let realm = config.realms().get(place)?;
-    Some((realm.name(), realm.lane()))
 }
 
 const LISTEN: Endpoint = Endpoint {
@@ -329,29 +290,44 @@ const SECOND_NUMBERS: LimitNumbers = LimitNumbers {
     ports: 4,
 };
 
-/// Checks the address and secret of the second client of the configuration.
-fn client_tells(rt: &impl Abort, config: &Config, address: [u8; 4], secret: &[u8]) {
-    same(rt, client_of(config, address), Some((address, secret)));
+/// Whether the client of an address has this secret.
+fn client_tells(config: &Config, address: [u8; 4], secret: &[u8]) -> bool {
+    match config.client_of(address) {
+        Some(client) => client.address() == address && client.secret().octets() == secret,
+        None => false,
+    }
 }
 
-/// Checks the parts of the second home server of the configuration.
-fn home_tells(rt: &impl Abort, config: &Config, name: &str, secret: &[u8]) {
-    let wanted = (name, [127, 0, 0, 2], 65_535, secret, SECOND_NUMBERS);
-    same(rt, home_of(config, 1), Some(wanted));
+/// Whether the second home server of the configuration has this name and secret, and its address, port and numbers.
+fn home_tells(config: &Config, name: &str, secret: &[u8]) -> bool {
+    match config.homes().get(1) {
+        Some(home) => {
+            home.name() == name
+                && home.address() == [127, 0, 0, 2]
+                && home.port() == 65_535
+                && home.secret().octets() == secret
+                && home.limits().numbers() == SECOND_NUMBERS
+        }
+        None => false,
+    }
 }
 
-/// Checks the name and lane of the second realm of the configuration.
-fn realm_tells(rt: &impl Abort, config: &Config, name: &str) {
-    same(rt, realm_at(config, 1), Some((name, 1)));
+/// Whether the second realm of the configuration has this name, and leads to the second lane.
+fn realm_tells(config: &Config, name: &str) -> bool {
+    match config.realms().get(1) {
+        Some(realm) => realm.name() == name && realm.lane() == 1,
+        None => false,
+    }
 }
 
 #[test]
 fn a_configuration_tells_its_parts(rt: HostRuntime) -> Result<(), Fail> {
     let config = configuration(rt.alloc(), TEXT)?;
-    same(&rt, top_of(&config), (LISTEN, 0));
-    same(&rt, counts_of(&config), (2, 2, 3));
-    client_tells(&rt, &config, [9, 255, 0, 1], b"other-secret");
-    home_tells(&rt, &config, "h2", b"second-secret");
-    realm_tells(&rt, &config, "Example.org");
+    holds(&rt, config.listen() == LISTEN);
+    holds(&rt, config.linger() == 0);
+    holds(&rt, has_counts(&config, 2, 2, 3));
+    holds(&rt, client_tells(&config, [9, 255, 0, 1], b"other-secret"));
+    holds(&rt, home_tells(&config, "h2", b"second-secret"));
+    holds(&rt, realm_tells(&config, "Example.org"));
     Ok(())
 }

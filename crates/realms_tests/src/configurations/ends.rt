@@ -1,19 +1,13 @@
 //! Texts at both ends of their ranges, and faults after the first tables.
 
-use super::faults::{CLIENT, HOME, TOP, prints};
-use super::reading::{push_each, push_times};
-use crate::comparing::same;
+use super::faults::{CLIENT, HOME, TOP};
+use super::reading::prints;
+use crate::comparing::holds_at;
+use crate::texts::{joined, push_times};
 use std::alloc::{AllocError, Global};
 use std::test::Fail;
 
-/// Returns the text of a configuration with one client and one home server.
-fn one_of_each(alloc: Global) -> Result<String, AllocError> {
-    let mut text = String::new(alloc);
-    push_each(&mut text, &[TOP, CLIENT, HOME])?;
-    Ok(text)
-}
-
-/// Returns that text, followed by a part: `before`, the unit `count` times, and `behind`.
+/// Returns the text of a configuration with one client and one home server, followed by a part: `before`, the unit `count` times, and `behind`.
 fn text_of(
     alloc: Global,
     before: &str,
@@ -21,8 +15,7 @@ fn text_of(
     count: u32,
     behind: &str,
 ) -> Result<String, AllocError> {
-    let mut text = one_of_each(alloc)?;
-    text.push_str(before)?;
+    let mut text = joined(alloc, &[TOP, CLIENT, HOME, before])?;
     push_times(&mut text, unit, count)?;
     text.push_str(behind)?;
     Ok(text)
@@ -124,12 +117,23 @@ static ENDS: [(&str, &str, u32, &str); 36] = [
     (THIRD_REALM, "name = \"c\"\nhome = \"h1", 1, "read"),
 ];
 
+/// Whether this is printed for the text of a row.
+fn end_prints(
+    alloc: Global,
+    before: &str,
+    unit: &str,
+    count: u32,
+    wanted: &str,
+) -> Result<bool, AllocError> {
+    let text = text_of(alloc, before, unit, count, "\"\n")?;
+    prints(alloc, text.as_str(), wanted)
+}
+
 #[test]
 fn each_text_at_both_ends(rt: HostRuntime) -> Result<(), Fail> {
     for (place, &(before, unit, count, wanted)) in ENDS.iter().enumerate() {
-        let text = text_of(rt.alloc(), before, unit, count, "\"\n")?;
-        let is_right = prints(rt.alloc(), text.as_str(), wanted)?;
-        same(&rt, (place, is_right), (place, true));
+        let is_right = end_prints(rt.alloc(), before, unit, count, wanted)?;
+        holds_at(&rt, place, is_right);
     }
     Ok(())
 }

@@ -1,7 +1,8 @@
 //! The faults of faulty texts.
 
-use super::reading::{printed, push_each};
+use super::reading::prints;
 use crate::comparing::holds_of;
+use crate::texts::{joined, push_each};
 use std::alloc::{AllocError, Global};
 use std::process::Abort;
 use std::test::Fail;
@@ -15,25 +16,6 @@ pub const HOME: &str =
 
 const REALM: &str = "[[realm]]\nname = \"example.org\"\nhome = \"h1\"\n";
 
-/// Returns the text that these pieces make.
-fn text_of(
-    alloc: Global,
-    before: &[&str],
-    part: &str,
-    after: &[&str],
-) -> Result<String, AllocError> {
-    let mut text = String::new(alloc);
-    push_each(&mut text, before)?;
-    text.push_str(part)?;
-    push_each(&mut text, after)?;
-    Ok(text)
-}
-
-/// Whether this is printed for a text.
-pub fn prints(alloc: Global, text: &str, wanted: &str) -> Result<bool, AllocError> {
-    Ok(printed(alloc, text)?.as_str() == wanted)
-}
-
 /// Checks what is printed for the first text of each row, between `before` and `after`.
 fn each_prints(
     rt: &impl Abort,
@@ -43,10 +25,34 @@ fn each_prints(
     after: &[&str],
 ) -> Result<(), Fail> {
     for (part, wanted) in rows {
-        let text = text_of(alloc, before, part, after)?;
-        holds_of(rt, part, prints(alloc, text.as_str(), wanted)?);
+        holds_of(rt, part, part_prints(alloc, before, part, after, wanted)?);
     }
     Ok(())
+}
+
+/// Whether this is printed for a part between `before` and `after`.
+fn part_prints(
+    alloc: Global,
+    before: &[&str],
+    part: &str,
+    after: &[&str],
+    wanted: &str,
+) -> Result<bool, AllocError> {
+    let text = text_of(alloc, before, part, after)?;
+    prints(alloc, text.as_str(), wanted)
+}
+
+/// Returns the text that these pieces make.
+fn text_of(
+    alloc: Global,
+    before: &[&str],
+    part: &str,
+    after: &[&str],
+) -> Result<String, AllocError> {
+    let mut text = joined(alloc, before)?;
+    text.push_str(part)?;
+    push_each(&mut text, after)?;
+    Ok(text)
 }
 
 /// A whole configuration that is written with inline tables.
@@ -272,46 +278,51 @@ fn faults_of_a_realm(rt: HostRuntime) -> Result<(), Fail> {
     )
 }
 
-/// Checks that a home server's number is read, or is out of range.
-fn number_prints(
+/// Each limit with four numbers: one below its range, the ends of the range, and one above it.
+const LIMITS: [(&str, [&str; 4]); 10] = [
+    ("ports", ["0", "1", "4", "5"]),
+    ("window", ["0", "1", "254", "255"]),
+    ("queue", ["0", "1", "65536", "65537"]),
+    ("book", ["0", "1", "1000000", "1000001"]),
+    ("tries", ["0", "1", "10", "11"]),
+    ("first_wait", ["99", "100", "60000", "60001"]),
+    ("probe_every", ["999", "1000", "600000", "600001"]),
+    ("down_wait", ["999", "1000", "3600000", "3600001"]),
+    ("span", ["-1", "0", "600000", "600001"]),
+    ("ring", ["0", "1", "4096", "4097"]),
+];
+
+/// Checks what is printed for a home server whose limit of this key is a number.
+fn limit_prints(
     rt: &impl Abort,
     alloc: Global,
     key: &str,
-    number: i32,
+    number: &str,
     wanted: &str,
 ) -> Result<(), Fail> {
-    let part = format!(in alloc; "{key} = {number}")?;
-    each_prints(
-        rt,
-        alloc,
-        &[TOP, CLIENT, HOME],
-        &[(part.as_str(), wanted)],
-        &["\n", REALM],
-    )
+    let before = [TOP, CLIENT, HOME, key, " = "];
+    each_prints(rt, alloc, &before, &[(number, wanted)], &["\n", REALM])
 }
 
-/// Each limit with four numbers: one below its range, the ends of the range, and one above it.
-const LIMITS: [(&str, [i32; 4]); 10] = [
-    ("ports", [0, 1, 4, 5]),
-    ("window", [0, 1, 254, 255]),
-    ("queue", [0, 1, 65_536, 65_537]),
-    ("book", [0, 1, 1_000_000, 1_000_001]),
-    ("tries", [0, 1, 10, 11]),
-    ("first_wait", [99, 100, 60_000, 60_001]),
-    ("probe_every", [999, 1000, 600_000, 600_001]),
-    ("down_wait", [999, 1000, 3_600_000, 3_600_001]),
-    ("span", [-1, 0, 600_000, 600_001]),
-    ("ring", [0, 1, 4096, 4097]),
-];
+/// Checks that the two numbers in the middle are read, and that the others are out of range.
+fn limit_has_ends(
+    rt: &impl Abort,
+    alloc: Global,
+    key: &str,
+    [below, least, most, above]: [&str; 4],
+    fault: &str,
+) -> Result<(), Fail> {
+    limit_prints(rt, alloc, key, below, fault)?;
+    limit_prints(rt, alloc, key, least, "read")?;
+    limit_prints(rt, alloc, key, most, "read")?;
+    limit_prints(rt, alloc, key, above, fault)
+}
 
 #[test]
 fn each_limit_at_both_ends(rt: HostRuntime) -> Result<(), Fail> {
-    for (key, [below, least, most, above]) in LIMITS {
-        let fault = format!(in rt.alloc(); "OutOfRange at home 0 {key}")?;
-        number_prints(&rt, rt.alloc(), key, below, fault.as_str())?;
-        number_prints(&rt, rt.alloc(), key, least, "read")?;
-        number_prints(&rt, rt.alloc(), key, most, "read")?;
-        number_prints(&rt, rt.alloc(), key, above, fault.as_str())?;
+    for (key, numbers) in LIMITS {
+        let fault = joined(rt.alloc(), &["OutOfRange at home 0 ", key])?;
+        limit_has_ends(&rt, rt.alloc(), key, numbers, fault.as_str())?;
     }
     Ok(())
 }

@@ -1,24 +1,9 @@
-//! Writing texts and reading configurations in tests.
+//! Reading configurations in tests.
 
+use crate::texts::joined;
 use rad_realms::{Config, read_config};
 use std::alloc::{AllocError, Global};
 use std::test::Fail;
-
-/// Appends these pieces to a text.
-pub fn push_each(text: &mut String, pieces: &[&str]) -> Result<(), AllocError> {
-    for piece in pieces {
-        text.push_str(piece)?;
-    }
-    Ok(())
-}
-
-/// Appends a unit to a text `count` times.
-pub fn push_times(text: &mut String, unit: &str, count: u32) -> Result<(), AllocError> {
-    for _ in 0..count {
-        text.push_str(unit)?;
-    }
-    Ok(())
-}
 
 /// Returns the configuration of a text.
 pub fn configuration(alloc: Global, text: &str) -> Result<Config, Fail> {
@@ -28,24 +13,34 @@ pub fn configuration(alloc: Global, text: &str) -> Result<Config, Fail> {
     }
 }
 
+/// Returns the configuration of the text that these pieces make.
+pub fn configuration_of(alloc: Global, pieces: &[&str]) -> Result<Config, Fail> {
+    let text = joined(alloc, pieces)?;
+    configuration(alloc, text.as_str())
+}
+
 /// Returns what is printed for a text: its first fault, or `read`.
-pub fn printed(alloc: Global, text: &str) -> Result<String, AllocError> {
+fn printed(alloc: Global, text: &str) -> Result<String, AllocError> {
     match read_config(alloc, text) {
         Ok(_) => String::from_str(alloc, "read"),
         Err(fault) => format!(in alloc; "{fault}"),
     }
 }
 
-/// Returns the numbers of clients, home servers and realms of a configuration.
-pub fn counts_of(config: &Config) -> (usize, usize, usize) {
-    (
-        config.clients().len(),
-        config.homes().len(),
-        config.realms().len(),
-    )
+/// Whether this is printed for a text.
+pub fn prints(alloc: Global, text: &str, wanted: &str) -> Result<bool, AllocError> {
+    let text = printed(alloc, text)?;
+    Ok(text.as_str() == wanted)
 }
 
-/// Returns the lane that a User-Name leads to.
-pub fn lane_of(config: &Config, user_name: Option<&[u8]>) -> Option<u16> {
-    config.lane_of(user_name)
+/// Whether a configuration has these numbers of clients, home servers and realms.
+pub fn has_counts(config: &Config, clients: usize, homes: usize, realms: usize) -> bool {
+    config.clients().len() == clients
+        && config.homes().len() == homes
+        && config.realms().len() == realms
+}
+
+/// Whether a User-Name leads to this lane, or to none.
+pub fn leads_to(config: &Config, user_name: Option<&[u8]>, lane: Option<u16>) -> bool {
+    config.lane_of(user_name) == lane
 }

@@ -1,68 +1,97 @@
 //! The largest configuration, and those that have one table more.
 
-use super::faults::prints;
-use super::reading::{configuration, counts_of, lane_of, push_times};
-use crate::comparing::{holds, holds_of, same};
+use super::reading::{configuration, has_counts, leads_to, prints};
+use crate::comparing::{holds, holds_at, holds_of};
+use crate::texts::{Piece, push_pieces, push_times};
 use rad_realms::Config;
 use std::alloc::{AllocError, Global};
 use std::process::Abort;
 use std::test::Fail;
 
 /// Appends `count` clients to a text.
-fn add_clients(alloc: Global, text: &mut String, count: u32) -> Result<(), AllocError> {
+fn add_clients(alloc: Global, text: &mut String, count: usize) -> Result<(), AllocError> {
     for i in 0..count {
-        let client = format!(in alloc;
-            "[[client]]\naddress = \"10.0.{}.{}\"\nsecret = \"s{i}\"\n",
-            i / 256,
-            i % 256
-        )?;
-        text.push_str(client.as_str())?;
+        let client = [
+            Piece::Text("[[client]]\naddress = \"10.0."),
+            Piece::Number(i / 256),
+            Piece::Text("."),
+            Piece::Number(i % 256),
+            Piece::Text("\"\nsecret = \"s"),
+            Piece::Number(i),
+            Piece::Text("\"\n"),
+        ];
+        push_pieces(alloc, text, &client)?;
     }
     Ok(())
 }
 
 /// Appends `count` home servers to a text.
-fn add_homes(alloc: Global, text: &mut String, count: u32) -> Result<(), AllocError> {
+fn add_homes(alloc: Global, text: &mut String, count: usize) -> Result<(), AllocError> {
     for i in 0..count {
-        let home = format!(in alloc;
-            "[[home]]\nname = \"h{i}\"\naddress = \"127.0.0.1:2813\"\nsecret = \"s\"\n"
-        )?;
-        text.push_str(home.as_str())?;
+        let home = [
+            Piece::Text("[[home]]\nname = \"h"),
+            Piece::Number(i),
+            Piece::Text("\"\naddress = \"127.0.0.1:2813\"\nsecret = \"s\"\n"),
+        ];
+        push_pieces(alloc, text, &home)?;
     }
     Ok(())
 }
 
 /// Appends `count` realms to a text.
-fn add_realms(alloc: Global, text: &mut String, count: u32) -> Result<(), AllocError> {
+fn add_realms(alloc: Global, text: &mut String, count: usize) -> Result<(), AllocError> {
     for i in 0..count {
-        let realm = format!(in alloc; "[[realm]]\nname = \"R{i}\"\nhome = \"h{}\"\n", i % 64)?;
-        text.push_str(realm.as_str())?;
+        let realm = [
+            Piece::Text("[[realm]]\nname = \"R"),
+            Piece::Number(i),
+            Piece::Text("\"\nhome = \"h"),
+            Piece::Number(i % 64),
+            Piece::Text("\"\n"),
+        ];
+        push_pieces(alloc, text, &realm)?;
     }
     Ok(())
 }
 
 /// Returns the text of a configuration with these numbers of clients, home servers and realms.
-fn text_of(alloc: Global, clients: u32, homes: u32, realms: u32) -> Result<String, AllocError> {
+fn text_of(
+    alloc: Global,
+    clients: usize,
+    homes: usize,
+    realms: usize,
+) -> Result<String, AllocError> {
     let mut text = String::from_str(alloc, "listen = \"127.0.0.1:1813\"\n")?;
-    add_clients(alloc, &mut text, clients)?;
-    add_homes(alloc, &mut text, homes)?;
-    add_realms(alloc, &mut text, realms)?;
+    add_tables(alloc, &mut text, clients, homes, realms)?;
     Ok(text)
 }
 
-/// Returns the address of the client with an address.
-fn found_at(config: &Config, address: [u8; 4]) -> Option<[u8; 4]> {
-    let client = config.client_of(address)?;
-    Some(client.address())
+/// Appends these numbers of clients, home servers and realms to a text.
+fn add_tables(
+    alloc: Global,
+    text: &mut String,
+    clients: usize,
+    homes: usize,
+    realms: usize,
+) -> Result<(), AllocError> {
+    add_clients(alloc, text, clients)?;
+    add_homes(alloc, text, homes)?;
+    add_realms(alloc, text, realms)
+}
+
+/// Whether the configuration has a client with this address.
+fn has_client(config: &Config, address: [u8; 4]) -> bool {
+    match config.client_of(address) {
+        Some(client) => client.address() == address,
+        None => false,
+    }
 }
 
 /// Checks that each of 256 clients is found, and that one more is not.
 fn each_client_is_found(rt: &impl Abort, config: &Config) {
     for i in 0..=255u8 {
-        let address = [10, 0, 0, i];
-        same(rt, found_at(config, address), Some(address));
+        holds_at(rt, usize::from(i), has_client(config, [10, 0, 0, i]));
     }
-    same(rt, found_at(config, [10, 0, 1, 0]), None);
+    holds(rt, config.client_of([10, 0, 1, 0]).is_none());
 }
 
 /// Checks that each of 256 realms leads to its lane.
@@ -71,18 +100,29 @@ fn each_realm_leads_to_its_lane(
     alloc: Global,
     config: &Config,
 ) -> Result<(), AllocError> {
-    for i in 0..256u32 {
-        let name = format!(in alloc; "someone@r{i}")?;
-        let lane = (i % 64) as u16;
-        same(rt, lane_of(config, Some(name.as_bytes())), Some(lane));
+    for i in 0..256 {
+        holds_at(rt, i, realm_leads_to_its_lane(alloc, config, i)?);
     }
     Ok(())
 }
 
+/// Whether the realm of this number leads to its lane.
+fn realm_leads_to_its_lane(
+    alloc: Global,
+    config: &Config,
+    number: usize,
+) -> Result<bool, AllocError> {
+    let mut name = String::new(alloc);
+    let pieces = [Piece::Text("someone@r"), Piece::Number(number)];
+    push_pieces(alloc, &mut name, &pieces)?;
+    let lane = Some((number % 64) as u16);
+    Ok(leads_to(config, Some(name.as_bytes()), lane))
+}
+
 /// Checks that no realm is found after the last one, and none for a User-Name of 255 times `@`.
 fn no_other_is_found(rt: &impl Abort, config: &Config) {
-    same(rt, lane_of(config, Some(b"someone@r256")), None);
-    same(rt, lane_of(config, Some(&[b'@'; 255])), None);
+    holds(rt, leads_to(config, Some(b"someone@r256"), None));
+    holds(rt, leads_to(config, Some(&[b'@'; 255]), None));
 }
 
 /// Returns the largest configuration.
@@ -94,14 +134,14 @@ fn largest(alloc: Global) -> Result<Config, Fail> {
 #[test]
 fn the_largest_configuration_is_read(rt: HostRuntime) -> Result<(), Fail> {
     let config = largest(rt.alloc())?;
-    same(&rt, counts_of(&config), (256, 64, 256));
+    holds(&rt, has_counts(&config, 256, 64, 256));
     each_client_is_found(&rt, &config);
     no_other_is_found(&rt, &config);
     Ok(each_realm_leads_to_its_lane(&rt, rt.alloc(), &config)?)
 }
 
 /// The numbers of clients, home servers and realms of a text, the text that follows them, and what is printed.
-const SIZES: [(u32, u32, u32, &str, &str); 6] = [
+const SIZES: [(usize, usize, usize, &str, &str); 6] = [
     (257, 64, 256, "", "TooMany at top client"),
     (256, 65, 256, "", "TooMany at top home"),
     (256, 64, 257, "", "TooMany at top realm"),
@@ -132,10 +172,21 @@ const SIZES: [(u32, u32, u32, &str, &str); 6] = [
 fn faults_of_the_last_and_of_one_too_many(rt: HostRuntime) -> Result<(), Fail> {
     for (clients, homes, realms, more, wanted) in SIZES {
         let mut text = text_of(rt.alloc(), clients, homes, realms)?;
-        text.push_str(more)?;
-        holds_of(&rt, wanted, prints(rt.alloc(), text.as_str(), wanted)?);
+        let is_right = prints_behind(rt.alloc(), &mut text, more, wanted);
+        holds_of(&rt, wanted, is_right?);
     }
     Ok(())
+}
+
+/// Whether this is printed for a text that goes on with more.
+fn prints_behind(
+    alloc: Global,
+    text: &mut String,
+    more: &str,
+    wanted: &str,
+) -> Result<bool, AllocError> {
+    text.push_str(more)?;
+    prints(alloc, text.as_str(), wanted)
 }
 
 #[test]

@@ -2,7 +2,7 @@
 
 use super::secret_of;
 use super::vectors::REQUEST;
-use crate::comparing::{holds, same};
+use crate::comparing::holds;
 use md5::{Digest, Md5};
 use rad_auth::{Secret, SecretFault, hmac_md5, request_authenticator};
 use rad_packet::read;
@@ -20,42 +20,30 @@ const SHORT: &[u8] = b"Test Using Larger Than Block-Size Key - Hash Key First";
 
 const LONG: &[u8] = b"Test Using Larger Than Block-Size Key and Larger Than One Block-Size Data";
 
-fn hmac_is(rt: &impl Abort, key: &[u8], text: &[u8], digest: u128) {
-    holds(rt, hmac_md5(key, text) == digest.to_be_bytes());
-}
+/// The test cases of RFC 2202 section 2, all seven: the key, the text and the digest.
+const HMACS: [(&[u8], &[u8], u128); 7] = [
+    (&[0x0b; 16], b"Hi There", 0x9294727a3638bb1c13f48ef8158bfc9d),
+    (
+        b"Jefe",
+        b"what do ya want for nothing?",
+        0x750c783e6ab0b503eaa86e310a5db738,
+    ),
+    (&[0xaa; 16], &[0xdd; 50], 0x56be34521d144c88dbb8c733f0e8b3f6),
+    (&COUNTING, &[0xcd; 50], 0x697eaf0aca3a3aea3a75164746ffaa79),
+    (
+        &[0x0c; 16],
+        b"Test With Truncation",
+        0x56461ef2342edc00f9bab995690efd4c,
+    ),
+    (&[0xaa; 80], SHORT, 0x6b1ab7fe4bd7bf8f0b62e6ce61b9d0cd),
+    (&[0xaa; 80], LONG, 0x6f630fad67cda0ee1fb1f562db3aa53e),
+];
 
-/// The test cases of RFC 2202 section 2, all seven.
 #[test]
 fn hmac_md5_of_rfc_2202(rt: HostRuntime) {
-    let question: &[u8] = b"what do ya want for nothing?";
-    let truncated: &[u8] = b"Test With Truncation";
-    hmac_is(
-        &rt,
-        &[0x0b; 16],
-        b"Hi There",
-        0x9294727a3638bb1c13f48ef8158bfc9d,
-    );
-    hmac_is(&rt, b"Jefe", question, 0x750c783e6ab0b503eaa86e310a5db738);
-    hmac_is(
-        &rt,
-        &[0xaa; 16],
-        &[0xdd; 50],
-        0x56be34521d144c88dbb8c733f0e8b3f6,
-    );
-    hmac_is(
-        &rt,
-        &COUNTING,
-        &[0xcd; 50],
-        0x697eaf0aca3a3aea3a75164746ffaa79,
-    );
-    hmac_is(
-        &rt,
-        &[0x0c; 16],
-        truncated,
-        0x56461ef2342edc00f9bab995690efd4c,
-    );
-    hmac_is(&rt, &[0xaa; 80], SHORT, 0x6b1ab7fe4bd7bf8f0b62e6ce61b9d0cd);
-    hmac_is(&rt, &[0xaa; 80], LONG, 0x6f630fad67cda0ee1fb1f562db3aa53e);
+    for (key, text, digest) in HMACS {
+        holds(&rt, hmac_md5(key, text) == digest.to_be_bytes());
+    }
 }
 
 fn md5_is(rt: &impl Abort, text: &[u8], digest: u128) {
@@ -70,7 +58,7 @@ fn md5_of_rfc_1321(rt: HostRuntime) {
 }
 
 fn is_refused(rt: &impl Abort, octets: &[u8], fault: SecretFault) {
-    same(rt, Secret::new(octets).err(), Some(fault));
+    holds(rt, Secret::new(octets).err() == Some(fault));
 }
 
 fn is_kept(rt: &impl Abort, octets: &[u8]) -> Result<(), Fail> {

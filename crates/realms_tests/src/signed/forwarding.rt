@@ -2,7 +2,7 @@
 
 use super::vectors::{FORWARDED, LONG_AUTHENTICATOR, REQUEST};
 use super::{CLIENT, HOME, MARK, secret_of};
-use crate::comparing::{holds, same};
+use crate::comparing::holds;
 use rad_auth::{ACCOUNTING_REQUEST, Secret, check_request, forward, sign};
 use rad_packet::{Datagram, PacketRef, WriteFault, read};
 use std::alloc::Global;
@@ -19,14 +19,9 @@ fn requests_are_checked(rt: HostRuntime) -> Result<(), Fail> {
 
 /// Returns REQUEST as it is forwarded with an Identifier, under a secret.
 fn forwarded(identifier: u8, secret: &[u8]) -> Result<Datagram, Fail> {
+    let (request, secret) = (read(&REQUEST)?, secret_of(secret)?);
     let mut datagram = Datagram::new();
-    forward(
-        &read(&REQUEST)?,
-        MARK,
-        identifier,
-        &secret_of(secret)?,
-        &mut datagram,
-    )?;
+    forward(&request, MARK, identifier, &secret, &mut datagram)?;
     Ok(datagram)
 }
 
@@ -57,9 +52,8 @@ fn requests_are_signed(rt: HostRuntime) -> Result<(), Fail> {
     Ok(())
 }
 
-/// Returns a request that leaves room for the mark and 212 octets more.
-fn long_request() -> Result<Datagram, Fail> {
-    let mut request = Datagram::new();
+/// Writes a request that leaves room for the mark and 212 octets more.
+fn write_long(request: &mut Datagram) -> Result<(), Fail> {
     request.begin(ACCOUNTING_REQUEST, 7, [0; 16]);
     request.push(1, b"bob@example.org")?;
     request.push(40, &[0, 0, 0, 1])?;
@@ -67,18 +61,30 @@ fn long_request() -> Result<Datagram, Fail> {
     for octet in b'A'..b'P' {
         request.push(25, &[octet; 253])?;
     }
+    Ok(())
+}
+
+/// Returns it with one more attribute, a Class with a Value of `room` octets.
+fn long_request(room: usize) -> Result<Datagram, Fail> {
+    let mut request = Datagram::new();
+    write_long_with(&mut request, room)?;
     Ok(request)
 }
 
-/// Forwards it with one more attribute, a Class with a Value of `room` octets.
+fn write_long_with(request: &mut Datagram, room: usize) -> Result<(), Fail> {
+    write_long(request)?;
+    let class = [b'Z'; 253];
+    request.push(25, class.get(..room).ok_or("too much room")?)?;
+    Ok(())
+}
+
+/// Forwards that request.
 fn forward_with(
     room: usize,
     home: &Secret,
     datagram: &mut Datagram,
 ) -> Result<Result<(), WriteFault>, Fail> {
-    let mut request = long_request()?;
-    let class = [b'Z'; 253];
-    request.push(25, class.get(..room).ok_or("too much room")?)?;
+    let request = long_request(room)?;
     Ok(forward(&request.packet(), MARK, 0xa5, home, datagram))
 }
 
@@ -86,15 +92,25 @@ fn has_long_authenticator(packet: &PacketRef<'_>) -> bool {
     packet.octets().len() == 4096 && packet.authenticator() == LONG_AUTHENTICATOR
 }
 
+/// Whether a request that is longer by an octet is refused, and leaves the datagram as it was.
+fn one_more_is_refused(home: &Secret, datagram: &mut Datagram) -> Result<bool, Fail> {
+    let before = datagram.copy();
+    let refused = forward_with(211, home, datagram);
+    let is_same = datagram.bytes() == before.bytes();
+    Ok(refused? == Err(WriteFault::PacketTooLong) && is_same)
+}
+
+/// Forwards the longest request.
+fn fits(rt: &impl Abort, home: &Secret, datagram: &mut Datagram) -> Result<(), Fail> {
+    holds(rt, forward_with(210, home, datagram)?.is_ok());
+    holds(rt, has_long_authenticator(&datagram.packet()));
+    holds(rt, one_more_is_refused(home, datagram)?);
+    Ok(())
+}
+
 #[test]
 fn the_longest_request_fits(rt: HostRuntime) -> Result<(), Fail> {
     let home = secret_of(HOME)?;
     let mut datagram = Datagram::new();
-    same(&rt, forward_with(210, &home, &mut datagram)?, Ok(()));
-    holds(&rt, has_long_authenticator(&datagram.packet()));
-    let before = datagram.copy();
-    let refused = forward_with(211, &home, &mut datagram)?;
-    same(&rt, refused, Err(WriteFault::PacketTooLong));
-    holds(&rt, datagram.bytes() == before.bytes());
-    Ok(())
+    fits(&rt, &home, &mut datagram)
 }
