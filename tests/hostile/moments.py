@@ -14,6 +14,7 @@ import random
 import re
 import resource
 import select
+import signal
 import sys
 import time
 
@@ -158,11 +159,18 @@ class Wakes:
         self.file = pathlib.Path(folder, "wakes")
         self.variables = {"LD_PRELOAD": built(folder, "wakes"), "WAKES_FILE": str(self.file), "RECEIVE_MILLISECONDS": str(milliseconds)}
 
+    def numbers(self):
+        octets = self.file.read_bytes()
+        return [int.from_bytes(octets[at : at + 8], sys.byteorder) for at in range(0, len(octets), 8)]
+
     def counts(self):
         """How many receives there were, and wakes, and waits that ended without an event, by the millisecond of twenty."""
-        octets = self.file.read_bytes()
-        receives, wakes, *ends = (int.from_bytes(octets[at : at + 8], sys.byteorder) for at in range(0, len(octets), 8))
+        receives, wakes, _, *ends = self.numbers()
         return receives, wakes, ends
+
+    def together(self):
+        """How many sends there were of a worker that received no datagram since its last send."""
+        return self.numbers()[2]
 
     def during(self, seconds):
         """How many there were of each in so many seconds."""
@@ -266,6 +274,70 @@ def requests_that_come_together_wake_a_lane_once_for_eight(program, folder):
             return after - before
 
         best(woken, lambda count: 3 <= count <= 8)
+
+
+@contextlib.contextmanager
+def stopped(stage):
+    """Stops the program, and lets it go on at the end."""
+    os.kill(stage.proxy.ran.pid, signal.SIGSTOP)
+    try:
+        yield
+    finally:
+        os.kill(stage.proxy.ran.pid, signal.SIGCONT)
+
+
+def what_a_lane_sends_while_replies_come_goes_together(program, folder):
+    """Eight requests are outstanding and eight wait, and eight replies come at once. The lane sends the next eight behind each other,
+    with no receive in between, and so does the front the eight responses: of these sixteen sends most follow another one."""
+    wakes = Wakes(folder)
+    with Stage(program, folder, "window = 8\n", variables=wakes.variables) as stage:
+        stage.round_trip()
+
+        def together():
+            for _ in range(16):
+                stage.nas.ask()
+            came = [stage.came() for _ in range(8)]
+            before = wakes.together()
+            with stopped(stage):
+                for packet, sender in came:
+                    stage.homes[0].answer(packet, sender)
+            came = [stage.came() for _ in range(8)]
+            for _ in range(8):
+                stage.nas.socket.recv(4096)
+            after = wakes.together()
+            for packet, sender in came:
+                stage.homes[0].answer(packet, sender)
+            for _ in range(8):
+                stage.nas.socket.recv(4096)
+            return after - before
+
+        best(together, lambda count: count >= 11)
+
+
+def a_send_that_fails_is_told_with_its_own_destination(program, folder):
+    """The first two sends of the front fail. They go to two access servers, at once where two home servers answer at once while
+    other requests come. A line is told for each of the two."""
+    variables = {"LD_PRELOAD": built(folder, "faults"), "SEND_FAULTS": "2"}
+    for _ in range(TRIES):
+        with Stage(program, folder, "first_wait = 500\n", count=2, level="debug", variables=variables) as stage:
+            other = Nas(stage.proxy)
+            stage.nas.ask("h0")
+            other.ask("h1")
+            came = [stage.came(lane) for lane in range(2)]
+            with stopped(stage):
+                for home, (packet, sender) in zip(stage.homes, came):
+                    home.answer(packet, sender)
+                for _ in range(8):
+                    stage.nas.ask("h0")
+            wanted = {nas.socket.getsockname()[1] for nas in (stage.nas, other)}
+
+            def ports():
+                lines = stage.proxy.lines("send-fault")
+                return [int(line["port"]) for line in lines if line["worker"] == "front" and "port" in line]
+
+            hope(is_so(lambda: len(ports()) >= 2), "too few lines", ports())
+            hope(set(ports()) == wanted and len(ports()) == 2, "lines for", ports(), "and not for", wanted)
+            other.socket.close()
 
 
 def an_idle_worker_looks_again_after_twenty_milliseconds(program, folder):
@@ -695,7 +767,8 @@ def starts_beside_a_full_pipe(program, folder):
 TESTS = [
     no_wake_is_late, no_wake_is_late_at_any_port, no_wake_is_late_at_any_lane, no_wake_is_lost_while_a_worker_works,
     no_notification_is_lost_before_a_sleep, no_wake_is_lost_where_datagrams_come_together,
-    requests_that_come_together_wake_a_lane_once_for_eight, an_idle_worker_looks_again_after_twenty_milliseconds,
+    requests_that_come_together_wake_a_lane_once_for_eight, what_a_lane_sends_while_replies_come_goes_together,
+    a_send_that_fails_is_told_with_its_own_destination, an_idle_worker_looks_again_after_twenty_milliseconds,
     idle_lanes_wake_together_and_receive_nothing, heaps_grow_by_large_pieces, resendings_come_at_their_moment, probes_come_at_their_moments, ten_idle_seconds_cost_little, ends_at_once_where_nothing_is_left,
     lingers_for_a_home_that_is_silent, ends_as_the_last_answer_comes, state_and_drain_tell_each_lane, counts_of_two_lanes,
     counts_of_sixty_four_lanes, counters_are_replaced, reports_come_each_second, sends_that_fail_are_counted, faults_are_counted, each_event_has_its_level,

@@ -1,7 +1,8 @@
 /*
  * Counts how often the program that it is loaded into (LD_PRELOAD) calls the system. The file WAKES_FILE has as machine's numbers of 64
- * bits: the receives, the wakes of a worker by another one, which write 8 octets, and of the waits that end without an event how many
- * end in each millisecond of twenty. Each receive that finds a datagram takes RECEIVE_MILLISECONDS.
+ * bits: the receives, the wakes of a worker by another one, which write 8 octets, the sends of a thread that received no datagram since
+ * its last send, and of the waits that end without an event how many end in each millisecond of twenty. Each receive that finds a
+ * datagram takes RECEIVE_MILLISECONDS.
  */
 #define _GNU_SOURCE
 #include <dlfcn.h>
@@ -18,8 +19,9 @@
 #define APART 20
 
 static struct {
-    _Atomic int64_t receives, wakes, ends[APART];
+    _Atomic int64_t receives, wakes, together, ends[APART];
 } *kept;
+static _Thread_local int has_sent;
 static useconds_t slow;
 
 __attribute__((constructor)) static void begin(void)
@@ -43,10 +45,23 @@ ssize_t recvfrom(int socket, void *room, size_t size, int flags, struct sockaddr
     ssize_t (*receive)(int, void *, size_t, int, struct sockaddr *, socklen_t *) = dlsym(RTLD_NEXT, "recvfrom");
     atomic_fetch_add(&kept->receives, 1);
     ssize_t count = receive(socket, room, size, flags, from, length);
-    if (count >= 0 && slow) {
-        usleep(slow);
+    if (count >= 0) {
+        has_sent = 0;
+        if (slow) {
+            usleep(slow);
+        }
     }
     return count;
+}
+
+ssize_t sendto(int socket, const void *octets, size_t size, int flags, const struct sockaddr *to, socklen_t length)
+{
+    ssize_t (*send)(int, const void *, size_t, int, const struct sockaddr *, socklen_t) = dlsym(RTLD_NEXT, "sendto");
+    if (has_sent) {
+        atomic_fetch_add(&kept->together, 1);
+    }
+    has_sent = 1;
+    return send(socket, octets, size, flags, to, length);
 }
 
 ssize_t write(int file, const void *octets, size_t size)

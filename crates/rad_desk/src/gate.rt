@@ -104,9 +104,13 @@ pub trait Gate {
     /// note.
     fn received(&self, _worker: Worker, _from: Endpoint, _octets: &[u8]) {}
 
-    /// A worker is about to send a datagram to this address and port. If the send fails, that is the worker's next
-    /// note.
+    /// A worker is about to send a datagram to this address and port. If the send fails at once, that is the worker's
+    /// next note.
     fn sends(&self, _worker: Worker, _to: Endpoint, _octets: &[u8]) {}
+
+    /// A worker sent a datagram to this address and port, and its wire, which sends several together, could not hand it
+    /// over later. The worker's next note is that failed send.
+    fn unsent(&self, _worker: Worker, _to: Endpoint) {}
 
     /// A lane accepted a new request under this number, so its worker has something to send.
     fn accepted(&self, _lane: u16, _number: u64) {}

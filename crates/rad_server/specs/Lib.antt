@@ -1,2 +1,1 @@
-pub mod FibTrie
 pub mod internal

@@ -1,7 +1,6 @@
 //! Looking for addresses that this machine gets after the start.
 
-use crate::known_addresses::KnownAddresses;
-use crate::local_addresses::LocalAddresses;
+use rad_addresses::{KnownAddresses, LocalAddresses};
 use rad_desk::Gate;
 use std::alloc::Global;
 use std::time::{Clock, Duration, Instant};

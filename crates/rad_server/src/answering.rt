@@ -3,8 +3,7 @@
 ghost use Rattle.rad_server.specs.internal.Wires.{FitsRoom};
 
 use crate::address_monitor::AddressMonitor;
-use crate::local_addresses::LocalAddresses;
-use crate::origins::Origins;
+use rad_addresses::{LocalAddresses, Origins};
 use rad_desk::{Gate, Received};
 use rad_realms::Endpoint;
 use std::time::Clock;

@@ -2,10 +2,9 @@
 //! address.
 
 use crate::faults::ServeFault;
-use crate::known_addresses::KnownAddresses;
-use crate::local_addresses::LocalAddresses;
 use crate::raw_sockets::{bind_beside, set_shared, widen};
 use crate::sockets::{RECEIVE_BUFFER, bind};
+use rad_addresses::{KnownAddresses, LocalAddresses};
 use rad_desk::Gate;
 use rad_realms::Endpoint;
 use std::alloc::Global;

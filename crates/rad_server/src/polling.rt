@@ -4,12 +4,14 @@ ghost use Rattle.rad_server.specs.internal.Wires.{FitsRoom};
 
 use crate::neighbours::Neighbours;
 use crate::notifying::Notifier;
+use crate::outbox::Outbox;
 use crate::ready_socket::ReadySocket;
 use mio::{Events, Poll, Token};
-use rad_desk::{Delivery, Received};
+use rad_desk::{Delivery, Gate, Note, Received, Worker};
+use rad_realms::Endpoint;
 use std::alloc::{AllocError, Global};
 use std::io;
-use std::net::{Net, SocketAddr, UdpSocket};
+use std::net::{Net, UdpSocket};
 use std::time::Duration;
 
 /// The longest sleep, in milliseconds.
@@ -59,8 +61,10 @@ impl Sleeper {
 ///
 /// A sleep returns which sockets have datagrams. A worker does not sleep while one socket always has datagrams, or
 /// while there is always something to send. It then tries every socket again after some receives.
-#[derive(Drop)]
-pub(crate) struct PolledSockets {
+///
+/// What the worker sends is handed to the system at the next receive that finds nothing, at the latest after some
+/// receives, and at the end of the worker.
+pub(crate) struct PolledSockets<'a, G: Gate> {
     /// The sockets in the order of a lane's source ports. The front's first socket is that of `listen`.
     sockets: Vec<ReadySocket>,
     /// The index of the socket that is received from next.
@@ -74,9 +78,42 @@ pub(crate) struct PolledSockets {
     receives: usize,
     /// Whether a datagram was sent since the last receive.
     has_sent: bool,
+    outbox: Outbox,
+    reports: Reports<'a, G>,
 }
 
-impl PolledSockets {
+/// A worker, and the gate to which a send of it that fails is reported.
+pub(crate) struct Reports<'a, G> {
+    pub(crate) worker: Worker,
+    pub(crate) gate: &'a G,
+}
+
+impl<G> Clone for Reports<'_, G> {
+    fn clone(&self) -> Result<Self, AllocError> {
+        Ok(*self)
+    }
+}
+
+impl<G> Copy for Reports<'_, G> {}
+
+impl<G: Gate> Drop for PolledSockets<'_, G> {
+    fn drop(mut self) {
+        self.hand_over();
+        let Self {
+            sockets: _,
+            turn: _,
+            sleeper: _,
+            neighbours: _,
+            has_failed: _,
+            receives: _,
+            has_sent: _,
+            outbox: _,
+            reports: _,
+        } = self;
+    }
+}
+
+impl<'a, G: Gate> PolledSockets<'a, G> {
     /// Registers these sockets, which are non-blocking.
     ///
     /// # Errors
@@ -86,7 +123,8 @@ impl PolledSockets {
         net: &impl Net,
         alloc: Global,
         sockets: Vec<UdpSocket>,
-    ) -> io::Result<PolledSockets> {
+        reports: Reports<'a, G>,
+    ) -> io::Result<PolledSockets<'a, G>> {
         let sleeper = Sleeper::new(net, alloc)?;
         let sockets = register_each(alloc, &sleeper.poll, sockets)?;
         let neighbours = Neighbours::new(sleeper.notifier.share()?, Vec::new(alloc));
@@ -98,6 +136,8 @@ impl PolledSockets {
             has_failed: false,
             receives: 0,
             has_sent: false,
+            outbox: Outbox::new(alloc),
+            reports,
         })
     }
 
@@ -144,16 +184,17 @@ impl PolledSockets {
         }
     }
 
-    /// Receives a datagram, and waits for one if there is nothing else to do. Before it waits, it wakes the other
-    /// workers that are due.
+    /// Receives a datagram, and waits for one if there is nothing else to do. Before it waits, it hands over what was
+    /// sent, and wakes the other workers that are due.
     fn wait(&mut self, milliseconds: u64, room: &mut [u8; 4096]) -> Received
         ensures { FitsRoom result }
     {
         let received = self.try_each(room);
         if received != Received::Nothing {
-            self.neighbours.went_on();
+            self.went_on();
             return received;
         }
+        self.hand_over();
         self.neighbours.paused();
         if self.has_sent || !self.sleeper.notifier.try_sleep() {
             return received;
@@ -211,13 +252,65 @@ impl PolledSockets {
         }
     }
 
-    /// Sends a datagram from a socket.
-    pub(crate) fn send(&mut self, socket: u16, to: SocketAddr, octets: &[u8]) -> Delivery {
-        self.has_sent = true;
-        match self.sockets.get(usize::from(socket)) {
-            Some(socket) => socket.send(to, octets),
-            None => Delivery::Fault,
+    /// Records that a datagram was received without a sleep before it. What was sent some receives ago is handed over.
+    fn went_on(&mut self) {
+        self.neighbours.went_on();
+        self.outbox.count_receive();
+        if self.outbox.is_due() {
+            self.hand_over();
         }
+    }
+
+    /// Sends a datagram from a socket. It is handed to the system with those sent before and after it, in order. If
+    /// memory is refused, they are all handed over at once.
+    pub(crate) fn send(&mut self, socket: u16, to: Endpoint, octets: &[u8]) -> Delivery {
+        self.has_sent = true;
+        if usize::from(socket) >= self.sockets.len() {
+            return Delivery::Fault;
+        }
+        if self.outbox.is_due() {
+            self.hand_over();
+        }
+        if self.outbox.add(socket, to, octets).is_ok() {
+            return Delivery::Sent;
+        }
+        self.hand_over();
+        send_from(self.sockets.as_slice(), socket, to, octets)
+    }
+
+    /// Hands what was sent to the system, in order. A datagram that the system refuses is lost, and is reported.
+    fn hand_over(&mut self) {
+        if self.outbox.is_empty() {
+            return;
+        }
+        for waiting in self.outbox.waiting() {
+            let delivery = send_from(
+                self.sockets.as_slice(),
+                waiting.socket,
+                waiting.to,
+                waiting.octets.as_slice(),
+            );
+            if delivery == Delivery::Fault {
+                self.reports.lost(waiting.to);
+            }
+        }
+        self.outbox.clear();
+    }
+}
+
+impl<G: Gate> Reports<'_, G> {
+    /// Reports that a datagram to this address and port is lost.
+    fn lost(&self, to: Endpoint) {
+        self.gate.unsent(self.worker, to);
+        self.gate.note(self.worker, Note::SendFault);
+    }
+}
+
+/// Hands a datagram to the system, from the socket of this index.
+fn send_from(sockets: &[ReadySocket], socket: u16, to: Endpoint, octets: &[u8]) -> Delivery {
+    match sockets.get(usize::from(socket)) {
+        Some(socket) => socket.send(to, octets),
+        None => Delivery::Fault,
     }
 }
 

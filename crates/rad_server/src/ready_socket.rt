@@ -5,8 +5,9 @@ ghost use Rattle.rad_server.specs.internal.Wires.{FitsRoom};
 use mio::net::UdpSocket;
 use mio::{Interest, Registry, Token};
 use rad_desk::{Delivery, Received};
+use rad_realms::Endpoint;
 use std::io::{self, ErrorKind};
-use std::net::{self, SocketAddr};
+use std::net::{self, Ipv4Addr, SocketAddr, SocketAddrV4};
 
 /// A socket, and whether datagrams may wait there. The system reports a socket only once, when datagrams arrive at one
 /// that was empty. So it is received from until it has no more.
@@ -66,7 +67,9 @@ impl ReadySocket {
     }
 
     /// Sends a datagram.
-    pub(crate) fn send(&self, to: SocketAddr, octets: &[u8]) -> Delivery {
+    pub(crate) fn send(&self, to: Endpoint, octets: &[u8]) -> Delivery {
+        let Endpoint { address, port } = to;
+        let to = SocketAddr::V4(SocketAddrV4::new(Ipv4Addr::from(address), port));
         match self.socket.send_to(octets, to) {
             Ok(_) => Delivery::Sent,
             Err(_) => Delivery::Fault,

@@ -5,7 +5,6 @@ ghost use Rattle.rad_console.specs.Closing.{IsEndOf};
 
 use crate::faults::ServeFault;
 use crate::lingering::linger_of;
-use crate::local_addresses::LocalAddresses;
 use crate::notifying::Notifiers;
 use crate::printing::Output;
 use crate::sockets::BoundSockets;
@@ -14,6 +13,7 @@ use crate::supervising::Supervisor;
 use crate::threads::work;
 use crate::wiring::{Wires, make_reader, make_wires, notifiers_of};
 use crate::working::Service;
+use rad_addresses::LocalAddresses;
 use rad_console::{EndLine, ListeningLine, close};
 use rad_desk::{Gate, Ledger, NoLedger, OpenFault, Wire, open};
 use rad_realms::Config;

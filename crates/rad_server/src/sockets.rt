@@ -2,8 +2,8 @@
 
 use crate::client_sockets::ClientSockets;
 use crate::faults::ServeFault;
-use crate::local_addresses::LocalAddresses;
 use crate::raw_sockets::{granted, widen};
+use rad_addresses::LocalAddresses;
 use rad_desk::{Gate, Worker};
 use rad_realms::{Config, Endpoint, Home};
 use std::alloc::Global;

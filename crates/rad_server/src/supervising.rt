@@ -229,6 +229,10 @@ impl<G: Gate> Gate for Supervisor<'_, G> {
         self.outer.sends(worker, to, octets);
     }
 
+    fn unsent(&self, worker: Worker, to: Endpoint) {
+        self.outer.unsent(worker, to);
+    }
+
     fn accepted(&self, lane: u16, number: u64) {
         self.notifiers.notify_for(Worker::Front, Worker::Lane(lane));
         self.outer.accepted(lane, number);

@@ -3,10 +3,10 @@
 ghost use Rattle.std.specs.Prelude.{Some};
 
 use crate::heap_room::HeapRoom;
-use crate::local_addresses::LocalAddresses;
 use crate::notifying::Notifier;
 use crate::polling::SLEEP;
 use crate::worker_sockets::WorkerSockets;
+use rad_addresses::LocalAddresses;
 use rad_desk::{Delivery, Gate, Received, Traffic, Wire};
 use rad_realms::Endpoint;
 use rad_tables::Moment;
@@ -22,8 +22,11 @@ use std::time::{Clock, Instant};
 /// end together, once in 20 milliseconds since their common start.
 ///
 /// The clock is read once in a turn: the moment stays the same from one receive to the next.
+///
+/// A datagram that is sent is handed to the system a little later, together with others: [`PolledSockets`] says when.
+/// If the system refuses it, that is reported to the gate.
 #[derive(Drop)]
-pub(crate) struct UdpWire<'a, R, G, A> {
+pub(crate) struct UdpWire<'a, R, G: Gate, A> {
     clock: &'a R,
     start: Instant,
     /// The last moment that was returned.
@@ -36,7 +39,7 @@ pub(crate) struct UdpWire<'a, R, G, A> {
     traffic: Traffic,
 }
 
-impl<'a, R, G, A> UdpWire<'a, R, G, A> {
+impl<'a, R, G: Gate, A> UdpWire<'a, R, G, A> {
     /// Makes a wire over these sockets, whose moments count from `start`.
     pub(crate) fn new(
         clock: &'a R,

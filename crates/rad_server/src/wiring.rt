@@ -5,14 +5,13 @@ use crate::answering::Answering;
 use crate::client_sockets::{ClientSockets, fault_at};
 use crate::faults::ServeFault;
 use crate::interrupting::Interruptible;
-use crate::known_addresses::KnownAddresses;
 use crate::notifying::{Notifier, Notifiers};
-use crate::origins::Origins;
-use crate::polling::PolledSockets;
+use crate::polling::{PolledSockets, Reports};
 use crate::sockets::{BoundSockets, lane_fault};
 use crate::wires::UdpWire;
 use crate::worker_sockets::WorkerSockets;
-use rad_desk::Gate;
+use rad_addresses::{KnownAddresses, Origins};
+use rad_desk::{Gate, Worker};
 use rad_realms::{Client, Config};
 use rand::rngs::StdRng;
 use rand::{Rng, make_rng};
@@ -59,7 +58,7 @@ impl<'a, R: Clock + Net + RandomSource, G: Gate, A> WireMaker<'a, R, G, A> {
             Some(known) => Some(self.answer(clients, known, random.next_u64())?),
             None => None,
         };
-        self.make(random, sockets, answering)
+        self.make(Worker::Front, random, sockets, answering)
     }
 
     /// Makes what answers each datagram from the front's socket that it came to.
@@ -78,18 +77,23 @@ impl<'a, R: Clock + Net + RandomSource, G: Gate, A> WireMaker<'a, R, G, A> {
         Ok(Answering::new(origins, monitor))
     }
 
-    /// Makes a wire over these sockets.
+    /// Makes the wire of a worker over these sockets.
     ///
     /// # Errors
     ///
     /// The system's error, and `OutOfMemory` if memory is refused.
     fn make(
         &self,
+        worker: Worker,
         random: StdRng,
         sockets: Vec<UdpSocket>,
         answering: Option<Answering<'a, R, G, A>>,
     ) -> io::Result<UdpWire<'a, R, G, A>> {
-        let polled = PolledSockets::new(self.rt, self.alloc, sockets)?;
+        let reports = Reports {
+            worker,
+            gate: self.gate,
+        };
+        let polled = PolledSockets::new(self.rt, self.alloc, sockets, reports)?;
         let sockets = WorkerSockets::new(polled, answering);
         Ok(UdpWire::new(self.rt, self.alloc, self.start, random, sockets))
     }
@@ -105,19 +109,24 @@ impl<'a, R: Clock + Net + RandomSource, G: Gate, A> WireMaker<'a, R, G, A> {
         lane: usize,
         sockets: Vec<UdpSocket>,
     ) -> Result<UdpWire<'a, R, G, A>, ServeFault> {
-        match self.make_over(sockets) {
+        let worker = Worker::Lane(u16::try_from(lane).unwrap_or(u16::MAX));
+        match self.make_over(worker, sockets) {
             Ok(wire) => Ok(wire),
             Err(error) => Err(lane_fault(lane, &error, self.gate)),
         }
     }
 
-    /// Makes a wire over these sockets, each of which has a number of its own.
+    /// Makes the wire of a worker over these sockets, each of which has a number of its own.
     ///
     /// # Errors
     ///
     /// The system's error, and `OutOfMemory` if memory is refused.
-    fn make_over(&self, sockets: Vec<UdpSocket>) -> io::Result<UdpWire<'a, R, G, A>> {
-        self.make(make_rng(self.rt)?, sockets, None)
+    fn make_over(
+        &self,
+        worker: Worker,
+        sockets: Vec<UdpSocket>,
+    ) -> io::Result<UdpWire<'a, R, G, A>> {
+        self.make(worker, make_rng(self.rt)?, sockets, None)
     }
 
     /// Makes the wires of the lanes over these sockets, in order.
@@ -185,7 +194,7 @@ pub(crate) fn make_wires<'a, R: Clock + Net + RandomSource, G: Gate, A>(
 /// # Errors
 ///
 /// `AllocError` if memory is refused.
-fn set_neighbours<R, G, A>(
+fn set_neighbours<R, G: Gate, A>(
     alloc: Global,
     front: &mut UdpWire<'_, R, G, A>,
     lanes: &mut [UdpWire<'_, R, G, A>],
@@ -202,7 +211,7 @@ fn set_neighbours<R, G, A>(
 /// # Errors
 ///
 /// `AllocError` if memory is refused.
-pub(crate) fn notifiers_of<R, G, A, I: Read + Drop>(
+pub(crate) fn notifiers_of<R, G: Gate, A, I: Read + Drop>(
     alloc: Global,
     wires: &Wires<UdpWire<'_, R, G, A>>,
     reader: &Interruptible<I>,
@@ -222,7 +231,7 @@ pub(crate) fn notifiers_of<R, G, A, I: Read + Drop>(
 /// # Errors
 ///
 /// `AllocError` if memory is refused.
-fn notifiers_of_wires<R, G, A>(
+fn notifiers_of_wires<R, G: Gate, A>(
     alloc: Global,
     wires: &[UdpWire<'_, R, G, A>],
 ) -> Result<Vec<Notifier>, AllocError> {

@@ -3,28 +3,27 @@
 ghost use Rattle.rad_server.specs.internal.Wires.{FitsRoom};
 
 use crate::answering::Answering;
-use crate::local_addresses::LocalAddresses;
 use crate::notifying::Notifier;
 use crate::polling::PolledSockets;
+use rad_addresses::LocalAddresses;
 use rad_desk::{Delivery, Gate, Received};
 use rad_realms::Endpoint;
 use std::alloc::AllocError;
-use std::net::{Ipv4Addr, SocketAddr, SocketAddrV4};
 use std::time::Clock;
 
 /// The sockets of a worker. A lane's have the numbers of its source ports. If the front has several, the worker knows
 /// them all as 0: each answers what came to it.
 #[derive(Drop)]
-pub(crate) struct WorkerSockets<'a, R, G, A> {
-    polled: PolledSockets,
+pub(crate) struct WorkerSockets<'a, R, G: Gate, A> {
+    polled: PolledSockets<'a, G>,
     /// Present if the worker knows all sockets as 0.
     answering: Option<Answering<'a, R, G, A>>,
 }
 
-impl<'a, R, G, A> WorkerSockets<'a, R, G, A> {
+impl<'a, R, G: Gate, A> WorkerSockets<'a, R, G, A> {
     /// Makes the sockets: each with its index as its number, or all as one.
     pub(crate) fn new(
-        polled: PolledSockets,
+        polled: PolledSockets<'a, G>,
         answering: Option<Answering<'a, R, G, A>>,
     ) -> WorkerSockets<'a, R, G, A> {
         WorkerSockets { polled, answering }
@@ -50,9 +49,7 @@ impl<'a, R, G, A> WorkerSockets<'a, R, G, A> {
             Some(answering) if socket == 0 => answering.socket_of(peer),
             _ => socket,
         };
-        let Endpoint { address, port } = peer;
-        let to = SocketAddr::V4(SocketAddrV4::new(Ipv4Addr::from(address), port));
-        self.polled.send(socket, to, octets)
+        self.polled.send(socket, peer, octets)
     }
 }
 

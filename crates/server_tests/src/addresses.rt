@@ -1,7 +1,8 @@
 //! Tests of the addresses of a machine that Linux's texts list.
 
-use crate::comparing::holds;
-use rad_server::list_local;
+use crate::comparing::{holds, holds_of};
+use rad_addresses::list_local;
+use std::alloc::{AllocError, Global};
 use std::test::Fail;
 
 /// The text that Linux 6 wrote in a namespace with two addresses besides 127.0.0.1, and a network behind one of them.
@@ -46,40 +47,47 @@ const SEVERAL_ROUTES: &str = "Local:
      /32 host LOCAL tos=16
 ";
 
+/// The addresses in the first text, in its order.
+const OF_TWO_TABLES: [[u8; 4]; 4] = [
+    [10, 77, 0, 1],
+    [127, 0, 0, 1],
+    [10, 77, 0, 1],
+    [127, 0, 0, 1],
+];
+
+/// The addresses in the second text.
+const OF_SEVERAL_ROUTES: [[u8; 4]; 2] = [[192, 0, 2, 7], [192, 0, 2, 8]];
+
+/// Texts that list no address.
+const OTHERS: [&str; 10] = [
+    "",
+    "\n\n",
+    "/32 host LOCAL\n",
+    "|-- 10.0.0.1",
+    "|-- 10.0.0.1\n/32 host",
+    "|-- 10.0.0.1\n/32 link BROADCAST\n",
+    "|-- 10.0.0.1\n/31 host LOCAL\n",
+    "|-- 10.0.0.256\n/32 host LOCAL\n",
+    "|-- 10.0.0.1\n|-- ten\n/32 host LOCAL\n",
+    "+-- 10.0.0.1/32 2 0 2\n/32 host LOCAL\n",
+];
+
+/// Returns whether a text lists these addresses.
+fn lists(alloc: Global, text: &str, expected: &[[u8; 4]]) -> Result<bool, AllocError> {
+    Ok(list_local(alloc, text)?.as_slice() == expected)
+}
+
 #[test]
 fn single_addresses_are_listed(rt: HostRuntime) -> Result<(), Fail> {
-    let alloc = rt.alloc();
-    let listed = list_local(alloc, TWO_TABLES)?;
-    let expected = [
-        [10, 77, 0, 1],
-        [127, 0, 0, 1],
-        [10, 77, 0, 1],
-        [127, 0, 0, 1],
-    ];
-    holds(&rt, listed.as_slice() == expected.as_slice());
-    let listed = list_local(alloc, SEVERAL_ROUTES)?;
-    let expected = [[192, 0, 2, 7], [192, 0, 2, 8]];
-    holds(&rt, listed.as_slice() == expected.as_slice());
+    holds(&rt, lists(rt.alloc(), TWO_TABLES, &OF_TWO_TABLES)?);
+    holds(&rt, lists(rt.alloc(), SEVERAL_ROUTES, &OF_SEVERAL_ROUTES)?);
     Ok(())
 }
 
 #[test]
 fn no_other_text_lists_any(rt: HostRuntime) -> Result<(), Fail> {
-    let alloc = rt.alloc();
-    let others = [
-        "",
-        "\n\n",
-        "/32 host LOCAL\n",
-        "|-- 10.0.0.1",
-        "|-- 10.0.0.1\n/32 host",
-        "|-- 10.0.0.1\n/32 link BROADCAST\n",
-        "|-- 10.0.0.1\n/31 host LOCAL\n",
-        "|-- 10.0.0.256\n/32 host LOCAL\n",
-        "|-- 10.0.0.1\n|-- ten\n/32 host LOCAL\n",
-        "+-- 10.0.0.1/32 2 0 2\n/32 host LOCAL\n",
-    ];
-    for other in &others {
-        assert!(rt; list_local(alloc, other)?.is_empty(), "{other}");
+    for other in &OTHERS {
+        holds_of(&rt, other, lists(rt.alloc(), other, &[])?);
     }
     Ok(())
 }

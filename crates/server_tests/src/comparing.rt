@@ -12,3 +12,8 @@ pub fn same<T: PartialEq + Debug + Copy>(rt: &impl Abort, given: T, wanted: T) {
 pub fn holds(rt: &impl Abort, is_right: bool) {
     assert!(rt; is_right);
 }
+
+/// Checks a condition of a text, which is printed if it fails.
+pub fn holds_of(rt: &impl Abort, text: &str, is_right: bool) {
+    assert!(rt; is_right, "{text}");
+}

@@ -86,7 +86,8 @@ impl Crossing {
     }
 
     fn are_there(&self) -> bool {
-        self.heard.iter().all(|heard| heard.load(Ordering::SeqCst))
+        let [first, second] = &self.heard;
+        first.load(Ordering::SeqCst) && second.load(Ordering::SeqCst)
     }
 
     fn hold<R: Clock>(&self, clock: &R, lane: u16) {

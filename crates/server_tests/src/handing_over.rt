@@ -1,28 +1,18 @@
 //! Tests of a ledger: it begins once all sockets are bound, and each response is handed over to it once, in order, and
 //! before it is sent.
 
-ghost use Rattle.std.specs.Prelude.{IsSome};
-
 use crate::comparing::holds;
 use crate::gates::TestGate;
 use crate::journal::{Journal, LoggedLedger};
 use crate::serving::NO_LINGER;
 use crate::threads::Asking;
-use crate::wires::{Coming, TWO_HOMES, wires_of};
-use rad_console::EndLine;
-use rad_desk::{Ledger, Wire};
+use crate::wires::{Coming, served_with};
+use rad_addresses::RuntimeAddresses;
 use rad_realms::read_config;
-use rad_server::{
-    Descriptors, Notifiers, RuntimeAddresses, ServeFault, Wires, run_with, serve_with,
-};
-use std::alloc::Global;
-use std::io::{self, Read};
+use rad_server::{Descriptors, ServeFault, run_with};
+use std::io;
 use std::net::{Ipv4Addr, SocketAddr, UdpSocket};
-use std::sync::Wait;
-use std::sync::atomic::AtomicU64;
 use std::test::Fail;
-use std::thread::Threads;
-use std::time::Clock;
 use test_octets::homes::{REPLY, SECOND_REPLY};
 use test_octets::nas::{REQUEST, RESPONSE, SECOND_REQUEST, SECOND_RESPONSE};
 
@@ -47,48 +37,17 @@ const IN_ORDER: [&[u8]; 9] = [
 
 #[test]
 fn each_response_is_handed_over_and_then_sent(rt: HostRuntime) -> Result<(), Fail> {
-    let sent = [AtomicU64::new(0), AtomicU64::new(0), AtomicU64::new(0)];
     let journal = Journal::new(&rt, rt.alloc());
     let coming = Coming {
         front: &REQUESTS,
         first: &REPLIES,
         second: &[],
     };
-    let wires = wires_of(rt.alloc(), &rt, coming, &journal, &sent)?;
-    let served = served_with(
-        &rt,
-        rt.alloc(),
-        wires,
-        LoggedLedger(&journal),
-        Asking::until_two(&rt, &sent[0]),
-    )?;
+    let reader = Asking::until_two(&journal);
+    let served = served_with(&journal, coming, LoggedLedger(&journal), reader)?;
     holds(&rt, matches!(served, Ok(end) if end.is_clean()));
-    holds(&rt, journal.is(&IN_ORDER));
+    holds(&rt, journal.is(&IN_ORDER)?);
     Ok(())
-}
-
-/// Serves one client and two home servers over these wires with a ledger, and returns how that ends.
-fn served_with<R, W, L, I>(
-    rt: &R,
-    alloc: Global,
-    wires: Wires<W>,
-    ledger: L,
-    reader: I,
-) -> Result<Result<EndLine, ServeFault>, Fail>
-where
-    R: Clock + Threads + Wait + Sync,
-    W: Wire + Send + Drop,
-    L: Ledger + Send + Drop,
-    I: Read + Drop,
-    requires keeps { (wire : W) → IsSome (W.log wire) }
-{
-    let config = read_config(alloc, TWO_HOMES)?;
-    let gate = TestGate::open(rt);
-    let notifiers = Notifiers::none(alloc);
-    let writer = io::sink();
-    Ok(serve_with(
-        rt, alloc, &config, wires, &notifiers, &gate, ledger, reader, writer,
-    ))
 }
 
 #[test]
@@ -109,6 +68,6 @@ fn no_ledger_begins_if_a_socket_is_taken(rt: HostRuntime) -> Result<(), Fail> {
         Descriptors::none(),
     );
     holds(&rt, matches!(ran, Err(ServeFault::Listen(_))));
-    holds(&rt, journal.is(&[]));
+    holds(&rt, journal.is(&[])?);
     Ok(())
 }

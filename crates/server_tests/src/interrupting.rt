@@ -33,17 +33,31 @@ fn read(reader: &mut Interruptible<UnixStream>) -> Result<usize, ErrorKind> {
     }
 }
 
+/// Reads a line that is there, after a notification, another line, and after the end. Returns what each read gives.
+fn read_each(
+    reader: &mut Interruptible<UnixStream>,
+    mut given: UnixStream,
+) -> Result<[Result<usize, ErrorKind>; 4], Fail> {
+    given.write_all(b"state\n")?;
+    let first = read(reader);
+    notify(reader)?;
+    let notified = read(reader);
+    given.write_all(b"drain\n")?;
+    let second = read(reader);
+    drop(given);
+    Ok([first, notified, second, read(reader)])
+}
+
 #[test]
 fn a_notification_interrupts_a_read(rt: HostRuntime) -> Result<(), Fail> {
-    let (reader, mut given) = UnixStream::pair(&rt)?;
+    let (reader, given) = UnixStream::pair(&rt)?;
     let mut reader = interruptible(&rt, rt.alloc(), reader)?;
-    given.write_all(b"state\n")?;
-    same(&rt, read(&mut reader), Ok(6));
-    notify(&reader)?;
-    same(&rt, read(&mut reader), Err(ErrorKind::Interrupted));
-    given.write_all(b"drain\n")?;
-    same(&rt, read(&mut reader), Ok(6));
-    drop(given);
-    same(&rt, read(&mut reader), Ok(0));
+    let reads = read_each(&mut reader, given);
+    drop(reader);
+    same(
+        &rt,
+        reads?,
+        [Ok(6), Err(ErrorKind::Interrupted), Ok(6), Ok(0)],
+    );
     Ok(())
 }

@@ -13,6 +13,8 @@ mod gates;
 #[cfg(test)]
 mod handing_over;
 #[cfg(test)]
+mod handing_to_the_system;
+#[cfg(test)]
 mod interrupting;
 #[cfg(test)]
 mod journal;

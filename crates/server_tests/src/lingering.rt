@@ -7,7 +7,7 @@ use crate::serving::{NO_LINGER, ran};
 use crate::wires::{LOOKS, pause};
 use rad_console::EndLine;
 use rad_desk::Worker;
-use rad_server::{Descriptors, LocalAddresses, RuntimeAddresses, ServeFault};
+use rad_server::{Descriptors, ServeFault};
 use std::alloc::Global;
 use std::cell::Cell;
 use std::io::{self, Read, Write};
@@ -49,7 +49,7 @@ impl<R: Clock> Read for Sending<'_, R> {
     }
 }
 
-/// A writer that looks for a line that says that a request is accepted.
+/// A writer that looks for the line that says that a request is accepted.
 #[derive(Drop)]
 struct Looking<'a> {
     is_accepted: &'a Cell<bool>,
@@ -57,10 +57,7 @@ struct Looking<'a> {
 
 impl Write for Looking<'_> {
     fn write(&mut self, buf: &[u8]) -> io::Result<usize> {
-        if buf
-            .windows(11)
-            .any(|part| part == b"accepted 1 ".as_slice())
-        {
+        if buf.starts_with(b"lane 0 h1 up open accepted 1 ") {
             self.is_accepted.set(true);
         }
         Ok(buf.len())
@@ -71,19 +68,18 @@ impl Write for Looking<'_> {
     }
 }
 
-/// Returns whether one request is left over.
-fn is_one_left(ran: Result<EndLine, ServeFault>) -> bool {
+/// Returns whether a request was accepted, and one is left over.
+fn is_one_left(ran: Option<Result<EndLine, ServeFault>>) -> bool {
     match ran {
-        Ok(end) => end.queued.saturating_add(end.outstanding) == 1 && !end.is_clean(),
-        Err(_) => false,
+        Some(Ok(end)) => end.queued.saturating_add(end.outstanding) == 1 && !end.is_clean(),
+        _ => false,
     }
 }
 
 /// Serves until a request is accepted, and ends the input then, which is noted. Returns how that ends, if a request was
 /// accepted.
-fn ran_until_accepted<R, A>(
+fn ran_until_accepted<R>(
     rt: &R,
-    addresses: &A,
     alloc: Global,
     text: &str,
     has_ended: &AtomicBool,
@@ -91,7 +87,6 @@ fn ran_until_accepted<R, A>(
 ) -> Result<Option<Result<EndLine, ServeFault>>, Fail>
 where
     R: Clock + Net + RandomSource + Threads + Wait + Sync,
-    A: LocalAddresses + Sync,
 {
     let is_accepted = Cell::new(false);
     let reader = Sending {
@@ -107,17 +102,15 @@ where
     };
     let gate = TestGate { clock: rt, rule };
     let none = Descriptors::none();
-    let ran = ran(rt, addresses, alloc, text, &gate, reader, writer, none)?;
+    let ran = ran(rt, alloc, text, &gate, reader, writer, none)?;
     Ok(if is_accepted.get() { Some(ran) } else { None })
 }
 
 #[test]
 fn what_lingers_is_left_over(rt: HostRuntime) -> Result<(), Fail> {
-    let addresses = RuntimeAddresses::new(rt);
     let has_ended = AtomicBool::new(false);
-    let rule = Rule::Open;
-    let ran = ran_until_accepted(&rt, &addresses, rt.alloc(), NO_LINGER, &has_ended, rule)?;
-    holds(&rt, ran.is_some_and(is_one_left));
+    let ran = ran_until_accepted(&rt, rt.alloc(), NO_LINGER, &has_ended, Rule::Open)?;
+    holds(&rt, is_one_left(ran));
     Ok(())
 }
 
@@ -139,10 +132,9 @@ home = "h1"
 
 #[test]
 fn a_worker_that_ends_while_lanes_linger_is_told(rt: HostRuntime) -> Result<(), Fail> {
-    let addresses = RuntimeAddresses::new(rt);
     let has_ended = AtomicBool::new(false);
     let rule = Rule::EndingLate(&has_ended);
-    let ran = ran_until_accepted(&rt, &addresses, rt.alloc(), LONG_LINGER, &has_ended, rule)?;
+    let ran = ran_until_accepted(&rt, rt.alloc(), LONG_LINGER, &has_ended, rule)?;
     let is_told = matches!(ran, Some(Err(ServeFault::Ended(Worker::Lane(0)))));
     holds(&rt, is_told);
     Ok(())

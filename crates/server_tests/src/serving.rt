@@ -3,13 +3,15 @@
 use crate::comparing::holds;
 use crate::gates::TestGate;
 use crate::streams::{Narrow, Slow};
+use rad_addresses::LocalAddresses;
 use rad_console::EndLine;
 use rad_desk::Gate;
 use rad_realms::read_config;
-use rad_server::{Descriptors, LocalAddresses, RuntimeAddresses, ServeFault, run};
+use rad_server::{Descriptors, ServeFault, run};
 use std::alloc::Global;
-use std::io::{Read, Write};
+use std::io::{self, Read, Write};
 use std::net::Net;
+use std::process::Abort;
 use std::random::RandomSource;
 use std::sync::Wait;
 use std::test::Fail;
@@ -41,10 +43,19 @@ name = "example.org"
 home = "h1"
 "#;
 
+/// A machine without addresses. They are not read, since no configuration here listens at all addresses.
+#[derive(Clone, Copy)]
+struct NoAddresses;
+
+impl LocalAddresses for NoAddresses {
+    fn read(&self, alloc: Global) -> io::Result<Vec<[u8; 4]>> {
+        Ok(Vec::new(alloc))
+    }
+}
+
 /// Serves the configuration of a text over UDP, and returns how that ends.
-pub fn ran<R, A, G, I, O>(
+pub fn ran<R, G, I, O>(
     rt: &R,
-    addresses: &A,
     alloc: Global,
     text: &str,
     gate: &G,
@@ -54,7 +65,6 @@ pub fn ran<R, A, G, I, O>(
 ) -> Result<Result<EndLine, ServeFault>, Fail>
 where
     R: Clock + Net + RandomSource + Threads + Wait + Sync,
-    A: LocalAddresses + Sync,
     G: Gate + Sync,
     I: Read + Drop,
     O: Write + Drop,
@@ -62,7 +72,7 @@ where
     let config = read_config(alloc, text)?;
     Ok(run(
         rt,
-        addresses,
+        &NoAddresses,
         alloc,
         &config,
         gate,
@@ -79,11 +89,10 @@ struct Case {
     printed: &'static str,
 }
 
-/// Runs a case without descriptors, so that the reader never waits, and returns whether it ends as it should.
-fn ends_well<R, A>(rt: &R, addresses: &A, alloc: Global, case: Case) -> Result<bool, Fail>
+/// Runs a case without descriptors, so that the reader never waits, and checks that it ends as it should.
+fn try_case<R>(rt: &R, alloc: Global, case: Case) -> Result<(), Fail>
 where
-    R: Clock + Net + RandomSource + Threads + Wait + Sync,
-    A: LocalAddresses + Sync,
+    R: Abort + Clock + Net + RandomSource + Threads + Wait + Sync,
 {
     let Case {
         text,
@@ -97,13 +106,20 @@ where
         room: 1000,
     };
     let gate = TestGate::open(rt);
-    let none = Descriptors::none();
-    let ran = ran(rt, addresses, alloc, text, &gate, reader, writer, none)?;
-    let is_right = match ran {
+    let ran = ran(rt, alloc, text, &gate, reader, writer, Descriptors::none());
+    let is_printed = taken.as_slice() == printed.as_bytes();
+    drop(taken);
+    let is_right = ends_well(ran?, fails);
+    holds(rt, is_right && is_printed);
+    Ok(())
+}
+
+/// Returns whether the service ended by a failed reader, if it fails, and otherwise cleanly.
+fn ends_well(ran: Result<EndLine, ServeFault>, fails: bool) -> bool {
+    match ran {
         Ok(end) => !fails && end.is_clean(),
         Err(fault) => fails && fault == ServeFault::Input,
-    };
-    Ok(is_right && taken.as_slice() == printed.as_bytes())
+    }
 }
 
 #[test]
@@ -120,9 +136,7 @@ fn commands_are_answered(rt: HostRuntime) -> Result<(), Fail> {
             lane 1 h2 up open accepted 0 queued 0 outstanding 0 answered 0 opening 0\n\
             unknown\nend: queued 0 outstanding 0 untaken 0\n",
     };
-    let addresses = RuntimeAddresses::new(rt);
-    holds(&rt, ends_well(&rt, &addresses, rt.alloc(), case)?);
-    Ok(())
+    try_case(&rt, rt.alloc(), case)
 }
 
 #[test]
@@ -136,7 +150,5 @@ fn a_failed_read_ends_the_service(rt: HostRuntime) -> Result<(), Fail> {
         },
         printed: "listening 127.0.0.1:1815\nunknown\n",
     };
-    let addresses = RuntimeAddresses::new(rt);
-    holds(&rt, ends_well(&rt, &addresses, rt.alloc(), case)?);
-    Ok(())
+    try_case(&rt, rt.alloc(), case)
 }

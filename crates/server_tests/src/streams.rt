@@ -22,11 +22,8 @@ impl Read for Slow<'_> {
         if self.rest.is_empty() && self.fails {
             return Err(Error::from(ErrorKind::Other));
         }
-        let count = self.most.min(self.rest.len()).min(buf.len());
-        let (given, rest) = self.rest.split_at(count);
-        buf[..count].copy_from_slice(given);
-        self.rest = rest;
-        Ok(count)
+        let most = self.most.min(buf.len());
+        self.rest.read(&mut buf[..most])
     }
 }
 

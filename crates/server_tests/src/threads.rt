@@ -3,28 +3,25 @@
 use crate::comparing::{holds, same};
 use crate::gates::{Crossing, Rule, TestGate};
 use crate::journal::Journal;
-use crate::wires::{Coming, LOOKS, pause, served, wires_of};
+use crate::wires::{Coming, LOOKS, pause, served};
 use std::io::{self, Error, ErrorKind, Read};
-use std::sync::atomic::{AtomicU64, Ordering};
 use std::test::Fail;
 use std::time::Clock;
 use test_octets::homes::{NAME_ONLY_REPLY, SEVENTH_REPLY};
 use test_octets::nas::{NAME_ONLY_REQUEST, SEVENTH};
 
-/// A reader that gives the command `state` until two datagrams were sent, and then ends. If none comes for a long time,
-/// it fails.
+/// A reader that gives the command `state` until the front sent two datagrams, and then ends. If it does not for a long
+/// time, it fails.
 #[derive(Drop)]
 pub struct Asking<'a, R> {
-    clock: &'a R,
-    sent: &'a AtomicU64,
+    journal: &'a Journal<'a, R>,
     looks: u32,
 }
 
 impl<'a, R> Asking<'a, R> {
-    pub fn until_two(clock: &'a R, sent: &'a AtomicU64) -> Asking<'a, R> {
+    pub fn until_two(journal: &'a Journal<'a, R>) -> Asking<'a, R> {
         Asking {
-            clock,
-            sent,
+            journal,
             looks: LOOKS,
         }
     }
@@ -32,14 +29,14 @@ impl<'a, R> Asking<'a, R> {
 
 impl<R: Clock> Read for Asking<'_, R> {
     fn read(&mut self, buf: &mut [u8]) -> io::Result<usize> {
-        if self.sent.load(Ordering::SeqCst) >= 2 {
+        if self.journal.sent_by_front() >= 2 {
             return Ok(0);
         }
         if self.looks == 0 {
             return Err(Error::from(ErrorKind::Other));
         }
         self.looks -= 1;
-        pause(self.clock);
+        pause(self.journal.rt);
         b"state\n".as_slice().read(buf)
     }
 }
@@ -55,23 +52,21 @@ const OF_SECOND: [&[u8]; 1] = [&NAME_ONLY_REPLY];
 
 #[test]
 fn lanes_have_threads_of_their_own(rt: HostRuntime) -> Result<(), Fail> {
-    let sent = [AtomicU64::new(0), AtomicU64::new(0), AtomicU64::new(0)];
+    let journal = Journal::new(&rt, rt.alloc());
     let crossing = Crossing::new();
     let gate = TestGate {
         clock: &rt,
         rule: Rule::Crossing(&crossing),
     };
-    let reader = Asking::until_two(&rt, &sent[0]);
     let coming = Coming {
         front: &REQUESTS,
         first: &OF_FIRST,
         second: &OF_SECOND,
     };
-    let journal = Journal::new(&rt, rt.alloc());
-    let wires = wires_of(rt.alloc(), &rt, coming, &journal, &sent)?;
-    let served = served(&rt, rt.alloc(), wires, &gate, reader, io::sink())?;
+    let reader = Asking::until_two(&journal);
+    let served = served(&journal, coming, &gate, reader, io::sink())?;
     holds(&rt, matches!(served, Ok(end) if end.is_clean()));
     holds(&rt, !crossing.has_failed());
-    same(&rt, sent[0].load(Ordering::SeqCst), 2);
+    same(&rt, journal.sent_by_front(), 2);
     Ok(())
 }

@@ -1,15 +1,16 @@
 //! Wires in memory.
 
-ghost use Rattle.std.specs.Prelude.{Some, IsSome};
+ghost use Rattle.std.specs.Prelude.{Some};
 
+use crate::gates::TestGate;
 use crate::journal::{Journal, SENT};
 use rad_console::EndLine;
-use rad_desk::{Delivery, Gate, Received, Traffic, Wire};
+use rad_desk::{Delivery, Gate, Ledger, Received, Traffic, Wire};
 use rad_realms::{Endpoint, read_config};
-use rad_server::{Notifiers, ServeFault, Wires, serve};
+use rad_server::{Notifiers, ServeFault, Wires, serve, serve_with};
 use rad_tables::Moment;
-use std::alloc::{AllocError, Global};
-use std::io::{Read, Write};
+use std::alloc::AllocError;
+use std::io::{self, Read, Write};
 use std::sync::Wait;
 use std::sync::atomic::{AtomicU64, Ordering};
 use std::test::Fail;
@@ -20,7 +21,7 @@ use std::time::{Clock, Duration};
 pub const LOOKS: u32 = 10_000;
 
 /// A configuration of one client and two home servers.
-pub const TWO_HOMES: &str = r#"
+const TWO_HOMES: &str = r#"
 listen = "127.0.0.1:1813"
 [[client]]
 address = "10.0.0.1"
@@ -152,22 +153,21 @@ fn home(lane: u16) -> Endpoint {
     }
 }
 
-/// Makes wires in memory for the front and for two lanes, each of which counts what it sends. The front's logs it too.
-pub fn wires_of<'a, R>(
-    alloc: Global,
-    clock: &'a R,
-    coming: Coming<'a>,
+/// Makes wires in memory for the front and for two lanes. The journal counts what each sends, and logs what the front's
+/// sends.
+fn wires_of<'a, R>(
     journal: &'a Journal<'a, R>,
-    sent: &'a [AtomicU64; 3],
+    coming: Coming<'a>,
 ) -> Result<Wires<Scripted<'a, R>>, AllocError> {
-    let [of_front, of_first, of_second] = sent;
+    let clock = journal.rt;
+    let [of_front, of_first, of_second] = &journal.sent;
     let Coming {
         front,
         first,
         second,
     } = coming;
     let lanes = Vec::from_array(
-        alloc,
+        journal.alloc,
         [
             Scripted::new(clock, home(0), first, first.len(), None, of_first),
             Scripted::new(clock, home(1), second, second.len(), None, of_second),
@@ -177,24 +177,49 @@ pub fn wires_of<'a, R>(
     Ok(Wires { front, lanes })
 }
 
-/// Serves one client and two home servers over these wires, and returns how that ends.
-pub fn served<R, W, G, I, O>(
-    rt: &R,
-    alloc: Global,
-    wires: Wires<W>,
+/// Serves one client and two home servers over wires in memory, and returns how that ends.
+pub fn served<'a, R, G, I, O>(
+    journal: &'a Journal<'a, R>,
+    coming: Coming<'a>,
     gate: &G,
     reader: I,
     writer: O,
 ) -> Result<Result<EndLine, ServeFault>, Fail>
 where
     R: Clock + Threads + Wait + Sync,
-    W: Wire + Send + Drop,
     G: Gate + Sync,
     I: Read + Drop,
     O: Write + Drop,
-    requires keeps { (wire : W) → IsSome (W.log wire) }
 {
+    let alloc = journal.alloc;
+    let wires = wires_of(journal, coming)?;
     let config = read_config(alloc, TWO_HOMES)?;
     let notifiers = Notifiers::none(alloc);
-    Ok(serve(rt, alloc, &config, wires, &notifiers, gate, reader, writer))
+    Ok(serve(
+        journal.rt, alloc, &config, wires, &notifiers, gate, reader, writer,
+    ))
+}
+
+/// Serves the same with a ledger, through a gate that lets every worker go on, and returns how that ends.
+pub fn served_with<'a, R, L, I>(
+    journal: &'a Journal<'a, R>,
+    coming: Coming<'a>,
+    ledger: L,
+    reader: I,
+) -> Result<Result<EndLine, ServeFault>, Fail>
+where
+    R: Clock + Threads + Wait + Sync,
+    L: Ledger + Send + Drop,
+    I: Read + Drop,
+{
+    let rt = journal.rt;
+    let alloc = journal.alloc;
+    let wires = wires_of(journal, coming)?;
+    let config = read_config(alloc, TWO_HOMES)?;
+    let notifiers = Notifiers::none(alloc);
+    let gate = TestGate::open(rt);
+    let writer = io::sink();
+    Ok(serve_with(
+        rt, alloc, &config, wires, &notifiers, &gate, ledger, reader, writer,
+    ))
 }

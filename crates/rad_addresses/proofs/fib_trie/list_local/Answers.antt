@@ -2,9 +2,9 @@ use Rattle.std.proofs.Common.{◌≡◌, ◌++◌, Some, None, rules, sym, ap, �
 use Rattle.std.specs.Str.{trim_start}
 use Rattle.std.proofs.lemmas.Iterator.Splits.{YieldsList-from_lines}
 use Rattle.std.proofs.lemmas.Iterator.Consumers.{YieldsList-at, YieldsList-end}
-use Rattle.rad_server.specs.FibTrie.{nothing_listed, named_in, is_local, local_by}
-use Rattle.rad_server.proofs.Listings.{listing_named}
-use Rattle.rad_server.proofs.fib_trie.list_local.Goals as goal
+use Rattle.rad_addresses.specs.FibTrie.{nothing_listed, named_in, is_local, local_by}
+use Rattle.rad_addresses.proofs.Listings.{listing_named}
+use Rattle.rad_addresses.proofs.fib_trie.list_local.Goals as goal
 
 pub loop-line-preserved-in-Some-name_in : goal.loop-line-preserved-in-Some-name_in
 loop-line-preserved-in-Some-name_in c =

@@ -3,7 +3,7 @@ use Rattle.std.specs.Prelude.{◌≡◌, ℕ, List, [], ◌∷◌, ◌++◌, Opt
 use Rattle.std.specs.Borrow.{Bor}
 use Rattle.std.specs.Str.{trim_start}
 use Rattle.std.proofs.Common.{refl, ap, sym, ◌∙◌, map}
-use Rattle.rad_server.specs.FibTrie.{Listing, named_in, after_name, after_line, listing}
+use Rattle.rad_addresses.specs.FibTrie.{Listing, named_in, after_name, after_line, listing}
 
 pub listing_more : (so_far : Listing) (seen : List (Bor (List ℕ))) (line : Bor (List ℕ))
     → listing so_far (map (λ l. l.now) (seen ++ line ∷ [])) ≡ after_line (listing so_far (map (λ l. l.now) seen)) (trim_start line.now)

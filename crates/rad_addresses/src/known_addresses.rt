@@ -7,7 +7,7 @@ const MOST: usize = 512;
 
 /// Addresses of this machine, each once.
 #[derive(Drop)]
-pub(crate) struct KnownAddresses(Vec<[u8; 4]>);
+pub struct KnownAddresses(Vec<[u8; 4]>);
 
 impl KnownAddresses {
     /// Makes it without a known address.
@@ -15,13 +15,13 @@ impl KnownAddresses {
     /// # Errors
     ///
     /// `AllocError` if memory is refused.
-    pub(crate) fn new(alloc: Global) -> Result<KnownAddresses, AllocError> {
+    pub fn new(alloc: Global) -> Result<KnownAddresses, AllocError> {
         Ok(KnownAddresses(Vec::with_capacity(alloc, MOST)?))
     }
 
     /// Adds an address, and returns whether it was new. If [`MOST`] addresses are known, or memory is refused, it adds
     /// none and returns `false`.
-    pub(crate) fn learn(&mut self, address: [u8; 4]) -> bool {
+    pub fn learn(&mut self, address: [u8; 4]) -> bool {
         if self.0.len() >= MOST || self.0.as_slice().contains(&address) {
             return false;
         }

@@ -1,6 +1,6 @@
 use Rattle.std.proofs.Common.{◌≡◌, map}
-use Rattle.rad_server.specs.FibTrie.{listing, nothing_listed}
-use Rattle.rad_server.proofs.fib_trie.list_local.Given as goal
+use Rattle.rad_addresses.specs.FibTrie.{listing, nothing_listed}
+use Rattle.rad_addresses.proofs.fib_trie.list_local.Given as goal
 
 abbrev pub invariant-loop-line : goal.invariant-loop-line
 invariant-loop-line l = record {

@@ -2,7 +2,7 @@
 
 ghost use Rattle.std.specs.Prelude.{◌≡◌, ◌<◌, ◌++◌, IfOk, option_map, option_copied};
 ghost use Rattle.rad_realms.specs.Address.{around_first};
-ghost use Rattle.rad_server.specs.FibTrie.{named_in, is_local, local_by, local_addresses};
+ghost use Rattle.rad_addresses.specs.FibTrie.{named_in, is_local, local_by, local_addresses};
 
 use rad_realms::read_address;
 use std::alloc::{AllocError, Global};

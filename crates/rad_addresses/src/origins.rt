@@ -67,7 +67,7 @@ struct ClientOrigin {
 /// To which of the front's sockets each client's last datagram came: by address and port for the most recent ones, and
 /// by address for every client. It allocates nothing after it is made.
 #[derive(Drop)]
-pub(crate) struct Origins {
+pub struct Origins {
     /// The clients, sorted by address.
     clients: Vec<ClientOrigin>,
     rows: Vec<Row>,
@@ -81,11 +81,7 @@ impl Origins {
     /// # Errors
     ///
     /// `AllocError` if memory is refused.
-    pub(crate) fn new(
-        alloc: Global,
-        clients: &[Client],
-        random: u64,
-    ) -> Result<Origins, AllocError> {
+    pub fn new(alloc: Global, clients: &[Client], random: u64) -> Result<Origins, AllocError> {
         Ok(Origins {
             clients: client_origins(alloc, clients)?,
             rows: empty_rows(alloc)?,
@@ -94,7 +90,7 @@ impl Origins {
     }
 
     /// Notes that a datagram came from `peer` to a socket. For a sender that is not a client nothing is kept.
-    pub(crate) fn note(&mut self, peer: Endpoint, socket: u16) {
+    pub fn note(&mut self, peer: Endpoint, socket: u16) {
         let Ok(place) = self.place_of(peer.address) else {
             return;
         };
@@ -109,7 +105,7 @@ impl Origins {
 
     /// Returns the socket to which the last datagram from `peer` came. If that is no longer kept, it returns the socket
     /// of the client's last datagram from any port, and for a sender that is not a client the first socket.
-    pub(crate) fn socket_of(&self, peer: Endpoint) -> u16 {
+    pub fn socket_of(&self, peer: Endpoint) -> u16 {
         let row = self.rows.get(self.row_of(peer));
         match row.and_then(|row| row.find(peer)) {
             Some(socket) => socket,
