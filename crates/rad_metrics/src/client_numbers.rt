@@ -30,14 +30,8 @@ impl ClientNumbers {
     ///
     /// `AllocError` if memory is refused.
     pub(crate) fn new(alloc: Global, config: &Config) -> Result<ClientNumbers, AllocError> {
-        let mut places = BTreeMap::new(alloc);
-        let mut counts = Vec::new(alloc);
-        for (place, client) in config.clients().iter().enumerate() {
-            places.insert(client.address(), place)?;
-            for _ in CLIENT_EVENTS {
-                counts.push(AtomicU64::new(0))?;
-            }
-        }
+        let counts = no_counts(alloc, config.clients().len())?;
+        let places = places_of(alloc, config)?;
         Ok(ClientNumbers {
             places,
             last: AtomicUsize::new(NOBODY),
@@ -98,4 +92,32 @@ impl ClientNumbers {
             None => NOBODY,
         }
     }
+}
+
+/// Returns the index of each client's address.
+///
+/// # Errors
+///
+/// `AllocError` if memory is refused.
+fn places_of(alloc: Global, config: &Config) -> Result<BTreeMap<[u8; 4], usize>, AllocError> {
+    let mut places = BTreeMap::new(alloc);
+    for (place, client) in config.clients().iter().enumerate() {
+        places.insert(client.address(), place)?;
+    }
+    Ok(places)
+}
+
+/// Returns the counts of this number of clients, all 0.
+///
+/// # Errors
+///
+/// `AllocError` if memory is refused.
+fn no_counts(alloc: Global, clients: usize) -> Result<Vec<AtomicU64>, AllocError> {
+    let mut counts = Vec::new(alloc);
+    for _ in 0..clients {
+        for _ in CLIENT_EVENTS {
+            counts.push(AtomicU64::new(0))?;
+        }
+    }
+    Ok(counts)
 }

@@ -40,13 +40,14 @@ impl HomeCell {
     ///
     /// `AllocError` if memory is refused.
     fn new(alloc: Global, home: &Home, start: u64) -> Result<HomeCell, AllocError> {
+        let times = HomeTimes::new(alloc, home.limits().numbers())?;
         Ok(HomeCell {
             is_asked: AtomicBool::new(false),
             turn: AtomicU64::new(0),
             since: AtomicU64::new(start),
             last_answer: AtomicU64::new(0),
             ups: [AtomicU64::new(0), AtomicU64::new(0), AtomicU64::new(0)],
-            times: HomeTimes::new(alloc, home.limits().numbers())?,
+            times,
             reading: Mutex::new(first_reading(start)),
         })
     }

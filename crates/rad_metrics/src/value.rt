@@ -3,7 +3,7 @@
 ghost use Rattle.std.specs.Prelude.{◌≡◌};
 ghost use Rattle.rad_metrics.specs.Values.{value_of_bool};
 
-use std::fmt;
+use std::fmt::{self, Display};
 
 /// A value.
 #[derive(Clone, Copy)]
@@ -37,7 +37,7 @@ impl Value {
     }
 }
 
-impl fmt::Display for Value {
+impl Display for Value {
     ghost use Rattle.std.specs.Prelude.{Some};
     ghost use Rattle.rad_metrics.specs.Values.{value_text};
 
@@ -45,11 +45,8 @@ impl fmt::Display for Value {
 
     fn fmt<W: fmt::Write>(&self, f: &mut fmt::Formatter<W>) -> fmt::Result {
         match *self {
-            Value::Count(count) => write!(f, "{count}"),
-            Value::Milliseconds(milliseconds) => {
-                let seconds = Seconds(milliseconds);
-                write!(f, "{seconds}")
-            }
+            Value::Count(count) => count.fmt(f),
+            Value::Milliseconds(milliseconds) => Seconds(milliseconds).fmt(f),
             Value::Microseconds(microseconds) => {
                 let seconds = Seconds(microseconds / 1000);
                 let rest = Digits(microseconds % 1000);
@@ -59,7 +56,7 @@ impl fmt::Display for Value {
     }
 }
 
-impl fmt::Display for Seconds {
+impl Display for Seconds {
     ghost use Rattle.std.specs.Prelude.{Some};
     ghost use Rattle.rad_metrics.specs.Values.{seconds_text};
 
@@ -72,7 +69,7 @@ impl fmt::Display for Seconds {
     }
 }
 
-impl fmt::Display for Digits {
+impl Display for Digits {
     ghost use Rattle.std.specs.Prelude.{Some};
     ghost use Rattle.rad_metrics.specs.Values.{digits_text};
 

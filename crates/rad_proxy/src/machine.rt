@@ -1,7 +1,7 @@
 //! What the program reads of the machine that it runs on.
 
+use rad_addresses::{LocalAddresses, read_local_addresses};
 use rad_metrics::{UdpSockets, read_udp_sockets};
-use rad_server::{LocalAddresses, read_local_addresses};
 use std::alloc::Global;
 use std::io;
 use std::rt::Files;

@@ -3,8 +3,9 @@
 ghost use Rattle.std.specs.Prelude.{◌≡◌, ◌≢◌};
 
 use rad_advice::{UnreadKeys, advise_homes, syntax_error, unread_keys};
+use rad_log::{Log, tell_error, tell_reason, tell_warning, warn_of_reason};
 use rad_realms::Config;
-use rad_telemetry::{Escaped, Log, tell_error, tell_reason, tell_warning, warn_of_reason};
+use rad_telemetry::Escaped;
 use std::alloc::Global;
 use std::fmt::{self, Display};
 use std::io::{Error, ErrorKind};

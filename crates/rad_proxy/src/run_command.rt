@@ -5,14 +5,15 @@ ghost use denote.Param.Send.{IsSync};
 use crate::faults::Fault;
 use crate::loading::load;
 use libc::{STDIN_FILENO, STDOUT_FILENO};
+use rad_addresses::LocalAddresses;
 use rad_console::EndLine;
+use rad_log::{ErrorLines, Log, Logged, ToldStream, open_log, tell_reason};
 use rad_metrics::UdpSockets;
 use rad_realms::Config;
-use rad_server::{Descriptors, LocalAddresses, ServeFault, run_with};
+use rad_server::{Descriptors, ServeFault, run_with};
 use rad_telemetry::{
-    CounterFile, CounterTexts, ErrorLines, LedgerState, Log, Logged, ReplaceFile, Reporter,
-    StopFlag, Telemetry, ToldStream, find_counter_file, log_fault, open_log, report, start_texts,
-    tell_reason,
+    CounterFile, CounterTexts, LedgerState, ReplaceFile, Reporter, StopFlag, Telemetry,
+    find_counter_file, log_fault, report, start_texts,
 };
 use rad_writer::{LedgerDisk, LedgerInlet, OpenedLedger, find_folder, open_ledger, start_writer};
 use std::alloc::{AllocError, AllocGlobal, Global};

@@ -1,7 +1,6 @@
 //! The file that the counters are written to, and how it is replaced.
 
-use crate::telling::warn_of_reason;
-use log::Log;
+use rad_log::{Log, warn_of_reason};
 use std::alloc::{AllocError, AllocGlobal, Global};
 use std::env::{self, Env, VarError};
 use std::fmt::{self, Display};
@@ -96,13 +95,18 @@ fn new_name<R: AllocGlobal + RandomSource>(rt: &R, path: &str) -> Result<String,
 /// Returns a path with a number and `.new` after it.
 fn name_with(alloc: Global, path: &str, number: u64) -> Result<String, AllocError> {
     let mut name = String::from_str(alloc, path)?;
+    push_number(&mut name, number)?;
+    Ok(name)
+}
+
+/// Adds a number and `.new` to a path.
+fn push_number(name: &mut String, number: u64) -> Result<(), AllocError> {
     name.push('.')?;
     for place in 0..16u32 {
         let digit = number >> (60 - 4 * place) & 0xf;
         name.push(char::from_digit(digit as u32, 16).unwrap_or('0'))?;
     }
-    name.push_str(".new")?;
-    Ok(name)
+    name.push_str(".new")
 }
 
 /// Creates a file of this name, which must not exist yet, and returns whether it then has the text.

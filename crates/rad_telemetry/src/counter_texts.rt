@@ -1,7 +1,7 @@
 //! The text of the counters on its way from the thread that makes it to the thread that writes it to the file.
 
 use crate::counter_file::{CounterFile, FileFault, ReplaceFile};
-use crate::writer_state::WriterState;
+use rad_log::WriterState;
 use std::alloc::{AllocError, Global};
 use std::mem;
 use std::sync::{Arc, Mutex, Wait};

@@ -33,7 +33,7 @@ pub struct Counters {
 }
 
 /// What was counted of a kind since the last delta.
-#[derive(Clone, Copy, Debug, PartialEq, Eq)]
+#[derive(Clone, Copy)]
 pub struct Delta {
     /// The number of events.
     pub count: u64,

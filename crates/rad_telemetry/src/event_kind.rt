@@ -7,10 +7,10 @@ use crate::metric::Metric;
 use rad_desk::{DeskFault, Note};
 use rad_lane::{HearFault, Refusal};
 use rad_realms::Dropped;
-use std::fmt;
+use std::fmt::{self, Display};
 
 /// A kind of event that is counted.
-#[derive(Clone, Copy, Debug, PartialEq, Eq)]
+#[derive(Clone, Copy)]
 pub enum EventKind {
     /// An Accounting-Request was sent to the home server, for the first time or again.
     Sent,
@@ -157,7 +157,7 @@ impl EventKind {
     }
 }
 
-impl fmt::Display for ReasonText {
+impl Display for ReasonText {
     ghost use Rattle.std.specs.Prelude.{Some};
     ghost use Rattle.rad_telemetry.specs.EventKinds.{reason_text};
 
@@ -166,10 +166,10 @@ impl fmt::Display for ReasonText {
     fn fmt<W: fmt::Write>(&self, f: &mut fmt::Formatter<W>) -> fmt::Result {
         match self.0 {
             EventKind::Unread | EventKind::ReplyUnread => f.write_str("Unread"),
-            EventKind::Dropped(reason) => write!(f, "{reason}"),
-            EventKind::Refused(reason) => write!(f, "{reason}"),
+            EventKind::Dropped(reason) => reason.fmt(f),
+            EventKind::Refused(reason) => reason.fmt(f),
             EventKind::NotHome => f.write_str("NotHome"),
-            EventKind::Unheard(fault) => write!(f, "{fault}"),
+            EventKind::Unheard(fault) => fault.fmt(f),
             EventKind::Sent
             | EventKind::Probed
             | EventKind::SendFault

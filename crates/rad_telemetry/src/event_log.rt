@@ -2,16 +2,16 @@
 //! `event=down home=h1`.
 
 use crate::delta_lines::CutDelta;
+use crate::event_lines::{
+    ClientLine, NumberWords, PassedWords, PeerWords, SerialWord, StrangeWords, UnheardWords,
+    WorkerLine,
+};
 use crate::last_datagram::LastDatagram;
-use crate::packet_words::DatagramWords;
-use crate::peer_text::{ClientText, PeerText};
-use crate::telling::tell;
 use crate::watch_lines::{DownLine, UpLine};
 use crate::workers::worker_name;
-use log::{Level, Log, log_enabled};
 use rad_desk::{DeskFault, Note, Spent, UpReason, Worker};
-use rad_lane::Refusal;
-use rad_realms::{Config, Dropped, Endpoint};
+use rad_log::{Level, Log, logs_at, tell, warn_of_reason};
+use rad_realms::{Config, Endpoint};
 use std::alloc::{AllocError, Global};
 use std::fmt::Display;
 use std::io::Error;
@@ -40,7 +40,7 @@ impl<'a, L: Log> EventLog<'a, L> {
         config: &'a Config,
         log: &'a L,
     ) -> Result<EventLog<'a, L>, AllocError> {
-        let last = if log_enabled!(log; Level::Debug) {
+        let last = if logs_at(log, Level::Debug) {
             LastDatagram::new(alloc, config.homes().len())?
         } else {
             LastDatagram::none(alloc)
@@ -52,6 +52,45 @@ impl<'a, L: Log> EventLog<'a, L> {
         tell(self.log, level, line);
     }
 
+    /// Logs an event of a worker, with what else is known of it.
+    fn tell_of<D: Display>(&self, level: Level, event: &str, worker: Worker, rest: &D) {
+        let line = WorkerLine {
+            event,
+            key: "worker",
+            name: self.name(worker),
+            rest,
+        };
+        self.tell(level, &line);
+    }
+
+    /// Logs an event of the home server of a lane's worker, with what else is known of it.
+    fn tell_of_home<D: Display>(&self, level: Level, event: &str, worker: Worker, rest: &D) {
+        let line = WorkerLine {
+            event,
+            key: "home",
+            name: self.name(worker),
+            rest,
+        };
+        self.tell(level, &line);
+    }
+
+    /// Logs why the datagram that the front received last was not accepted.
+    fn tell_of_client<D: Display>(
+        &self,
+        event: &str,
+        worker: Worker,
+        client: Endpoint,
+        reason: &D,
+    ) {
+        let line = ClientLine {
+            event,
+            client,
+            packet: self.last.words(worker),
+            reason,
+        };
+        self.tell(Level::Debug, &line);
+    }
+
     /// Returns the name of a worker.
     fn name(&self, worker: Worker) -> &str {
         worker_name(self.config, worker)
@@ -59,11 +98,8 @@ impl<'a, L: Log> EventLog<'a, L> {
 
     /// Logs that a worker ended by itself.
     pub fn ended(&self, worker: Worker) {
-        let name = self.name(worker);
-        self.tell(
-            Level::Error,
-            &format_args!("event=stopped worker={name} reason=\"ended by itself\""),
-        );
+        let rest = " reason=\"ended by itself\"";
+        self.tell_of(Level::Error, "stopped", worker, &rest);
     }
 
     /// Logs a worker's note about `peer`. It does not log `WentDown` and `WentUp`, which have calls of their own.
@@ -71,13 +107,13 @@ impl<'a, L: Log> EventLog<'a, L> {
         match note {
             Note::WentDown | Note::WentUp => {}
             Note::Cut(count) => self.cut(worker, count),
-            Note::ReceiveFault => self.receive_fault(worker),
-            Note::SendFault => self.send_fault(worker, peer),
+            Note::ReceiveFault => self.tell_of(Level::Debug, "receive-fault", worker, &""),
+            Note::SendFault => self.tell_of(Level::Debug, "send-fault", worker, &PeerWords(peer)),
             Note::NotHome => self.not_home(worker, peer),
             Note::Unheard(fault) => self.unheard(worker, fault),
-            Note::Dropped(reason) => self.dropped(worker, peer, reason),
-            Note::Refused(reason) => self.refused(worker, peer, reason),
-            Note::Took(lane, serial) => self.returned(lane, serial),
+            Note::Dropped(reason) => self.tell_of_client("dropped", worker, peer, &reason),
+            Note::Refused(reason) => self.tell_of_client("refused", worker, peer, &reason),
+            Note::Took(lane, serial) => self.tell_serial("returned", lane, serial),
         }
     }
 
@@ -94,21 +130,13 @@ impl<'a, L: Log> EventLog<'a, L> {
 
     /// Logs that a lane accepted the request that the front received last.
     pub fn accepted(&self, lane: u16, number: u64) {
-        let home = self.name(Worker::Lane(lane));
-        let packet = self.last.words(Worker::Front);
-        self.tell(
-            Level::Trace,
-            &format_args!("event=accepted home={home} number={number}{packet}"),
-        );
+        let rest = NumberWords(number, self.last.words(Worker::Front));
+        self.tell_of_home(Level::Trace, "accepted", Worker::Lane(lane), &rest);
     }
 
     /// Logs that a request of a lane was answered.
     pub fn answered(&self, lane: u16, serial: u64) {
-        let home = self.name(Worker::Lane(lane));
-        self.tell(
-            Level::Trace,
-            &format_args!("event=answered home={home} serial={serial}"),
-        );
+        self.tell_serial("answered", lane, serial);
     }
 
     /// Logs that a lane's home server is marked down, since this request is unanswered.
@@ -135,10 +163,7 @@ impl<'a, L: Log> EventLog<'a, L> {
 
     /// Logs that the addresses of this machine can't be read.
     pub fn addresses_unread(&self, error: &Error) {
-        self.tell(
-            Level::Warn,
-            &format_args!("event=addresses-unread reason=\"{error}\""),
-        );
+        warn_of_reason(self.log, "addresses-unread", error);
     }
 
     /// Logs that no socket is bound to this address of this machine alone.
@@ -151,21 +176,13 @@ impl<'a, L: Log> EventLog<'a, L> {
     }
 
     fn passed(&self, event: &str, worker: Worker, peer: Endpoint, octets: &[u8]) {
-        let name = self.name(worker);
-        let peer = PeerText(peer);
-        let datagram = DatagramWords(octets);
-        self.tell(
-            Level::Trace,
-            &format_args!("event={event} worker={name} {peer} {datagram}"),
-        );
+        let rest = PassedWords(peer, octets);
+        self.tell_of(Level::Trace, event, worker, &rest);
     }
 
-    fn returned(&self, lane: u16, serial: u64) {
-        let home = self.name(Worker::Lane(lane));
-        self.tell(
-            Level::Trace,
-            &format_args!("event=returned home={home} serial={serial}"),
-        );
+    fn tell_serial(&self, event: &str, lane: u16, serial: u64) {
+        let rest = SerialWord(serial);
+        self.tell_of_home(Level::Trace, event, Worker::Lane(lane), &rest);
     }
 
     fn cut(&self, worker: Worker, count: u64) {
@@ -174,57 +191,16 @@ impl<'a, L: Log> EventLog<'a, L> {
         self.tell(Level::Debug, &line);
     }
 
-    fn receive_fault(&self, worker: Worker) {
-        let name = self.name(worker);
-        self.tell(
-            Level::Debug,
-            &format_args!("event=receive-fault worker={name}"),
-        );
-    }
-
-    fn send_fault(&self, worker: Worker, to: Endpoint) {
-        let name = self.name(worker);
-        let to = PeerText(to);
-        self.tell(
-            Level::Debug,
-            &format_args!("event=send-fault worker={name} {to}"),
-        );
-    }
-
-    fn dropped(&self, worker: Worker, from: Endpoint, reason: Dropped) {
-        let from = ClientText(from);
-        let packet = self.last.words(worker);
-        self.tell(
-            Level::Debug,
-            &format_args!("event=dropped {from}{packet} reason=\"{reason}\""),
-        );
-    }
-
-    fn refused(&self, worker: Worker, from: Endpoint, reason: Refusal) {
-        let from = ClientText(from);
-        let packet = self.last.words(worker);
-        self.tell(
-            Level::Debug,
-            &format_args!("event=refused {from}{packet} reason=\"{reason}\""),
-        );
-    }
-
     fn not_home(&self, worker: Worker, from: Endpoint) {
-        let home = self.name(worker);
-        let from = PeerText(from);
-        let packet = self.last.words(worker);
-        self.tell(
-            Level::Debug,
-            &format_args!("event=unheard home={home} {from}{packet} reason=\"NotHome\""),
-        );
+        let rest = StrangeWords(from, self.last.words(worker));
+        self.tell_of_home(Level::Debug, "unheard", worker, &rest);
     }
 
     fn unheard(&self, worker: Worker, fault: DeskFault) {
-        let home = self.name(worker);
-        let packet = self.last.words(worker);
-        self.tell(
-            Level::Debug,
-            &format_args!("event=unheard home={home}{packet} reason=\"{fault}\""),
-        );
+        let rest = UnheardWords {
+            packet: self.last.words(worker),
+            reason: &fault,
+        };
+        self.tell_of_home(Level::Debug, "unheard", worker, &rest);
     }
 }

@@ -7,7 +7,7 @@ use crate::workers::worker_place;
 use rad_desk::Worker;
 use rad_packet::read;
 use std::alloc::{AllocError, Global};
-use std::fmt;
+use std::fmt::{self, Display};
 use std::sync::Mutex;
 
 /// The datagram that each worker received last: the front's, then those of the lanes in order. Each worker uses only
@@ -94,18 +94,22 @@ impl Received {
     }
 }
 
-impl fmt::Display for LastWords<'_> {
+impl Display for LastWords<'_> {
     fn fmt<W: fmt::Write>(&self, f: &mut fmt::Formatter<W>) -> fmt::Result {
         let Some(received) = self.last.received.get(worker_place(self.worker)) else {
             return Ok(());
         };
-        let Some(received) = received.try_lock() else {
-            return Ok(());
-        };
-        let Ok(packet) = read(received.octets()) else {
-            return Ok(());
-        };
-        let words = PacketWords::of(&packet);
-        write!(f, "{words}")
+        match received.try_lock() {
+            Some(received) => write_words(f, received.octets()),
+            None => Ok(()),
+        }
+    }
+}
+
+/// Writes the words of the packet that these octets are, if they are one.
+fn write_words<W: fmt::Write>(f: &mut fmt::Formatter<W>, octets: &[u8]) -> fmt::Result {
+    match read(octets) {
+        Ok(packet) => PacketWords::of(&packet).fmt(f),
+        Err(_) => Ok(()),
     }
 }

@@ -3,7 +3,7 @@
 use crate::packet_words::RealmWord;
 use rad_packet::read;
 use rad_realms::realm_of_packet;
-use std::fmt;
+use std::fmt::{self, Display};
 use std::hint::spin_loop;
 use std::sync::{Mutex, MutexGuard};
 
@@ -77,18 +77,18 @@ impl Realm {
     fn octets(&self) -> &[u8] {
         self.octets.get(..self.count).unwrap_or(&[])
     }
+
+    fn word(&self) -> RealmWord<'_> {
+        RealmWord(self.is_there.then_some(self.octets()))
+    }
 }
 
 /// The realm as a log line has it, with a space before it. It is empty if the packet had no realm.
-impl fmt::Display for LastRealm {
+impl Display for LastRealm {
     fn fmt<W: fmt::Write>(&self, f: &mut fmt::Formatter<W>) -> fmt::Result {
-        let Some(realm) = self.hold() else {
-            return Ok(());
-        };
-        if !realm.is_there {
-            return Ok(());
+        match self.hold() {
+            Some(realm) => realm.word().fmt(f),
+            None => Ok(()),
         }
-        let word = RealmWord(Some(realm.octets()));
-        write!(f, "{word}")
     }
 }

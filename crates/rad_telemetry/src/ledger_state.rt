@@ -2,9 +2,7 @@
 
 use crate::ledger_fault::LedgerFault;
 use crate::ledger_lines::LedgerLine;
-use crate::telling::tell;
-use crate::writer_state::WriterState;
-use log::{Level, Log};
+use rad_log::{Level, Log, WriterState, tell};
 use rad_metrics::LedgerReading;
 use std::sync::Wait;
 use std::sync::atomic::{AtomicU64, Ordering};

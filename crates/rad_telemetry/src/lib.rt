@@ -1,5 +1,5 @@
-//! The log and the counters of the workers that serve: log lines on standard error, counters, and the file that the
-//! counters are written to.
+//! What is logged and counted of the workers that serve: the log lines, the counters, and the file that the counters are
+//! written to.
 //!
 //! [`Telemetry`] is a gate that lets every worker go on. It counts each note of a worker by its [`EventKind`], and
 //! logs it. It also counts the Accounting-Requests and Status-Servers that a lane's worker sends, and passes what is
@@ -12,8 +12,6 @@
 //! `MetricLines` the texts of sums and of counters, `WatchLines` the text of a home server that is marked up,
 //! `FileFaults` the reasons for which the file of the counters is not replaced, `LedgerFaults` those for which the
 //! ledger is not written, and `LedgerLines` the log lines of the ledger.
-//!
-//! This is the only crate that uses `log`. It exports the items of `log` that the program needs.
 #![tactic(auto)]
 
 mod atomic_endpoint;
@@ -21,8 +19,8 @@ mod counter_file;
 mod counter_texts;
 mod counters;
 mod delta_lines;
-mod error_lines;
 mod event_kind;
+mod event_lines;
 mod event_log;
 mod last_datagram;
 mod last_peers;
@@ -30,10 +28,6 @@ mod last_realm;
 mod ledger_fault;
 mod ledger_lines;
 mod ledger_state;
-mod levels;
-mod line_queue;
-mod line_room;
-mod line_writer;
 mod metric;
 mod metric_lines;
 mod packet_words;
@@ -41,33 +35,20 @@ mod peer_text;
 mod reporter;
 mod stop_flag;
 mod telemetry;
-mod telling;
-mod told_stream;
 mod watch_lines;
 mod workers;
-mod writer_state;
 
 pub use counter_file::{
     CounterFile, FileFault, ReplaceFile, RuntimeFiles, find_counter_file, log_fault,
 };
 pub use counter_texts::{CounterTexts, start_texts};
 pub use counters::{Counters, Delta};
-pub use error_lines::{ErrorLines, open_log};
 pub use event_kind::{EVENT_KINDS, EventKind};
 pub use ledger_fault::{LedgerFault, system_number};
 pub use ledger_state::{LedgerState, log_ledger_fault};
-pub use levels::{level_of, read_level};
-pub use line_room::LineRoom;
-pub use line_writer::{LineOutput, LineWriter};
-pub use log::kv::Source;
-pub use log::sink::Discard;
-pub use log::span::Spans;
-pub use log::{LevelFilter, Log, Logged, Metadata, Record};
 pub use metric::Metric;
 pub use packet_words::{Escaped, PacketWords};
 pub use reporter::{Reporter, report};
 pub use stop_flag::StopFlag;
 pub use telemetry::Telemetry;
-pub use telling::{open_log_if_asked, tell_error, tell_reason, tell_warning, warn_of_reason};
-pub use told_stream::ToldStream;
 pub use workers::{worker_name, worker_of_lane, worker_place};

@@ -4,7 +4,7 @@ ghost use Rattle.std.specs.Prelude.{◌≡◌};
 ghost use Rattle.rad_telemetry.specs.EventKinds.{event_of, metric_help, metric_name};
 
 /// A group of kinds of events that differ only by their reason.
-#[derive(Clone, Copy, Debug, PartialEq, Eq)]
+#[derive(Clone, Copy, PartialEq, Eq)]
 pub enum Metric {
     /// A datagram at the clients' socket was dropped.
     Dropped,

@@ -2,7 +2,7 @@
 
 use crate::event_kind::{EventKind, ReasonText};
 use crate::metric::Metric;
-use std::fmt;
+use std::fmt::{self, Display};
 
 /// The labels that say of whom something is counted.
 #[derive(Clone, Copy)]
@@ -41,7 +41,7 @@ pub struct TypeLine(pub Metric);
 #[derive(Clone, Copy)]
 pub struct HelpLine(pub Metric);
 
-impl fmt::Display for ReasonLabel {
+impl Display for ReasonLabel {
     ghost use Rattle.std.specs.Prelude.{Some};
     ghost use Rattle.rad_telemetry.specs.MetricLines.{reason_label};
 
@@ -53,7 +53,7 @@ impl fmt::Display for ReasonLabel {
     }
 }
 
-impl fmt::Display for HomeLabels<'_> {
+impl Display for HomeLabels<'_> {
     ghost use Rattle.std.specs.Prelude.{Some};
     ghost use Rattle.rad_telemetry.specs.MetricLines.{home_labels};
 
@@ -65,7 +65,7 @@ impl fmt::Display for HomeLabels<'_> {
     }
 }
 
-impl fmt::Display for Labels<'_> {
+impl Display for Labels<'_> {
     ghost use Rattle.std.specs.Prelude.{Some};
     ghost use Rattle.rad_telemetry.specs.MetricLines.{labels_text};
 
@@ -74,14 +74,8 @@ impl fmt::Display for Labels<'_> {
     fn fmt<W: fmt::Write>(&self, f: &mut fmt::Formatter<W>) -> fmt::Result {
         match *self {
             Labels::Clients => f.write_str("side=\"clients\""),
-            Labels::Reason(kind) => {
-                let reason = ReasonLabel(kind);
-                write!(f, "{reason}")
-            }
-            Labels::Home(lane, home) => {
-                let home = HomeLabels(lane, home);
-                write!(f, "{home}")
-            }
+            Labels::Reason(kind) => ReasonLabel(kind).fmt(f),
+            Labels::Home(lane, home) => HomeLabels(lane, home).fmt(f),
             Labels::HomeReason(lane, home, kind) => {
                 let home = HomeLabels(lane, home);
                 let reason = ReasonLabel(kind);
@@ -91,7 +85,7 @@ impl fmt::Display for Labels<'_> {
     }
 }
 
-impl fmt::Display for CounterLine<'_> {
+impl Display for CounterLine<'_> {
     ghost use Rattle.std.specs.Prelude.{Some};
     ghost use Rattle.rad_telemetry.specs.MetricLines.{counter_line};
 
@@ -105,7 +99,7 @@ impl fmt::Display for CounterLine<'_> {
     }
 }
 
-impl fmt::Display for TypeLine {
+impl Display for TypeLine {
     ghost use Rattle.std.specs.Prelude.{Some};
     ghost use Rattle.rad_telemetry.specs.MetricLines.{type_line};
 
@@ -117,7 +111,7 @@ impl fmt::Display for TypeLine {
     }
 }
 
-impl fmt::Display for HelpLine {
+impl Display for HelpLine {
     ghost use Rattle.std.specs.Prelude.{Some};
     ghost use Rattle.rad_telemetry.specs.MetricLines.{help_line};
 

@@ -11,10 +11,9 @@ use crate::ledger_state::LedgerState;
 use crate::metric::{METRICS, Metric};
 use crate::metric_lines::{CounterLine, HelpLine, Labels, TypeLine};
 use crate::stop_flag::StopFlag;
-use crate::telling::tell;
 use crate::workers::{worker_name, worker_of_lane};
-use log::{Level, Log};
 use rad_desk::Worker;
+use rad_log::{Level, Log, tell};
 use rad_metrics::{Draft, LedgerReading, Numbers, UdpSockets, write_ledger};
 use rad_realms::{Config, Dropped};
 use std::alloc::{AllocError, Global};
@@ -128,10 +127,11 @@ impl<L: Log, R> Reporter<'_, L, R> {
 
     /// Logs drops, and the realm of the last one if they were for their realms.
     fn log_dropped(&self, kind: EventKind, delta: Delta) {
-        if kind == EventKind::Dropped(Dropped::NoRealm) {
-            log_no_realm(self.log, kind, delta, self.counters.last_realm());
-        } else {
-            log_dropped(self.log, kind, delta);
+        match kind {
+            EventKind::Dropped(Dropped::NoRealm) => {
+                log_no_realm(self.log, kind, delta, self.counters.last_realm())
+            }
+            _ => log_dropped(self.log, kind, delta),
         }
     }
 

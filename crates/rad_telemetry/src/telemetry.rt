@@ -6,8 +6,8 @@ use crate::event_kind::EventKind;
 use crate::event_log::EventLog;
 use crate::last_peers::LastPeers;
 use crate::reporter::Reporter;
-use log::Log;
 use rad_desk::{Call, Gate, Go, Note, Repeat, Spent, Standing, UpReason, Worker};
+use rad_log::Log;
 use rad_metrics::Numbers;
 use rad_realms::{Config, Endpoint};
 use rad_tables::{Moment, Slot};
@@ -44,13 +44,17 @@ impl<'a, L: Log, R: Clock> Telemetry<'a, L, R> {
         log: &'a L,
     ) -> Result<Telemetry<'a, L, R>, AllocError> {
         let lanes = config.homes().len();
+        let peers = LastPeers::new(alloc, lanes)?;
+        let events = EventLog::new(alloc, config, log)?;
+        let counters = Counters::new(alloc, lanes)?;
+        let numbers = Numbers::new(alloc, rt, config)?;
         Ok(Telemetry {
             config,
             log,
-            counters: Counters::new(alloc, lanes)?,
-            numbers: Numbers::new(alloc, rt, config)?,
-            events: EventLog::new(alloc, config, log)?,
-            peers: LastPeers::new(alloc, lanes)?,
+            counters,
+            numbers,
+            events,
+            peers,
         })
     }
 
@@ -128,6 +132,10 @@ impl<L: Log, R: Clock> Gate for Telemetry<'_, L, R> {
             self.numbers.responds(to);
         }
         self.events.sends(worker, to, octets);
+    }
+
+    fn unsent(&self, worker: Worker, to: Endpoint) {
+        self.peers.sends(worker, to);
     }
 
     fn accepted(&self, lane: u16, number: u64) {

@@ -49,12 +49,14 @@ impl<O: LineOutput + Drop> LineQueue<O> {
     ///
     /// `AllocError` if memory is refused.
     pub fn new(alloc: Global, output: O) -> Result<LineQueue<O>, AllocError> {
+        let room = LineRoom::new(alloc, ROOM)?;
+        let batch = LineRoom::new(alloc, ROOM)?;
         let outlet = Outlet {
             writer: LineWriter::new(output),
-            batch: LineRoom::new(alloc, ROOM)?,
+            batch,
         };
         Ok(LineQueue {
-            room: Mutex::new(LineRoom::new(alloc, ROOM)?),
+            room: Mutex::new(room),
             missed: AtomicU64::new(0),
             outlet: Mutex::new(outlet),
             state: WriterState::new(),

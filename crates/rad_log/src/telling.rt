@@ -3,14 +3,19 @@
 use crate::error_lines::{ErrorLines, open_log};
 use crate::levels::names_level;
 use libc::{STDERR_FILENO, isatty};
-use log::{Level, LevelFilter, Log, Logged, log};
+use log::{Level, LevelFilter, Log, Logged, log, log_enabled};
 use std::alloc::{AllocError, Global};
 use std::env::Env;
 use std::fmt::{self, Display};
 
 /// Logs a text at a level. All lines are logged here, so that what a macro of `log` writes is proved once.
-pub(crate) fn tell<L: Log, D: Display>(log: &L, level: Level, text: &D) {
+pub fn tell<L: Log, D: Display>(log: &L, level: Level, text: &D) {
     log!(log; level, "{text}");
+}
+
+/// Returns whether a log accepts lines of a level.
+pub fn logs_at<L: Log>(log: &L, level: Level) -> bool {
+    log_enabled!(log; level)
 }
 
 /// Logs a text at `error`.
