@@ -21,6 +21,7 @@ import resource
 import subprocess
 import sys
 import time
+from concurrent.futures import ThreadPoolExecutor
 
 sys.dont_write_bytecode = True
 
@@ -62,6 +63,8 @@ SCRIPTS = {
     "audits": ("audits.py", "crates/rad_audit/out/rad_audit"),
     "spoiled-ledgers": ("hostile/spoiled_ledgers.py", "crates/rad_audit/out/rad_audit"),
 }
+# Those that measure times or load the machine, so that each runs alone. The others run two at a time.
+ALONE = {"ending", "moments", "metrics", "calls", "files", "soak", "memory", "locks", "ledger-files", "spoiled-ledgers"}
 COUNTS = re.compile(r"(\d+) passed, (\d+) failed")
 
 
@@ -84,21 +87,21 @@ def counted(status, log):
     return passed, max(failed, 1) if status else failed
 
 
-def shown(script, word, log):
-    """Runs a script of tests/, shown and kept in a log, and gives its status."""
-    words = [sys.executable, str(TOP / "tests" / script), word]
-    how = {"stdout": subprocess.PIPE, "encoding": "utf-8", "errors": "replace"}
-    with log.open("w", encoding="utf-8") as kept, subprocess.Popen(words, **how) as ran:
-        for line in ran.stdout:
-            print(line, end="", flush=True)
-            kept.write(line)
-    return ran.returncode
-
-
 def told_by(name, program):
-    """What passed and what failed of one of the scripts."""
+    """Runs one of the scripts, whose output goes to its log and is shown at its end, and gives what passed and what failed."""
     log, (script, word) = TOP / "out" / f"{name}.txt", SCRIPTS[name]
-    return counted(shown(script, program if word == "PROGRAM" else word, log), log)
+    words = [sys.executable, str(TOP / "tests" / script), program if word == "PROGRAM" else word]
+    with log.open("w", encoding="utf-8") as kept:
+        status = subprocess.run(words, stdout=kept).returncode
+    print(f"{name}: {log.read_text('utf-8', 'replace')}", end="", flush=True)
+    return counted(status, log)
+
+
+def told_by_all(program):
+    """What passed and what failed of each script: first of those that run two at a time, then of those that run alone."""
+    with ThreadPoolExecutor(2) as pool:
+        together = [pool.submit(told_by, name, program) for name in SCRIPTS if name not in ALONE]
+    return [*(it.result() for it in together), *(told_by(name, program) for name in SCRIPTS if name in ALONE)]
 
 
 def taken(watch):
@@ -122,7 +125,7 @@ def main():
         os.utime(stamp, (began, began))
     times.write_text(taken(watch))
     print(f"what each crate took stands in {times}", flush=True)
-    counts = [counted(status, gate), *(told_by(name, sys.argv[1]) for name in SCRIPTS)]
+    counts = [counted(status, gate), *told_by_all(sys.argv[1])]
     passed, failed = map(sum, zip(*counts))
     print(f"{passed} passed, {failed} failed")
     sys.exit(1 if failed else 0)
