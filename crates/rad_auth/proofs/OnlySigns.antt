@@ -1,5 +1,5 @@
 -- The walk that finds the Message-Authenticator of a packet that has one alone.
-use Rattle.std.proofs.Common.{◌≡◌, ◌≢◌, ℕ, ◌+◌, ◌≤◌, false, eqb, eq-eqb, List, [], ◌∷◌, length, Option, Some, None, is_some, refl, sym, ap, ◌∙◌, arith}
+use Rattle.std.proofs.Common.{◌≡◌, ◌≢◌, ℕ, ◌+◌, ◌≤◌, true, false, eqb, eq-eqb, List, [], ◌∷◌, length, Option, Some, None, is_some, refl, sym, ap, ◌∙◌, arith}
 use Rattle.std.specs.Prelude.{MatchOption}
 use Rattle.rad_packet.specs.Attribute.{Attribute, attributes_of, of_kind}
 use Rattle.rad_packet.specs.Packet.{IsPacketText, attribute_octets, packet_attributes}
@@ -53,3 +53,9 @@ module _ (text rest rest' : List ℕ) (place : ℕ) (a : Attribute) (next : attr
       counted = ap (λ n. signs_seen only + n) (sym (count_other 80 rest rest' a next other)) ∙ s.counted;
       seen = seen_other 80 text rest rest' place only s.seen a next len counted other;
     }
+
+  -- a Message-Authenticator, and one was seen
+  pub only_twice : (only : Option AttributePlace) → OnlySeen text rest place only → is_some only ≡ true → a.kind ≡ 80 → length (of_kind 80 (packet_attributes text)) ≢ 1
+  only_twice None s second same = absurd cc
+  only_twice (Some at) s second same = λ one.
+      omega (arith, one, s.counted, count_this 80 rest rest' a next (eq-eqb a.kind 80 same))

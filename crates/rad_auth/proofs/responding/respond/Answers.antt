@@ -1,11 +1,78 @@
-use Rattle.std.proofs.Common.{◌≡◌, ◌<◌, subst, length, arith, Bool, List, ℕ, []}
+use Rattle.std.proofs.Common.{rules, ◌≡◌, ◌<◌, ◌↔◌, subst, sym, length, arith, Bool, true, false, IsTrue, List, ℕ, [], refl, ap, ◌∙◌}
 use Rattle.rad_packet.specs.Attribute.{of_kind}
 use Rattle.rad_packet.specs.Packet.{packet_attributes, authenticator_of}
 use Rattle.std.specs.Bool.{OnTrue}
 use Rattle.rad_auth.specs.Authenticator.{IsRightResponse}
-use Rattle.rad_auth.specs.internal.Returning.{IsReturnedAt}
+use Rattle.rad_auth.specs.Mark.{mark_attribute}
+use Rattle.rad_auth.specs.Refusing.{RefusesReply, ReturnsItsMark}
+use Rattle.rad_auth.specs.declared.responding.ReplyFault.TheVariants.{OutOfMemory}
+use Rattle.rad_auth.specs.internal.Returning.{IsLastOrNone, IsReturnedAt}
+use Rattle.rad_auth.proofs.OneKind.{none_among}
 use Rattle.rad_auth.proofs.Returns.{Answers-made}
 use Rattle.rad_auth.proofs.responding.respond.Goals as goal
+
+-- what the comparison of the reply's Authenticator says
+module _ (sending reply home authenticator : List ℕ) (r : Bool) (is : authenticator ≡ authenticator_of sending) (decided : IsTrue r ↔ IsRightResponse home authenticator reply) where
+  right_here : r ≡ true → IsRightResponse home (authenticator_of sending) reply
+  right_here same = let P : List ℕ → Type 0 = λ a. IsRightResponse home a reply in subst P is (decided.0 same)
+
+  wrong_here : r ≡ false → ¬ IsRightResponse home (authenticator_of sending) reply
+  wrong_here other right =
+      let P : List ℕ → Type 0 = λ a. IsRightResponse home a reply in
+      let same : r ≡ true = decided.1 (subst P (sym is) right) in
+      cc
+
+-- a reply without a Proxy-State returns no mark
+none_returned : (sending reply : List ℕ) → of_kind 33 (packet_attributes reply) ≡ [] → ¬ ReturnsItsMark sending reply
+none_returned sending reply none (mark, before, after, returned) =
+    none_among 33 before (mark_attribute mark) after (ap (of_kind 33) (sym returned.split) ∙ none) refl
+
+pub returns-then-not-check_response-clause-refused : goal.returns-then-not-check_response-clause-refused
+returns-then-not-check_response-clause-refused c =
+    wrong_here c.args.sending.now c.args.reply.now c.args.home.now _ _ c.authenticator.ensures c.check_response.ensures c.if-not-check_response.true
+
+pub returns-in_err-last-clause-refused : goal.returns-in_err-last-clause-refused
+returns-in_err-last-clause-refused c =
+    let right : IsRightResponse c.args.home.now (authenticator_of c.args.sending.now) c.args.reply.now =
+    right_here c.args.sending.now c.args.reply.now c.args.home.now _ _ c.authenticator.ensures c.check_response.ensures c.if-not-check_response.false in
+    let fault = c.in_err-last.ensures.0 in
+    let some = c.in_err-last.ensures.1 in
+    search (rules, right, fault, some)
+
+pub returns-in_default-clause-refused : goal.returns-in_default-clause-refused
+returns-in_default-clause-refused c =
+    let none : of_kind 33 (packet_attributes c.args.reply.now) ≡ [] = subst (IsLastOrNone c.args.reply.now) c.in_default.is c.in_ok-last.ensures.1 in (
+      right_here c.args.sending.now c.args.reply.now c.args.home.now _ _ c.authenticator.ensures c.check_response.ensures c.if-not-check_response.false,
+      c.in_ok-last.ensures.0,
+      none_returned c.args.sending.now c.args.reply.now none,
+    )
+
+pub returns-then-not-is_returned_mark-clause-refused : goal.returns-then-not-is_returned_mark-clause-refused
+returns-then-not-is_returned_mark-clause-refused c = (
+  right_here c.args.sending.now c.args.reply.now c.args.home.now _ _ c.authenticator.ensures c.check_response.ensures c.if-not-check_response.false,
+  c.in_ok-last.ensures.0,
+  c.if-not-is_returned_mark.ensures.other,
+)
+
+pub returns-in_err-response-clause-refused : goal.returns-in_err-response-clause-refused
+returns-in_err-response-clause-refused c =
+    let at : IsReturnedAt c.args.sending.now c.args.reply.now c.in-Some.last.place c.in-Some.last.length = c.if-not-is_returned_mark.ensures.returned in
+    let refused : RefusesReply c.args.sending.now c.args.reply.now c.args.home.now OutOfMemory = (
+      right_here c.args.sending.now c.args.reply.now c.args.home.now _ _ c.authenticator.ensures c.check_response.ensures c.if-not-check_response.false,
+      c.in_ok-last.ensures.0,
+      (at.mark, at.before, at.after, at.returned),
+    ) in
+    search (rules, refused)
+
+pub returns-in_err-keep-clause-refused : goal.returns-in_err-keep-clause-refused
+returns-in_err-keep-clause-refused c =
+    let at : IsReturnedAt c.args.sending.now c.args.reply.now c.in-Some.last.place c.in-Some.last.length = c.if-not-is_returned_mark.ensures.returned in
+    let refused : RefusesReply c.args.sending.now c.args.reply.now c.args.home.now OutOfMemory = (
+      right_here c.args.sending.now c.args.reply.now c.args.home.now _ _ c.authenticator.ensures c.check_response.ensures c.if-not-check_response.false,
+      c.in_ok-last.ensures.0,
+      (at.mark, at.before, at.after, at.returned),
+    ) in
+    search (rules, refused)
 
 pub keep-requires : goal.keep-requires
 keep-requires c =
