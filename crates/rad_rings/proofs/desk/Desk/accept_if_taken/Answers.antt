@@ -17,3 +17,6 @@ unless (Err OutOfMemory) fact h = h
 
 pub returns-clause-accepts : goal.returns-clause-accepts
 returns-clause-accepts c = unless c.accept.result _ c.accept.ensures.lawful
+
+pub accept-requires : goal.accept-requires
+accept-requires c = c.takes.ensures.0 cc
