@@ -1,4 +1,4 @@
-use Rattle.std.proofs.Common.{◌≡◌, Some, ap, ◌∙◌, arith, length}
+use Rattle.std.proofs.Common.{◌≡◌, ◌<◌, Some, sym, ap, subst, ◌∙◌, arith, length, vec_capacity}
 use Rattle.std.specs.FinMap as map
 use Rattle.rad_tables.specs.Pairs.{IsInRange}
 use Rattle.rad_tables.specs.internal.Kept.{contents_of}
@@ -16,16 +16,16 @@ push_reserved-requires g c =
     let slot = c.args.slot in
     let free = ap (λ t. map.get t.entries slot) c.self.view_is ∙ c.requires.free in
     let ports = ap (λ t. t.ports) c.self.view_is in
-    let range : IsInRange c.self.inside.ports slot = (omega (arith, c.requires.in_range.0), c.requires.in_range.1) in
-    omega (arith, room_for_one (contents_of c.self.inside.cells.items) _ _ _ _ _ c.self.invariant slot range free, c.self.inside.places.ok.0)
+    let range : IsInRange c.self.inside.ports slot = subst (λ n. IsInRange n slot) (sym ports) c.requires.in_range in
+    subst (λ n. n < vec_capacity c.self.inside.places) (sym c.self.inside.places.ok.0) (room_for_one (contents_of c.self.inside.cells.items) _ _ _ _ _ c.self.invariant slot range free)
 
 pub invariant_of-self : goal.invariant_of-self
 invariant_of-self g c =
     let slot = c.args.slot in
     let free = ap (λ t. map.get t.entries slot) c.self.view_is ∙ c.requires.free in
     let ports = ap (λ t. t.ports) c.self.view_is in
-    let range : IsInRange c.self.inside.ports slot = (omega (arith, c.requires.in_range.0), c.requires.in_range.1) in
-    let count : c.len.result ≡ length c.self.inside.places.items = omega (arith, c.self.inside.places.ok.0) in
+    let range : IsInRange c.self.inside.ports slot = subst (λ n. IsInRange n slot) (sym ports) c.requires.in_range in
+    let count : c.len.result ≡ length c.self.inside.places.items = c.len.ensures ∙ c.self.inside.places.ok.0 in
     kept_put c.self.inside.cells.items _ _ _ _ _ c.self.invariant slot c.place_of-place.result c.len.result c.args.entry _ _
     c.place_of-place.ensures count c.push_reserved.ensures.items c.push_reserved.ensures.capacity range free
 
@@ -34,7 +34,7 @@ returns g c =
     let slot = c.args.slot in
     let cells = c.self.inside.cells.items in
     let ports = ap (λ t. t.ports) c.self.view_is in
-    let range : IsInRange c.self.inside.ports slot = (omega (arith, c.requires.in_range.0), c.requires.in_range.1) in
+    let range : IsInRange c.self.inside.ports slot = subst (λ n. IsInRange n slot) (sym ports) c.requires.in_range in
     let inside = place_below (contents_of cells) _ _ _ _ _ c.self.invariant slot range in
     ap (λ entries. table c.self.inside.ports entries (Some slot))
     (entries_of-set_used cells slot c.place_of-place.result c.args.entry c.place_of-place.ensures range.1 inside)

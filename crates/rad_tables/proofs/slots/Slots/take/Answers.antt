@@ -1,4 +1,4 @@
-use Rattle.std.proofs.Common.{◌-◌, ◌<◌, ◌≡◌, ◌≤◌, None, is_some, IsSome, get_or, sym, ap, ◌∙◌, arith, length}
+use Rattle.std.proofs.Common.{ℕ, ◌-◌, ◌<◌, ◌≡◌, ◌≤◌, None, is_some, IsSome, get_or, refl, sym, ap, subst, ◌∙◌, arith, length}
 use Rattle.std.proofs.lemmas.List.{length-map, get_or_past, get_or_read}
 use Rattle.std.specs.FinMap as map
 use Rattle.rad_tables.specs.internal.Kept.{place_of, at, contents_of, entry_of}
@@ -6,6 +6,16 @@ use Rattle.rad_tables.proofs.ContentsLemmas.{get_slot, remove_absent}
 use Rattle.rad_tables.proofs.IndexLemmas.{within}
 use Rattle.rad_tables.proofs.KeptLemmas.{cell_at, entries_of-set_free, kept_take, table}
 use Rattle.rad_tables.proofs.slots.Slots.take.Goals as goal
+
+-- where something stands at a place, there is something
+some_below : (i n m : ℕ) → i < n → m ≡ n → 1 ≤ m
+some_below i n m below same = omega arith
+
+one_below : (i n m k : ℕ) → i < n → m ≡ n → k ≡ n → m - 1 < k
+one_below i n m k below same other = omega arith
+
+as_far : (p q n m k : ℕ) → p ≡ q → q < n → m ≡ n → k ≡ m → p < k
+as_far p q n m k same below other as_many = omega arith
 
 pub returns-then-place-len-clause-value : goal.returns-then-place-len-clause-value
 returns-then-place-len-clause-value g c =
@@ -27,72 +37,71 @@ pub overflow_sub-len : goal.overflow_sub-len
 overflow_sub-len g c =
     let cells = c.self.inside.cells.items in
     let place = c.place_of-place.result in
-    let fits : place < length cells = omega (arith, c.self.inside.cells.ok.0) in
+    let fits : place < length cells = subst (λ n. place < n) (c.len.ensures ∙ c.self.inside.cells.ok.0) c.if-place-len.false in
     let there = cell_at cells place (place_of c.args.slot) c.index_mut.result.now c.place_of-place.ensures fits c.index_mut.ensures.value ∙ ap entry_of (sym c.in-Used.ensures.value) in
-    omega (arith, c.self.invariant.index.known (place_of c.args.slot) (ap is_some there), c.self.inside.places.ok.0)
+    some_below _ _ _ (c.self.invariant.index.known (place_of c.args.slot) (ap is_some there)) (c.len-in-Used.ensures ∙ c.self.inside.places.ok.0)
 
 pub index-moved-requires : goal.index-moved-requires
 index-moved-requires g c =
     let cells = c.self.inside.cells.items in
     let place = c.place_of-place.result in
-    let fits : place < length cells = omega (arith, c.self.inside.cells.ok.0) in
+    let fits : place < length cells = subst (λ n. place < n) (c.len.ensures ∙ c.self.inside.cells.ok.0) c.if-place-len.false in
     let there = cell_at cells place (place_of c.args.slot) c.index_mut.result.now c.place_of-place.ensures fits c.index_mut.ensures.value ∙ ap entry_of (sym c.in-Used.ensures.value) in
     let used : IsSome (at (contents_of cells) (place_of c.args.slot)) = ap is_some there in
     let index = c.self.invariant.index in
     let known = index.known (place_of c.args.slot) used in
     let places = c.self.inside.places.items in
-    let count : c.len-in-Used.result ≡ length places = omega (arith, c.self.inside.places.ok.0) in
-    omega (arith, c.self.inside.places.ok.0)
+    let count : c.len-in-Used.result ≡ length places = c.len-in-Used.ensures ∙ c.self.inside.places.ok.0 in
+    one_below _ _ _ _ known count c.self.inside.places.ok.0
 
 pub index_mut-requires-in-Used : goal.index_mut-requires-in-Used
 index_mut-requires-in-Used g c =
     let cells = c.self.inside.cells.items in
     let place = c.place_of-place.result in
-    let fits : place < length cells = omega (arith, c.self.inside.cells.ok.0) in
+    let fits : place < length cells = subst (λ n. place < n) (c.len.ensures ∙ c.self.inside.cells.ok.0) c.if-place-len.false in
     let there = cell_at cells place (place_of c.args.slot) c.index_mut.result.now c.place_of-place.ensures fits c.index_mut.ensures.value ∙ ap entry_of (sym c.in-Used.ensures.value) in
     let used : IsSome (at (contents_of cells) (place_of c.args.slot)) = ap is_some there in
     let index = c.self.invariant.index in
     let known = index.known (place_of c.args.slot) used in
     let places = c.self.inside.places.items in
-    let count : c.len-in-Used.result ≡ length places = omega (arith, c.self.inside.places.ok.0) in
-    let below : length places - 1 < length places = omega arith in
+    let count : c.len-in-Used.result ≡ length places = c.len-in-Used.ensures ∙ c.self.inside.places.ok.0 in
+    let below : length places - 1 < length places = one_below _ _ _ _ known refl refl in
     let moved : c.index-moved.result.now ≡ get_or places (length places - 1) 0 =
-    get_or_read places (c.len-in-Used.result - 1) c.index-moved.result.now (omega arith) c.index-moved.ensures 0 ∙ ap (λ n. get_or places (n - 1) 0) count in
-    omega (arith, within (contents_of cells) (get_or places (length places - 1) 0) (index.in_use (length places - 1) below), index.back, c.self.inside.positions.ok.0)
+    get_or_read places (c.len-in-Used.result - 1) c.index-moved.result.now (one_below _ _ _ _ known count refl) c.index-moved.ensures 0 ∙ ap (λ n. get_or places (n - 1) 0) count in
+    as_far _ _ _ _ _ (c.from.ensures ∙ moved) (within (contents_of cells) (get_or places (length places - 1) 0) (index.in_use (length places - 1) below)) index.back c.self.inside.positions.ok.0
 
 pub swap_remove-requires : goal.swap_remove-requires
 swap_remove-requires g c =
     let cells = c.self.inside.cells.items in
     let place = c.place_of-place.result in
-    let fits : place < length cells = omega (arith, c.self.inside.cells.ok.0) in
+    let fits : place < length cells = subst (λ n. place < n) (c.len.ensures ∙ c.self.inside.cells.ok.0) c.if-place-len.false in
     let there = cell_at cells place (place_of c.args.slot) c.index_mut.result.now c.place_of-place.ensures fits c.index_mut.ensures.value ∙ ap entry_of (sym c.in-Used.ensures.value) in
     let used : IsSome (at (contents_of cells) (place_of c.args.slot)) = ap is_some there in
     let index = c.self.invariant.index in
     let known = index.known (place_of c.args.slot) used in
     let places = c.self.inside.places.items in
-    let count : c.len-in-Used.result ≡ length places = omega (arith, c.self.inside.places.ok.0) in
     let positions = c.self.inside.positions.items in
-    let place_fits : place < length positions = omega (arith, index.back, length-map cells entry_of) in
+    let place_fits : place < length positions = as_far place place (length cells) (length (contents_of cells)) _ refl fits (length-map cells entry_of) index.back in
     let position = get_or_read positions place c.index-position.result.now place_fits c.index-position.ensures 0 in
     let stands : get_or positions place 0 ≡ get_or positions (place_of c.args.slot) 0 = ap (λ q. get_or positions q 0) c.place_of-place.ensures in
-    omega (arith, c.self.inside.places.ok.0)
+    as_far _ _ _ _ _ (c.from-in-Used.ensures ∙ position ∙ stands) known refl c.self.inside.places.ok.0
 
 pub invariant_of-self-in-Used : goal.invariant_of-self-in-Used
 invariant_of-self-in-Used g c =
     let cells = c.self.inside.cells.items in
     let place = c.place_of-place.result in
-    let fits : place < length cells = omega (arith, c.self.inside.cells.ok.0) in
+    let fits : place < length cells = subst (λ n. place < n) (c.len.ensures ∙ c.self.inside.cells.ok.0) c.if-place-len.false in
     let there = cell_at cells place (place_of c.args.slot) c.index_mut.result.now c.place_of-place.ensures fits c.index_mut.ensures.value ∙ ap entry_of (sym c.in-Used.ensures.value) in
     let used : IsSome (at (contents_of cells) (place_of c.args.slot)) = ap is_some there in
     let index = c.self.invariant.index in
     let known = index.known (place_of c.args.slot) used in
     let places = c.self.inside.places.items in
-    let count : c.len-in-Used.result ≡ length places = omega (arith, c.self.inside.places.ok.0) in
-    let below : length places - 1 < length places = omega arith in
+    let count : c.len-in-Used.result ≡ length places = c.len-in-Used.ensures ∙ c.self.inside.places.ok.0 in
+    let below : length places - 1 < length places = one_below _ _ _ _ known refl refl in
     let moved : c.index-moved.result.now ≡ get_or places (length places - 1) 0 =
-    get_or_read places (c.len-in-Used.result - 1) c.index-moved.result.now (omega arith) c.index-moved.ensures 0 ∙ ap (λ n. get_or places (n - 1) 0) count in
+    get_or_read places (c.len-in-Used.result - 1) c.index-moved.result.now (one_below _ _ _ _ known count refl) c.index-moved.ensures 0 ∙ ap (λ n. get_or places (n - 1) 0) count in
     let positions = c.self.inside.positions.items in
-    let place_fits : place < length positions = omega (arith, index.back, length-map cells entry_of) in
+    let place_fits : place < length positions = as_far place place (length cells) (length (contents_of cells)) _ refl fits (length-map cells entry_of) index.back in
     let position = get_or_read positions place c.index-position.result.now place_fits c.index-position.ensures 0 in
     let stands : get_or positions place 0 ≡ get_or positions (place_of c.args.slot) 0 = ap (λ q. get_or positions q 0) c.place_of-place.ensures in
     kept_take cells _ _ _ _ _ c.self.invariant c.args.slot place c.index-position.result.now c.from-in-Used.result c.from.result c.swap_remove.result c.replace.new.dest _ _
@@ -103,7 +112,7 @@ returns-in-Free-clause-value g c =
     let cells = c.self.inside.cells.items in
     let slot = c.args.slot in
     let place = c.place_of-place.result in
-    let fits : place < length cells = omega (arith, c.self.inside.cells.ok.0) in
+    let fits : place < length cells = subst (λ n. place < n) (c.len.ensures ∙ c.self.inside.cells.ok.0) c.if-place-len.false in
     sym (ap entry_of (sym c.in-Free.ensures.value))
     ∙ sym (cell_at cells place (place_of slot) c.index_mut.result.now c.place_of-place.ensures fits c.index_mut.ensures.value)
     ∙ sym (get_slot (contents_of cells) slot (omega arith)) ∙ ap (λ t. map.get t.entries slot) c.self.view_is
@@ -112,7 +121,9 @@ pub returns-in-Free-clause-taken : goal.returns-in-Free-clause-taken
 returns-in-Free-clause-taken g c =
     let cells = c.self.inside.cells.items in
     let slot = c.args.slot in
-    let inside : place_of slot < length (contents_of cells) = omega (arith, length-map cells entry_of, c.self.inside.cells.ok.0) in
+    let place = c.place_of-place.result in
+    let fits : place < length cells = subst (λ n. place < n) (c.len.ensures ∙ c.self.inside.cells.ok.0) c.if-place-len.false in
+    let inside : place_of slot < length (contents_of cells) = as_far (place_of slot) place (length cells) _ _ (sym c.place_of-place.ensures) fits refl (length-map cells entry_of) in
     ap (λ entries. table c.self.inside.ports entries c.self.inside.allotted)
     (entries_of-set_free cells slot c.place_of-place.result c.replace.new.dest c.replace.ensures.after c.place_of-place.ensures (omega arith) inside)
     ∙ ap (λ t. table t.ports (map.remove t.entries slot) t.allotted) c.self.view_is
@@ -122,7 +133,7 @@ returns-in-Used-clause-value g c =
     let cells = c.self.inside.cells.items in
     let slot = c.args.slot in
     let place = c.place_of-place.result in
-    let fits : place < length cells = omega (arith, c.self.inside.cells.ok.0) in
+    let fits : place < length cells = subst (λ n. place < n) (c.len.ensures ∙ c.self.inside.cells.ok.0) c.if-place-len.false in
     sym (ap entry_of (sym c.in-Used.ensures.value))
     ∙ sym (cell_at cells place (place_of slot) c.index_mut.result.now c.place_of-place.ensures fits c.index_mut.ensures.value)
     ∙ sym (get_slot (contents_of cells) slot (omega arith)) ∙ ap (λ t. map.get t.entries slot) c.self.view_is
@@ -131,7 +142,9 @@ pub returns-in-Used-clause-taken : goal.returns-in-Used-clause-taken
 returns-in-Used-clause-taken g c =
     let cells = c.self.inside.cells.items in
     let slot = c.args.slot in
-    let inside : place_of slot < length (contents_of cells) = omega (arith, length-map cells entry_of, c.self.inside.cells.ok.0) in
+    let place = c.place_of-place.result in
+    let fits : place < length cells = subst (λ n. place < n) (c.len.ensures ∙ c.self.inside.cells.ok.0) c.if-place-len.false in
+    let inside : place_of slot < length (contents_of cells) = as_far (place_of slot) place (length cells) _ _ (sym c.place_of-place.ensures) fits refl (length-map cells entry_of) in
     ap (λ entries. table c.self.inside.ports entries c.self.inside.allotted)
     (entries_of-set_free cells slot c.place_of-place.result c.replace.new.dest c.replace.ensures.after c.place_of-place.ensures (omega arith) inside)
     ∙ ap (λ t. table t.ports (map.remove t.entries slot) t.allotted) c.self.view_is
