@@ -1,4 +1,4 @@
-use Rattle.std.proofs.Common.{◌∙◌, ap, sym, subst, arith}
+use Rattle.std.proofs.Common.{◌∙◌, refl, ap, sym, subst, arith}
 use Rattle.rad_lane.specs.declared.stamp.Stamp.{Stamp}
 use Rattle.rad_lane.specs.Book.{Book}
 use Rattle.rad_lane.specs.internal.KeepAnswer.{AnswersSending}
@@ -37,3 +37,10 @@ invariant_of-self-2 g c =
     let number = ap (λ (s : Stamp). s.number) (c.stamp.ensures.value ∙ a.keeps.stamp) in
     rw (c.push.ensures, c.take.ensures.taken, c.set.ensures, c.reserve_one.ensures.items, number)
     (stands_answered _ c.self.invariant.lawful c.args.slot a.entry a.there c.args.now (omega (arith, last, later)) _ _ a.keeps _ c.self.invariant.cells_are c.self.invariant.indices _ _ _ _ c.self.invariant)
+
+-- where memory is refused, nothing changes
+pub invariant_of-self : goal.invariant_of-self
+invariant_of-self g c = rw c.reserve_one.ensures.items c.self.invariant
+
+pub returns-in_default-clause-err : goal.returns-in_default-clause-err
+returns-in_default-clause-err g c = (refl, rw c.reserve_one.ensures.items c.self.view_is)

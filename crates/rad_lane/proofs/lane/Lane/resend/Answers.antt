@@ -1,4 +1,4 @@
-use Rattle.std.proofs.Common.{◌≡◌, Some, sym, ap, ◌∙◌}
+use Rattle.std.proofs.Common.{rules, ◌≡◌, Some, sym, ap, ◌∙◌}
 use Rattle.std.specs.Option.{option_copied_mut}
 use Rattle.std.specs.FinMap as map
 use Rattle.rad_config.specs.declared.limits.LimitNumbers.{LimitNumbers}
@@ -19,3 +19,6 @@ invariant_of-self g c =
     let here : Some c.in-Some.entry.now ≡ map.get c.self.inside.slots.entries c.args.slot = ap (λ o. option_copied_mut o) (sym c.in-Some.is) ∙ c.get_mut.follows.0 in
     let again = again_is c.in-Some.entry.now _ _ _ _ (here ∙ there) c.send_again-number.ensures.again in
     stands_resent _ _ _ _ _ _ c.self.inside.slots _ _ _ _ c.self.view_is _ c.requires.later _ _ _ c.self.invariant c.requires.is_up c.args.slot _ there _ _ again
+
+pub returns-clause-steps : goal.returns-clause-steps
+returns-clause-steps g c = search rules

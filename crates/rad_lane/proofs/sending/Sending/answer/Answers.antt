@@ -1,4 +1,5 @@
 use Rattle.std.proofs.Common.{rules, ◌≡◌, ◌≤◌, refl, ap, sym, ◌∙◌, subst, arith, List, ℕ}
+use Rattle.rad_packet.specs.Packet.{identifier_of}
 use Rattle.rad_auth.specs.Forwarding.{forwarded}
 use Rattle.rad_auth.specs.Mark.{EndsWithMark}
 use Rattle.rad_auth.specs.Replied.{Replied, IsAnswer}
@@ -13,6 +14,12 @@ use Rattle.rad_lane.specs.Hears.{KeepsAnswer}
 use Rattle.rad_lane.specs.Outstanding.{Outstanding, AnswerKept, IsForwarded, IsAnswered}
 use Rattle.rad_lane.specs.Stamp.{Recorded, IsRecord}
 use Rattle.rad_lane.proofs.sending.Sending.answer.Goals as goal
+
+pub respond-requires-clause-code : goal.respond-requires-clause-code
+respond-requires-clause-code c = c.requires.code
+
+pub respond-requires-clause-identifier : goal.respond-requires-clause-identifier
+respond-requires-clause-identifier c = c.requires.identifier ∙ ap (λ text. identifier_of text) (sym c.packet.ensures)
 
 pub respond-requires-clause-mark : goal.respond-requires-clause-mark
 respond-requires-clause-mark c =
