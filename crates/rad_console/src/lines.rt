@@ -51,7 +51,7 @@ impl fmt::Display for EndLine {
         write!(f, "end: queued {queued} outstanding {outstanding} ")?;
         match self.untaken {
             Some(untaken) => write!(f, "untaken {untaken}"),
-            None => write!(f, "untaken unknown"),
+            None => f.write_str("untaken unknown"),
         }
     }
 }
