@@ -19,7 +19,7 @@ pub enum ReplayFault {
 }
 
 /// Why an event ends the replay.
-#[derive(Clone, Copy, Debug)]
+#[derive(Clone, Copy)]
 pub enum Halt {
     /// Its line is no event, names a lane or a moment that does not exist, or cuts more octets than there are.
     Malformed,

@@ -137,8 +137,8 @@ impl fmt::Display for StepLine<'_> {
                 let head = sent.head();
                 write!(f, "step: probed {head}")
             }
-            Action::WentDown => write!(f, "step: down"),
-            Action::WentUp => write!(f, "step: up"),
+            Action::WentDown => f.write_str("step: down"),
+            Action::WentUp => f.write_str("step: up"),
             Action::Idle(next) => {
                 let idle = IdleText(next);
                 write!(f, "step: {idle}")
@@ -159,7 +159,7 @@ impl fmt::Display for IdleText {
                 let next = next.get();
                 write!(f, "idle {next}")
             }
-            None => write!(f, "idle"),
+            None => f.write_str("idle"),
         }
     }
 }
@@ -174,7 +174,7 @@ impl fmt::Display for HomeLine {
         let lane = self.lane;
         match self.outcome {
             Ok(Told::Answer(serial)) => write!(f, "home: answer {lane} {serial}"),
-            Ok(Told::ProbeAnswered) => write!(f, "home: probe"),
+            Ok(Told::ProbeAnswered) => f.write_str("home: probe"),
             Err(fault) => write!(f, "home: dropped {fault}"),
         }
     }
@@ -194,7 +194,7 @@ impl fmt::Display for TakeLine {
                 let packet = PacketText::new(response_of(&response.reply));
                 write!(f, "take: {client} {port} {packet}")
             }
-            None => write!(f, "take: none"),
+            None => f.write_str("take: none"),
         }
     }
 }

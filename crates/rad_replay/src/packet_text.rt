@@ -170,7 +170,7 @@ impl fmt::Display for AttributesText<'_> {
 
     fn fmt<W: fmt::Write>(&self, f: &mut fmt::Formatter<W>) -> fmt::Result {
         if self.0.is_empty() {
-            return write!(f, "-");
+            return f.write_str("-");
         }
         for octet in self.0 {
             write!(f, "{:x}{:x}", octet / 16, octet % 16)?;

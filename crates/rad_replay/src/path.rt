@@ -22,7 +22,7 @@ pub struct Arrival<'a> {
 }
 
 /// Why a NAS's datagram is neither taken nor answered.
-#[derive(Clone, Copy, Debug, PartialEq, Eq)]
+#[derive(Clone, Copy)]
 pub enum PathFault {
     /// It is dropped.
     Dropped(Dropped),
