@@ -9,3 +9,5 @@ pub mod Buckets
 pub mod SocketNumbers
 pub mod LedgerNumbers
 pub mod LedgerText
+pub mod LedgerFaults
+pub mod LedgerLines

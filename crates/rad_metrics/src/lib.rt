@@ -3,14 +3,15 @@
 //!
 //! [`Numbers`] keeps what the workers report. The metrics of one home server are taken under one hold of its lane's
 //! lock, by the lane's worker, when it is asked for them. All labels come from the configuration, from the program and
-//! from its sockets, whoever sends.
+//! from its sockets, whoever sends. [`LedgerState`] keeps what the thread that writes the ledger reports, and logs it.
 //!
 //! Contracts say what each family is called, what its help text is and how each line is printed, which part of its
 //! [`Reading`] each metric of a home server is, as which event of a client a note is counted, and which text the
 //! ledger's metrics have. No contract covers what is behind a lock or in an atomic, such as a count: tests check it. The
 //! definitions are in `specs`: `Families` and `Samples` define the lines, `ProgramNumbers`, `LimitNumbers`,
 //! `ClientEvents`, `HomeNumbers`, `SocketNumbers` and `LedgerNumbers` the metrics of each, `LedgerText` the text of the
-//! ledger's, and `Buckets` the bounds of a histogram.
+//! ledger's, `LedgerFaults` the reasons for which the ledger is not written, `LedgerLines` its log lines, and `Buckets`
+//! the bounds of a histogram.
 #![tactic(auto)]
 
 mod client_event;
@@ -21,8 +22,11 @@ mod histogram;
 mod home_cells;
 mod home_number;
 mod home_times;
+mod ledger_fault;
+mod ledger_lines;
 mod ledger_number;
 mod ledger_reading;
+mod ledger_state;
 mod ledger_text;
 mod limit_number;
 mod numbers;
@@ -41,8 +45,10 @@ pub use client_event::{CLIENT_EVENTS, ClientEvent, ClientFamily};
 pub use draft::Draft;
 pub use family::{Family, Kind};
 pub use home_number::HomeNumber;
+pub use ledger_fault::{LedgerFault, system_number};
 pub use ledger_number::LedgerNumber;
 pub use ledger_reading::LedgerReading;
+pub use ledger_state::{LedgerState, log_ledger_fault};
 pub use ledger_text::write_ledger;
 pub use limit_number::LimitNumber;
 pub use numbers::Numbers;

@@ -4,5 +4,3 @@ pub mod DeltaLines
 pub mod MetricLines
 pub mod WatchLines
 pub mod FileFaults
-pub mod LedgerFaults
-pub mod LedgerLines

@@ -9,9 +9,8 @@
 //! The contract to read first is that of [`EventKind::of`]: it says as which kind a note is counted. No contract says
 //! what is behind a lock or in an atomic, such as a count; tests check that. The definitions that the contracts cite
 //! are in specs: `EventKinds` has the kinds and the metrics, `Workers` the names of the workers, `DeltaLines` and
-//! `MetricLines` the texts of sums and of counters, `WatchLines` the text of a home server that is marked up,
-//! `FileFaults` the reasons for which the file of the counters is not replaced, `LedgerFaults` those for which the
-//! ledger is not written, and `LedgerLines` the log lines of the ledger.
+//! `MetricLines` the texts of sums and of counters, `WatchLines` the text of a home server that is marked up, and
+//! `FileFaults` the reasons for which the file of the counters is not replaced.
 #![tactic(auto)]
 
 mod atomic_endpoint;
@@ -25,9 +24,6 @@ mod event_log;
 mod last_datagram;
 mod last_peers;
 mod last_realm;
-mod ledger_fault;
-mod ledger_lines;
-mod ledger_state;
 mod metric;
 mod metric_lines;
 mod packet_words;
@@ -44,10 +40,9 @@ pub use counter_file::{
 pub use counter_texts::{CounterTexts, start_texts};
 pub use counters::{Counters, Delta};
 pub use event_kind::{EVENT_KINDS, EventKind};
-pub use ledger_fault::{LedgerFault, system_number};
-pub use ledger_state::{LedgerState, log_ledger_fault};
 pub use metric::Metric;
 pub use packet_words::{Escaped, PacketWords};
+pub use rad_metrics::{LedgerFault, LedgerState, log_ledger_fault, system_number};
 pub use reporter::{Reporter, report};
 pub use stop_flag::StopFlag;
 pub use telemetry::Telemetry;

@@ -1,7 +1,7 @@
 //! Why the ledger is not written, by what its disk says.
 
 use ledger_files::DiskFault;
-use rad_telemetry::LedgerFault;
+use rad_metrics::LedgerFault;
 
 /// Returns the fault of the ledger that a fault of its disk is.
 pub(crate) fn ledger_fault(fault: DiskFault) -> LedgerFault {

@@ -6,7 +6,7 @@ use crate::counts::TakenCounts;
 use crate::parcel::{ParcelHead, pack};
 use rad_desk::{Handed, Ledger};
 use rad_lane::Outgoing;
-use rad_telemetry::LedgerState;
+use rad_metrics::LedgerState;
 use rtrb::Producer;
 use std::alloc::Global;
 use std::sync::Arc;

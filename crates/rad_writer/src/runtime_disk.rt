@@ -1,7 +1,7 @@
 //! The files of a ledger, on the disks of a runtime.
 
 use ledger_files::{DiskFault, LedgerDisk};
-use rad_telemetry::system_number;
+use rad_metrics::system_number;
 use std::fs::{self, Files, Metadata, OpenFile, OpenOptions, Permissions};
 use std::io::{self, ErrorKind, Write};
 use std::os::unix::fs::{MetadataExt, OpenOptionsExt, PermissionsExt};

@@ -13,7 +13,7 @@ use crate::run_names::RunNames;
 use ledger_files::{
     Batch, DiskFault, FileName, LedgerDisk, LineHead, OpenFile, RunFiles, day_of, is_next_due,
 };
-use rad_telemetry::{LedgerFault, LedgerState};
+use rad_metrics::{LedgerFault, LedgerState};
 use std::alloc::{AllocError, Global};
 use std::sync::{Arc, Wait};
 use std::time::{Clock, Duration, Instant};

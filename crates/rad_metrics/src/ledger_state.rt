@@ -2,8 +2,8 @@
 
 use crate::ledger_fault::LedgerFault;
 use crate::ledger_lines::LedgerLine;
+use crate::ledger_reading::LedgerReading;
 use rad_log::{Level, Log, WriterState, tell};
-use rad_metrics::LedgerReading;
 use std::sync::Wait;
 use std::sync::atomic::{AtomicU64, Ordering};
 use std::time::{Clock, Duration, Instant};

@@ -1,10 +1,10 @@
 -- The log lines of the ledger, without their line feeds (own).
 use Rattle.std.specs.Prelude.{ℕ, List, ◌++◌, codes, Option, Some, None}
 use Rattle.std.specs.Fmt.{decimal}
-use Rattle.rad_telemetry.specs.LedgerFaults.{fault_text}
-use Rattle.rad_telemetry.specs.declared.ledger_fault.LedgerFault.{LedgerFault}
-use Rattle.rad_telemetry.specs.declared.ledger_lines.LedgerLine.{LedgerLine}
-use Rattle.rad_telemetry.specs.declared.ledger_lines.LedgerLine.TheVariants as line
+use Rattle.rad_metrics.specs.LedgerFaults.{fault_text}
+use Rattle.rad_metrics.specs.declared.ledger_fault.LedgerFault.{LedgerFault}
+use Rattle.rad_metrics.specs.declared.ledger_lines.LedgerLine.{LedgerLine}
+use Rattle.rad_metrics.specs.declared.ledger_lines.LedgerLine.TheVariants as line
 
 -- The line of a fault whose text is known.
 abbrev pub fault_line : Option (List ℕ) → Option (List ℕ)

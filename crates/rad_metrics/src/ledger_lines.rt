@@ -17,7 +17,7 @@ pub enum LedgerLine {
 }
 
 impl fmt::Display for LedgerLine {
-    ghost use Rattle.rad_telemetry.specs.LedgerLines.{ledger_line};
+    ghost use Rattle.rad_metrics.specs.LedgerLines.{ledger_line};
 
     ghost output = { λ line. ledger_line line };
 

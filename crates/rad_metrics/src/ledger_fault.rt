@@ -1,7 +1,7 @@
 //! Why the ledger is not written.
 
 ghost use Rattle.std.specs.Prelude.{◌≡◌, ◌<◌, Some};
-ghost use Rattle.rad_telemetry.specs.LedgerFaults.{fault_number, fault_of_number, fault_step, number_of_code, number_of_system};
+ghost use Rattle.rad_metrics.specs.LedgerFaults.{fault_number, fault_of_number, fault_step, number_of_code, number_of_system};
 ghost use Rattle.std.specs.IoError.{raw_os_error};
 
 use std::fmt::{self, Display};
@@ -97,7 +97,7 @@ pub fn system_number(error: &Error) -> u32
 }
 
 impl Display for LedgerFault {
-    ghost use Rattle.rad_telemetry.specs.LedgerFaults.{fault_text};
+    ghost use Rattle.rad_metrics.specs.LedgerFaults.{fault_text};
 
     ghost output = { λ fault. fault_text fault };
 
