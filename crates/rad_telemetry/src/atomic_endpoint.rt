@@ -3,6 +3,12 @@
 use rad_realms::Endpoint;
 use std::sync::atomic::{AtomicU64, Ordering};
 
+/// The number of ports.
+const PORTS: u64 = 1 << 16;
+
+/// The number of addresses.
+const ADDRESSES: u64 = 1 << 32;
+
 /// An endpoint that is written and read in one step, as one word.
 #[derive(Drop)]
 pub struct AtomicEndpoint {
@@ -37,9 +43,9 @@ fn word_of(endpoint: Endpoint) -> u64 {
 
 /// Returns the endpoint of a word.
 fn endpoint_of(word: u64) -> Endpoint {
-    let [_, _, a, b, c, d, high, low] = word.to_be_bytes();
+    let address = (word / PORTS % ADDRESSES) as u32;
     Endpoint {
-        address: [a, b, c, d],
-        port: u16::from_be_bytes([high, low]),
+        address: address.to_be_bytes(),
+        port: (word % PORTS) as u16,
     }
 }
