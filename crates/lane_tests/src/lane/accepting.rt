@@ -1,13 +1,14 @@
 //! Requests that are taken, and those that are not.
 
 use super::comparing::holds;
+use super::example::checked;
 use super::script::Call::{Accept, Counts as Count, Drain, Is};
 use super::script::Gives::{self, Drain as Drained};
 use super::script::Question::{HasAccepted, HasSent, Keeps};
 use super::script::{NOTHING, Row, Stamped, TAKEN_0, TAKEN_1, YES, play};
-use super::test_lane::{CLIENT, CLIENT_PORT, TestLane, config_of};
+use super::test_lane::{TestLane, config_of};
 use rad_lane::{Counts, Refusal, Taken};
-use rad_realms::{Config, Incoming, check_in};
+use rad_realms::Config;
 use std::alloc::Global;
 use std::process::Abort;
 use std::test::Fail;
@@ -31,7 +32,7 @@ const STAMPS: [Stamped; 2] = [
     (1, 8, 0x91412bcb0370001fd09977f480beb620, 250),
 ];
 
-const TWO: [Row<'static>; 7] = [
+const TWO: &[Row<'static>] = &[
     (100, Accept(&SEVENTH), TAKEN_0, NOTHING),
     (250, Accept(&EIGHTH), TAKEN_1, NOTHING),
     (300, Accept(&SEVENTH), WAITING_0, NOTHING),
@@ -43,12 +44,12 @@ const TWO: [Row<'static>; 7] = [
 
 #[test]
 fn new_requests_are_numbered(rt: HostRuntime) -> Result<(), Fail> {
-    play(&rt, rt.alloc(), (0, ""), &TWO)
+    play(&rt, rt.alloc(), (0, ""), TWO)
 }
 
 const DRAINING: Gives = Gives::Accept(Err(Refusal::Draining));
 
-const FULL_BOOK: [Row<'static>; 4] = [
+const FULL_BOOK: &[Row<'static>] = &[
     (100, Accept(&SEVENTH), TAKEN_0, NOTHING),
     (
         400,
@@ -60,7 +61,7 @@ const FULL_BOOK: [Row<'static>; 4] = [
     (400, Accept(&EIGHTH), DRAINING, NOTHING),
 ];
 
-const FULL_QUEUE: [Row<'static>; 4] = [
+const FULL_QUEUE: &[Row<'static>] = &[
     (100, Accept(&SEVENTH), TAKEN_0, NOTHING),
     (
         400,
@@ -74,8 +75,8 @@ const FULL_QUEUE: [Row<'static>; 4] = [
 
 #[test]
 fn refusals_change_nothing(rt: HostRuntime) -> Result<(), Fail> {
-    play(&rt, rt.alloc(), (0, "book = 1\n"), &FULL_BOOK)?;
-    play(&rt, rt.alloc(), (0, "queue = 1\n"), &FULL_QUEUE)
+    play(&rt, rt.alloc(), (0, "book = 1\n"), FULL_BOOK)?;
+    play(&rt, rt.alloc(), (0, "queue = 1\n"), FULL_QUEUE)
 }
 
 /// A second home server, and its realm.
@@ -89,16 +90,16 @@ name = "other.org"
 home = "h2"
 "#;
 
-const OWN: [Row<'static>; 1] = [(100, Accept(&SEVENTH), TAKEN_0, NOTHING)];
+const OWN: &[Row<'static>] = &[(100, Accept(&SEVENTH), TAKEN_0, NOTHING)];
 
 const WRONG_LANE: Gives = Gives::Accept(Err(Refusal::WrongLane));
 
-const ANOTHERS: [Row<'static>; 1] = [(100, Accept(&SEVENTH), WRONG_LANE, NOTHING)];
+const ANOTHERS: &[Row<'static>] = &[(100, Accept(&SEVENTH), WRONG_LANE, NOTHING)];
 
 #[test]
 fn takes_requests_of_its_own_realms(rt: HostRuntime) -> Result<(), Fail> {
-    play(&rt, rt.alloc(), (0, OTHER_HOME), &OWN)?;
-    play(&rt, rt.alloc(), (1, OTHER_HOME), &ANOTHERS)
+    play(&rt, rt.alloc(), (0, OTHER_HOME), OWN)?;
+    play(&rt, rt.alloc(), (1, OTHER_HOME), ANOTHERS)
 }
 
 /// A second realm of the home server.
@@ -141,9 +142,9 @@ const CHECKED_ELSEWHERE: [(&str, &[u8], bool); 4] = [
 
 /// Whether a lane takes a request that is checked by a configuration.
 fn takes_checked(lane: &TestLane, config: &Config, request: &[u8]) -> bool {
-    match check_in(config, CLIENT, CLIENT_PORT, request) {
-        Ok(Incoming::Request(request)) => lane.lane.takes(&request),
-        _ => false,
+    match checked(config, request) {
+        Some(request) => lane.lane.takes(&request),
+        None => false,
     }
 }
 

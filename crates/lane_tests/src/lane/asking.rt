@@ -1,7 +1,8 @@
 //! What a lane is asked.
 
+use super::example::{CLIENT, CLIENT_PORT};
 use super::script::{Kept, Question, Stamped, moment};
-use super::test_lane::{CLIENT, CLIENT_PORT, TestLane};
+use super::test_lane::TestLane;
 use rad_lane::{Answered, Sending, Stamp};
 
 impl TestLane {

@@ -1,16 +1,16 @@
 //! What is heard from the home server, and what is not.
 
+use super::example::{CLIENT, CLIENT_PORT};
 use super::script::Call::{Accept, Counts as Count, Hear, Is, Made, Step};
 use super::script::Gives::{self, Until};
 use super::script::Made::Serve;
 use super::script::Question::{HasSent, Keeps};
 use super::script::{
-    ANSWERED_0, FIRST, Kept, NOTHING, PROBE_ANSWERED, PROBED_AS_1, PROBED_AS_2, RESENT_0, Row,
+    ANSWERED_0, Done, Kept, NOTHING, PROBE_ANSWERED, PROBED_AS_1, PROBED_AS_2, RESENT_0, Row,
     SENT_0, Stamped, TAKEN_0, TAKEN_1, Told, UNKNOWN, WENT_DOWN, WRONG, YES, play, play_once,
 };
-use super::test_lane::{CLIENT, CLIENT_PORT};
 use rad_lane::HearFault::{MessageAuthenticatorHere, NoProxyState, Unread, WrongCode};
-use rad_lane::{Action, Counts, Taken};
+use rad_lane::{Counts, Taken};
 use rad_packet::ReadFault;
 use std::test::Fail;
 use test_octets::homes::{
@@ -55,7 +55,7 @@ const ANSWERED: Gives = Gives::Counts(Counts {
 
 const AGAIN_0: Gives = Gives::Accept(Ok(Taken::Again(0)));
 
-const ONE_ANSWER: [Row<'static>; 7] = [
+const ONE_ANSWER: &[Row<'static>] = &[
     (100, Accept(&REQUEST), TAKEN_0, NOTHING),
     (1000, Step, SENT_0, &FORWARDED),
     (1000, Count, OUTSTANDING, NOTHING),
@@ -67,7 +67,7 @@ const ONE_ANSWER: [Row<'static>; 7] = [
 
 #[test]
 fn a_request_is_answered(rt: HostRuntime) -> Result<(), Fail> {
-    play(&rt, rt.alloc(), (0, ""), &ONE_ANSWER)
+    play(&rt, rt.alloc(), (0, ""), ONE_ANSWER)
 }
 
 const SHORT: Gives = Gives::Hear(Err(Unread(ReadFault::Short)));
@@ -78,7 +78,7 @@ const SIGNED: Gives = Gives::Hear(Err(MessageAuthenticatorHere));
 
 const UNMARKED: Gives = Gives::Hear(Err(NoProxyState));
 
-const UNHEARD: [Row<'static>; 13] = [
+const UNHEARD: &[Row<'static>] = &[
     (100, Accept(&REQUEST), TAKEN_0, NOTHING),
     (1000, Step, SENT_0, &FORWARDED),
     (1800, Hear(0, &[5]), SHORT, NOTHING),
@@ -96,7 +96,7 @@ const UNHEARD: [Row<'static>; 13] = [
 
 #[test]
 fn what_is_not_heard_changes_nothing(rt: HostRuntime) -> Result<(), Fail> {
-    play(&rt, rt.alloc(), (0, ""), &UNHEARD)
+    play(&rt, rt.alloc(), (0, ""), UNHEARD)
 }
 
 const FIRST_STAMP: Stamped = (0, 7, 0x59746c12d56942a4d434f016a0112511, 100);
@@ -104,7 +104,7 @@ const FIRST_STAMP: Stamped = (0, 7, 0x59746c12d56942a4d434f016a0112511, 100);
 /// The answer to REQUEST, accepted at 100 and answered at 1700.
 const FIRST_KEPT: Kept<'static> = (FIRST_STAMP, 1700, 0, [&FORWARDED, &REPLY, &RESPONSE]);
 
-const KEPT: [Row<'static>; 6] = [
+const KEPT: &[Row<'static>] = &[
     (100, Accept(&REQUEST), TAKEN_0, NOTHING),
     (1000, Step, SENT_0, &FORWARDED),
     (1800, Hear(0, &SPOILED_REPLY), WRONG, NOTHING),
@@ -115,18 +115,18 @@ const KEPT: [Row<'static>; 6] = [
 
 #[test]
 fn answers_are_kept(rt: HostRuntime) -> Result<(), Fail> {
-    play(&rt, rt.alloc(), (0, ""), &KEPT)
+    play(&rt, rt.alloc(), (0, ""), KEPT)
 }
 
 const TAKEN_256: Gives = Gives::Accept(Ok(Taken::New(256)));
 
-const SENT_256: Gives = Gives::Step(Action::Sent(256, FIRST));
+const SENT_256: Gives = Gives::Step(Done::Sent(256, 0, 0));
 
 const ANSWERED_256: Gives = Gives::Hear(Ok(Told::Answer(256, CLIENT, CLIENT_PORT)));
 
 /// The first request is answered under Identifier 0, and 255 made ones under the Identifiers 1 to 255, each before the
 /// next. Then comes Identifier 0 again.
-const LATE_REPLY: [Row<'static>; 8] = [
+const LATE_REPLY: &[Row<'static>] = &[
     (0, Accept(&REQUEST), TAKEN_0, NOTHING),
     (0, Step, SENT_0, &FORWARDED),
     (0, Hear(0, &REPLY), ANSWERED_0, &RESPONSE),
@@ -139,10 +139,10 @@ const LATE_REPLY: [Row<'static>; 8] = [
 
 #[test]
 fn a_late_reply_answers_no_other_sending(rt: HostRuntime) -> Result<(), Fail> {
-    play_once(&rt, rt.alloc(), (0, ""), &LATE_REPLY)
+    play_once(&rt, rt.alloc(), (0, ""), LATE_REPLY)
 }
 
-const ANSWERS_TAKE_UP: [Row<'static>; 17] = [
+const ANSWERS_TAKE_UP: &[Row<'static>] = &[
     (0, Accept(&REQUEST), TAKEN_0, NOTHING),
     (1000, Step, SENT_0, &FORWARDED),
     (3000, Step, WENT_DOWN, NOTHING),
@@ -164,5 +164,5 @@ const ANSWERS_TAKE_UP: [Row<'static>; 17] = [
 
 #[test]
 fn a_right_answer_takes_a_lane_up(rt: HostRuntime) -> Result<(), Fail> {
-    play(&rt, rt.alloc(), (0, "tries = 1\n"), &ANSWERS_TAKE_UP)
+    play(&rt, rt.alloc(), (0, "tries = 1\n"), ANSWERS_TAKE_UP)
 }

@@ -5,6 +5,7 @@ use super::script::Call::{Made, Step};
 use super::script::Gives::Until;
 use super::script::Made::{AcceptEach, Hear, SendEach};
 use super::script::{ANSWERED_0, Home, NOTHING, PROBED_AS_2, Row, WENT_DOWN, leave, pair};
+use super::test_lane::discard;
 use block_queue::{BlockQueue, Fifo};
 use rad_lane::{Answered, Entry, Leftover, Record, Stamp};
 use rad_tables::Slots;
@@ -34,7 +35,12 @@ fn are_same_stamps(
 
 /// Whether these are the same stamps, in order.
 pub fn are_equal(one: &[Stamp], other: &[Stamp]) -> bool {
-    one == other
+    for (one, other) in one.iter().zip(other) {
+        if *one != *other {
+            return false;
+        }
+    }
+    one.len() == other.len()
 }
 
 fn are_same_entries(one: &Slots<Entry>, other: &Slots<Entry>) -> bool {
@@ -99,7 +105,7 @@ fn is_same_record(one: &Record, other: &Record) -> bool {
 }
 
 /// One request is answered, one sent, with the home server down and a probe out, and one queued.
-const ONE_OF_EACH: [Row<'static>; 6] = [
+const ONE_OF_EACH: &[Row<'static>] = &[
     (0, Made(AcceptEach(0, 3)), Until(3), NOTHING),
     (0, Made(SendEach(0, 1)), Until(1), NOTHING),
     (0, Made(Hear(0, 0)), ANSWERED_0, NOTHING),
@@ -108,20 +114,22 @@ const ONE_OF_EACH: [Row<'static>; 6] = [
     (2000, Step, PROBED_AS_2, &SECOND_PROBE),
 ];
 
-/// Whether there are so many stamps, so many of them were sent, so many are queued and outstanding, and so many answers.
-fn has_lengths(left: &Leftover<BlockQueue<Record>>, lengths: [usize; 5]) -> bool {
-    let [accepted, sent, queued, outstanding, answered] = lengths;
-    left.accepted().len() == accepted
-        && left.sent().len() == sent
-        && left.queued().len() == queued
-        && left.outstanding().used() == outstanding
-        && left.answered().len() == answered
+/// How many stamps there are, how many of them were sent, how many are queued and outstanding, and how many answers.
+fn lengths(left: &Leftover<BlockQueue<Record>>) -> [usize; 5] {
+    [
+        left.accepted().len(),
+        left.sent().len(),
+        left.queued().len(),
+        left.outstanding().used(),
+        left.answered().len(),
+    ]
 }
 
 #[test]
 fn a_closed_lane_leaves_no_probe(rt: HostRuntime) -> Result<(), Fail> {
     let home = (0, "window = 1\ntries = 1\n");
-    let left = leave(&rt, rt.alloc(), home, &ONE_OF_EACH)?;
-    holds(&rt, has_lengths(&left, [3, 2, 1, 1, 1]));
+    let left = leave(&rt, rt.alloc(), home, ONE_OF_EACH)?;
+    holds(&rt, lengths(&left) == [3, 2, 1, 1, 1]);
+    discard(left);
     Ok(())
 }

@@ -1,10 +1,11 @@
 //! Scripts of a lane's calls, each with what it answers.
 
 use super::comparing::{holds, holds_at};
+use super::example::{CLIENT, CLIENT_PORT};
 use super::leaving::is_same;
-use super::test_lane::{CLIENT, CLIENT_PORT, TestLane};
+use super::test_lane::{TestLane, discard};
 use block_queue::BlockQueue;
-use rad_lane::{Action, Counts, HearFault, Leftover, Record, Refusal, Taken};
+use rad_lane::{Counts, HearFault, Leftover, Record, Refusal, Taken};
 use rad_tables::{Moment, Slot};
 use std::alloc::Global;
 use std::process::Abort;
@@ -67,7 +68,7 @@ pub type Kept<'a> = (Stamped, u32, u64, [&'a [u8]; 3]);
 #[derive(Clone, Copy, PartialEq, Eq)]
 pub enum Gives {
     Accept(Result<Taken, Refusal>),
-    Step(Action),
+    Step(Done),
     /// A step has nothing to do until this moment in milliseconds.
     Idle(Option<u64>),
     Hear(Result<Told, HearFault>),
@@ -79,6 +80,19 @@ pub enum Gives {
     Counts(Counts),
     Sums(u64, u64),
     Is(bool),
+}
+
+/// What a step did. A pair is a source port and an Identifier.
+#[derive(Clone, Copy, PartialEq, Eq)]
+pub enum Done {
+    /// The request of this number was sent under this pair.
+    Sent(u64, u16, u8),
+    /// It was sent again.
+    Resent(u64, u16, u8),
+    /// The home server was probed under this pair.
+    Probed(u16, u8),
+    WentDown,
+    WentUp,
 }
 
 /// What was heard.
@@ -108,20 +122,20 @@ pub const TAKEN_0: Gives = Gives::Accept(Ok(Taken::New(0)));
 pub const TAKEN_1: Gives = Gives::Accept(Ok(Taken::New(1)));
 
 /// Request 0 is sent under the first pair.
-pub const SENT_0: Gives = Gives::Step(Action::Sent(0, FIRST));
+pub const SENT_0: Gives = Gives::Step(Done::Sent(0, 0, 0));
 
 /// Request 1 is sent under the second pair.
-pub const SENT_1: Gives = Gives::Step(Action::Sent(1, SECOND));
+pub const SENT_1: Gives = Gives::Step(Done::Sent(1, 0, 1));
 
-pub const RESENT_0: Gives = Gives::Step(Action::Resent(0, FIRST));
+pub const RESENT_0: Gives = Gives::Step(Done::Resent(0, 0, 0));
 
-pub const WENT_DOWN: Gives = Gives::Step(Action::WentDown);
+pub const WENT_DOWN: Gives = Gives::Step(Done::WentDown);
 
 /// The home server is probed under Identifier 1 of the first source port.
-pub const PROBED_AS_1: Gives = Gives::Step(Action::Probed(SECOND));
+pub const PROBED_AS_1: Gives = Gives::Step(Done::Probed(0, 1));
 
 /// The home server is probed under Identifier 2 of the first source port.
-pub const PROBED_AS_2: Gives = Gives::Step(Action::Probed(THIRD));
+pub const PROBED_AS_2: Gives = Gives::Step(Done::Probed(0, 2));
 
 pub const ANSWERED_0: Gives = Gives::Hear(Ok(Told::Answer(0, CLIENT, CLIENT_PORT)));
 
@@ -130,22 +144,6 @@ pub const PROBE_ANSWERED: Gives = Gives::Hear(Ok(Told::ProbeAnswered));
 pub const UNKNOWN: Gives = Gives::Hear(Err(HearFault::Unknown));
 
 pub const WRONG: Gives = Gives::Hear(Err(HearFault::BadAuthenticator));
-
-/// The first pair of a source port and an Identifier.
-pub const FIRST: Slot = Slot {
-    port: 0,
-    identifier: 0,
-};
-
-const SECOND: Slot = Slot {
-    port: 0,
-    identifier: 1,
-};
-
-const THIRD: Slot = Slot {
-    port: 0,
-    identifier: 2,
-};
 
 /// The number of a home server, and lines more in the configuration, which its limits are.
 pub type Home<'a> = (u16, &'a str);
@@ -177,11 +175,12 @@ fn leave_same(
     other: &[Row<'_>],
 ) -> Result<bool, Fail> {
     let one = leave(rt, alloc, home, one)?;
-    leaves_same(rt, alloc, home, other, &one)
+    let is_same = leaves_same(rt, alloc, home, other, &one);
+    discard(one);
+    is_same
 }
 
-/// Whether a new lane leaves this after a script. The function owns one of the two that it compares, since each that it
-/// owned would be dropped on each path that leaves it.
+/// Whether a new lane leaves this after a script.
 fn leaves_same(
     rt: &impl Abort,
     alloc: Global,
@@ -190,7 +189,9 @@ fn leaves_same(
     wanted: &Leftover<BlockQueue<Record>>,
 ) -> Result<bool, Fail> {
     let left = leave(rt, alloc, home, script)?;
-    Ok(is_same(&left, wanted))
+    let is_same = is_same(&left, wanted);
+    discard(left);
+    Ok(is_same)
 }
 
 /// Plays a long script on a new lane, and no more.
@@ -200,7 +201,7 @@ pub fn play_once(
     home: Home<'_>,
     script: &[Row<'_>],
 ) -> Result<(), Fail> {
-    leave(rt, alloc, home, script)?;
+    discard(leave(rt, alloc, home, script)?);
     Ok(())
 }
 

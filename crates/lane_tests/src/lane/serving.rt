@@ -1,9 +1,10 @@
 //! Calls of a lane with made packets, mostly one for each of some numbers.
 
+use super::example::{CLIENT, CLIENT_PORT};
 use super::script::Gives::{self, Hear, Step};
-use super::script::{Made, Told, pair};
-use super::test_lane::{CLIENT, CLIENT_PORT, TestLane};
-use rad_lane::{Action, Taken};
+use super::script::{Done, Made, Told, pair};
+use super::test_lane::TestLane;
+use rad_lane::Taken;
 use rad_packet::Datagram;
 use rad_tables::{Moment, Slot};
 use test_octets::{reply_to, request};
@@ -120,7 +121,8 @@ impl TestLane {
 
     /// Whether the request of this number is sent under this pair. The reply to it is kept.
     fn send_made(&mut self, moment: Moment, number: u16, pair: Slot) -> bool {
-        if self.step(moment) != Step(Action::Sent(u64::from(number), pair)) {
+        let sent = Done::Sent(u64::from(number), pair.port, pair.identifier);
+        if self.step(moment) != Step(sent) {
             return false;
         }
         self.forwarded = sum_with(self.forwarded, self.octets());

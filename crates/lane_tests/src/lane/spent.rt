@@ -8,7 +8,7 @@ use test_octets::homes::{FORWARDED, SECOND_FORWARDED};
 use test_octets::nas::{REQUEST, SECOND_REQUEST};
 
 /// Two requests are sent as often as a round allows, at two moments.
-const SPENT: [Row<'static>; 8] = [
+const SPENT: &[Row<'static>] = &[
     (0, Is(IsUnspent), YES, NOTHING),
     (0, Accept(&REQUEST), TAKEN_0, NOTHING),
     (0, Step, SENT_0, &FORWARDED),
@@ -21,11 +21,11 @@ const SPENT: [Row<'static>; 8] = [
 
 #[test]
 fn the_first_that_is_due_is_told(rt: HostRuntime) -> Result<(), Fail> {
-    play(&rt, rt.alloc(), (0, "tries = 1\n"), &SPENT)
+    play(&rt, rt.alloc(), (0, "tries = 1\n"), SPENT)
 }
 
 /// Two requests are sent once, where a round has two sendings.
-const UNSPENT: [Row<'static>; 5] = [
+const UNSPENT: &[Row<'static>] = &[
     (0, Accept(&REQUEST), TAKEN_0, NOTHING),
     (0, Step, SENT_0, &FORWARDED),
     (1000, Accept(&SECOND_REQUEST), TAKEN_1, NOTHING),
@@ -35,5 +35,5 @@ const UNSPENT: [Row<'static>; 5] = [
 
 #[test]
 fn none_is_told_whose_round_goes_on(rt: HostRuntime) -> Result<(), Fail> {
-    play(&rt, rt.alloc(), (0, "tries = 2\n"), &UNSPENT)
+    play(&rt, rt.alloc(), (0, "tries = 2\n"), UNSPENT)
 }

@@ -1,10 +1,11 @@
 use super::comparing::holds_at;
-use super::script::{Call, Gives, Home, Row, Told, moment};
+use super::example::{accept, checked, close, hear, lane_of, step};
+use super::script::{Call, Done, Gives, Home, Row, Told, moment};
 use super::serving::NO_OCTETS;
 use block_queue::BlockQueue;
-use rad_lane::{Action, HearFault, Heard, Lane, Leftover, Record, Refusal, Setup, Taken};
+use rad_lane::{Action, HearFault, Heard, Lane, Leftover, Record, Refusal, Taken};
 use rad_packet::{Datagram, read};
-use rad_realms::{Config, Incoming, check_in, read_config};
+use rad_realms::{Config, read_config};
 use rad_tables::Moment;
 use std::alloc::Global;
 use std::process::Abort;
@@ -25,17 +26,9 @@ address = "127.0.0.1:2813"
 secret = "home-secret"
 "#;
 
-/// The client's IPv4 address.
-pub const CLIENT: [u8; 4] = [10, 0, 0, 1];
-
-/// The UDP port that it sends from.
-pub const CLIENT_PORT: u16 = 40_000;
-
-/// The Authenticator of each probe.
-pub const RANDOM: [u8; 16] = [0xa5; 16];
-
 /// The lane of a home server, the datagram that is handed to its calls, and of the made requests the replies and sums.
-#[derive(Drop)]
+///
+/// It can't be dropped, since each function that dropped it would have to prove that it may: it is closed or ended.
 pub struct TestLane {
     pub alloc: Global,
     pub config: Config,
@@ -94,7 +87,7 @@ impl TestLane {
     /// What the lane does next.
     pub fn step(&mut self, moment: Moment) -> Gives {
         self.datagram = Datagram::new();
-        done(self.lane.step(moment, RANDOM, &mut self.datagram))
+        done(step(&mut self.lane, moment, &mut self.datagram))
     }
 
     /// The lane's answer to a datagram of its client, once more where memory was refused.
@@ -109,12 +102,15 @@ impl TestLane {
     /// The lane's answer to a datagram of its client; `WrongLane` where that is no request of the lane.
     fn accept_once(&mut self, moment: Moment, request: &[u8]) -> Result<Taken, Refusal> {
         self.datagram = Datagram::new();
-        match check_in(&self.config, CLIENT, CLIENT_PORT, request) {
-            Ok(Incoming::Request(request)) if self.lane.takes(&request) => {
-                self.lane
-                    .accept(self.alloc, &request, moment, &mut self.datagram)
-            }
-            _ => Err(Refusal::WrongLane),
+        match checked(&self.config, request) {
+            Some(request) => accept(
+                self.alloc,
+                &mut self.lane,
+                &request,
+                moment,
+                &mut self.datagram,
+            ),
+            None => Err(Refusal::WrongLane),
         }
     }
 
@@ -130,7 +126,7 @@ impl TestLane {
     /// The lane's answer to a datagram from the home server. A response to the client goes into the datagram.
     fn hear_once(&mut self, moment: Moment, port: u16, reply: &[u8]) -> Result<Told, HearFault> {
         self.datagram = Datagram::new();
-        let heard = self.lane.hear(self.alloc, moment, port, reply)?;
+        let heard = hear(self.alloc, &mut self.lane, moment, port, reply)?;
         if let Ok(response) = read(response_in(&heard)) {
             self.datagram.load(&response);
         }
@@ -139,40 +135,43 @@ impl TestLane {
 
     /// Closes the lane.
     pub fn close(self) -> Leftover<BlockQueue<Record>> {
-        self.lane.close()
+        let TestLane {
+            alloc: _,
+            config: _,
+            lane,
+            datagram: _,
+            replies: _,
+            forwarded: _,
+            responses: _,
+        } = self;
+        close(lane)
     }
 
-    /// Closes the lane, which takes less to prove than its drop.
+    /// Closes the lane, and drops what it leaves.
     pub fn end(self) {
-        self.close();
+        discard(self.close());
     }
 }
 
-/// The text of the configuration that goes on with these lines.
-fn text_of(alloc: Global, more: &str) -> Result<String, Fail> {
-    let mut text = String::from_str(alloc, TEXT)?;
+/// Drops what a lane left. No other function does, since each would have to prove that it may.
+pub fn discard(_left: Leftover<BlockQueue<Record>>) {}
+
+/// A text that goes on with these lines.
+fn text_of(alloc: Global, text: &str, more: &str) -> Result<String, Fail> {
+    let mut text = String::from_str(alloc, text)?;
     text.push_str(more)?;
     Ok(text)
 }
 
 /// The configuration that goes on with these lines.
 fn config_with(alloc: Global, more: &str) -> Result<Config, Fail> {
-    let text = text_of(alloc, more)?;
+    let text = text_of(alloc, TEXT, more)?;
     config_of(alloc, text.as_str())
 }
 
 /// The configuration of a text. It stands apart from that text, which no proof has to read.
 pub fn config_of(alloc: Global, text: &str) -> Result<Config, Fail> {
     Ok(read_config(alloc, text)?)
-}
-
-/// The lane of the home server of this number, which is empty.
-fn lane_of(alloc: Global, config: &Config, number: u16) -> Result<Lane<BlockQueue<Record>>, Fail> {
-    if usize::from(number) >= config.homes().len() {
-        return Err(Fail::from("a home server"));
-    }
-    let setup = Setup::of(alloc, config, number)?;
-    Ok(Lane::new(alloc, setup)?)
 }
 
 /// The octets of a datagram that has a packet of its own, or none.
@@ -189,7 +188,15 @@ pub fn done(action: Action) -> Gives {
     match action {
         Action::Idle(Some(due)) => Gives::Idle(Some(due.get())),
         Action::Idle(None) => Gives::Idle(None),
-        action => Gives::Step(action),
+        Action::Sent(number, pair) => Gives::Step(Done::Sent(number, pair.port, pair.identifier)),
+        Action::Resent(number, pair) => Gives::Step(Done::Resent(
+            number,
+            pair.port,
+            pair.identifier,
+        )),
+        Action::Probed(pair) => Gives::Step(Done::Probed(pair.port, pair.identifier)),
+        Action::WentDown => Gives::Step(Done::WentDown),
+        Action::WentUp => Gives::Step(Done::WentUp),
     }
 }
 
