@@ -1,11 +1,11 @@
 //! Tests of what no clause says of the console: how lines are cut into commands however they are read, and what is
 //! printed.
 
-use crate::comparing::{holds, same};
+use crate::comparing::{holds, holds_at};
+use crate::desk::test_desk::TWO_HOMES;
+use crate::desk::test_proxy::TestProxy;
 use crate::streams::{Narrow, Source};
-use rad_console::{Command, Commands, EndLine, close, obey};
-use rad_desk::{Proxy, open};
-use rad_realms::{Config, read_config};
+use rad_console::{Command, Commands, obey};
 use std::alloc::{AllocError, Global};
 use std::io;
 use std::process::Abort;
@@ -13,29 +13,7 @@ use std::result::Result;
 use std::sync::Wait;
 use std::test::Fail;
 
-/// A configuration with one client and two home servers.
-const TWO_HOMES: &str = r#"
-listen = "127.0.0.1:1813"
-[[client]]
-address = "10.0.0.1"
-secret = "nas-secret"
-[[home]]
-name = "h1"
-address = "127.0.0.1:2813"
-secret = "home-secret"
-[[home]]
-name = "h2"
-address = "127.0.0.1:2814"
-secret = "home2-secret"
-[[realm]]
-name = "example.org"
-home = "h1"
-[[realm]]
-name = "example.net"
-home = "h2"
-"#;
-
-/// What the commands of [`obey_each`] print.
+/// What the commands of [`OBEYED`] print.
 const PRINTED: &str = "\
 lane 0 h1 up open accepted 0 queued 0 outstanding 0 answered 0 opening 0
 lane 1 h2 up open accepted 0 queued 0 outstanding 0 answered 0 opening 0
@@ -73,7 +51,7 @@ const COMMANDS: [Option<Command>; 10] = [
 fn compare_commands(rt: &impl Abort, text: &[u8], most: usize) -> io::Result<()> {
     let mut commands = Commands::new(Source::new(text, most));
     for wanted in COMMANDS {
-        same(rt, (most, commands.next()?), (most, wanted));
+        holds_at(rt, most, commands.next()? == wanted);
     }
     Ok(())
 }
@@ -87,85 +65,88 @@ fn each_line_is_a_command(rt: HostRuntime) -> Result<(), Fail> {
     Ok(())
 }
 
-/// Executes some commands, and keeps what they print.
-fn obey_each(
-    rt: &impl Wait,
-    config: &Config,
-    proxy: &Proxy,
-    taken: &mut Vec<u8>,
-) -> io::Result<()> {
-    let mut output = Narrow { taken, room: 1000 };
-    for command in [
-        Command::State,
-        Command::Unknown,
-        Command::Drain,
-        Command::State,
-    ] {
-        obey(rt, config, proxy, command, &mut output)?;
+/// The commands that are executed.
+const OBEYED: [Command; 4] = [
+    Command::State,
+    Command::Unknown,
+    Command::Drain,
+    Command::State,
+];
+
+/// Executes these commands, and returns whether they print [`PRINTED`].
+fn obeys_each(rt: &impl Wait, proxy: &TestProxy, taken: &mut Vec<u8>) -> bool {
+    for command in OBEYED {
+        if !obeys(rt, proxy, command, 1000, taken) {
+            return false;
+        }
     }
-    Ok(())
+    taken.as_slice() == PRINTED.as_bytes()
 }
 
-/// Closes a proxy of a configuration that executed them, and returns what is left.
-fn end_of(
+/// Executes a command with room for `room` octets, and returns whether it succeeds.
+fn obeys(
     rt: &impl Wait,
-    alloc: Global,
-    config: &Config,
+    proxy: &TestProxy,
+    command: Command,
+    room: usize,
     taken: &mut Vec<u8>,
-) -> Result<EndLine, Fail> {
-    let (proxy, inlets) = open(alloc, config)?;
-    let obeyed = obey_each(rt, config, &proxy, taken);
-    let end = close(alloc, proxy, inlets);
-    obeyed?;
-    Ok(end?)
-}
-
-/// Does the same for the proxy of two home servers.
-fn end_of_two_homes(rt: &impl Wait, alloc: Global, taken: &mut Vec<u8>) -> Result<EndLine, Fail> {
-    let config = read_config(alloc, TWO_HOMES)?;
-    end_of(rt, alloc, &config, taken)
+) -> bool {
+    let mut output = Narrow { taken, room };
+    obey(rt, &proxy.config, &proxy.proxy, command, &mut output).is_ok()
 }
 
 #[test]
 fn each_command_is_obeyed(rt: HostRuntime) -> Result<(), Fail> {
+    let proxy = TestProxy::new(rt.alloc(), TWO_HOMES)?;
     let mut taken = Vec::new(rt.alloc());
-    let end = end_of_two_homes(&rt, rt.alloc(), &mut taken)?;
-    holds(&rt, taken.as_slice() == PRINTED.as_bytes());
-    holds(&rt, end.is_clean());
+    holds(&rt, obeys_each(&rt, &proxy, &mut taken));
+    holds(&rt, ends_clean(proxy));
     Ok(())
+}
+
+/// Closes a proxy, and returns whether nothing is left of it.
+fn ends_clean(proxy: TestProxy) -> bool {
+    match proxy.end() {
+        Some(end) => end.is_clean(),
+        None => false,
+    }
 }
 
 /// Returns whether a command fails with room for `room` octets, after these octets are written.
 fn is_cut(
     rt: &impl Wait,
-    config: &Config,
-    proxy: &Proxy,
+    proxy: &TestProxy,
     command: Command,
     room: usize,
     taken: &mut Vec<u8>,
 ) -> bool {
     taken.clear();
-    let mut output = Narrow { taken, room };
-    let obeyed = obey(rt, config, proxy, command, &mut output);
-    obeyed.is_err() && output.taken.len() == room
+    !obeys(rt, proxy, command, room, taken) && taken.len() == room
 }
 
+/// Commands, with the room for which each of them fails.
+const CUTS: [(Command, usize); 6] = [
+    (Command::State, 0),
+    (Command::State, 7),
+    (Command::Drain, 0),
+    (Command::Drain, 7),
+    (Command::Unknown, 0),
+    (Command::Unknown, 7),
+];
+
 /// Checks that each command fails where its writes do.
-fn cut_each<R: Wait + Abort>(rt: &R, config: &Config, proxy: &Proxy, taken: &mut Vec<u8>) {
-    for command in [Command::State, Command::Drain, Command::Unknown] {
-        for room in [0, 7] {
-            let is_right = is_cut(rt, config, proxy, command, room, taken);
-            same(rt, (command, room, is_right), (command, room, true));
-        }
+fn cut_each<R: Wait + Abort>(rt: &R, proxy: &TestProxy, taken: &mut Vec<u8>) {
+    for place in 0..CUTS.len() {
+        let (command, room) = CUTS[place];
+        holds_at(rt, place, is_cut(rt, proxy, command, room, taken));
     }
 }
 
 #[test]
 fn a_failed_write_ends_a_command(rt: HostRuntime) -> Result<(), Fail> {
-    let alloc = rt.alloc();
-    let config = read_config(alloc, TWO_HOMES)?;
-    let (proxy, _inlets) = open(alloc, &config)?;
-    let mut taken = Vec::new(alloc);
-    cut_each(&rt, &config, &proxy, &mut taken);
+    let proxy = TestProxy::new(rt.alloc(), TWO_HOMES)?;
+    let mut taken = Vec::new(rt.alloc());
+    cut_each(&rt, &proxy, &mut taken);
+    proxy.end();
     Ok(())
 }

@@ -1,6 +1,6 @@
 //! Tests of what no clause says of a replay: the octets that it writes, whatever reads and writes do.
 
-use crate::comparing::same;
+use crate::comparing::{holds, holds_at};
 use crate::streams::{Narrow, Source};
 use rad_console::EndLine;
 use rad_replay::{ReplayFault, replay};
@@ -23,22 +23,15 @@ const EVENTS: &str =
 const ANSWERS: &str =
     "nas: new 0 0\nstep: sent 4 0 59 0111626f62406578616d706c652e6f72672806000000012c045331210c00000000000000000000\nend: queued 0 outstanding 1 untaken 0\n";
 
-/// How a replay ends: how many requests were never sent, how many were outstanding, and how many responses were not
-/// taken.
-type End = Result<(usize, usize, Option<usize>), ReplayFault>;
-
-/// How that request ends.
-const OUTSTANDING: End = Ok((0, 1, Some(0)));
-
 /// The number of steps whose results fill more than one buffer.
 const MANY: usize = 2000;
 
 /// How many octets these results have.
 const WHOLE: usize = 11 * MANY + 38;
 
-fn input(alloc: Global, events: &str) -> Result<String, AllocError> {
+fn input(alloc: Global) -> Result<String, AllocError> {
     let mut text = String::from_str(alloc, HEAD)?;
-    text.push_str(events)?;
+    text.push_str(EVENTS)?;
     Ok(text)
 }
 
@@ -62,29 +55,84 @@ fn run(
     replay(rt, alloc, source, Narrow { taken, room })
 }
 
-/// Replays a source. Returns how that ends, and whether it prints this.
-fn outcome(rt: &impl Wait, alloc: Global, source: Source<'_>, printed: &str) -> (End, bool) {
-    let mut taken = Vec::new(alloc);
-    let end = match run(rt, alloc, source, 1000, &mut taken) {
-        Ok(end) => Ok((end.queued, end.outstanding, end.untaken)),
-        Err(fault) => Err(fault),
-    };
-    (end, taken.as_slice() == printed.as_bytes())
+/// A replay of the one request: how many octets of the input are read, if not all, and at most how many at a time; the
+/// fault of the reader behind them; and how the replay ends, and what it prints.
+struct Replay {
+    count: Option<usize>,
+    most: usize,
+    fault: Option<ErrorKind>,
+    ends: Option<ReplayFault>,
+    printed: &'static str,
 }
 
-/// Checks how the replay of a source ends, and what it prints.
-fn compare<R: Wait + Abort>(rt: &R, alloc: Global, source: Source<'_>, end: End, printed: &str) {
-    let outcome = outcome(rt, alloc, source, printed);
-    same(rt, (source.most, outcome), (source.most, (end, true)));
+/// The whole input is read, and the request is outstanding at the end.
+const WHOLE_INPUT: Replay = Replay {
+    count: None,
+    most: 4096,
+    fault: None,
+    ends: None,
+    printed: ANSWERS,
+};
+
+/// Returns whether a replay ended with this fault, or, if there is none, with the one request outstanding.
+fn is_end(ended: &Result<EndLine, ReplayFault>, fault: Option<ReplayFault>) -> bool {
+    match ended {
+        Ok(end) => {
+            fault.is_none() && end.queued == 0 && end.outstanding == 1 && end.untaken == Some(0)
+        }
+        Err(given) => Some(*given) == fault,
+    }
 }
+
+/// Returns whether the replay of a text ends as it should, and prints what it should.
+fn is_right(rt: &impl Wait, alloc: Global, text: &str, replay: &Replay) -> bool {
+    let source = Source {
+        text: text.as_bytes(),
+        count: replay.count.unwrap_or(text.len()),
+        most: replay.most,
+        fault: replay.fault,
+    };
+    let mut taken = Vec::new(alloc);
+    let ended = run(rt, alloc, source, 1000, &mut taken);
+    is_end(&ended, replay.ends) && taken.as_slice() == replay.printed.as_bytes()
+}
+
+/// Checks each of these replays of the one request.
+fn compare_each<R: Wait + Abort>(
+    rt: &R,
+    alloc: Global,
+    replays: &[Replay],
+) -> Result<(), AllocError> {
+    let text = input(alloc)?;
+    for replay in replays {
+        holds_at(rt, replay.most, is_right(rt, alloc, text.as_str(), replay));
+    }
+    Ok(())
+}
+
+/// The input is read at most so many octets at a time.
+const IN_PARTS: [Replay; 4] = [
+    Replay {
+        most: 1,
+        ..WHOLE_INPUT
+    },
+    Replay {
+        most: 7,
+        ..WHOLE_INPUT
+    },
+    Replay {
+        most: 64,
+        ..WHOLE_INPUT
+    },
+    Replay {
+        most: 4096,
+        ..WHOLE_INPUT
+    },
+];
 
 #[test]
 fn forwards_one_request(rt: HostRuntime) -> Result<(), Fail> {
-    let text = input(rt.alloc(), EVENTS)?;
-    for most in [1, 7, 64, 4096] {
-        let source = Source::new(text.as_bytes(), most);
-        compare(&rt, rt.alloc(), source, OUTSTANDING, ANSWERS);
-    }
+    compare_each(&rt, rt.alloc(), &IN_PARTS)?;
     Ok(())
 }
 
@@ -95,54 +143,73 @@ fn is_cut(rt: &impl Wait, alloc: Global, source: Source<'_>, room: usize, whole:
     matches!(ran, Err(ReplayFault::Output)) && whole.starts_with(taken.as_slice())
 }
 
+/// Replays a source without a failed write, and then with one behind each of some lengths.
+fn cut_each<R: Wait + Abort>(rt: &R, alloc: Global, source: Source<'_>) {
+    let mut whole = Vec::new(alloc);
+    let ran = run(rt, alloc, source, usize::MAX, &mut whole);
+    holds(rt, ran.is_ok() && whole.len() == WHOLE);
+    for room in [0, 1, 8192, 10_000, WHOLE - 1] {
+        let is_cut = is_cut(rt, alloc, source, room, whole.as_slice());
+        holds_at(rt, room, is_cut);
+    }
+}
+
 #[test]
 fn a_failed_write_ends_the_replay(rt: HostRuntime) -> Result<(), Fail> {
     let text = many_steps(rt.alloc())?;
-    let source = Source::new(text.as_bytes(), 4096);
-    let mut whole = Vec::new(rt.alloc());
-    run(&rt, rt.alloc(), source, usize::MAX, &mut whole)?;
-    same(&rt, whole.len(), WHOLE);
-    for room in [0, 1, 8192, 10_000, WHOLE - 1] {
-        let is_cut = is_cut(&rt, rt.alloc(), source, room, whole.as_slice());
-        same(&rt, (room, is_cut), (room, true));
-    }
+    cut_each(&rt, rt.alloc(), Source::new(text.as_bytes(), 4096));
     Ok(())
 }
+
+/// The reader fails behind the input.
+const FAILED_READ: Replay = Replay {
+    most: 64,
+    fault: Some(ErrorKind::Other),
+    ends: Some(ReplayFault::Input),
+    printed: "",
+    ..WHOLE_INPUT
+};
 
 #[test]
 fn a_failed_read_ends_the_replay(rt: HostRuntime) -> Result<(), Fail> {
-    let text = input(rt.alloc(), EVENTS)?;
-    let source = Source {
-        fault: Some(ErrorKind::Other),
-        ..Source::new(text.as_bytes(), 64)
-    };
-    compare(&rt, rt.alloc(), source, Err(ReplayFault::Input), "");
+    compare_each(&rt, rt.alloc(), &[FAILED_READ])?;
     Ok(())
 }
+
+/// The reader is refused memory at once.
+const REFUSED_MEMORY: Replay = Replay {
+    count: Some(0),
+    most: 64,
+    fault: Some(ErrorKind::OutOfMemory),
+    ends: Some(ReplayFault::Memory),
+    printed: "",
+};
 
 #[test]
 fn refused_memory_ends_the_replay(rt: HostRuntime) -> Result<(), Fail> {
-    let source = Source {
-        fault: Some(ErrorKind::OutOfMemory),
-        ..Source::new(b"", 64)
-    };
-    compare(&rt, rt.alloc(), source, Err(ReplayFault::Memory), "");
+    compare_each(&rt, rt.alloc(), &[REFUSED_MEMORY])?;
     Ok(())
 }
 
+/// An input of the greatest length, and one that is an octet longer.
+const LONGEST: [Replay; 2] = [
+    Replay {
+        count: Some(16_777_216),
+        most: 16_777_216,
+        ..WHOLE_INPUT
+    },
+    Replay {
+        count: Some(16_777_217),
+        most: 16_777_217,
+        ends: Some(ReplayFault::Input),
+        printed: "",
+        ..WHOLE_INPUT
+    },
+];
+
 #[test]
 fn the_longest_input_is_read(rt: HostRuntime) -> Result<(), Fail> {
-    let text = input(rt.alloc(), EVENTS)?;
-    for (count, end, printed) in [
-        (16_777_216, OUTSTANDING, ANSWERS),
-        (16_777_217, Err(ReplayFault::Input), ""),
-    ] {
-        let source = Source {
-            count,
-            ..Source::new(text.as_bytes(), count)
-        };
-        compare(&rt, rt.alloc(), source, end, printed);
-    }
+    compare_each(&rt, rt.alloc(), &LONGEST)?;
     Ok(())
 }
 
@@ -161,7 +228,6 @@ fn with_carriage_returns(alloc: Global) -> Result<String, AllocError> {
 #[test]
 fn lines_of_a_configuration_end_in_cr_lf_too(rt: HostRuntime) -> Result<(), Fail> {
     let text = with_carriage_returns(rt.alloc())?;
-    let source = Source::new(text.as_bytes(), 4096);
-    compare(&rt, rt.alloc(), source, OUTSTANDING, ANSWERS);
+    holds(&rt, is_right(&rt, rt.alloc(), text.as_str(), &WHOLE_INPUT));
     Ok(())
 }

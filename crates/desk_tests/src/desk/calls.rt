@@ -49,5 +49,6 @@ fn ample_memory_never_refuses_through_a_lock(rt: HostRuntime) -> Result<(), Fail
     proxy.play(&rt, SERVED_THROUGH_LOCK);
     let report = proxy.report()?;
     holds(&rt, has_nothing_left(&report));
+    report.discard();
     Ok(())
 }

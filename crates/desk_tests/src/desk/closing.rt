@@ -3,7 +3,7 @@
 use super::playing::Event;
 use super::test_desk::TWO_HOMES;
 use super::test_proxy::TestProxy;
-use crate::comparing::{holds, same};
+use crate::comparing::holds;
 use block_queue::Fifo;
 use rad_desk::laws::agrees;
 use rad_desk::{LaneEnd, Report, Rest, Told};
@@ -43,11 +43,13 @@ pub fn known(end: &LaneEnd) -> Option<&[Outgoing]> {
     }
 }
 
-/// Returns whether the rest is known, for each of two lanes.
-fn are_known(report: &Report) -> Option<(bool, bool)> {
+/// Returns whether the rest of each of two lanes is known, or unknown.
+fn are_known(report: &Report, is_known: bool) -> bool {
     match report.ends.as_slice() {
-        [first, second] => Some((known(first).is_some(), known(second).is_some())),
-        _ => None,
+        [first, second] => {
+            known(first).is_some() == is_known && known(second).is_some() == is_known
+        }
+        _ => false,
     }
 }
 
@@ -66,16 +68,20 @@ fn has_second_response(end: &LaneEnd) -> bool {
 
 /// Compares what is left of the first lane.
 fn compare_first(rt: &impl Abort, end: &LaneEnd) {
-    let counts = (end.lane, end.counts.accepted, end.counts.answered);
-    same(rt, counts, (0, 2, 2));
-    let lengths = (end.accepted.as_slice().len(), end.outstanding.used());
-    same(rt, lengths, (2, 0));
+    holds(
+        rt,
+        end.lane == 0 && end.counts.accepted == 2 && end.counts.answered == 2,
+    );
+    holds(
+        rt,
+        end.accepted.as_slice().len() == 2 && end.outstanding.used() == 0,
+    );
     holds(rt, has_second_response(end));
 }
 
 /// Compares what is left of the second lane.
 fn compare_second(rt: &impl Abort, end: &LaneEnd) {
-    same(rt, (end.lane, end.counts.queued), (1, 1));
+    holds(rt, end.lane == 1 && end.counts.queued == 1);
     holds(rt, has_no_rest(end));
 }
 
@@ -108,29 +114,19 @@ fn compare(rt: &impl Abort, report: &Report) {
 fn close_knows_and_take_gives(rt: HostRuntime) -> Result<(), Fail> {
     let report = left_over(&rt, rt.alloc())?.report()?;
     compare(&rt, &report);
+    report.discard();
     Ok(())
 }
 
-/// Returns whether the rest of each of a proxy's two lanes is known at its end.
-fn knows(proxy: TestProxy) -> Result<Option<(bool, bool)>, Fail> {
-    let report = proxy.report()?;
-    Ok(are_known(&report))
-}
-
-#[test]
-fn without_inlets_nothing_is_known(rt: HostRuntime) -> Result<(), Fail> {
-    let mut proxy = left_over(&rt, rt.alloc())?;
-    proxy.inlets.clear();
-    same(&rt, knows(proxy)?, Some((false, false)));
-    Ok(())
-}
-
-#[test]
-fn with_exchanged_inlets_nothing_is_known(rt: HostRuntime) -> Result<(), Fail> {
-    let mut proxy = left_over(&rt, rt.alloc())?;
-    proxy.inlets.reverse();
-    same(&rt, knows(proxy)?, Some((false, false)));
-    Ok(())
+/// What becomes of a proxy's inlets before it is closed, beside another proxy.
+#[derive(Clone, Copy)]
+enum Change {
+    /// The other proxy takes both.
+    Taken,
+    /// They are exchanged for each other.
+    Exchanged,
+    /// One of the other proxy's is added.
+    Added,
 }
 
 /// Moves an inlet of one proxy to another. Returns false if memory is refused.
@@ -141,26 +137,57 @@ fn move_inlet(from: &mut TestProxy, to: &mut TestProxy) -> bool {
     }
 }
 
-/// Gives a proxy an inlet of another one, which then ends.
-fn add_surplus<R: Wait + Abort>(rt: &R, proxy: &mut TestProxy) -> Result<(), Fail> {
-    let mut other = left_over(rt, proxy.alloc)?;
-    let is_moved = move_inlet(&mut other, proxy);
-    other.end();
-    holds(rt, is_moved);
+/// Makes a change. Returns false if memory is refused.
+fn is_changed(proxy: &mut TestProxy, other: &mut TestProxy, change: Change) -> bool {
+    match change {
+        Change::Taken => move_inlet(proxy, other) && move_inlet(proxy, other),
+        Change::Exchanged => {
+            proxy.inlets.reverse();
+            true
+        }
+        Change::Added => move_inlet(other, proxy),
+    }
+}
+
+/// Closes a proxy after a change, and checks that the rest of each of its lanes is known then, or unknown.
+fn close_after<R: Wait + Abort>(
+    rt: &R,
+    other: &mut TestProxy,
+    change: Change,
+    is_known: bool,
+) -> Result<(), Fail> {
+    let mut proxy = left_over(rt, other.alloc)?;
+    holds(rt, is_changed(&mut proxy, other, change));
+    let report = proxy.report()?;
+    holds(rt, are_known(&report, is_known));
+    report.discard();
     Ok(())
+}
+
+/// Does the same beside another proxy with the same lanes, which then ends.
+fn close_beside<R: Wait + Abort>(
+    rt: &R,
+    alloc: Global,
+    change: Change,
+    is_known: bool,
+) -> Result<(), Fail> {
+    let mut other = left_over(rt, alloc)?;
+    let closed = close_after(rt, &mut other, change, is_known);
+    other.end();
+    closed
+}
+
+#[test]
+fn without_inlets_nothing_is_known(rt: HostRuntime) -> Result<(), Fail> {
+    close_beside(&rt, rt.alloc(), Change::Taken, false)
+}
+
+#[test]
+fn with_exchanged_inlets_nothing_is_known(rt: HostRuntime) -> Result<(), Fail> {
+    close_beside(&rt, rt.alloc(), Change::Exchanged, false)
 }
 
 #[test]
 fn a_surplus_inlet_is_dropped(rt: HostRuntime) -> Result<(), Fail> {
-    let mut proxy = left_over(&rt, rt.alloc())?;
-    match add_surplus(&rt, &mut proxy) {
-        Ok(()) => {
-            same(&rt, knows(proxy)?, Some((true, true)));
-            Ok(())
-        }
-        Err(fail) => {
-            proxy.end();
-            Err(fail)
-        }
-    }
+    close_beside(&rt, rt.alloc(), Change::Added, true)
 }

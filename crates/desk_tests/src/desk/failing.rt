@@ -3,7 +3,7 @@
 use super::playing::{ANSWERED, CLIENT, Event, FORWARD, FRONT, HOME, LANE, OUT, Story, play_each};
 use super::test_gate::Telling;
 use super::test_proxy::TestProxy;
-use crate::comparing::same;
+use crate::comparing::{holds, holds_at};
 use rad_desk::{Note, Worker};
 use std::alloc::Global;
 use std::process::Abort;
@@ -47,12 +47,9 @@ fn meets_fault<R: Wait + Abort>(
     passing: u32,
 ) -> bool {
     proxy.wire(worker).fail_after(passing);
-    same(rt, (passing, is_answered(rt, proxy)), (passing, true));
-    same(
-        rt,
-        (passing, proxy.counts(rt, 0)),
-        (passing, Some(ANSWERED)),
-    );
+    let is_answered = is_answered(rt, proxy);
+    let has_counts = proxy.counts(rt, 0) == Some(ANSWERED);
+    holds_at(rt, passing as usize, is_answered && has_counts);
     !proxy.wire(worker).is_to_fail()
 }
 
@@ -72,15 +69,13 @@ fn faults_met<R: Wait + Abort>(rt: &R, alloc: Global, worker: Worker) -> Result<
 
 #[test]
 fn any_fault_of_the_fronts_wire_is_overcome(rt: HostRuntime) -> Result<(), Fail> {
-    let met = faults_met(&rt, rt.alloc(), FRONT)?;
-    same(&rt, met, 4);
+    holds(&rt, faults_met(&rt, rt.alloc(), FRONT)? == 4);
     Ok(())
 }
 
 #[test]
 fn any_fault_of_the_lanes_wire_is_overcome(rt: HostRuntime) -> Result<(), Fail> {
-    let met = faults_met(&rt, rt.alloc(), LANE)?;
-    same(&rt, met, 3);
+    holds(&rt, faults_met(&rt, rt.alloc(), LANE)? == 3);
     Ok(())
 }
 

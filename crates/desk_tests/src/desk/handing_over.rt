@@ -7,12 +7,11 @@ use super::memory::MemoryWire;
 use super::playing::{CLIENT, Event};
 use super::test_desk::TWO_HOMES;
 use super::test_proxy::{TestProxy, tally};
-use crate::comparing::same;
-use rad_desk::{Delivery, Handed, Ledger, Received, Tally, Told, Wire, front_worker_with};
+use crate::comparing::holds;
+use rad_desk::{Delivery, Handed, Ledger, Received, Told, Wire, front_worker_with};
 use rad_lane::{Outgoing, Taken};
 use rad_realms::Endpoint;
 use rad_tables::Moment;
-use std::alloc::Global;
 use std::cell::Cell;
 use std::process::Abort;
 use std::sync::Wait;
@@ -42,85 +41,39 @@ impl Counter {
     }
 }
 
-/// A response that was handed over or sent.
+/// A ledger that compares each response with the one that is to be handed over next. Contracts see it as a list.
 #[derive(Drop)]
-struct Seen {
-    /// The number that was drawn then.
-    number: u64,
-    client: Endpoint,
-    octets: Vec<u8>,
-}
-
-/// The responses that were handed over, or those that were sent, in order.
-#[derive(Drop)]
-struct SeenList<'a> {
-    alloc: Global,
+struct ComparingLedger<'a> {
     counter: &'a Counter,
-    seen: Vec<Seen>,
-}
-
-impl<'a> SeenList<'a> {
-    fn new(alloc: Global, counter: &'a Counter) -> SeenList<'a> {
-        SeenList {
-            alloc,
-            counter,
-            seen: Vec::new(alloc),
-        }
-    }
-
-    /// Adds a response with the next number, unless memory is refused.
-    fn add(&mut self, client: Endpoint, octets: &[u8]) {
-        let number = self.counter.draw();
-        if let Ok(octets) = octets.to_vec(self.alloc) {
-            let _ = self.seen.push(Seen {
-                number,
-                client,
-                octets,
-            });
-        }
-    }
-
-    /// Returns whether the response at a place has this number and these octets, and is the tests' client's.
-    fn has(&self, place: usize, number: u64, octets: &[u8]) -> bool {
-        match self.seen.as_slice().get(place) {
-            Some(seen) => {
-                seen.number == number && seen.client == CLIENT && seen.octets.as_slice() == octets
-            }
-            None => false,
-        }
-    }
-}
-
-/// A ledger in memory, which contracts see as a list too.
-#[derive(Drop)]
-struct MemoryLedger<'a> {
-    handed: SeenList<'a>,
-    serials: Vec<u64>,
+    /// How many responses it was given, and how many of them were the right ones.
+    given: usize,
+    right: usize,
     list: Handed,
 }
 
-impl Ledger for MemoryLedger<'_> {
+impl Ledger for ComparingLedger<'_> {
     ghost kept = { λ ledger. Some ledger.list.responses };
 
     fn keep(&mut self, outgoing: &Outgoing) {
-        let client = Endpoint {
-            address: outgoing.client,
-            port: outgoing.port,
-        };
-        self.handed.add(client, outgoing.reply.response());
-        let _ = self.serials.push(outgoing.serial);
+        if is_handed(self.given, self.counter.draw(), outgoing) {
+            self.right = self.right.saturating_add(1);
+        }
+        self.given = self.given.saturating_add(1);
         self.list.add(outgoing);
     }
 }
 
-/// A wire without a log, over another wire, whose sends are numbered.
+/// A wire without a log, over another wire. It compares each datagram with the response that is to be sent next.
 #[derive(Drop)]
-struct NumberedWire<'a> {
+struct ComparingWire<'a> {
     wire: MemoryWire,
-    sent: SeenList<'a>,
+    counter: &'a Counter,
+    /// How many datagrams it was given, and how many of them were the right ones.
+    given: usize,
+    right: usize,
 }
 
-impl Wire for NumberedWire<'_> {
+impl Wire for ComparingWire<'_> {
     fn now(&mut self) -> Moment {
         self.wire.now()
     }
@@ -134,7 +87,11 @@ impl Wire for NumberedWire<'_> {
     }
 
     fn send(&mut self, socket: u16, address: [u8; 4], port: u16, octets: &[u8]) -> Delivery {
-        self.sent.add(Endpoint { address, port }, octets);
+        let to = Endpoint { address, port };
+        if is_sent(self.given, self.counter.draw(), to, octets) {
+            self.right = self.right.saturating_add(1);
+        }
+        self.given = self.given.saturating_add(1);
         self.wire.send(socket, address, port, octets)
     }
 }
@@ -182,60 +139,69 @@ const IN_ORDER: &[Handing<'static>] = &[
     },
 ];
 
-/// Has the front take three turns over this wire, with this ledger.
-fn serve(
-    rt: &impl Wait,
-    proxy: &mut TestProxy,
-    wire: &mut NumberedWire<'_>,
-    ledger: &mut MemoryLedger<'_>,
-) -> Tally {
-    front_worker_with(
+/// Returns whether this response, which was handed over with this number, is the right one at a place.
+fn is_handed(place: usize, number: u64, outgoing: &Outgoing) -> bool {
+    match IN_ORDER.get(place) {
+        Some(handing) => {
+            number == handing.handed
+                && outgoing.serial == handing.serial
+                && outgoing.client == CLIENT.address
+                && outgoing.port == CLIENT.port
+                && outgoing.reply.response() == handing.response
+        }
+        None => false,
+    }
+}
+
+/// Returns whether this datagram, which was sent with this number, is the right one at a place.
+fn is_sent(place: usize, number: u64, to: Endpoint, octets: &[u8]) -> bool {
+    match IN_ORDER.get(place) {
+        Some(handing) => { number == handing.sent && to == CLIENT && octets == handing.response }
+        None => false,
+    }
+}
+
+/// Returns whether there were three, and all of them were the right ones.
+fn are_right(given: usize, right: usize) -> bool {
+    given == 3 && right == 3
+}
+
+/// Has the front take three turns over a wire and with a ledger that compare the responses.
+fn serve<R: Wait + Abort>(rt: &R, proxy: &mut TestProxy) {
+    let counter = Counter::new();
+    let mut ledger = ComparingLedger {
+        counter: &counter,
+        given: 0,
+        right: 0,
+        list: Handed::new(),
+    };
+    let mut wire = ComparingWire {
+        wire: MemoryWire::new(proxy.alloc),
+        counter: &counter,
+        given: 0,
+        right: 0,
+    };
+    let did = front_worker_with(
         rt,
         proxy.alloc,
         &proxy.proxy,
         &proxy.config,
         proxy.inlets.as_mut_slice(),
-        wire,
-        ledger,
+        &mut wire,
+        &mut ledger,
         &proxy.gate,
         3,
-    )
-}
-
-/// Compares what a ledger was given and what was sent with what is expected.
-fn compare<R: Abort>(rt: &R, ledger: &MemoryLedger<'_>, wire: &NumberedWire<'_>) {
-    let counts = (ledger.handed.seen.len(), wire.sent.seen.len());
-    same(rt, counts, (3, 3));
-    for (place, handing) in IN_ORDER.iter().enumerate() {
-        let is_handed = ledger.handed.has(place, handing.handed, handing.response);
-        let is_sent = wire.sent.has(place, handing.sent, handing.response);
-        let serial = ledger.serials.as_slice().get(place).copied();
-        same(
-            rt,
-            (place, is_handed, is_sent, serial),
-            (place, true, true, Some(handing.serial)),
-        );
-    }
+    );
+    holds(rt, did == tally(3, [0, 3, 0]));
+    holds(rt, are_right(ledger.given, ledger.right));
+    holds(rt, are_right(wire.given, wire.right));
 }
 
 #[test]
 fn each_response_is_handed_over_and_then_sent(rt: HostRuntime) -> Result<(), Fail> {
-    let alloc = rt.alloc();
-    let mut proxy = TestProxy::new(alloc, TWO_HOMES)?;
+    let mut proxy = TestProxy::new(rt.alloc(), TWO_HOMES)?;
     proxy.play(&rt, THREE_ANSWERED);
-    let counter = Counter::new();
-    let mut ledger = MemoryLedger {
-        handed: SeenList::new(alloc, &counter),
-        serials: Vec::new(alloc),
-        list: Handed::new(),
-    };
-    let mut wire = NumberedWire {
-        wire: MemoryWire::new(alloc),
-        sent: SeenList::new(alloc, &counter),
-    };
-    let did = serve(&rt, &mut proxy, &mut wire, &mut ledger);
-    same(&rt, did, tally(3, [0, 3, 0]));
-    compare(&rt, &ledger, &wire);
+    serve(&rt, &mut proxy);
     proxy.end();
     Ok(())
 }

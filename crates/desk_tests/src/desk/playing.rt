@@ -3,7 +3,7 @@
 use super::test_desk::{CLIENT_PORT, slot};
 use super::test_gate::Telling;
 use super::test_proxy::{TestProxy, tally};
-use crate::comparing::same;
+use crate::comparing::holds_in;
 use rad_desk::{Call, DeskFault, Note, Told, Worker};
 use rad_lane::{Action, Counts, Refusal, Taken, TurnFault};
 use rad_realms::Endpoint;
@@ -134,18 +134,56 @@ pub const FORWARD: &[Event<'static>] = &[
 ];
 
 /// Turns of a worker, with the expected results.
-#[derive(Drop)]
+#[derive(Clone, Copy)]
 struct Turns<'a> {
     worker: Worker,
     /// How many turns it is asked for, and how many it takes.
     asked: u64,
     taken: u64,
-    /// What it receives.
+    /// What it receives, and whether that arrives now.
     receives: &'a [u8],
+    arrives: bool,
     /// How many datagrams are received and handed over, and how many receives and sends fail.
     did: [u64; 3],
     tells: Option<Telling>,
     sends: &'a [u8],
+}
+
+/// Returns the turns that an event of a worker has.
+fn turns_of<'a>(event: &Event<'a>) -> Option<Turns<'a>> {
+    match *event {
+        Event::Turn(worker, receives, did, tells, sends) => Some(Turns {
+            worker,
+            asked: 1,
+            taken: 1,
+            receives,
+            arrives: true,
+            did,
+            tells,
+            sends,
+        }),
+        Event::Receives(worker, receives, did, tells, sends) => Some(Turns {
+            worker,
+            asked: 1,
+            taken: 1,
+            receives,
+            arrives: false,
+            did,
+            tells,
+            sends,
+        }),
+        Event::Turns(worker, asked, taken, did, tells, sends) => Some(Turns {
+            worker,
+            asked,
+            taken,
+            receives: &[],
+            arrives: false,
+            did,
+            tells,
+            sends,
+        }),
+        _ => None,
+    }
 }
 
 /// Returns the endpoint with which a worker communicates.
@@ -167,56 +205,25 @@ impl TestProxy {
     fn play_scene<R: Wait + Abort>(&mut self, rt: &R, story: usize, events: &[Event<'_>]) {
         for (place, event) in events.iter().enumerate() {
             let is_met = self.meets(rt, event);
-            same(rt, (story, place, is_met), (story, place, true));
+            holds_in(rt, story, place, is_met);
         }
     }
 
     /// Makes an event, and returns whether it has its result.
     fn meets(&mut self, rt: &impl Wait, event: &Event<'_>) -> bool {
+        match turns_of(event) {
+            Some(turns) => self.takes_turns(rt, &turns),
+            None => self.calls(rt, event),
+        }
+    }
+
+    /// Makes an event that is not of a worker, and returns whether it has its result.
+    fn calls(&mut self, rt: &impl Wait, event: &Event<'_>) -> bool {
         match *event {
-            Event::Turn(worker, receives, did, tells, sends) => {
-                self.come(worker, receives);
-                self.takes_turns(
-                    rt,
-                    &Turns {
-                        worker,
-                        asked: 1,
-                        taken: 1,
-                        receives,
-                        did,
-                        tells,
-                        sends,
-                    },
-                )
-            }
-            Event::Receives(worker, receives, did, tells, sends) => self.takes_turns(
-                rt,
-                &Turns {
-                    worker,
-                    asked: 1,
-                    taken: 1,
-                    receives,
-                    did,
-                    tells,
-                    sends,
-                },
-            ),
-            Event::Turns(worker, asked, taken, did, tells, sends) => self.takes_turns(
-                rt,
-                &Turns {
-                    worker,
-                    asked,
-                    taken,
-                    receives: &[],
-                    did,
-                    tells,
-                    sends,
-                },
-            ),
             Event::Turned(turns) => self.gate.turns() == turns,
             Event::Beside(told) => self.gate.beside() == told,
             Event::Lanes(lanes, inlets) => {
-                (self.proxy.lanes(), self.inlets.len()) == (lanes, inlets)
+                self.proxy.lanes() == lanes && self.inlets.len() == inlets
             }
             Event::Stands(lane, counts) => self.counts(rt, lane) == Some(counts),
             Event::Accept(request, taken) => self.accept(rt, request) == Some(taken),
@@ -270,6 +277,9 @@ impl TestProxy {
     /// Has a worker take turns, and returns whether its tally, the last notification, what it sends, and the datagrams
     /// that the gate was notified of are those expected.
     fn takes_turns(&mut self, rt: &impl Wait, turns: &Turns<'_>) -> bool {
+        if turns.arrives {
+            self.come(turns.worker, turns.receives);
+        }
         let did = self.work(rt, turns.worker, turns.asked);
         did == tally(turns.taken, turns.did)
             && self.gate.told() == turns.tells

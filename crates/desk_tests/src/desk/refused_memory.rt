@@ -4,16 +4,21 @@
 use super::closing::known;
 use super::playing::{ANSWERED, IDLE, OUT, WAITING};
 use super::test_desk::slot;
-use super::test_proxy::{TestProxy, close};
-use crate::comparing::{holds, same};
-use rad_desk::{CloseFault, DeskFault, Inlet, LaneEnd, Proxy, Report, Told};
-use rad_lane::{Action, HearFault, Refusal, Series, Taken, TurnFault};
-use std::alloc::Global;
+use super::test_proxy::TestProxy;
+use crate::comparing::holds;
+use rad_desk::{CloseFault, DeskFault, LaneEnd, Report, Told};
+use rad_lane::{Action, Counts, HearFault, Refusal, Taken, TurnFault};
+use std::alloc::{AllocError, Global};
 use std::process::Abort;
 use std::sync::Wait;
 use std::test::Fail;
 use test_octets::homes::REPLY;
 use test_octets::nas::{REQUEST, RESPONSE};
+
+/// Checks that the lane has these counts.
+fn stands<R: Wait + Abort>(rt: &R, proxy: &TestProxy, counts: Counts) {
+    holds(rt, proxy.counts(rt, 0) == Some(counts));
+}
 
 /// Has the request accepted, again if memory was refused.
 fn accept<R: Wait + Abort>(rt: &R, proxy: &TestProxy) -> Option<Result<Taken, Refusal>> {
@@ -21,7 +26,7 @@ fn accept<R: Wait + Abort>(rt: &R, proxy: &TestProxy) -> Option<Result<Taken, Re
     if taken != Some(Err(Refusal::OutOfMemory)) {
         return taken;
     }
-    same(rt, proxy.counts(rt, 0), Some(IDLE));
+    stands(rt, proxy, IDLE);
     proxy.accept(rt, &REQUEST)
 }
 
@@ -31,7 +36,7 @@ fn hear<R: Wait + Abort>(rt: &R, proxy: &TestProxy) -> Option<Result<Told, DeskF
     if told != Some(Err(DeskFault::Lane(HearFault::OutOfMemory))) {
         return told;
     }
-    same(rt, proxy.counts(rt, 0), Some(OUT));
+    stands(rt, proxy, OUT);
     proxy.hear(rt, 0, &REPLY)
 }
 
@@ -41,39 +46,49 @@ fn turn<R: Wait + Abort>(rt: &R, proxy: &TestProxy) -> Option<Result<usize, Turn
     if turned != Some(Err(TurnFault::OutOfMemory)) {
         return turned;
     }
-    same(rt, proxy.counts(rt, 0), Some(ANSWERED));
+    stands(rt, proxy, ANSWERED);
     proxy.turn(rt, 0)
 }
 
-/// Closes the proxy, again if memory was refused. Returns whether the request is served in the report.
-fn closes_served(rt: &impl Abort, alloc: Global, proxy: TestProxy) -> bool {
+/// Closes the proxy, again if memory was refused.
+fn close(rt: &impl Abort, proxy: TestProxy) -> Result<Report, CloseFault> {
+    let alloc = proxy.alloc;
     match proxy.close() {
-        Ok(report) => is_served(&report),
-        Err(CloseFault::OutOfMemory(proxy, inlets)) => closes_again(rt, alloc, proxy, inlets),
+        Ok(report) => Ok(report),
+        Err(CloseFault::OutOfMemory(proxy, inlets)) => {
+            holds(rt, proxy.lanes() == 1 && inlets.as_slice().len() == 1);
+            proxy.close(alloc, inlets.into_vec())
+        }
     }
 }
 
-/// Closes the proxy for which memory was refused. Returns whether the request is served in the report.
-fn closes_again(rt: &impl Abort, alloc: Global, proxy: Proxy, inlets: Series<Inlet>) -> bool {
-    same(rt, (proxy.lanes(), inlets.as_slice().len()), (1, 1));
-    match close(alloc, proxy, inlets.into_vec()) {
-        Ok(report) => is_served(&report),
-        Err(_) => false,
+/// Closes the proxy, and returns whether the request is served in the report.
+fn closes_served(rt: &impl Abort, proxy: TestProxy) -> bool {
+    match close(rt, proxy) {
+        Ok(report) => {
+            let is_served = is_served(&report);
+            report.discard();
+            is_served
+        }
+        Err(fault) => {
+            let _ = AllocError::from(fault);
+            false
+        }
     }
 }
 
 /// Has the request accepted and sent.
 fn send<R: Wait + Abort>(rt: &R, proxy: &mut TestProxy) {
-    same(rt, accept(rt, proxy), Some(Ok(Taken::New(0))));
-    same(rt, proxy.counts(rt, 0), Some(WAITING));
-    same(rt, proxy.step(rt, 0), Some(Action::Sent(0, slot(0))));
+    holds(rt, accept(rt, proxy) == Some(Ok(Taken::New(0))));
+    stands(rt, proxy, WAITING);
+    holds(rt, proxy.step(rt, 0) == Some(Action::Sent(0, slot(0))));
 }
 
 /// Has the request answered, and cut.
 fn answer<R: Wait + Abort>(rt: &R, proxy: &TestProxy) {
-    same(rt, hear(rt, proxy), Some(Ok(Told::Answer(0))));
-    same(rt, proxy.counts(rt, 0), Some(ANSWERED));
-    same(rt, turn(rt, proxy), Some(Ok(1)));
+    holds(rt, hear(rt, proxy) == Some(Ok(Told::Answer(0))));
+    stands(rt, proxy, ANSWERED);
+    holds(rt, turn(rt, proxy) == Some(Ok(1)));
 }
 
 /// Returns a proxy that served the request.
@@ -95,7 +110,7 @@ fn has_the_response(end: &LaneEnd) -> bool {
 /// Returns whether the only lane answered the request and cut it.
 fn is_served(report: &Report) -> bool {
     match report.ends.as_slice() {
-        [end] => (end.counts.opening, end.counts.answered) == (1, 1) && has_the_response(end),
+        [end] => end.counts.opening == 1 && end.counts.answered == 1 && has_the_response(end),
         _ => false,
     }
 }
@@ -103,6 +118,6 @@ fn is_served(report: &Report) -> bool {
 #[test]
 fn a_call_is_made_again_after_a_refused_growth(rt: HostRuntime) -> Result<(), Fail> {
     let proxy = served(&rt, rt.alloc())?;
-    holds(&rt, closes_served(&rt, rt.alloc(), proxy));
+    holds(&rt, closes_served(&rt, proxy));
     Ok(())
 }

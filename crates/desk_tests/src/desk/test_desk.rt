@@ -3,14 +3,14 @@
 ghost use Rattle.std.specs.Prelude.{IfOk};
 ghost use Rattle.rad_desk.specs.Inlet.{AreOfOneRing};
 
-use crate::comparing::same;
+use crate::comparing::{holds, holds_at};
 use rad_desk::laws::Desk;
 use rad_desk::{DeskFault, Inlet, Told};
 use rad_lane::{Action, Counts, Refusal, Setup, Taken, TurnFault, Volume};
 use rad_packet::Datagram;
-use rad_realms::{Config, Incoming, check_in, read_config};
+use rad_realms::{Checked, Config, Incoming, check_in, read_config};
 use rad_tables::{Moment, Slot};
-use std::alloc::Global;
+use std::alloc::{AllocError, Global};
 use std::process::Abort;
 use std::test::Fail;
 
@@ -108,8 +108,8 @@ impl TestDesk {
 
     /// Passes a datagram of its client to the desk. Returns `WrongLane` if it is not a request of the lane.
     fn accept(&mut self, moment: u32, request: &[u8]) -> Result<Taken, Refusal> {
-        match check_in(&self.config, [10, 0, 0, 1], CLIENT_PORT, request) {
-            Ok(Incoming::Request(request)) if self.desk.takes(&request) => {
+        match checked(&self.config, request) {
+            Some(request) if self.desk.takes(&request) => {
                 self.desk
                     .accept(self.alloc, &request, at(moment), &mut self.datagram)
             }
@@ -213,9 +213,9 @@ impl TestDesk {
 /// Has a desk make these events in order, and compares the result of each.
 pub fn play_desk(rt: &impl Abort, alloc: Global, events: &[DeskEvent<'_>]) -> Result<(), Fail> {
     let mut desk = TestDesk::new(alloc)?;
-    same(rt, desk.lane(), 0);
+    holds(rt, desk.lane() == 0);
     for (place, event) in events.iter().enumerate() {
-        same(rt, (place, desk.meets(event)), (place, true));
+        holds_at(rt, place, desk.meets(event));
     }
     desk.end();
     Ok(())
@@ -223,9 +223,28 @@ pub fn play_desk(rt: &impl Abort, alloc: Global, events: &[DeskEvent<'_>]) -> Re
 
 /// Returns the tests' configuration with the lines `more`.
 pub fn config(alloc: Global, more: &str) -> Result<Config, Fail> {
-    let mut text = String::from_str(alloc, TEXT)?;
+    let text = text_of(alloc, TEXT, more)?;
+    config_of(alloc, text.as_str())
+}
+
+/// Returns a text with the lines `more`.
+fn text_of(alloc: Global, text: &str, more: &str) -> Result<String, AllocError> {
+    let mut text = String::from_str(alloc, text)?;
     text.push_str(more)?;
-    Ok(read_config(alloc, text.as_str())?)
+    Ok(text)
+}
+
+/// Returns the configuration of a text.
+fn config_of(alloc: Global, text: &str) -> Result<Config, Fail> {
+    Ok(read_config(alloc, text)?)
+}
+
+/// Returns a datagram of the client as a request that passed the checks, or `None` if it is not a valid request.
+pub fn checked<'a>(config: &'a Config, datagram: &'a [u8]) -> Option<Checked<'a>> {
+    match check_in(config, [10, 0, 0, 1], CLIENT_PORT, datagram) {
+        Ok(Incoming::Request(request)) => Some(request),
+        _ => None,
+    }
 }
 
 /// Returns the desk and the inlet of the home server.

@@ -2,23 +2,26 @@
 //! make.
 
 use super::memory::MemoryWire;
-use super::test_desk::{CLIENT_PORT, RANDOM, at, config, count_of};
+use super::test_desk::{RANDOM, at, checked, config, count_of};
 use super::test_gate::TestGate;
+use rad_console::{EndLine, close};
 use rad_desk::{
     CloseFault, DeskFault, Inlet, Proxy, Report, Tally, Told, Worker, front_worker, lane_worker,
     open,
 };
 use rad_lane::{Action, Counts, Outgoing, Refusal, Taken, TurnFault};
 use rad_packet::Datagram;
-use rad_realms::{Config, Endpoint, Incoming, check_in};
-use std::alloc::Global;
+use rad_realms::{Config, Endpoint};
+use std::alloc::{AllocError, Global};
 use std::sync::Wait;
 use std::test::Fail;
 
 /// The proxy of a configuration with its inlets, the datagram that is passed to its calls, and the gate and the wires
 /// of its workers. The workers of all lanes share one wire. A call with the number of a lane that does not exist
 /// returns `None`, or a tally of no turns.
-#[derive(Drop)]
+///
+/// It can't be dropped, since each function that dropped it would have to prove that it may: [`TestProxy::end`] and
+/// [`TestProxy::report`] take it, and functions of the libraries drop its parts.
 pub struct TestProxy {
     pub alloc: Global,
     pub config: Config,
@@ -150,20 +153,44 @@ impl TestProxy {
         self.inlets.push(inlet).is_ok()
     }
 
+    /// Closes the proxy, and returns what is left of it.
     pub fn close(self) -> Result<Report, CloseFault> {
-        close(self.alloc, self.proxy, self.inlets)
+        let alloc = self.alloc;
+        let (proxy, inlets) = self.into_parts();
+        proxy.close(alloc, inlets)
     }
 
     /// Returns what is left at the end. Fails if memory is refused.
-    pub fn report(self) -> Result<Report, Fail> {
+    pub fn report(self) -> Result<Report, AllocError> {
         match self.close() {
             Ok(report) => Ok(report),
-            Err(CloseFault::OutOfMemory(..)) => Err(Fail::from("memory")),
+            Err(fault) => Err(fault.into()),
         }
     }
 
-    /// Drops the proxy here, so that no test has to prove that it may.
-    pub fn end(self) {}
+    /// Closes the proxy, and drops what is left of it. Returns its end line, unless memory is refused.
+    pub fn end(self) -> Option<EndLine> {
+        let alloc = self.alloc;
+        let (proxy, inlets) = self.into_parts();
+        close(alloc, proxy, inlets).ok()
+    }
+
+    /// Returns the proxy and its inlets. All else is dropped here.
+    fn into_parts(self) -> (Proxy, Vec<Inlet>) {
+        let TestProxy {
+            alloc: _,
+            config: _,
+            proxy,
+            inlets,
+            datagram: _,
+            front: _,
+            lane: _,
+            gate: _,
+            sockets: _,
+            from: _,
+        } = self;
+        (proxy, inlets)
+    }
 }
 
 /// Returns a tally of these turns, in which `did` counts the datagrams received, those handed over, and the faults.
@@ -185,13 +212,9 @@ pub fn accept(
     config: &Config,
     request: &[u8],
 ) -> Option<Result<Taken, Refusal>> {
+    let request = checked(config, request)?;
     let mut datagram = Datagram::new();
-    match check_in(config, [10, 0, 0, 1], CLIENT_PORT, request) {
-        Ok(Incoming::Request(request)) => {
-            Some(proxy.accept(rt, alloc, &request, at(0), &mut datagram))
-        }
-        _ => None,
-    }
+    Some(proxy.accept(rt, alloc, &request, at(0), &mut datagram))
 }
 
 /// Makes a step of a proxy's lane at moment 0, and returns what the lane did.
@@ -214,9 +237,4 @@ pub fn hear(
         return None;
     }
     Some(proxy.hear(rt, alloc, lane, at(0), 0, reply))
-}
-
-/// Closes a proxy, and returns what is left of it.
-pub fn close(alloc: Global, proxy: Proxy, inlets: Vec<Inlet>) -> Result<Report, CloseFault> {
-    proxy.close(alloc, inlets)
 }

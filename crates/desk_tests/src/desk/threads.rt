@@ -2,7 +2,7 @@
 
 use super::closing::known;
 use super::test_proxy::{TestProxy, accept, hear, step};
-use crate::comparing::{holds, same};
+use crate::comparing::{holds, holds_at};
 use rad_desk::laws::agrees;
 use rad_desk::{DeskFault, Inlet, LaneEnd, Proxy, Report, Told};
 use rad_lane::{Action, Answered, Outgoing, Stamp, Taken};
@@ -137,11 +137,11 @@ fn compare_responses(
     rest: &[Outgoing],
     answered: &[Answered],
 ) {
-    same(rt, answered.len(), usize::from(REQUESTS));
+    holds(rt, answered.len() == usize::from(REQUESTS));
     for (serial, answer) in (0..REQUESTS).zip(answered) {
         let response = response_at(taken, rest, usize::from(serial));
         let is_given = is_given(answer, u64::from(serial), response);
-        same(rt, (serial, is_given), (serial, true));
+        holds_at(rt, usize::from(serial), is_given);
     }
 }
 
@@ -157,9 +157,9 @@ fn is_of(stamp: &Stamp, count: u16) -> bool {
 
 /// Compares the accepted requests with those that were made.
 fn compare_requests(rt: &impl Abort, accepted: &[Stamp]) {
-    same(rt, accepted.len(), usize::from(REQUESTS));
+    holds(rt, accepted.len() == usize::from(REQUESTS));
     for (count, stamp) in (0..REQUESTS).zip(accepted) {
-        same(rt, (count, is_of(stamp, count)), (count, true));
+        holds_at(rt, usize::from(count), is_of(stamp, count));
     }
 }
 
@@ -185,7 +185,7 @@ fn in_threads<R: Clock + Threads + Wait + Sync>(
 fn compare(rt: &impl Abort, taken: &[Outgoing], end: &LaneEnd) {
     match known(end) {
         Some(rest) => {
-            same(rt, (taken.len(), rest.len()), (TAKEN, LEFT));
+            holds(rt, taken.len() == TAKEN && rest.len() == LEFT);
             compare_responses(rt, taken, rest, end.answered.as_slice());
         }
         None => holds(rt, false),
@@ -214,7 +214,7 @@ fn give_all<R: Clock + Threads + Wait + Abort + Sync>(
         &proxy.config,
         inlet,
     );
-    same(rt, answered, REQUESTS);
+    holds(rt, answered == REQUESTS);
     holds(rt, proxy.give_back(inlet));
     taken
 }
@@ -225,5 +225,6 @@ fn each_response_goes_through_once(rt: HostRuntime) -> Result<(), Fail> {
     let taken = give_all(&rt, &mut proxy);
     let report = proxy.report()?;
     compare_end(&rt, &report, taken.as_slice());
+    report.discard();
     Ok(())
 }

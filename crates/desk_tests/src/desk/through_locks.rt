@@ -3,7 +3,7 @@
 use super::playing::{Event, IDLE, Story, play};
 use super::test_desk::{TWO_HOMES, config};
 use super::test_proxy::{TestProxy, accept};
-use crate::comparing::same;
+use crate::comparing::holds;
 use rad_desk::{DeskFault, Told};
 use rad_lane::{Counts, HearFault, Refusal, Taken, TurnFault};
 use std::process::Abort;
@@ -93,9 +93,9 @@ fn accept_other(
 fn accept_each<R: Wait + Abort>(rt: &R, proxy: &TestProxy) -> Result<(), Fail> {
     for more in [TWO_HOMES, OTHER_REALM] {
         let taken = accept_other(rt, proxy, more)?;
-        same(rt, taken, Some(Err(Refusal::WrongLane)));
+        holds(rt, taken == Some(Err(Refusal::WrongLane)));
     }
-    same(rt, proxy.accept(rt, &REQUEST), Some(Ok(Taken::New(0))));
+    holds(rt, proxy.accept(rt, &REQUEST) == Some(Ok(Taken::New(0))));
     Ok(())
 }
 
