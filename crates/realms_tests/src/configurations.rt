@@ -7,3 +7,5 @@ mod faults;
 mod printing;
 mod reading;
 mod sizes;
+
+pub use reading::configuration;

@@ -4,6 +4,7 @@ use crate::comparing::{holds, holds_at};
 use rad_packet::{
     AttributePlace, Datagram, PacketRef, ReadFault, WriteFault, authenticator_of, read,
 };
+use std::alloc::{AllocError, Global};
 use std::process::Abort;
 use std::test::Fail;
 
@@ -154,17 +155,33 @@ const READ_FAULTS: [(ReadFault, &str); 5] = [
 
 #[test]
 fn faults_of_reading_print_their_names(rt: HostRuntime) -> Result<(), Fail> {
-    for (fault, text) in READ_FAULTS {
-        holds(&rt, fault.to_string(rt.alloc())?.as_str() == text);
+    for (fault, text) in READ_FAULTS.iter() {
+        holds(&rt, read_fault_prints(rt.alloc(), *fault, text)?);
     }
     Ok(())
 }
 
+/// Whether this is printed for a fault of reading.
+fn read_fault_prints(alloc: Global, fault: ReadFault, wanted: &str) -> Result<bool, AllocError> {
+    let text = fault.to_string(alloc)?;
+    Ok(text.as_str() == wanted)
+}
+
+const WRITE_FAULTS: [(WriteFault, &str); 2] = [
+    (WriteFault::ValueTooLong, "ValueTooLong"),
+    (WriteFault::PacketTooLong, "PacketTooLong"),
+];
+
 #[test]
 fn faults_of_writing_print_their_names(rt: HostRuntime) -> Result<(), Fail> {
-    let value = WriteFault::ValueTooLong.to_string(rt.alloc())?;
-    holds(&rt, value.as_str() == "ValueTooLong");
-    let packet = WriteFault::PacketTooLong.to_string(rt.alloc())?;
-    holds(&rt, packet.as_str() == "PacketTooLong");
+    for (fault, text) in WRITE_FAULTS.iter() {
+        holds(&rt, write_fault_prints(rt.alloc(), *fault, text)?);
+    }
     Ok(())
+}
+
+/// Whether this is printed for a fault of writing.
+fn write_fault_prints(alloc: Global, fault: WriteFault, wanted: &str) -> Result<bool, AllocError> {
+    let text = fault.to_string(alloc)?;
+    Ok(text.as_str() == wanted)
 }

@@ -1,10 +1,12 @@
 //! The faults of home servers' addresses.
 
 use crate::comparing::{holds, holds_at};
+use crate::configurations::configuration;
 use crate::texts::joined;
 use rad_advice::{AddressFault, HomeAdvice, advise_homes};
-use rad_realms::{Config, read_config};
+use rad_realms::Config;
 use std::alloc::{AllocError, Global};
+use std::process::Abort;
 use std::test::Fail;
 
 /// Returns the text of a configuration that listens on one address and port, and has one home server at another.
@@ -13,13 +15,6 @@ fn text_of(alloc: Global, listen: &str, home: &str) -> Result<String, AllocError
     let name = "[[home]]\nname = \"h1\"\naddress = \"";
     let secret = "\"\nsecret = \"s\"\n";
     joined(alloc, &["listen = \"", listen, client, name, home, secret])
-}
-
-fn configuration(alloc: Global, text: &str) -> Result<Config, Fail> {
-    match read_config(alloc, text) {
-        Ok(config) => Ok(config),
-        Err(_) => Err(Fail::from("a configuration")),
-    }
 }
 
 /// The addresses of the machine.
@@ -122,8 +117,17 @@ fn told_of(alloc: Global, listen: &str, home: &str) -> Result<Option<AddressFaul
 
 #[test]
 fn each_address_is_judged(rt: HostRuntime) -> Result<(), Fail> {
-    for (place, &(listen, home, wanted)) in HOMES.iter().enumerate() {
-        holds_at(&rt, place, told_of(rt.alloc(), listen, home)? == wanted);
+    each_is_judged(&rt, rt.alloc(), &HOMES)
+}
+
+/// Checks that each of these addresses has the fault beside it, or none.
+fn each_is_judged(
+    rt: &impl Abort,
+    alloc: Global,
+    rows: &[(&str, &str, Option<AddressFault>)],
+) -> Result<(), Fail> {
+    for (place, (listen, home, wanted)) in rows.iter().enumerate() {
+        holds_at(rt, place, told_of(alloc, listen, home)? == *wanted);
     }
     Ok(())
 }
@@ -179,22 +183,21 @@ fn add_lines(alloc: Global, told: &mut String, config: &Config) -> Result<(), Al
     Ok(())
 }
 
-/// Returns the lines for the home servers of a configuration.
-fn lines_for(alloc: Global, config: &Config) -> Result<String, Fail> {
+/// Whether these lines are printed for the home servers of a configuration.
+fn prints(alloc: Global, config: &Config, wanted: &str) -> Result<bool, Fail> {
     let mut told = String::new(alloc);
     add_lines(alloc, &mut told, config)?;
-    Ok(told)
+    Ok(told.as_str() == wanted)
 }
 
-/// Returns the lines for the home servers of the configuration of a text.
-fn lines_of(alloc: Global, text: &str) -> Result<String, Fail> {
+/// Whether these lines are printed for the home servers of the configuration of a text.
+fn text_prints(alloc: Global, text: &str, wanted: &str) -> Result<bool, Fail> {
     let config = configuration(alloc, text)?;
-    lines_for(alloc, &config)
+    prints(alloc, &config, wanted)
 }
 
 #[test]
 fn each_is_printed_in_its_order(rt: HostRuntime) -> Result<(), Fail> {
-    let told = lines_of(rt.alloc(), SIX)?;
-    holds(&rt, told.as_str() == TOLD);
+    holds(&rt, text_prints(rt.alloc(), SIX, TOLD)?);
     Ok(())
 }

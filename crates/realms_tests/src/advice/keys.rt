@@ -4,6 +4,7 @@ use crate::comparing::{holds, holds_at};
 use crate::texts::{Piece, push_pieces, push_times};
 use rad_advice::{UnreadKey, UnreadKeys, unread_keys};
 use std::alloc::{AllocError, Global};
+use std::process::Abort;
 use std::test::Fail;
 
 /// Appends the line of a key.
@@ -200,8 +201,13 @@ static TEXTS: [(&str, &str); 40] = [
 
 #[test]
 fn each_key_is_told_with_its_place(rt: HostRuntime) -> Result<(), Fail> {
-    for (place, &(text, wanted)) in TEXTS.iter().enumerate() {
-        holds_at(&rt, place, prints(rt.alloc(), text.as_bytes(), wanted)?);
+    each_prints(&rt, rt.alloc(), &TEXTS)
+}
+
+/// Checks which lines are printed for each of these texts.
+fn each_prints(rt: &impl Abort, alloc: Global, rows: &[(&str, &str)]) -> Result<(), Fail> {
+    for (place, &(text, wanted)) in rows.iter().enumerate() {
+        holds_at(rt, place, prints(alloc, text.as_bytes(), wanted)?);
     }
     Ok(())
 }
@@ -240,14 +246,15 @@ fn has_keys(alloc: Global, text: &[u8], listed: usize, more: usize) -> Result<bo
 #[test]
 fn twenty_are_listed(rt: HostRuntime) -> Result<(), Fail> {
     for (count, listed, more) in [(19, 19, 0), (20, 20, 0), (21, 20, 1), (1000, 20, 980)] {
-        let text = table_of(rt.alloc(), count)?;
-        holds_at(
-            &rt,
-            count,
-            has_keys(rt.alloc(), text.as_bytes(), listed, more)?,
-        );
+        holds_at(&rt, count, lists(rt.alloc(), count, listed, more)?);
     }
     Ok(())
+}
+
+/// Whether so many of a table's `count` keys are listed, and so many more are not.
+fn lists(alloc: Global, count: usize, listed: usize, more: usize) -> Result<bool, AllocError> {
+    let text = table_of(alloc, count)?;
+    has_keys(alloc, text.as_bytes(), listed, more)
 }
 
 /// Returns a text of 300 tables, and a key behind them that is not read.
@@ -262,8 +269,13 @@ fn many_tables(alloc: Global) -> Result<String, AllocError> {
 /// A key in the last of 300 tables has its place.
 #[test]
 fn the_last_of_many_is_found(rt: HostRuntime) -> Result<(), Fail> {
-    let text = many_tables(rt.alloc())?;
     let line = "home 299 windw at line 901, column 1\n";
-    holds(&rt, prints(rt.alloc(), text.as_bytes(), line)?);
+    holds(&rt, many_print(rt.alloc(), line)?);
     Ok(())
+}
+
+/// Whether these lines are printed for the text of many tables.
+fn many_print(alloc: Global, wanted: &str) -> Result<bool, AllocError> {
+    let text = many_tables(alloc)?;
+    prints(alloc, text.as_bytes(), wanted)
 }

@@ -134,16 +134,19 @@ fn octets_that_are_no_text_have_their_place(rt: HostRuntime) -> Result<(), Fail>
     Ok(())
 }
 
+/// Texts that are TOML.
+static TEXTS: [&str; 6] = [
+    "",
+    "\u{feff}listen = 1\n",
+    "listen = \"\u{e9}\"",
+    "# a comment alone",
+    "[[client]]\r\naddress = '10.0.0.1'\r\n",
+    "d = 1979-05-27 07:32:00Z\n",
+];
+
 #[test]
 fn nothing_is_told_of_toml(rt: HostRuntime) -> Result<(), Fail> {
-    for text in [
-        "",
-        "\u{feff}listen = 1\n",
-        "listen = \"\u{e9}\"",
-        "# a comment alone",
-        "[[client]]\r\naddress = '10.0.0.1'\r\n",
-        "d = 1979-05-27 07:32:00Z\n",
-    ] {
+    for text in TEXTS.iter() {
         holds(&rt, prints(rt.alloc(), text.as_bytes(), "TOML")?);
     }
     Ok(())
@@ -189,11 +192,16 @@ fn lacks_a_value_at(alloc: Global, text: &str, place: Place) -> Result<bool, All
 
 #[test]
 fn a_long_text_has_its_last_place(rt: HostRuntime) -> Result<(), Fail> {
-    let text = long_text(rt.alloc())?;
     let last = Place {
         line: 100_001,
         column: 10,
     };
-    holds(&rt, lacks_a_value_at(rt.alloc(), text.as_str(), last)?);
+    holds(&rt, long_text_ends_at(rt.alloc(), last)?);
     Ok(())
+}
+
+/// Whether the long text stops being TOML at this place.
+fn long_text_ends_at(alloc: Global, place: Place) -> Result<bool, AllocError> {
+    let text = long_text(alloc)?;
+    lacks_a_value_at(alloc, text.as_str(), place)
 }

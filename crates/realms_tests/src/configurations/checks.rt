@@ -81,7 +81,7 @@ fn each_is_told(rt: &impl Abort, config: &Config, rows: &[(&str, [u8; 4], &[u8],
     }
 }
 
-const ANSWERS: [(&str, [u8; 4], &[u8], Told); 13] = [
+static ANSWERS: [(&str, [u8; 4], &[u8], Told); 13] = [
     ("right", CLIENT, &SEVENTH, Told::Lane(1)),
     ("a realm in capitals", CLIENT, &LOUD, Told::Lane(1)),
     ("a Status-Server", CLIENT, &STATUS, Told::Status),
@@ -145,17 +145,24 @@ const ANSWERS: [(&str, [u8; 4], &[u8], Told); 13] = [
 #[test]
 fn each_datagram_has_its_answer(rt: HostRuntime) -> Result<(), Fail> {
     let config = configuration(rt.alloc(), TEXT)?;
-    each_is_told(&rt, &config, ANSWERS.as_slice());
-    let cut = answer_of(&config, CLIENT, &SEVENTH[..46]);
-    let truncated = Dropped::Unread(ReadFault::Truncated);
-    holds(&rt, cut == Told::Dropped(truncated));
+    each_is_told(&rt, &config, &ANSWERS);
+    holds(&rt, is_truncated_if_cut(&config, &SEVENTH));
     Ok(())
+}
+
+/// Whether a datagram without its last octet is truncated.
+fn is_truncated_if_cut(config: &Config, datagram: &[u8]) -> bool {
+    let truncated = Dropped::Unread(ReadFault::Truncated);
+    match datagram.split_last() {
+        Some((_, front)) => answer_of(config, CLIENT, front) == Told::Dropped(truncated),
+        None => false,
+    }
 }
 
 /// The second home server is the default one.
 const DEFAULT: &str = "default_home = \"h2\"\n";
 
-const DEFAULT_ANSWERS: [(&str, [u8; 4], &[u8], Told); 4] = [
+static DEFAULT_ANSWERS: [(&str, [u8; 4], &[u8], Told); 4] = [
     ("no realm", CLIENT, &BARE, Told::Lane(1)),
     ("no name", CLIENT, &NAMELESS, Told::Lane(1)),
     (
@@ -175,10 +182,14 @@ const DEFAULT_ANSWERS: [(&str, [u8; 4], &[u8], Told); 4] = [
 #[test]
 fn a_default_home_takes_what_has_no_realm(rt: HostRuntime) -> Result<(), Fail> {
     let config = configuration_of(rt.alloc(), &[DEFAULT, TEXT])?;
-    each_is_told(&rt, &config, DEFAULT_ANSWERS.as_slice());
-    holds(&rt, leads_to(&config, None, Some(1)));
-    holds(&rt, leads_to(&config, Some(b"a@THIRD"), Some(0)));
+    each_is_told(&rt, &config, &DEFAULT_ANSWERS);
+    holds(&rt, leads_to_both(&config));
     Ok(())
+}
+
+/// Whether no User-Name leads to the second lane, and one with the third realm to the first.
+fn leads_to_both(config: &Config) -> bool {
+    leads_to(config, None, Some(1)) && leads_to(config, Some(b"a@THIRD"), Some(0))
 }
 
 /// Returns a request that passed the checks.
@@ -211,10 +222,14 @@ fn request_tells(
 #[test]
 fn checked_requests_tell_their_parts(rt: HostRuntime) -> Result<(), Fail> {
     let config = configuration(rt.alloc(), TEXT)?;
-    let request = request_of(&config, &SEVENTH);
-    let is_right = request_tells(request.as_ref(), &SEVENTH, b"nas-secret", b"example.org");
-    holds(&rt, is_right);
+    holds(&rt, the_seventh_tells_its_parts(&config));
     Ok(())
+}
+
+/// Whether the request SEVENTH tells its parts.
+fn the_seventh_tells_its_parts(config: &Config) -> bool {
+    let request = request_of(config, &SEVENTH);
+    request_tells(request.as_ref(), &SEVENTH, b"nas-secret", b"example.org")
 }
 
 /// A second realm of the second home server.
@@ -226,7 +241,7 @@ home = "h2"
 
 /// Requests, each with the index of its realm among the realms of its lane. In the configuration, one realm of the
 /// first lane is before the two of the second lane, and another one is between these two.
-const RANKS: [(&str, &[u8], Option<usize>); 4] = [
+static RANKS: [(&str, &[u8], Option<usize>); 4] = [
     ("the first realm of the first lane", &OTHER_REQUEST, Some(0)),
     ("the first one of the second lane", &SEVENTH, Some(0)),
     ("the second one", &NAME_ONLY_REQUEST, Some(1)),
@@ -242,10 +257,15 @@ fn rank_of(config: &Config, datagram: &[u8]) -> Option<Option<usize>> {
 #[test]
 fn checked_requests_tell_their_ranks(rt: HostRuntime) -> Result<(), Fail> {
     let config = configuration_of(rt.alloc(), &[DEFAULT, TEXT, FOURTH])?;
-    for (what, datagram, rank) in RANKS {
-        holds_of(&rt, what, rank_of(&config, datagram) == Some(rank));
-    }
+    each_has_its_rank(&rt, &config, &RANKS);
     Ok(())
+}
+
+/// Checks that the realm of each of these requests has the rank beside it.
+fn each_has_its_rank(rt: &impl Abort, config: &Config, rows: &[(&str, &[u8], Option<usize>)]) {
+    for (what, datagram, rank) in rows {
+        holds_of(rt, what, rank_of(config, datagram) == Some(*rank));
+    }
 }
 
 /// Returns a Status-Server that passed the checks.
@@ -267,9 +287,14 @@ fn status_tells(status: Option<&CheckedStatus<'_>>, octets: &[u8], secret: &[u8]
 #[test]
 fn checked_statuses_tell_their_parts(rt: HostRuntime) -> Result<(), Fail> {
     let config = configuration(rt.alloc(), TEXT)?;
-    let status = status_of(&config, &STATUS);
-    holds(&rt, status_tells(status.as_ref(), &STATUS, b"nas-secret"));
+    holds(&rt, the_status_tells_its_parts(&config));
     Ok(())
+}
+
+/// Whether the Status-Server STATUS tells its parts.
+fn the_status_tells_its_parts(config: &Config) -> bool {
+    let status = status_of(config, &STATUS);
+    status_tells(status.as_ref(), &STATUS, b"nas-secret")
 }
 
 const LISTEN: Endpoint = Endpoint {
@@ -323,11 +348,16 @@ fn realm_tells(config: &Config, name: &str) -> bool {
 #[test]
 fn a_configuration_tells_its_parts(rt: HostRuntime) -> Result<(), Fail> {
     let config = configuration(rt.alloc(), TEXT)?;
-    holds(&rt, config.listen() == LISTEN);
-    holds(&rt, config.linger() == 0);
-    holds(&rt, has_counts(&config, 2, 2, 3));
-    holds(&rt, client_tells(&config, [9, 255, 0, 1], b"other-secret"));
-    holds(&rt, home_tells(&config, "h2", b"second-secret"));
-    holds(&rt, realm_tells(&config, "Example.org"));
+    each_part_is_told(&rt, &config);
     Ok(())
+}
+
+/// Checks the parts of the configuration.
+fn each_part_is_told(rt: &impl Abort, config: &Config) {
+    holds(rt, config.listen() == LISTEN);
+    holds(rt, config.linger() == 0);
+    holds(rt, has_counts(config, 2, 2, 3));
+    holds(rt, client_tells(config, [9, 255, 0, 1], b"other-secret"));
+    holds(rt, home_tells(config, "h2", b"second-secret"));
+    holds(rt, realm_tells(config, "Example.org"));
 }

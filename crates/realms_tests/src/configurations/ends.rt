@@ -5,6 +5,7 @@ use super::reading::prints;
 use crate::comparing::holds_at;
 use crate::texts::{joined, push_times};
 use std::alloc::{AllocError, Global};
+use std::process::Abort;
 use std::test::Fail;
 
 /// Returns the text of a configuration with one client and one home server, followed by a part: `before`, the unit `count` times, and `behind`.
@@ -131,9 +132,17 @@ fn end_prints(
 
 #[test]
 fn each_text_at_both_ends(rt: HostRuntime) -> Result<(), Fail> {
-    for (place, &(before, unit, count, wanted)) in ENDS.iter().enumerate() {
-        let is_right = end_prints(rt.alloc(), before, unit, count, wanted)?;
-        holds_at(&rt, place, is_right);
+    each_end_prints(&rt, rt.alloc(), &ENDS)
+}
+
+/// Checks what is printed for the text of each row.
+fn each_end_prints(
+    rt: &impl Abort,
+    alloc: Global,
+    rows: &[(&str, &str, u32, &str)],
+) -> Result<(), Fail> {
+    for (place, &(before, unit, count, wanted)) in rows.iter().enumerate() {
+        holds_at(rt, place, end_prints(alloc, before, unit, count, wanted)?);
     }
     Ok(())
 }

@@ -134,10 +134,15 @@ fn largest(alloc: Global) -> Result<Config, Fail> {
 #[test]
 fn the_largest_configuration_is_read(rt: HostRuntime) -> Result<(), Fail> {
     let config = largest(rt.alloc())?;
-    holds(&rt, has_counts(&config, 256, 64, 256));
-    each_client_is_found(&rt, &config);
-    no_other_is_found(&rt, &config);
-    Ok(each_realm_leads_to_its_lane(&rt, rt.alloc(), &config)?)
+    has_all(&rt, rt.alloc(), &config)
+}
+
+/// Checks that the largest configuration has all of its clients and realms, and no others.
+fn has_all(rt: &impl Abort, alloc: Global, config: &Config) -> Result<(), Fail> {
+    holds(rt, has_counts(config, 256, 64, 256));
+    each_client_is_found(rt, config);
+    no_other_is_found(rt, config);
+    Ok(each_realm_leads_to_its_lane(rt, alloc, config)?)
 }
 
 /// The numbers of clients, home servers and realms of a text, the text that follows them, and what is printed.
@@ -170,12 +175,24 @@ const SIZES: [(usize, usize, usize, &str, &str); 6] = [
 
 #[test]
 fn faults_of_the_last_and_of_one_too_many(rt: HostRuntime) -> Result<(), Fail> {
-    for (clients, homes, realms, more, wanted) in SIZES {
-        let mut text = text_of(rt.alloc(), clients, homes, realms)?;
-        let is_right = prints_behind(rt.alloc(), &mut text, more, wanted);
-        holds_of(&rt, wanted, is_right?);
+    for (clients, homes, realms, more, wanted) in SIZES.iter() {
+        let is_right = size_prints(rt.alloc(), *clients, *homes, *realms, more, wanted)?;
+        holds_of(&rt, wanted, is_right);
     }
     Ok(())
+}
+
+/// Whether this is printed for the text of a row.
+fn size_prints(
+    alloc: Global,
+    clients: usize,
+    homes: usize,
+    realms: usize,
+    more: &str,
+    wanted: &str,
+) -> Result<bool, AllocError> {
+    let mut text = text_of(alloc, clients, homes, realms)?;
+    prints_behind(alloc, &mut text, more, wanted)
 }
 
 /// Whether this is printed for a text that goes on with more.
@@ -191,9 +208,14 @@ fn prints_behind(
 
 #[test]
 fn a_long_text_is_read(rt: HostRuntime) -> Result<(), Fail> {
-    let mut text = text_of(rt.alloc(), 1, 1, 1)?;
+    holds(&rt, a_long_text_prints(rt.alloc(), "read")?);
+    Ok(())
+}
+
+/// Whether this is printed for a text of 2,048 comments after the tables.
+fn a_long_text_prints(alloc: Global, wanted: &str) -> Result<bool, AllocError> {
+    let mut text = text_of(alloc, 1, 1, 1)?;
     let line = "# sixty-four octets of a comment, so that the text becomes long.\n";
     push_times(&mut text, line, 2048)?;
-    holds(&rt, prints(rt.alloc(), text.as_str(), "read")?);
-    Ok(())
+    prints(alloc, text.as_str(), wanted)
 }

@@ -41,7 +41,7 @@ const HMACS: [(&[u8], &[u8], u128); 7] = [
 
 #[test]
 fn hmac_md5_of_rfc_2202(rt: HostRuntime) {
-    for (key, text, digest) in HMACS {
+    for (key, text, digest) in HMACS.iter() {
         holds(&rt, hmac_md5(key, text) == digest.to_be_bytes());
     }
 }

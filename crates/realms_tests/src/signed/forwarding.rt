@@ -52,8 +52,8 @@ fn requests_are_signed(rt: HostRuntime) -> Result<(), Fail> {
     Ok(())
 }
 
-/// Writes a request that leaves room for the mark and 212 octets more.
-fn write_long(request: &mut Datagram) -> Result<(), Fail> {
+/// Writes a request that leaves room for the mark and 212 octets more, and appends a Class with this Value.
+fn write_long(request: &mut Datagram, class: &[u8]) -> Result<(), Fail> {
     request.begin(ACCOUNTING_REQUEST, 7, [0; 16]);
     request.push(1, b"bob@example.org")?;
     request.push(40, &[0, 0, 0, 1])?;
@@ -61,30 +61,18 @@ fn write_long(request: &mut Datagram) -> Result<(), Fail> {
     for octet in b'A'..b'P' {
         request.push(25, &[octet; 253])?;
     }
-    Ok(())
-}
-
-/// Returns it with one more attribute, a Class with a Value of `room` octets.
-fn long_request(room: usize) -> Result<Datagram, Fail> {
-    let mut request = Datagram::new();
-    write_long_with(&mut request, room)?;
-    Ok(request)
-}
-
-fn write_long_with(request: &mut Datagram, room: usize) -> Result<(), Fail> {
-    write_long(request)?;
-    let class = [b'Z'; 253];
-    request.push(25, class.get(..room).ok_or("too much room")?)?;
+    request.push(25, class)?;
     Ok(())
 }
 
 /// Forwards that request.
 fn forward_with(
-    room: usize,
+    class: &[u8],
     home: &Secret,
     datagram: &mut Datagram,
 ) -> Result<Result<(), WriteFault>, Fail> {
-    let request = long_request(room)?;
+    let mut request = Datagram::new();
+    write_long(&mut request, class)?;
     Ok(forward(&request.packet(), MARK, 0xa5, home, datagram))
 }
 
@@ -95,14 +83,14 @@ fn has_long_authenticator(packet: &PacketRef<'_>) -> bool {
 /// Whether a request that is longer by an octet is refused, and leaves the datagram as it was.
 fn one_more_is_refused(home: &Secret, datagram: &mut Datagram) -> Result<bool, Fail> {
     let before = datagram.copy();
-    let refused = forward_with(211, home, datagram);
+    let refused = forward_with(&[b'Z'; 211], home, datagram);
     let is_same = datagram.bytes() == before.bytes();
     Ok(refused? == Err(WriteFault::PacketTooLong) && is_same)
 }
 
 /// Forwards the longest request.
 fn fits(rt: &impl Abort, home: &Secret, datagram: &mut Datagram) -> Result<(), Fail> {
-    holds(rt, forward_with(210, home, datagram)?.is_ok());
+    holds(rt, forward_with(&[b'Z'; 210], home, datagram)?.is_ok());
     holds(rt, has_long_authenticator(&datagram.packet()));
     holds(rt, one_more_is_refused(home, datagram)?);
     Ok(())

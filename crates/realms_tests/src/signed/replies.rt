@@ -88,8 +88,10 @@ impl Pair {
     /// Signs both, and returns whether a copy of what the reply gives has this reply and a kept copy of this response.
     fn is_right(&mut self, alloc: Global) -> Result<bool, Fail> {
         self.sign(&secret_of(CLIENT)?, &secret_of(HOME)?);
-        let made = response_after(alloc, self.reply.bytes())??;
-        self.is_copied(alloc, &made)
+        match response_after(alloc, self.reply.bytes())? {
+            Ok(made) => self.is_copied(alloc, &made),
+            Err(_) => Ok(false),
+        }
     }
 
     fn is_copied(&self, alloc: Global, made: &Reply) -> Result<bool, Fail> {
