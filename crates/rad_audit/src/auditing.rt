@@ -34,7 +34,7 @@ pub fn audit_files<R: Files, W: Write>(
     rt: &R,
     alloc: Global,
     config: &Config,
-    files: &[String],
+    files: &[&str],
     output: &mut W,
 ) -> Result<u8, Fault>
 where
@@ -51,18 +51,7 @@ where
     let Ok(mut audit) = Audit::new(alloc, config, report) else {
         return Err(Fault::Memory);
     };
-    for path in files.iter() {
-        let path = path.as_str();
-        let file = match fs::open(rt, path) {
-            Ok(file) => file,
-            Err(error) => return Err(Fault::of_file(alloc, path, &error)),
-        };
-        let Ok(mut reader) = BufReader::with_capacity(alloc, READ_OCTETS, file) else {
-            return Err(Fault::Memory);
-        };
-        audit.read_file(path, &mut reader)?;
-    }
-    audit.end()
+    audit.read_files(rt, files)
 }
 
 /// A line that is no line of a ledger, kept until the next one shows whether it was cut short.
@@ -91,18 +80,44 @@ impl<'a, W: Write> Audit<'a, W> {
         config: &'a Config,
         report: Report<'a, W>,
     ) -> Result<Audit<'a, W>, AllocError> {
+        let octets = Vec::with_capacity(alloc, MOST_LINE_OCTETS)?;
+        let line = LineRoom::new(alloc)?;
         Ok(Audit {
             alloc,
             config,
             room: Room::new(alloc)?,
-            line: LineRoom::new(alloc)?,
-            held: Held {
-                octets: Vec::with_capacity(alloc, MOST_LINE_OCTETS)?,
-                line: None,
-            },
+            line,
+            held: Held { octets, line: None },
             runs: Runs::new(alloc),
             report,
         })
+    }
+
+    /// Reads the files, prints what each lane of each run has, and returns the status.
+    fn read_files<R: Files>(&mut self, rt: &R, files: &[&str]) -> Result<u8, Fault>
+    where
+        R::File: Drop,
+        ensures { IfOk result (λ status. (found : TheFindings) × (status ≡ status_at found)) }
+    {
+        for path in files {
+            self.open(rt, path)?;
+        }
+        self.end()
+    }
+
+    /// Opens the file of this path, and reads its lines.
+    fn open<R: Files>(&mut self, rt: &R, path: &str) -> Result<(), Fault>
+    where
+        R::File: Drop,
+    {
+        let file = match fs::open(rt, path) {
+            Ok(file) => file,
+            Err(error) => return Err(Fault::of_file(self.alloc, path, &error)),
+        };
+        let Ok(mut reader) = BufReader::with_capacity(self.alloc, READ_OCTETS, file) else {
+            return Err(Fault::Memory);
+        };
+        self.read_file(path, &mut reader)
     }
 
     /// Reads the lines of a file.
@@ -151,20 +166,18 @@ impl<'a, W: Write> Audit<'a, W> {
     #[tactic(auto, using(crate::proofs::Entries::serial_of_line))]
     fn take_read(&mut self, place: Place<'_>) -> Result<bool, Fault> {
         let (alloc, config) = (self.alloc, self.config);
-        let line = match read_line(alloc, self.line.as_slice(), &mut self.room) {
-            Ok(line) => line,
+        let (runs, report) = (&mut self.runs, &mut self.report);
+        let taken = match read_line(alloc, self.line.as_slice(), &mut self.room) {
+            Ok(Line::Entry(entry)) => count_entry(alloc, config, runs, report, place, &entry),
+            Ok(Line::Begin(begin)) => take_begin(alloc, runs, &begin),
+            Ok(Line::End(end)) => take_end(runs, report, place, &end),
             Err(LineFault::NotALine) => return Ok(false),
             Err(LineFault::OutOfMemory) => return Err(Fault::Memory),
         };
-        match &line {
-            Line::Entry(entry) => {
-                let (runs, report) = (&mut self.runs, &mut self.report);
-                count_entry(alloc, config, runs, report, place, entry)?;
-            }
-            Line::Begin(begin) => take_begin(alloc, &mut self.runs, begin)?,
-            Line::End(end) => take_end(&mut self.runs, &mut self.report, place, end)?,
+        match taken {
+            Ok(()) => Ok(true),
+            Err(fault) => Err(fault),
         }
-        Ok(true)
     }
 
     /// Keeps the line until the next one is read.
@@ -183,18 +196,16 @@ impl<'a, W: Write> Audit<'a, W> {
     }
 
     /// Prints what each lane of each run has, and returns the status.
-    fn end(self) -> Result<u8, Fault>
+    fn end(&mut self) -> Result<u8, Fault>
         ensures status { IfOk result (λ status. (found : TheFindings) × (status ≡ status_at found)) }
         ensures fault { IfErr result (λ fault. fault ≡ Output) }
     {
-        let Audit { runs, report, .. } = self;
-        let mut report = report;
-        for run in runs.as_slice().iter() {
-            for lane in run.lanes.iter() {
-                report.lane(LaneLine::of(run.run, lane))?;
+        for run in self.runs.as_slice() {
+            for lane in run.lanes.as_slice() {
+                self.report.lane(LaneLine::of(run.run, lane))?;
             }
         }
-        Ok(report.findings.status())
+        Ok(self.report.findings.status())
     }
 }
 

@@ -6,7 +6,7 @@ use std::alloc::{AllocError, Global};
 use std::io::{BufRead, ErrorKind, Result};
 
 /// What was read of a file.
-#[derive(Clone, Copy, Debug, PartialEq, Eq)]
+#[derive(Clone, Copy)]
 pub enum Piece {
     /// A line with its line feed.
     Whole,

@@ -50,14 +50,45 @@ where
     R::File: Drop,
     ensures { IfOk result (λ status. (found : TheFindings) × (status ≡ status_at found)) }
 {
-    let alloc = rt.alloc();
     let arguments = read_arguments(rt)?;
-    let words = read_words(alloc, arguments.as_slice())?;
-    let config = load(rt, alloc, words.config.as_str())?;
+    obey_arguments(rt, rt.alloc(), arguments.as_slice())
+}
+
+/// Does what these words ask for, the program's own name first, and returns the status.
+fn obey_arguments<R: Runtime>(rt: &R, alloc: Global, arguments: &[String]) -> Result<u8, Fault>
+where
+    R::File: Drop,
+    ensures { IfOk result (λ status. (found : TheFindings) × (status ≡ status_at found)) }
+{
+    let words = read_words(alloc, arguments)?;
+    audit_words(rt, alloc, &words)
+}
+
+/// Audits the files that these words name, and returns the status.
+fn audit_words<R: Runtime>(rt: &R, alloc: Global, words: &Words<'_>) -> Result<u8, Fault>
+where
+    R::File: Drop,
+    ensures { IfOk result (λ status. (found : TheFindings) × (status ≡ status_at found)) }
+{
+    let config = load(rt, alloc, words.config)?;
+    print_audit(rt, alloc, &config, words.files.as_slice())
+}
+
+/// Audits files against a configuration, prints what it finds on standard output, and returns the status.
+fn print_audit<R: Runtime>(
+    rt: &R,
+    alloc: Global,
+    config: &Config,
+    files: &[&str],
+) -> Result<u8, Fault>
+where
+    R::File: Drop,
+    ensures { IfOk result (λ status. (found : TheFindings) × (status ≡ status_at found)) }
+{
     let Ok(mut output) = BufWriter::new(alloc, io::writer(rt)) else {
         return Err(Fault::Memory);
     };
-    let audited = audit_files(rt, alloc, &config, words.files.as_slice(), &mut output);
+    let audited = audit_files(rt, alloc, config, files, &mut output);
     if output.flush().is_err() {
         return Err(Fault::Output);
     }

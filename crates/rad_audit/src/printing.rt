@@ -71,7 +71,7 @@ pub struct LaneCounts {
 }
 
 /// What was found so far.
-#[derive(Clone, Copy, Debug, Default, PartialEq, Eq)]
+#[derive(Clone, Copy)]
 pub struct Findings {
     /// Whether a line was wrong.
     pub wrong: bool,

@@ -54,12 +54,12 @@ impl Runs {
         if self.place_of(begin.run).is_some() {
             return Ok(());
         }
-        let mut lanes = Vec::with_capacity(alloc, begin.lanes.len())?;
-        for start in begin.lanes.iter() {
-            push(&mut lanes, lane_of(alloc, start)?)?;
-        }
         let run = begin.run;
-        push(&mut self.runs, Run { run, lanes })
+        let mut lanes = Vec::with_capacity(alloc, begin.lanes.len())?;
+        match add_lanes(alloc, &mut lanes, begin) {
+            Ok(()) => push(&mut self.runs, Run { run, lanes }),
+            Err(refused) => Err(refused),
+        }
     }
 
     /// Returns the place of a run.
@@ -77,6 +77,14 @@ impl Runs {
         let run = self.runs.get_mut(place)?;
         run.lanes.iter_mut().find(|lane| lane.number == number)
     }
+}
+
+/// Adds the lanes that a line names, with no entry yet.
+fn add_lanes(alloc: Global, lanes: &mut Vec<Lane>, begin: &Begin<'_>) -> Result<(), AllocError> {
+    for start in begin.lanes.iter() {
+        push(lanes, lane_of(alloc, start)?)?;
+    }
+    Ok(())
 }
 
 /// Returns the lane that a line names, with no entry yet.

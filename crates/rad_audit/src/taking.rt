@@ -9,7 +9,7 @@ use rad_ledger::{Entry, Gap, Reason, Tally, judge};
 use std::alloc::{AllocError, Global};
 
 /// What became of an entry.
-#[derive(Clone, Copy, Debug, PartialEq, Eq)]
+#[derive(Clone, Copy)]
 pub enum Taken {
     /// It is wrong, and does not count.
     Wrong(Reason),

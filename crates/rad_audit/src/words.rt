@@ -7,11 +7,11 @@ use std::alloc::{AllocError, Global};
 
 /// The files to read.
 #[derive(Drop)]
-pub struct Words {
+pub struct Words<'a> {
     /// The configuration's.
-    pub config: String,
+    pub config: &'a str,
     /// The ledgers', in the order in which they are read.
-    pub files: Vec<String>,
+    pub files: Vec<&'a str>,
 }
 
 /// Returns the files that the words name. The first word is the program's name.
@@ -19,7 +19,7 @@ pub struct Words {
 /// # Errors
 ///
 /// `Usage` for words of any other form, `Memory` if a growth is refused.
-pub fn read_words(alloc: Global, words: &[String]) -> Result<Words, Fault> {
+pub fn read_words(alloc: Global, words: &[String]) -> Result<Words<'_>, Fault> {
     let Ok(command) = command(alloc) else {
         return Err(Fault::Memory);
     };
@@ -36,26 +36,12 @@ pub fn read_words(alloc: Global, words: &[String]) -> Result<Words, Fault> {
 }
 
 /// Returns the files that the matched words name.
-fn words_of(alloc: Global, matches: &ArgMatches) -> Result<Words, Fault> {
+fn words_of<'a>(alloc: Global, matches: &ArgMatches<'a>) -> Result<Words<'a>, Fault> {
     let (Some(config), Some(files)) = (matches.get_str("CONFIG"), matches.get_strs("FILE")) else {
         return Err(Fault::Usage);
     };
-    let mut owned = Vec::new(alloc);
-    for file in files {
-        if owned.push(owned_word(alloc, file)?).is_err() {
-            return Err(Fault::Memory);
-        }
-    }
-    Ok(Words {
-        config: owned_word(alloc, config)?,
-        files: owned,
-    })
-}
-
-/// Copies a word.
-fn owned_word(alloc: Global, word: &str) -> Result<String, Fault> {
-    match String::from_str(alloc, word) {
-        Ok(word) => Ok(word),
+    match files.to_vec(alloc) {
+        Ok(files) => Ok(Words { config, files }),
         Err(_) => Err(Fault::Memory),
     }
 }
