@@ -206,7 +206,7 @@ fn each_key_is_told_with_its_place(rt: HostRuntime) -> Result<(), Fail> {
 
 /// Checks which lines are printed for each of these texts.
 fn each_prints(rt: &impl Abort, alloc: Global, rows: &[(&str, &str)]) -> Result<(), Fail> {
-    for (place, &(text, wanted)) in rows.iter().enumerate() {
+    for (place, (text, wanted)) in rows.iter().enumerate() {
         holds_at(rt, place, prints(alloc, text.as_bytes(), wanted)?);
     }
     Ok(())

@@ -314,9 +314,20 @@ fn limits_print(
     wanted: &str,
 ) -> Result<(), Fail> {
     let before = [TOP, CLIENT, HOME, key, " = "];
-    for number in numbers {
-        let is_right = part_prints(alloc, &before, number, &["\n", REALM], wanted)?;
-        holds_of(rt, number, is_right);
+    each_prints_this(rt, alloc, &before, numbers, &["\n", REALM], wanted)
+}
+
+/// Checks that the same is printed for each of these parts between `before` and `after`.
+fn each_prints_this(
+    rt: &impl Abort,
+    alloc: Global,
+    before: &[&str],
+    parts: &[&str],
+    after: &[&str],
+    wanted: &str,
+) -> Result<(), Fail> {
+    for part in parts {
+        holds_of(rt, part, part_prints(alloc, before, part, after, wanted)?);
     }
     Ok(())
 }
