@@ -57,19 +57,14 @@ impl Row {
     }
 }
 
-/// The socket to which the last datagram of a client came, from any of its ports.
-#[derive(Clone, Copy)]
-struct ClientOrigin {
-    address: [u8; 4],
-    socket: u16,
-}
-
 /// To which of the front's sockets each client's last datagram came: by address and port for the most recent ones, and
 /// by address for every client. It allocates nothing after it is made.
 #[derive(Drop)]
 pub struct Origins {
-    /// The clients, sorted by address.
-    clients: Vec<ClientOrigin>,
+    /// The addresses of the clients, sorted.
+    clients: Vec<[u8; 4]>,
+    /// The socket to which the last datagram of each of these clients came, from any of its ports.
+    sockets: Vec<u16>,
     rows: Vec<Row>,
     /// The factor that spreads the ports over the rows: an odd number that nobody can predict.
     factor: u64,
@@ -82,8 +77,11 @@ impl Origins {
     ///
     /// `AllocError` if memory is refused.
     pub fn new(alloc: Global, clients: &[Client], random: u64) -> Result<Origins, AllocError> {
+        let mut sockets = Vec::with_capacity(alloc, clients.len())?;
+        sockets.resize(clients.len(), 0)?;
         Ok(Origins {
-            clients: client_origins(alloc, clients)?,
+            clients: sorted_addresses(alloc, clients)?,
+            sockets,
             rows: empty_rows(alloc)?,
             factor: random | 1,
         })
@@ -94,8 +92,8 @@ impl Origins {
         let Ok(place) = self.place_of(peer.address) else {
             return;
         };
-        if let Some(client) = self.clients.get_mut(place) {
-            client.socket = socket;
+        if let Some(last) = self.sockets.get_mut(place) {
+            *last = socket;
         }
         let row = self.row_of(peer);
         if let Some(row) = self.rows.get_mut(row) {
@@ -106,25 +104,27 @@ impl Origins {
     /// Returns the socket to which the last datagram from `peer` came. If that is no longer kept, it returns the socket
     /// of the client's last datagram from any port, and for a sender that is not a client the first socket.
     pub fn socket_of(&self, peer: Endpoint) -> u16 {
-        let row = self.rows.get(self.row_of(peer));
-        match row.and_then(|row| row.find(peer)) {
+        match self.find(peer) {
             Some(socket) => socket,
             None => self.socket_of_client(peer.address),
         }
     }
 
+    /// Returns the socket to which the last datagram from `peer` came, if that is still kept.
+    fn find(&self, peer: Endpoint) -> Option<u16> {
+        self.rows.get(self.row_of(peer))?.find(peer)
+    }
+
     fn socket_of_client(&self, address: [u8; 4]) -> u16 {
         match self.place_of(address) {
-            Ok(place) => self.clients.get(place).map_or(0, |client| client.socket),
+            Ok(place) => self.sockets.get(place).copied().unwrap_or(0),
             Err(_) => 0,
         }
     }
 
     /// Returns the index of a client, if the address is a client's.
     fn place_of(&self, address: [u8; 4]) -> Result<usize, usize> {
-        self.clients
-            .as_slice()
-            .binary_search_by_key(&address, |client| client.address)
+        self.clients.as_slice().binary_search(&address)
     }
 
     /// Returns the index of the row of an address and port.
@@ -136,19 +136,14 @@ impl Origins {
     }
 }
 
-/// Returns these clients, sorted by address, each with socket 0.
-fn client_origins(alloc: Global, clients: &[Client]) -> Result<Vec<ClientOrigin>, AllocError> {
-    let mut origins = Vec::with_capacity(alloc, clients.len())?;
+/// Returns the addresses of these clients, sorted.
+fn sorted_addresses(alloc: Global, clients: &[Client]) -> Result<Vec<[u8; 4]>, AllocError> {
+    let mut addresses = Vec::with_capacity(alloc, clients.len())?;
     for client in clients {
-        origins.push(ClientOrigin {
-            address: client.address(),
-            socket: 0,
-        })?;
+        addresses.push(client.address())?;
     }
-    origins
-        .as_mut_slice()
-        .sort_unstable_by_key(|client| client.address);
-    Ok(origins)
+    addresses.as_mut_slice().sort_unstable();
+    Ok(addresses)
 }
 
 fn empty_rows(alloc: Global) -> Result<Vec<Row>, AllocError> {
