@@ -69,6 +69,8 @@ def main():
     if kept.is_dir():
         shutil.rmtree(aside, ignore_errors=True)
         kept.rename(aside)
+    # Where the folder is missing, a check begins with what another checkout on this machine kept.
+    kept.mkdir(parents=True)
     status = 1
     try:
         status, found = costs([*RT, "check", "--jobs", "1", "--progress", *flags], folder)
