@@ -4,7 +4,7 @@ import pathlib
 import subprocess
 
 HERE = pathlib.Path(__file__).resolve().parent
-PROGRAMS = ["generator", "home", "relay", "launch", "spin", "digest"]
+PROGRAMS = ["generator", "home", "relay", "launch", "spin", "waits", "digest"]
 SHARED = ["common.c", "packet.c", "md5.c", "histogram.c"]
 FLAGS = ["-std=c11", "-O2", "-Wall", "-Wextra", "-Werror"]
 

@@ -23,8 +23,8 @@ import time
 from contextlib import ExitStack, contextmanager
 
 import readings
-from proxies import (CLIENT_SECRET, HOME_SECRET, Direct, FreeRadius, RadProxy, Radsecproxy, Relay, Setting, WithLedger, end,
-                     end_with_parent)
+from proxies import (CLIENT_SECRET, HOME_SECRET, Direct, FreeRadius, RadProxy, Radsecproxy, Relay, Setting, WaitsAlone, WithLedger,
+                     end, end_with_parent)
 
 WINDOWS, RATES = [1, 4, 16, 64, 256], [1000, 5000, 10_000, 20_000, 40_000]
 MANY_HOMES, MANY_WINDOW = 4, 256
@@ -54,7 +54,7 @@ class Bench:
         self.plan, self.folder, self.work = plan, folder, work
         self.series = itertools.count()
         self.results = []
-        subjects = [Direct(), Relay(work / "relay"), RadProxy(plan.program), Radsecproxy(), FreeRadius()]
+        subjects = [Direct(), Relay(work / "relay"), RadProxy(plan.program), Radsecproxy(), FreeRadius(), WaitsAlone(work / "waits")]
         wanted = plan.subjects.split(",") if plan.subjects else [subject.name for subject in subjects]
         subjects.insert(3, WithLedger(plan.program))
         self.subjects = [subject for subject in subjects if subject.name in wanted and subject.is_there()]
@@ -172,10 +172,20 @@ class Bench:
             raise RuntimeError(f"{subject.name} does not answer")
         self.keep("start", subject.name, round=number, **json.loads(line))
 
+    @contextmanager
+    def resting(self, subject, homes):
+        """A proxy that has served some requests, or the threads that only wait."""
+        if isinstance(subject, WaitsAlone):
+            with self.started(subject.words(homes)) as process:
+                yield process
+            return
+        with self.serving(subject, homes) as process:
+            self.generate(subject, homes, warming=True, **WARMING)
+            yield process
+
     def idle(self, subject, number):
         for homes in IDLE_HOMES:
-            with self.serving(subject, homes) as process:
-                self.generate(subject, homes, warming=True, **WARMING)
+            with self.resting(subject, homes) as process:
                 time.sleep(1)
                 meter, before = readings.Meter(process.pid), readings.switches(process.pid)
                 time.sleep(self.plan.seconds)
@@ -225,7 +235,7 @@ class Bench:
             "latency": (self.latency, [Direct.name, *with_relay]),
             "memory": (self.memory, proxies),
             "start": (self.start, proxies),
-            "idle": (self.idle, with_relay),
+            "idle": (self.idle, [*with_relay, WaitsAlone.name]),
             "growth": (self.growth, [RadProxy.name]),
             "steady": (self.steady, with_relay),
         }

@@ -69,6 +69,25 @@ class Relay:
         return [str(self.program), str(setting.listen), CLIENT_SECRET, HOME_SECRET, *realms]
 
 
+class WaitsAlone:
+    """Threads that wait as rad_proxy's idle workers do, and do nothing else: `waits.c`, the yardstick for an idle proxy."""
+
+    name, is_proxy = "waits alone", False
+
+    def __init__(self, program):
+        self.program = program
+
+    def is_there(self):
+        return True
+
+    def version(self):
+        return "-"
+
+    def words(self, homes):
+        """A thread for the clients, and one for each home server."""
+        return [str(self.program), str(homes + 1)]
+
+
 class RadProxy:
     """The program that was built. Its standard input stays open, and is ended to end it."""
 
