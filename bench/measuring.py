@@ -23,8 +23,8 @@ import time
 from contextlib import ExitStack, contextmanager
 
 import readings
-from proxies import (CLIENT_SECRET, HOME_SECRET, Direct, FreeRadius, RadProxy, Radsecproxy, Relay, Setting, WaitsAlone, WithLedger,
-                     end, end_with_parent)
+from proxies import (CLIENT_SECRET, HOME_SECRET, Direct, FreeRadius, RadProxy, Radsecproxy, Relay, Setting, SingleRelay, WaitsAlone,
+                     WithLedger, end, end_with_parent)
 
 WINDOWS, RATES = [1, 4, 16, 64, 256], [1000, 5000, 10_000, 20_000, 40_000]
 MANY_HOMES, MANY_WINDOW = 4, 256
@@ -56,7 +56,8 @@ class Bench:
         self.results = []
         subjects = [Direct(), Relay(work / "relay"), RadProxy(plan.program), Radsecproxy(), FreeRadius(), WaitsAlone(work / "waits")]
         wanted = plan.subjects.split(",") if plan.subjects else [subject.name for subject in subjects]
-        subjects.insert(3, WithLedger(plan.program))
+        subjects[2:2] = [SingleRelay(work / "relay")]
+        subjects[4:4] = [WithLedger(plan.program)]
         self.subjects = [subject for subject in subjects if subject.name in wanted and subject.is_there()]
         for subject in subjects:
             if subject.name in wanted and not subject.is_there():
@@ -228,7 +229,7 @@ class Bench:
     def measures(self):
         """Each measure, and of which subjects it is taken."""
         proxies = [RadProxy.name, WithLedger.name, Radsecproxy.name, FreeRadius.name]
-        with_relay = [Relay.name, *proxies]
+        with_relay = [Relay.name, SingleRelay.name, *proxies]
         return {
             "throughput": (self.throughput, [Direct.name, *with_relay]),
             "busy": (self.busy, with_relay),

@@ -5,8 +5,8 @@ from html import escape
 
 from tables import NAMES, TIMES, Figures, lost_share
 
-COLOURS = dict(zip(NAMES, ["#8a8a8a", "#7a3fa0", "#0060a8", "#d35400", "#1b8a5a"]))
-DASHES = dict(zip(NAMES, ["2 4", "4 2", "", "8 4", "12 3 2 3"]))
+COLOURS = dict(zip(NAMES, ["#8a8a8a", "#7a3fa0", "#0060a8", "#d35400", "#1b8a5a", "#b8860b"]))
+DASHES = dict(zip(NAMES, ["2 4", "4 2", "", "8 4", "12 3 2 3", "1 2"]))
 ALONE, BESIDE = 720, 400
 HEIGHT, LEFT, RIGHT, TOP, BOTTOM = 320, 64, 16, 40, 48
 LEGEND, LEGEND_EACH = 34, 140

@@ -53,7 +53,7 @@ class Direct:
 class Relay:
     """The least that a proxy can do, in one thread of C: `relay.c`, which is the yardstick for the others."""
 
-    name, is_proxy = "relay", True
+    name, is_proxy, options = "relay", True, []
 
     def __init__(self, program):
         self.program = program
@@ -66,7 +66,13 @@ class Relay:
 
     def words(self, _folder, setting):
         realms = [f"{realm}={setting.homes[home]}" for realm, home in setting.led()]
-        return [str(self.program), str(setting.listen), CLIENT_SECRET, HOME_SECRET, *realms]
+        return [str(self.program), *self.options, str(setting.listen), CLIENT_SECRET, HOME_SECRET, *realms]
+
+
+class SingleRelay(Relay):
+    """The same with a call of the system for each datagram. It is measured where it is named."""
+
+    name, options = "relay one by one", ["--single"]
 
 
 class WaitsAlone:

@@ -1,12 +1,15 @@
 /*
  * relay: the least that a proxy can do, in one thread, as a yardstick for the others.
  *
- * usage: relay PORT CLIENT-SECRET HOME-SECRET REALM=PORT ..
+ * usage: relay [--single] PORT CLIENT-SECRET HOME-SECRET REALM=PORT ..
  *
  * It serves clients at 127.0.0.1, and the home server of each realm is at 127.0.0.1 too. A right Accounting-Request goes to the
  * home server of its realm with one Proxy-State more, and a right answer goes back without it. A repeat of a request that is
  * out is dropped. Nothing is queued, sent twice, kept for later or written down, and no home server is watched. It answers each
  * Status-Server.
+ *
+ * It receives and sends up to 64 datagrams by one call of the system. With --single each datagram takes a call of its own, as in a
+ * program that has no such calls.
  *
  * It ends by SIGTERM or SIGINT, and prints one line of JSON.
  */
@@ -86,6 +89,7 @@ struct relay {
 	struct outgoing answers;
 	struct counts counts;
 	uint64_t number;
+	unsigned most; /* the datagrams of one call */
 };
 
 static void flush(struct outgoing *outgoing)
@@ -126,10 +130,10 @@ static void lay_out(struct incoming *incoming)
 	}
 }
 
-/* The datagrams that are there, up to a batch; answers how many. */
-static unsigned receive(int socket, struct incoming *incoming)
+/* The datagrams that are there, up to so many; answers how many. */
+static unsigned receive(int socket, struct incoming *incoming, unsigned most)
 {
-	int count = recvmmsg(socket, incoming->messages, BATCH, MSG_DONTWAIT, NULL);
+	int count = recvmmsg(socket, incoming->messages, most, MSG_DONTWAIT, NULL);
 
 	return count > 0 ? (unsigned)count : 0;
 }
@@ -279,28 +283,39 @@ static void take_response(struct relay *relay, unsigned index, uint8_t *octets, 
 	relay->counts.returned++;
 }
 
-/* Receives from the clients once, and has go out what that gives. */
-static void serve_clients(struct relay *relay)
+/* Receives from the clients once, and has go out what that gives; answers how many datagrams there were. */
+static unsigned serve_clients(struct relay *relay)
 {
 	struct incoming *incoming = &relay->incoming;
-	unsigned count = receive(relay->sockets[0].fd, incoming);
+	unsigned count = receive(relay->sockets[0].fd, incoming, relay->most);
 
 	for (unsigned i = 0; i < count; i++)
 		take_request(relay, incoming->octets[i], incoming->messages[i].msg_len, incoming->from + i);
 	for (unsigned i = 0; i < relay->homes; i++)
 		flush(&relay->home[i].outgoing);
 	flush(&relay->answers);
+	return count;
 }
 
 /* The same from a home server, at the socket of this index. */
-static void serve_home(struct relay *relay, unsigned index)
+static unsigned serve_home(struct relay *relay, unsigned index)
 {
 	struct incoming *incoming = &relay->incoming;
-	unsigned count = receive(relay->sockets[index].fd, incoming);
+	unsigned count = receive(relay->sockets[index].fd, incoming, relay->most);
 
 	for (unsigned i = 0; i < count; i++)
 		take_response(relay, index, incoming->octets[i], incoming->messages[i].msg_len);
 	flush(&relay->answers);
+	return count;
+}
+
+/* Serves a socket that has datagrams, until it has none or a batch was served. */
+static void serve_socket(struct relay *relay, unsigned index)
+{
+	unsigned count = relay->most;
+
+	for (unsigned served = 0; served < BATCH && count == relay->most; served += count)
+		count = index == 0 ? serve_clients(relay) : serve_home(relay, index);
 }
 
 static unsigned sockets_of(const struct relay *relay)
@@ -323,11 +338,9 @@ static void serve(struct relay *relay)
 {
 	if (poll(relay->sockets, sockets_of(relay), WAIT_MILLISECONDS) <= 0)
 		return;
-	if (relay->sockets[0].revents)
-		serve_clients(relay);
-	for (unsigned index = 1; index < sockets_of(relay); index++)
+	for (unsigned index = 0; index < sockets_of(relay); index++)
 		if (relay->sockets[index].revents)
-			serve_home(relay, index);
+			serve_socket(relay, index);
 }
 
 /* A home server more, as REALM=PORT says. */
@@ -355,11 +368,15 @@ static void add_home(struct relay *relay, const char *word)
 int main(int count, char **words)
 {
 	static struct relay relay;
+	bool is_single = count > 1 && strcmp(words[1], "--single") == 0;
 
+	count -= is_single;
+	words += is_single;
 	if (count < 5) {
-		fputs("usage: relay PORT CLIENT-SECRET HOME-SECRET REALM=PORT ..\n", stderr);
+		fputs("usage: relay [--single] PORT CLIENT-SECRET HOME-SECRET REALM=PORT ..\n", stderr);
 		return 2;
 	}
+	relay.most = is_single ? 1 : BATCH;
 	heed_signals();
 	raise_limit();
 	lay_out(&relay.incoming);

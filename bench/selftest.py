@@ -88,9 +88,9 @@ def check_home(folder, port):
     expect("a home server counts", (told["answered"], told["dropped"]) == (1, 2))
 
 
-def check_relay(folder, port):
+def check_relay(folder, port, *options):
     """It has right requests go on and right answers go back, and nothing else."""
-    words = [folder / "relay", str(port), SECRET, HOME_SECRET, f"elsewhere.test={port + 2}", f"Realm.Test={port + 1}"]
+    words = [folder / "relay", *options, str(port), SECRET, HOME_SECRET, f"elsewhere.test={port + 2}", f"Realm.Test={port + 1}"]
     with (subprocess.Popen(words, stdout=subprocess.PIPE, text=True) as relay,
           socket.socket(socket.AF_INET, socket.SOCK_DGRAM) as asking,
           socket.socket(socket.AF_INET, socket.SOCK_DGRAM) as home):
@@ -186,4 +186,5 @@ def check(folder, port):
     check_digests(folder)
     check_home(folder, port)
     check_relay(folder, port + 1)
+    check_relay(folder, port + 1, "--single")
     check_generator(folder, port + 4)

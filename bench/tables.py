@@ -4,7 +4,7 @@ Of several rounds a table has the middle figure. A ratio is taken inside each ro
 """
 from statistics import median
 
-NAMES = ["no proxy", "relay", "rad_proxy", "radsecproxy", "FreeRADIUS", "waits alone"]
+NAMES = ["no proxy", "relay", "rad_proxy", "radsecproxy", "FreeRADIUS", "relay one by one", "waits alone"]
 OURS, PEER, LEAST = "rad_proxy", "radsecproxy", "relay"
 BETWEEN, TO_LEAST = f"{OURS} to {PEER}", f"{OURS} to {LEAST}"
 # The times of a load, and which part of the requests each leaves out.
