@@ -24,7 +24,7 @@ from model import read
 from starting import built
 from telling import SECRET, Home, Proxy
 from trying import try_in_folders
-from vectors import STATUS_SERVER, TOP, answer, request, user_name
+from vectors import STATUS_SERVER, TOP, answer, request, status, user_name
 from waiting import bound, is_so
 
 TRIES = 5
@@ -69,6 +69,10 @@ class Nas:
         octets = request(self.asked % 256, user_name(name), SECRET)
         self.socket.sendto(octets, self.proxy.listen)
         return octets
+
+    def ask_status(self):
+        """A Status-Server to the proxy itself."""
+        self.socket.sendto(status(1, bytes(16), b"", b"", SECRET), self.proxy.listen)
 
     def is_answered(self, asked):
         """Whether what comes next is the response to this request."""
@@ -165,12 +169,20 @@ class Wakes:
 
     def counts(self):
         """How many receives there were, and wakes, and waits that ended without an event, by the millisecond of twenty."""
-        receives, wakes, _, *ends = self.numbers()
+        receives, wakes, _, _, _, _, *ends = self.numbers()
         return receives, wakes, ends
 
     def together(self):
         """How many sends there were of a worker that received no datagram since its last send."""
         return self.numbers()[2]
+
+    def datagrams(self):
+        """How many datagrams were received, and how many sent."""
+        return self.numbers()[3:5]
+
+    def longest(self):
+        """The most datagrams that a worker received from one send to the next."""
+        return self.numbers()[5]
 
     def during(self, seconds):
         """How many there were of each in so many seconds."""
@@ -312,6 +324,39 @@ def what_a_lane_sends_while_replies_come_goes_together(program, folder):
             return after - before
 
         best(together, lambda count: count >= 11)
+
+
+def an_answer_leaves_within_eight_receives(program, folder):
+    """A Status-Server waits, and behind it 200 datagrams that are dropped. Its answer is sent before the front has received nine of
+    these, although more of them wait."""
+    wakes = Wakes(folder)
+    with Stage(program, folder, variables=wakes.variables) as stage:
+        stage.round_trip()
+        with stopped(stage):
+            stage.nas.ask_status()
+            for _ in range(200):
+                stage.nas.socket.sendto(b"x", stage.proxy.listen)
+        stage.nas.socket.recv(4096)
+        dropped = 'rad_proxy_dropped_total{reason="Unread"}'
+        hope(is_so(lambda: stage.counters()[dropped] == 200), "not all were dropped", stage.counters())
+        hope(wakes.longest() <= 10, "it received", wakes.longest(), "datagrams before it sent the answer")
+
+
+def all_that_is_answered_before_the_end_is_sent(program, folder):
+    """While 400 Status-Servers wait, of which each takes two milliseconds, the input ends. Each one that was received before the end
+    is answered."""
+    wakes = Wakes(folder, milliseconds=2)
+    for _ in range(TRIES):
+        with Stage(program, folder, linger=20_000, variables=wakes.variables) as stage:
+            with stopped(stage):
+                for _ in range(400):
+                    stage.nas.ask_status()
+            time.sleep(0.05)
+            _, line, status = stage.ends()
+            hope((line, status) == (NOTHING_LEFT, 0), line, status)
+            received, sent = wakes.datagrams()
+            hope(0 < received < 400, "the end did not come among them", received)
+            hope(received == sent, "of", received, "datagrams", sent, "were answered")
 
 
 def a_send_that_fails_is_told_with_its_own_destination(program, folder):
@@ -771,11 +816,14 @@ TESTS = [
     no_wake_is_late, no_wake_is_late_at_any_port, no_wake_is_late_at_any_lane, no_wake_is_lost_while_a_worker_works,
     no_notification_is_lost_before_a_sleep, no_wake_is_lost_where_datagrams_come_together,
     requests_that_come_together_wake_a_lane_once_for_eight, what_a_lane_sends_while_replies_come_goes_together,
+    an_answer_leaves_within_eight_receives, all_that_is_answered_before_the_end_is_sent,
     a_send_that_fails_is_told_with_its_own_destination, an_idle_worker_looks_again_after_twenty_milliseconds,
-    idle_lanes_wake_together_and_receive_nothing, heaps_grow_by_large_pieces, resendings_come_at_their_moment, probes_come_at_their_moments, ten_idle_seconds_cost_little, ends_at_once_where_nothing_is_left,
+    idle_lanes_wake_together_and_receive_nothing, heaps_grow_by_large_pieces, resendings_come_at_their_moment,
+    probes_come_at_their_moments, ten_idle_seconds_cost_little, ends_at_once_where_nothing_is_left,
     lingers_for_a_home_that_is_silent, ends_as_the_last_answer_comes, state_and_drain_tell_each_lane, counts_of_two_lanes,
-    counts_of_sixty_four_lanes, counters_are_replaced, reports_come_each_second, sends_that_fail_are_counted, faults_are_counted, each_event_has_its_level,
-    what_is_refused_is_told, serves_beside_a_full_pipe, starts_beside_a_full_pipe, serves_though_its_log_has_no_reader,
+    counts_of_sixty_four_lanes, counters_are_replaced, reports_come_each_second, sends_that_fail_are_counted, faults_are_counted,
+    each_event_has_its_level, what_is_refused_is_told, serves_beside_a_full_pipe, starts_beside_a_full_pipe,
+    serves_though_its_log_has_no_reader,
 ]
 
 

@@ -1,8 +1,8 @@
 /*
  * Counts how often the program that it is loaded into (LD_PRELOAD) calls the system. The file WAKES_FILE has as machine's numbers of 64
  * bits: the receives, the wakes of a worker by another one, which write 8 octets, the sends of a thread that received no datagram since
- * its last send, and of the waits that end without an event how many end in each millisecond of twenty. Each receive that finds a
- * datagram takes RECEIVE_MILLISECONDS.
+ * its last send, the datagrams received, the sends, the most datagrams that a thread received from one send to the next, and of the waits
+ * that end without an event how many end in each millisecond of twenty. Each receive that finds a datagram takes RECEIVE_MILLISECONDS.
  */
 #define _GNU_SOURCE
 #include <dlfcn.h>
@@ -19,9 +19,10 @@
 #define APART 20
 
 static struct {
-    _Atomic int64_t receives, wakes, together, ends[APART];
+    _Atomic int64_t receives, wakes, together, received, sends, longest, ends[APART];
 } *kept;
 static _Thread_local int has_sent;
+static _Thread_local int64_t in_a_row;
 static useconds_t slow;
 
 __attribute__((constructor)) static void begin(void)
@@ -47,11 +48,22 @@ ssize_t recvfrom(int socket, void *room, size_t size, int flags, struct sockaddr
     ssize_t count = receive(socket, room, size, flags, from, length);
     if (count >= 0) {
         has_sent = 0;
+        in_a_row++;
+        atomic_fetch_add(&kept->received, 1);
         if (slow) {
             usleep(slow);
         }
     }
     return count;
+}
+
+/* Ends a row of receives of this thread. */
+static void keep_longest(void)
+{
+    int64_t longest = atomic_load(&kept->longest);
+    while (longest < in_a_row && !atomic_compare_exchange_weak(&kept->longest, &longest, in_a_row)) {
+    }
+    in_a_row = 0;
 }
 
 ssize_t sendto(int socket, const void *octets, size_t size, int flags, const struct sockaddr *to, socklen_t length)
@@ -61,6 +73,8 @@ ssize_t sendto(int socket, const void *octets, size_t size, int flags, const str
         atomic_fetch_add(&kept->together, 1);
     }
     has_sent = 1;
+    atomic_fetch_add(&kept->sends, 1);
+    keep_longest();
     return send(socket, octets, size, flags, to, length);
 }
 
