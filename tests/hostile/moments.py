@@ -70,9 +70,9 @@ class Nas:
         self.socket.sendto(octets, self.proxy.listen)
         return octets
 
-    def ask_status(self):
+    def ask_status(self, identifier=1):
         """A Status-Server to the proxy itself."""
-        self.socket.sendto(status(1, bytes(16), b"", b"", SECRET), self.proxy.listen)
+        self.socket.sendto(status(identifier, bytes(16), b"", b"", SECRET), self.proxy.listen)
 
     def is_answered(self, asked):
         """Whether what comes next is the response to this request."""
@@ -340,6 +340,24 @@ def an_answer_leaves_within_eight_receives(program, folder):
         dropped = 'rad_proxy_dropped_total{reason="Unread"}'
         hope(is_so(lambda: stage.counters()[dropped] == 200), "not all were dropped", stage.counters())
         hope(wakes.longest() <= 10, "it received", wakes.longest(), "datagrams before it sent the answer")
+
+
+def answers_leave_in_order_where_memory_is_refused(program, folder):
+    """A Status-Server is answered. From then on each growth of memory is refused, and three Status-Servers wait. All three are
+    answered, in their order."""
+    switch = pathlib.Path(folder, "refused")
+    variables = {"LD_PRELOAD": built(folder, "refuse"), "REFUSE_WHILE": str(switch)}
+    with Stage(program, folder, variables=variables) as stage:
+        stage.nas.ask_status()
+        stage.nas.socket.recv(4096)
+        switch.touch()
+        with stopped(stage):
+            for identifier in (2, 3, 4):
+                stage.nas.ask_status(identifier)
+        answered = [stage.nas.socket.recv(4096)[1] for _ in range(3)]
+        switch.unlink()
+        hope(answered == [2, 3, 4], "answered were", answered)
+        stage.round_trip()
 
 
 def all_that_is_answered_before_the_end_is_sent(program, folder):
@@ -816,7 +834,7 @@ TESTS = [
     no_wake_is_late, no_wake_is_late_at_any_port, no_wake_is_late_at_any_lane, no_wake_is_lost_while_a_worker_works,
     no_notification_is_lost_before_a_sleep, no_wake_is_lost_where_datagrams_come_together,
     requests_that_come_together_wake_a_lane_once_for_eight, what_a_lane_sends_while_replies_come_goes_together,
-    an_answer_leaves_within_eight_receives, all_that_is_answered_before_the_end_is_sent,
+    an_answer_leaves_within_eight_receives, answers_leave_in_order_where_memory_is_refused, all_that_is_answered_before_the_end_is_sent,
     a_send_that_fails_is_told_with_its_own_destination, an_idle_worker_looks_again_after_twenty_milliseconds,
     idle_lanes_wake_together_and_receive_nothing, heaps_grow_by_large_pieces, resendings_come_at_their_moment,
     probes_come_at_their_moments, ten_idle_seconds_cost_little, ends_at_once_where_nothing_is_left,

@@ -1,7 +1,8 @@
 /*
  * Refuses allocations of the program that it is loaded into (LD_PRELOAD): those from number REFUSE_FIRST to number
  * REFUSE_LAST, counted from 1 on once the libraries have begun. What the loader and they took before that is not counted.
- * Or it refuses a thread, that of number REFUSE_THREAD, counted from 1 on too.
+ * Or it refuses a thread, that of number REFUSE_THREAD, counted from 1 on too. Or it refuses each allocation while there is a file
+ * REFUSE_WHILE.
  * The first refusal makes the file REFUSE_NOTE, so that whoever set the numbers sees whether they were reached.
  *
  * A call that asks for no octets is no growth, and neither is a realloc to nothing.
@@ -29,7 +30,7 @@ extern void *__libc_memalign(size_t alignment, size_t size);
 extern void __libc_free(void *old);
 
 static long first, last, thread;
-static const char *note;
+static const char *note, *switched;
 static atomic_long counted, started;
 
 /* The octets that are live: counted here until the file is there, and nowhere where none is asked for. */
@@ -67,6 +68,7 @@ __attribute__((constructor)) static void begin(void)
         live = NULL;
     }
     note = getenv("REFUSE_NOTE");
+    switched = getenv("REFUSE_WHILE");
     thread = number_in("REFUSE_THREAD");
     last = number_in("REFUSE_LAST");
     first = number_in("REFUSE_FIRST");
@@ -80,9 +82,21 @@ static void make_note(void)
     }
 }
 
+/* Whether the file that has each allocation refused is there. */
+static int is_switched_on(void)
+{
+    int before = errno;
+    int is_there = switched && access(switched, F_OK) == 0;
+    errno = is_there ? ENOMEM : before;
+    return is_there;
+}
+
 /* Counts one allocation, and says whether it is refused. */
 static int is_refused(void)
 {
+    if (is_switched_on()) {
+        return 1;
+    }
     if (first == 0) {
         return 0;
     }
