@@ -360,6 +360,17 @@ def answers_leave_in_order_where_memory_is_refused(program, folder):
         stage.round_trip()
 
 
+def what_waits_behind_a_failed_receive_is_received(program, folder):
+    """The first 50 receives of each socket fail. A Status-Server that comes meanwhile is answered, although no other datagram comes
+    behind it, and so is a request with its reply."""
+    variables = {"LD_PRELOAD": built(folder, "faults"), "RECEIVE_FAULTS": "50"}
+    with Stage(program, folder, "first_wait = 60000\n", variables=variables) as stage:
+        stage.nas.ask_status()
+        hope(select.select([stage.nas.socket], [], [], PATIENCE)[0], "a Status-Server was not answered")
+        stage.nas.socket.recv(4096)
+        stage.round_trip()
+
+
 def all_that_is_answered_before_the_end_is_sent(program, folder):
     """While 400 Status-Servers wait, of which each takes two milliseconds, the input ends. Each one that was received before the end
     is answered."""
@@ -834,7 +845,8 @@ TESTS = [
     no_wake_is_late, no_wake_is_late_at_any_port, no_wake_is_late_at_any_lane, no_wake_is_lost_while_a_worker_works,
     no_notification_is_lost_before_a_sleep, no_wake_is_lost_where_datagrams_come_together,
     requests_that_come_together_wake_a_lane_once_for_eight, what_a_lane_sends_while_replies_come_goes_together,
-    an_answer_leaves_within_eight_receives, answers_leave_in_order_where_memory_is_refused, all_that_is_answered_before_the_end_is_sent,
+    an_answer_leaves_within_eight_receives, answers_leave_in_order_where_memory_is_refused,
+    what_waits_behind_a_failed_receive_is_received, all_that_is_answered_before_the_end_is_sent,
     a_send_that_fails_is_told_with_its_own_destination, an_idle_worker_looks_again_after_twenty_milliseconds,
     idle_lanes_wake_together_and_receive_nothing, heaps_grow_by_large_pieces, resendings_come_at_their_moment,
     probes_come_at_their_moments, ten_idle_seconds_cost_little, ends_at_once_where_nothing_is_left,
