@@ -8,6 +8,7 @@ have much else to do, so a bound of time is kept where the best of TRIES keeps i
 time. The last line is `N passed, M failed`.
 """
 import contextlib
+import itertools
 import os
 import pathlib
 import random
@@ -507,6 +508,8 @@ def probes_come_at_their_moments(program, folder):
         hope(len(authenticators) == len(probes), "two probes have the same Authenticator")
         still = [place for place in range(16) if len({one[place] for one in authenticators}) == 1]
         hope(not still, "octets that are the same in each Authenticator:", still)
+        twice = [pair for pair in itertools.combinations(range(16), 2) if all(one[pair[0]] == one[pair[1]] for one in authenticators)]
+        hope(not twice, "octets that stand in each Authenticator twice:", twice)
         waits = []
         for lane in range(4):
             of_lane = [moment for each, moment in moments if each == lane]
