@@ -582,6 +582,27 @@ def ends_as_the_last_answer_comes(program, folder):
     best(ended, lambda seconds: seconds < 0.4)
 
 
+def ends_once_the_last_response_is_sent(program, folder):
+    """The input ends, and then the last reply comes while the front has Status-Servers to answer, of which each takes 20 milliseconds.
+    The response is sent before the end."""
+    wakes = Wakes(folder, milliseconds=20)
+    for _ in range(TRIES):
+        with Stage(program, folder, linger=20_000, variables=wakes.variables) as stage:
+            asked = stage.nas.ask()
+            came = stage.came()
+            stage.proxy.ran.stdin.close()
+            for _ in range(30):
+                stage.nas.ask_status()
+            stage.homes[0].answer(*came)
+            stage.proxy.ran.stdin = None
+            _, line, status = stage.ends()
+            hope((line, status) == (NOTHING_LEFT, 0), line, status)
+            found = []
+            while select.select([stage.nas.socket], [], [], 0)[0]:
+                found.append(stage.nas.socket.recv(4096))
+            hope(answer(asked, asked[1], b"", SECRET) in found, "the response did not come, but", len(found), "others")
+
+
 def state_and_drain_tell_each_lane(program, folder):
     """`state` and `drain` tell of each lane its own numbers; a drained lane refuses, and its numbers stay."""
     with Stage(program, folder, "first_wait = 60000\n", count=3) as stage:
@@ -853,10 +874,10 @@ TESTS = [
     a_send_that_fails_is_told_with_its_own_destination, an_idle_worker_looks_again_after_twenty_milliseconds,
     idle_lanes_wake_together_and_receive_nothing, heaps_grow_by_large_pieces, resendings_come_at_their_moment,
     probes_come_at_their_moments, ten_idle_seconds_cost_little, ends_at_once_where_nothing_is_left,
-    lingers_for_a_home_that_is_silent, ends_as_the_last_answer_comes, state_and_drain_tell_each_lane, counts_of_two_lanes,
-    counts_of_sixty_four_lanes, counters_are_replaced, reports_come_each_second, sends_that_fail_are_counted, faults_are_counted,
-    each_event_has_its_level, what_is_refused_is_told, serves_beside_a_full_pipe, starts_beside_a_full_pipe,
-    serves_though_its_log_has_no_reader,
+    lingers_for_a_home_that_is_silent, ends_as_the_last_answer_comes, ends_once_the_last_response_is_sent,
+    state_and_drain_tell_each_lane, counts_of_two_lanes, counts_of_sixty_four_lanes, counters_are_replaced,
+    reports_come_each_second, sends_that_fail_are_counted, faults_are_counted, each_event_has_its_level,
+    what_is_refused_is_told, serves_beside_a_full_pipe, starts_beside_a_full_pipe, serves_though_its_log_has_no_reader,
 ]
 
 
