@@ -289,11 +289,18 @@ def requests_that_come_together_wake_a_lane_once_for_eight(program, folder):
         best(woken, lambda count: 3 <= count <= 8)
 
 
+def state_of(thread):
+    """The letter of a thread's state."""
+    return (thread / "stat").read_text().rpartition(")")[2].split()[0]
+
+
 @contextlib.contextmanager
 def stopped(stage):
-    """Stops the program, and lets it go on at the end."""
+    """Stops the program, each of its threads, and lets it go on at the end."""
+    threads = pathlib.Path("/proc", str(stage.proxy.ran.pid), "task")
     os.kill(stage.proxy.ran.pid, signal.SIGSTOP)
     try:
+        hope(is_so(lambda: all(state_of(thread) == "T" for thread in threads.iterdir())), "it does not stop")
         yield
     finally:
         os.kill(stage.proxy.ran.pid, signal.SIGCONT)
