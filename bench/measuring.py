@@ -39,6 +39,7 @@ LARGE = {"homes": 64, "clients": 256, "realms": 256}
 BOOK, BOOK_BEGINS, BOOK_STEP, GROWTH_WINDOW, GROWTH_ROUNDS = 1_000_000, 1000, 9990, 64, 3
 SPAN_A_SECOND_OF_RUN = 100
 STATUS_SERVER, MESSAGE_AUTHENTICATOR = 12, 80
+ONLY_IF_NAMED = {SingleRelay.name, WithLedger.name}
 
 
 def status_server(identifier):
@@ -54,10 +55,9 @@ class Bench:
         self.plan, self.folder, self.work = plan, folder, work
         self.series = itertools.count()
         self.results = []
-        subjects = [Direct(), Relay(work / "relay"), RadProxy(plan.program), Radsecproxy(), FreeRadius(), WaitsAlone(work / "waits")]
-        wanted = plan.subjects.split(",") if plan.subjects else [subject.name for subject in subjects]
-        subjects[2:2] = [SingleRelay(work / "relay")]
-        subjects[4:4] = [WithLedger(plan.program)]
+        subjects = [Direct(), Relay(work / "relay"), SingleRelay(work / "relay"), RadProxy(plan.program), WithLedger(plan.program),
+                    Radsecproxy(), FreeRadius(), WaitsAlone(work / "waits")]
+        wanted = plan.subjects.split(",") if plan.subjects else [each.name for each in subjects if each.name not in ONLY_IF_NAMED]
         self.subjects = [subject for subject in subjects if subject.name in wanted and subject.is_there()]
         for subject in subjects:
             if subject.name in wanted and not subject.is_there():

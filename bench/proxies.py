@@ -50,10 +50,8 @@ class Direct:
         return "-"
 
 
-class Relay:
-    """The least that a proxy can do, in one thread of C: `relay.c`, which is the yardstick for the others."""
-
-    name, is_proxy, options = "relay", True, []
+class Compiled:
+    """A program of this folder."""
 
     def __init__(self, program):
         self.program = program
@@ -63,6 +61,12 @@ class Relay:
 
     def version(self):
         return "-"
+
+
+class Relay(Compiled):
+    """The least that a proxy can do, in one thread of C: `relay.c`, which is the yardstick for the others."""
+
+    name, is_proxy, options = "relay", True, []
 
     def words(self, _folder, setting):
         realms = [f"{realm}={setting.homes[home]}" for realm, home in setting.led()]
@@ -75,19 +79,10 @@ class SingleRelay(Relay):
     name, options = "relay one by one", ["--single"]
 
 
-class WaitsAlone:
+class WaitsAlone(Compiled):
     """Threads that wait as rad_proxy's idle workers do, and do nothing else: `waits.c`, the yardstick for an idle proxy."""
 
     name, is_proxy = "waits alone", False
-
-    def __init__(self, program):
-        self.program = program
-
-    def is_there(self):
-        return True
-
-    def version(self):
-        return "-"
 
     def words(self, homes):
         """A thread for the clients, and one for each home server."""

@@ -347,7 +347,7 @@ def an_answer_leaves_within_eight_receives(program, folder):
         stage.nas.socket.recv(4096)
         dropped = 'rad_proxy_dropped_total{reason="Unread"}'
         hope(is_so(lambda: stage.counters()[dropped] == 200), "not all were dropped", stage.counters())
-        hope(wakes.longest() <= 10, "it received", wakes.longest(), "datagrams before it sent the answer")
+        hope(wakes.longest() <= 9, "it received", wakes.longest(), "datagrams before it sent the answer")
 
 
 def answers_leave_in_order_where_memory_is_refused(program, folder):
@@ -380,9 +380,9 @@ def what_waits_behind_a_failed_receive_is_received(program, folder):
 
 
 def all_that_is_answered_before_the_end_is_sent(program, folder):
-    """While 400 Status-Servers wait, of which each takes two milliseconds, the input ends. Each one that was received before the end
+    """While 400 Status-Servers wait, of which each takes four milliseconds, the input ends. Each one that was received before the end
     is answered."""
-    wakes = Wakes(folder, milliseconds=2)
+    wakes = Wakes(folder, milliseconds=4)
     for _ in range(TRIES):
         with Stage(program, folder, linger=20_000, variables=wakes.variables) as stage:
             with stopped(stage):

@@ -1,8 +1,8 @@
 /*
  * Refuses allocations of the program that it is loaded into (LD_PRELOAD): those from number REFUSE_FIRST to number
  * REFUSE_LAST, counted from 1 on once the libraries have begun. What the loader and they took before that is not counted.
- * Or it refuses a thread, that of number REFUSE_THREAD, counted from 1 on too. Or it refuses each allocation while there is a file
- * REFUSE_WHILE.
+ * Or it refuses a thread, that of number REFUSE_THREAD, counted from 1 on too. Or it refuses each allocation while the
+ * file REFUSE_WHILE is there.
  * The first refusal makes the file REFUSE_NOTE, so that whoever set the numbers sees whether they were reached.
  *
  * A call that asks for no octets is no growth, and neither is a realloc to nothing.
