@@ -1,6 +1,7 @@
 -- What makes a Status-Server right, seen at its last Message-Authenticator.
-use Rattle.std.proofs.Common.{◌≡◌, ℕ, ◌+◌, ◌-◌, ◌/◌, ◌%◌, List, [], ◌∷◌, ◌++◌, length, take, drop, replicate, slice_range, refl, sym, ap, ◌∙◌, ◌↔◌, Bool, IsTrue, subst, arith, length-append, append_assoc}
+use Rattle.std.proofs.Common.{◌≡◌, ℕ, ◌+◌, ◌-◌, ◌/◌, ◌%◌, List, [], ◌∷◌, ◌++◌, length, take, drop, replicate, slice_range, refl, sym, ap, ◌∙◌, ◌↔◌, Bool, false, IsTrue, suc, ◌≢◌, subst, arith, length-append, append_assoc}
 use Rattle.std.proofs.lemmas.List.{append-nil, nil_from_length, take_at, drop_at, take-append-drop}
+use Rattle.std.proofs.lemmas.Bool.{false≢true}
 use Rattle.rad_packet.specs.Attribute.{Attribute, attribute_text, joined, of_kind, attributes_of}
 use Rattle.rad_packet.specs.Packet.{IsPacketText, packet_attributes, packet_text}
 use Rattle.rad_packet.specs.Place.{IsLastAt}
@@ -101,6 +102,25 @@ status-decided secret text octets place len r same p one f n decides =
     let value : slice_range octets (place + 2) (place + 2 + 16) ≡ slice_range text (place + 2) (place + 2 + 16) = ap (λ t. slice_range t (place + 2) (place + 2 + 16)) same in
     let digest : hmac_md5 secret (zeroed_at (place + 2) octets) ≡ hmac_md5 secret (zeroed_at (place + 2) text) = ap (λ t. hmac_md5 secret (zeroed_at (place + 2) t)) same in
     (λ t. status-right secret text place p one last (sym value ∙ decides.0 t ∙ digest), λ s. decides.1 (value ∙ right-status secret text place p one last s ∙ sym digest))
+
+-- where there is not exactly one, or its Length is another, the packet is not right
+one_value : (secret text : List ℕ) → IsRightStatus secret text → length (of_kind 80 (packet_attributes text)) ≡ 1
+one_value secret text s =
+    let all : of_kind 80 (packet_attributes text) ≡ of_kind 80 s.before ++ (message_authenticator s.value ∷ of_kind 80 s.after) =
+    ap (of_kind 80) s.split ∙ of_kind-append 80 s.before (message_authenticator s.value ∷ s.after) ∙ ap (λ xs. of_kind 80 s.before ++ xs) (of_kind_first 80 (message_authenticator s.value) s.after refl) in
+    ap length all ∙ ap (λ xs. length (xs ++ (message_authenticator s.value ∷ of_kind 80 s.after))) s.none_before ∙ ap (λ xs. suc (length xs)) s.none_after
+
+pub none-wrong : (secret text : List ℕ) → (length (of_kind 80 (packet_attributes text)) ≢ 1) → (IsTrue false ↔ IsRightStatus secret text)
+none-wrong secret text n = (λ t. absurd (false≢true t), λ s. absurd (n (one_value secret text s)))
+
+pub other-length-wrong : (secret text : List ℕ) (place len : ℕ) → IsLastAt text 80 place len → (len ≢ 18) → (IsTrue false ↔ IsRightStatus secret text)
+other-length-wrong secret text place len f n = (
+  λ t. absurd (false≢true t),
+  λ s.
+      let same : SameParts f.before f.attribute f.after s.before (message_authenticator s.value) s.after =
+      same_last 80 f.before f.attribute f.after s.before (message_authenticator s.value) s.after f.last s.none_after f.has_kind refl (sym f.stands.split ∙ s.split) in
+      absurd (n (omega (arith, f.stands.counted, ap (λ a. length a.value) same.here, s.counted))),
+)
 
 -- The Status-Server that is made: it is right, and has 38 octets.
 module _ (identifier : ℕ) (authenticator secret : List ℕ) (sixteen : length authenticator ≡ 16) where
