@@ -1,7 +1,7 @@
 //! An entry that Python made, and what is wrong with it once it is changed.
 
-use super::comparing::holds_at;
 use super::vectors::ENTRY_LINE;
+use crate::comparing::holds_at;
 use ledger_lines::{Line, Room, read_line};
 use rad_auth::Secret;
 use rad_ledger::{Entry, Gap, Reason, Tally, Verdict, judge};

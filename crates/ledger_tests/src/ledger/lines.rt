@@ -1,7 +1,7 @@
 //! Lines that Python makes, as they are read, and as they are written again.
 
-use super::comparing::{holds, holds_at};
 use super::vectors::{BEGIN_LINE, BINARY_LINE, END_LINE, ENTRY_LINE};
+use crate::comparing::{holds, holds_at};
 use ledger_lines::{Line, LineFault, Room, read_line, write_begin, write_end, write_entry};
 use std::alloc::{AllocError, Global};
 use std::process::Abort;

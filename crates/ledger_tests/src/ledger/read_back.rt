@@ -1,7 +1,7 @@
 //! Lines that are written, as they are read again.
 
-use super::comparing::holds;
 use super::lines::{line_of, written};
+use crate::comparing::holds;
 use ledger_lines::{Begin, End, LaneCount, LaneStart, Line, Room, read_line};
 use rad_ledger::Entry;
 use std::alloc::{AllocError, Global};

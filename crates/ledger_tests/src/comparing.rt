@@ -12,3 +12,8 @@ pub fn same<T: PartialEq + Debug + Copy>(rt: &impl Abort, given: T, wanted: T) {
 pub fn holds(rt: &impl Abort, is_right: bool) {
     assert!(rt; is_right);
 }
+
+/// Ends the test unless the row of a table at this place is right.
+pub fn holds_at(rt: &impl Abort, place: usize, is_right: bool) {
+    assert!(rt; is_right, "row {place}");
+}

@@ -1,7 +1,7 @@
 -- The sending is the forwarded packet, so it ends with the mark.
 use Rattle.std.proofs.Common.{◌∙◌}
 use Rattle.rad_auth.proofs.Forwards.{EndsWithMark-forwarded}
-use Rattle.writer_tests.proofs.writing.replied.Goals as goal
+use Rattle.ledger_tests.proofs.writing.replied.Goals as goal
 
 pub respond-requires-clause-mark : goal.respond-requires-clause-mark
 respond-requires-clause-mark c = (

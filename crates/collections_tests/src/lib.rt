@@ -1,0 +1,10 @@
+//! Tests of the public calls of `block_queue` and `rad_tables`, in a crate of their own, so that no proof of those crates
+//! is repeated for a test. It has no other code.
+#![tactic(auto)]
+
+#[cfg(test)]
+mod queues;
+#[cfg(test)]
+mod sliding;
+#[cfg(test)]
+mod tables;
