@@ -3,13 +3,14 @@
 use crate::client_event::{CLIENT_EVENTS, CLIENT_FAMILIES, ClientEvent, ClientFamily};
 use crate::family::{Family, HelpLine, TypeLine};
 use crate::histogram::{BUCKETS, Histogram, bound_label};
-use crate::home_number::HOME_NUMBERS;
-use crate::limit_number::LIMIT_NUMBERS;
+use crate::home_number::{HOME_NUMBERS, HomeNumber};
+use crate::home_times::HomeTimes;
+use crate::limit_number::{LIMIT_NUMBERS, LimitNumber};
 use crate::numbers::Numbers;
 use crate::program_number::ProgramNumber;
 use crate::reading::Reading;
 use crate::sample::{Labels, Sample};
-use crate::socket_number::SOCKET_NUMBERS;
+use crate::socket_number::{SOCKET_NUMBERS, SocketNumber};
 use crate::socket_numbers::SocketReading;
 use crate::value::Value;
 use rad_desk::{UpReason, Worker};
@@ -20,40 +21,65 @@ use std::time::Clock;
 /// The version of the program.
 pub const VERSION: &str = "0.1.0";
 
+/// What the histograms of the home servers are of.
+#[derive(Clone, Copy)]
+enum Timed {
+    /// How long the home servers take to reply.
+    Replies,
+    /// How long the clients wait for their responses.
+    Responses,
+}
+
+impl Timed {
+    fn family(self) -> Family {
+        match self {
+            Timed::Replies => Family::histogram(
+                "reply_seconds",
+                "From the first sending of a request to the home server's reply.",
+            ),
+            Timed::Responses => Family::histogram(
+                "response_seconds",
+                "From the acceptance of a request to the response to the client.",
+            ),
+        }
+    }
+
+    /// The name of the samples that count up to a bound.
+    fn bucket(self) -> &'static str {
+        match self {
+            Timed::Replies => "reply_seconds_bucket",
+            Timed::Responses => "response_seconds_bucket",
+        }
+    }
+
+    fn sum(self) -> &'static str {
+        match self {
+            Timed::Replies => "reply_seconds_sum",
+            Timed::Responses => "response_seconds_sum",
+        }
+    }
+
+    fn count(self) -> &'static str {
+        match self {
+            Timed::Replies => "reply_seconds_count",
+            Timed::Responses => "response_seconds_count",
+        }
+    }
+
+    /// The histogram of a home server.
+    fn of(self, times: &HomeTimes) -> &Histogram {
+        match self {
+            Timed::Replies => times.replies(),
+            Timed::Responses => times.responses(),
+        }
+    }
+}
+
 /// The name of the family that counts how often the home servers were marked up.
 const UPS: &str = "ups_total";
 
 /// The help text of that family.
 const UPS_HELP: &str = "How often the home server was marked up again.";
-
-/// The name of the family of a histogram, and the names of its samples.
-#[derive(Clone, Copy)]
-struct Names {
-    family: &'static str,
-    bucket: &'static str,
-    sum: &'static str,
-    count: &'static str,
-}
-
-/// How long the home servers take to reply.
-const REPLIES: Names = Names {
-    family: "reply_seconds",
-    bucket: "reply_seconds_bucket",
-    sum: "reply_seconds_sum",
-    count: "reply_seconds_count",
-};
-
-const REPLIES_HELP: &str = "From the first sending of a request to the home server's reply.";
-
-/// How long the clients wait for their responses.
-const RESPONSES: Names = Names {
-    family: "response_seconds",
-    bucket: "response_seconds_bucket",
-    sum: "response_seconds_sum",
-    count: "response_seconds_count",
-};
-
-const RESPONSES_HELP: &str = "From the acceptance of a request to the response to the client.";
 
 /// Why a home server is marked up.
 const UP_REASONS: [UpReason; 3] = [
@@ -79,8 +105,8 @@ pub fn write_numbers<W: Write, R: Clock>(
     write_limits(writer, config)?;
     write_homes(writer, config, readings)?;
     write_ups(writer, config, numbers)?;
-    write_replies(writer, config, numbers)?;
-    write_responses(writer, config, numbers)?;
+    write_times(writer, Timed::Replies, config, numbers)?;
+    write_times(writer, Timed::Responses, config, numbers)?;
     write_sockets(writer, config, sockets)
 }
 
@@ -204,11 +230,21 @@ fn labels_of<'a>(address: [u8; 4], event: ClientEvent) -> Labels<'a> {
 fn write_limits<W: Write>(writer: &mut W, config: &Config) -> io::Result<()> {
     for limit in LIMIT_NUMBERS {
         write_head(writer, limit.family())?;
-        for (lane, home) in config.homes().iter().enumerate() {
-            let value = limit.value(home.limits().numbers());
-            let labels = Labels::Home(lane, home.name());
-            write_sample(writer, limit.family(), labels, value)?;
-        }
+        write_limit(writer, limit, config)?;
+    }
+    Ok(())
+}
+
+/// Writes a limit of each lane.
+fn write_limit<W: Write>(writer: &mut W, limit: LimitNumber, config: &Config) -> io::Result<()> {
+    for (lane, home) in config.homes().iter().enumerate() {
+        let value = limit.value(home.limits().numbers());
+        write_sample(
+            writer,
+            limit.family(),
+            Labels::Home(lane, home.name()),
+            value,
+        )?;
     }
     Ok(())
 }
@@ -217,12 +253,21 @@ fn write_limits<W: Write>(writer: &mut W, config: &Config) -> io::Result<()> {
 fn write_homes<W: Write>(writer: &mut W, config: &Config, readings: &[Reading]) -> io::Result<()> {
     for number in HOME_NUMBERS {
         write_head(writer, number.family())?;
-        for (lane, home) in config.homes().iter().enumerate() {
-            if let Some(reading) = readings.get(lane) {
-                let labels = Labels::Home(lane, home.name());
-                write_sample(writer, number.family(), labels, reading.value(number))?;
-            }
-        }
+        write_home_number(writer, number, config, readings)?;
+    }
+    Ok(())
+}
+
+/// Writes a number of each home server of which something was read.
+fn write_home_number<W: Write>(
+    writer: &mut W,
+    number: HomeNumber,
+    config: &Config,
+    readings: &[Reading],
+) -> io::Result<()> {
+    for (lane, (home, reading)) in config.homes().iter().zip(readings.iter()).enumerate() {
+        let labels = Labels::Home(lane, home.name());
+        write_sample(writer, number.family(), labels, reading.value(number))?;
     }
     Ok(())
 }
@@ -236,53 +281,58 @@ fn write_ups<W: Write, R>(
     let family = Family::counter(UPS, UPS_HELP);
     write_head(writer, family)?;
     for (lane, home) in config.homes().iter().enumerate() {
-        for reason in UP_REASONS {
-            let labels = Labels::HomeUp(lane, home.name(), reason);
-            write_sample(
-                writer,
-                family,
-                labels,
-                Value::Count(numbers.ups(lane, reason)),
-            )?;
-        }
+        write_ups_of(writer, family, lane, home.name(), numbers)?;
     }
     Ok(())
 }
 
-/// Writes how long each home server takes to reply.
-fn write_replies<W: Write, R>(
+/// Writes how often a home server was marked up for each reason.
+fn write_ups_of<W: Write, R>(
     writer: &mut W,
-    config: &Config,
+    family: Family,
+    lane: usize,
+    home: &str,
     numbers: &Numbers<'_, R>,
 ) -> io::Result<()> {
-    write_head(writer, Family::histogram(REPLIES.family, REPLIES_HELP))?;
-    for (lane, home) in config.homes().iter().enumerate() {
-        if let Some(times) = numbers.times(lane) {
-            write_histogram(writer, REPLIES, lane, home.name(), times.replies())?;
-        }
+    for reason in UP_REASONS {
+        let ups = Value::Count(numbers.ups(lane, reason));
+        write_sample(writer, family, Labels::HomeUp(lane, home, reason), ups)?;
     }
     Ok(())
 }
 
-/// Writes how long it takes until the requests of each home server are answered to the client.
-fn write_responses<W: Write, R>(
+/// Writes how long each home server takes to reply, or the clients wait for their responses.
+fn write_times<W: Write, R>(
     writer: &mut W,
+    timed: Timed,
     config: &Config,
     numbers: &Numbers<'_, R>,
 ) -> io::Result<()> {
-    write_head(writer, Family::histogram(RESPONSES.family, RESPONSES_HELP))?;
+    write_head(writer, timed.family())?;
     for (lane, home) in config.homes().iter().enumerate() {
-        if let Some(times) = numbers.times(lane) {
-            write_histogram(writer, RESPONSES, lane, home.name(), times.responses())?;
-        }
+        write_times_of(writer, timed, lane, home.name(), numbers)?;
     }
     Ok(())
+}
+
+/// Writes the histogram of a home server.
+fn write_times_of<W: Write, R>(
+    writer: &mut W,
+    timed: Timed,
+    lane: usize,
+    home: &str,
+    numbers: &Numbers<'_, R>,
+) -> io::Result<()> {
+    match numbers.times(lane) {
+        Some(times) => write_histogram(writer, timed, lane, home, timed.of(times)),
+        None => Ok(()),
+    }
 }
 
 /// Writes how often something took no longer than each bound, the sum of all durations, and their number.
 fn write_histogram<W: Write>(
     writer: &mut W,
-    names: Names,
+    timed: Timed,
     lane: usize,
     home: &str,
     histogram: &Histogram,
@@ -291,12 +341,12 @@ fn write_histogram<W: Write>(
     for bucket in 0..BUCKETS {
         count = count.saturating_add(histogram.get(bucket));
         let labels = Labels::HomeBound(lane, home, bound_label(bucket));
-        write_named(writer, names.bucket, labels, Value::Count(count))?;
+        write_named(writer, timed.bucket(), labels, Value::Count(count))?;
     }
     let labels = Labels::Home(lane, home);
     let sum = Value::Microseconds(histogram.sum());
-    write_named(writer, names.sum, labels, sum)?;
-    write_named(writer, names.count, labels, Value::Count(count))
+    write_named(writer, timed.sum(), labels, sum)?;
+    write_named(writer, timed.count(), labels, Value::Count(count))
 }
 
 /// Writes the metrics of the sockets, in the order in which they were bound.
@@ -307,10 +357,21 @@ fn write_sockets<W: Write>(
 ) -> io::Result<()> {
     for number in SOCKET_NUMBERS {
         write_head(writer, number.family())?;
-        for socket in sockets {
-            let labels = socket_labels(config, socket);
-            write_sample(writer, number.family(), labels, number.value(socket))?;
-        }
+        write_socket_number(writer, number, config, sockets)?;
+    }
+    Ok(())
+}
+
+/// Writes a number of each socket.
+fn write_socket_number<W: Write>(
+    writer: &mut W,
+    number: SocketNumber,
+    config: &Config,
+    sockets: &[SocketReading],
+) -> io::Result<()> {
+    for socket in sockets {
+        let labels = socket_labels(config, socket);
+        write_sample(writer, number.family(), labels, number.value(socket))?;
     }
     Ok(())
 }
