@@ -3,17 +3,36 @@
 use super::example::{CLIENT, CLIENT_PORT};
 use super::script::{Kept, Question, Stamped, moment};
 use super::test_lane::TestLane;
-use rad_lane::{Answered, Sending, Stamp};
+use rad_lane::{Answered, Counts, Sending, Stamp};
 
 impl TestLane {
+    /// The stamps of the requests that the book holds.
+    pub fn accepted(&self) -> &[Stamp] {
+        self.lane.accepted()
+    }
+
+    /// The answers that the book holds.
+    pub fn answered(&self) -> &[Answered] {
+        self.lane.answered()
+    }
+
+    /// The request by which the lane would go down.
+    fn spent(&self) -> Option<&Sending> {
+        self.lane.spent()
+    }
+
+    pub fn counts(&self) -> Counts {
+        self.lane.counts()
+    }
+
     /// Answers a question.
     pub fn is(&self, question: Question<'_>) -> bool {
         match question {
-            Question::HasAccepted(wanted) => are_stamps(self.lane.accepted(), wanted),
+            Question::HasAccepted(wanted) => are_stamps(self.accepted(), wanted),
             Question::HasSent(wanted) => are_stamps(self.lane.sent(), wanted),
-            Question::Keeps(wanted) => are_kept(self.lane.answered(), wanted),
-            Question::IsSpent(number, session) => is_spent(self.lane.spent(), number, session),
-            Question::IsUnspent => self.lane.spent().is_none(),
+            Question::Keeps(wanted) => are_kept(self.answered(), wanted),
+            Question::IsSpent(number, session) => is_spent(self.spent(), number, session),
+            Question::IsUnspent => self.spent().is_none(),
         }
     }
 }

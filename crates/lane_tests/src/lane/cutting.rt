@@ -125,7 +125,7 @@ impl Two {
         let (stamps, answers) = (volume.stamps.as_slice(), volume.answered.as_slice());
         if volume.opening != self.stamps.len() as u64
             || stamps.len() != answers.len()
-            || !are_among(answers, self.whole.lane.answered())
+            || !are_among(answers, self.whole.answered())
         {
             return false;
         }
@@ -161,22 +161,22 @@ impl Two {
     /// is answered last, in the next round; so the first turn of a round cuts the fourth round before, and the second
     /// nothing.
     fn has_counts(&self) -> bool {
-        let (kept, all) = (self.cut.lane.answered(), self.whole.lane.answered());
+        let (kept, all) = (self.cut.answered(), self.whole.answered());
         are_among(kept, all)
             && all.len().saturating_sub(kept.len()) == 1287
             && self.volumes == 76
             && self.refused == 84
             && self.stamps.len() == 1287
             && self.answers == 1287
-            && self.cut.lane.counts().opening == 1287
-            && self.whole.lane.counts().opening == 0
+            && self.cut.counts().opening == 1287
+            && self.whole.counts().opening == 0
     }
 
     /// Whether the stamps of the volumes, and behind them those of the book that was cut, are those of the other book.
     fn has_stamps(&mut self) -> bool {
-        let accepted = self.cut.lane.accepted();
+        let accepted = self.cut.accepted();
         self.stamps.extend_from_slice(accepted).is_ok()
-            && are_equal(self.stamps.as_slice(), self.whole.lane.accepted())
+            && are_equal(self.stamps.as_slice(), self.whole.accepted())
     }
 
     fn end(self) {

@@ -2,6 +2,7 @@
 //! The other tests make these calls too, by the functions here, so that each call is proved once.
 
 use super::comparing::holds;
+use super::leaving::Left;
 use super::script::moment;
 use super::test_lane::discard;
 use block_queue::BlockQueue;
@@ -170,7 +171,7 @@ impl Example {
             datagram: _,
         } = self;
         let left = close(lane);
-        let has_answer = left.answered().len() == 1;
+        let has_answer = Left::of(&left).answered.len() == 1;
         discard(left);
         has_answer
     }

@@ -14,23 +14,73 @@ use std::process::Abort;
 use std::test::Fail;
 use test_octets::homes::SECOND_PROBE;
 
+/// What a closed lane left, part by part.
+#[derive(Clone, Copy)]
+pub struct Left<'a> {
+    lane: u16,
+    opening: u64,
+    accepted: &'a [Stamp],
+    sent: &'a [Stamp],
+    pub answered: &'a [Answered],
+    outstanding: &'a Slots<Entry>,
+    queued: Queued<'a>,
+}
+
+/// How many requests are queued, and the first of them.
+#[derive(Clone, Copy)]
+struct Queued<'a> {
+    count: usize,
+    front: Option<&'a Record>,
+}
+
+impl<'a> Left<'a> {
+    /// The parts of what a lane left. No other function asks for them, so that each call is proved once.
+    pub fn of(left: &'a Leftover<BlockQueue<Record>>) -> Left<'a> {
+        let queued = left.queued();
+        Left {
+            lane: left.lane(),
+            opening: left.opening(),
+            accepted: left.accepted(),
+            sent: left.sent(),
+            answered: left.answered(),
+            outstanding: left.outstanding(),
+            queued: Queued {
+                count: queued.len(),
+                front: queued.front(),
+            },
+        }
+    }
+
+    /// How many stamps there are, how many of them were sent, how many are queued and outstanding, and how many answers.
+    fn lengths(&self) -> [usize; 5] {
+        [
+            self.accepted.len(),
+            self.sent.len(),
+            self.queued.count,
+            self.outstanding.used(),
+            self.answered.len(),
+        ]
+    }
+}
+
 /// Whether two lanes left the same: the stamps, the answers with their octets, under each pair of four
 /// source ports what is outstanding, with its octets, its due and how often it was sent, and the queue.
 pub fn is_same(one: &Leftover<BlockQueue<Record>>, other: &Leftover<BlockQueue<Record>>) -> bool {
-    are_same_stamps(one, other)
-        && are_same_answers(one.answered(), other.answered())
-        && are_same_entries(one.outstanding(), other.outstanding())
-        && are_same_queues(one.queued(), other.queued())
+    are_same(&Left::of(one), &Left::of(other))
 }
 
-fn are_same_stamps(
-    one: &Leftover<BlockQueue<Record>>,
-    other: &Leftover<BlockQueue<Record>>,
-) -> bool {
-    one.lane() == other.lane()
-        && one.opening() == other.opening()
-        && are_equal(one.accepted(), other.accepted())
-        && are_equal(one.sent(), other.sent())
+fn are_same(one: &Left<'_>, other: &Left<'_>) -> bool {
+    are_same_stamps(one, other)
+        && are_same_answers(one.answered, other.answered)
+        && are_same_entries(one.outstanding, other.outstanding)
+        && are_same_queues(one.queued, other.queued)
+}
+
+fn are_same_stamps(one: &Left<'_>, other: &Left<'_>) -> bool {
+    one.lane == other.lane
+        && one.opening == other.opening
+        && are_equal(one.accepted, other.accepted)
+        && are_equal(one.sent, other.sent)
 }
 
 /// Whether these are the same stamps, in order.
@@ -53,8 +103,8 @@ fn are_same_entries(one: &Slots<Entry>, other: &Slots<Entry>) -> bool {
     one.used() == other.used()
 }
 
-fn are_same_queues(one: &BlockQueue<Record>, other: &BlockQueue<Record>) -> bool {
-    one.len() == other.len() && is_same_front(one.front(), other.front())
+fn are_same_queues(one: Queued<'_>, other: Queued<'_>) -> bool {
+    one.count == other.count && is_same_front(one.front, other.front)
 }
 
 fn are_same_answers(one: &[Answered], other: &[Answered]) -> bool {
@@ -114,22 +164,11 @@ const ONE_OF_EACH: &[Row<'static>] = &[
     (2000, Step, PROBED_AS_2, &SECOND_PROBE),
 ];
 
-/// How many stamps there are, how many of them were sent, how many are queued and outstanding, and how many answers.
-fn lengths(left: &Leftover<BlockQueue<Record>>) -> [usize; 5] {
-    [
-        left.accepted().len(),
-        left.sent().len(),
-        left.queued().len(),
-        left.outstanding().used(),
-        left.answered().len(),
-    ]
-}
-
 #[test]
 fn a_closed_lane_leaves_no_probe(rt: HostRuntime) -> Result<(), Fail> {
     let home = (0, "window = 1\ntries = 1\n");
     let left = leave(&rt, rt.alloc(), home, ONE_OF_EACH)?;
-    holds(&rt, lengths(&left) == [3, 2, 1, 1, 1]);
+    holds(&rt, Left::of(&left).lengths() == [3, 2, 1, 1, 1]);
     discard(left);
     Ok(())
 }

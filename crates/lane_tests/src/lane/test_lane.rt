@@ -73,7 +73,7 @@ impl TestLane {
             Call::Hear(port, reply) => Gives::Hear(self.hear(moment, port, reply)),
             Call::Drain => Gives::Drain(self.lane.drain()),
             Call::Made(made) => self.call_made(moment, made),
-            Call::Counts => Gives::Counts(self.lane.counts()),
+            Call::Counts => Gives::Counts(self.counts()),
             Call::Sums => Gives::Sums(self.forwarded, self.responses),
             Call::Is(question) => Gives::Is(self.is(question)),
         }
