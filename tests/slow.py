@@ -1,71 +1,86 @@
 #!/usr/bin/env python3
-"""What the functions of a crate cost to prove, in processor seconds, the dearest first.
+"""What the functions of a crate cost to prove, in seconds, the most expensive first, and for what.
 
 usage: slow.py CRATE [--tests] [--over SECONDS]
 
-It proves the crate from nothing by `rt check --jobs 1 --progress`, with --tests as its tests are proved, over what earlier checks
-kept of the libraries below it. A function's cost is what was worked between its line and the line before; functions that cost
-less than SECONDS, 5 where none are said, are not shown. The first line has the reading of the crate and of the libraries too,
-and so has the first behind a line `so far`. What was kept of the crate's own proof is put aside meanwhile, and comes back
-where the check is cut off.
+It proves the crate from nothing by `rt check --jobs 1`, with --tests as its tests are proved, over what earlier checks kept of the
+libraries below it. A check makes some modules for each function, and writes a file for each module as it ends with it. So a module
+took the time since the file before. A line has the cost of a function, and what of it each kind of module took:
+
+    Lts      what the function does, on each of its paths
+    Proof    the goals that have no written answer, for which the prover searches
+    Answers  the written answers
+    Tie      that each call of a generic function meets its bounds
+    others   all other modules
+
+Functions that cost less than SECONDS, 2 where none are said, are not shown. What a file of lemmas took is shown under the name of that
+file. The last lines have what all took, and what the check took before its first module, which is the reading of the crate and of
+the libraries. The seconds are those that passed, so nothing else may run meanwhile. What was kept of the crate's own proof is put
+aside meanwhile, and comes back where the check is cut off.
 """
+import collections
 import os
 import pathlib
-import re
 import shutil
 import subprocess
 import sys
+import time
 
 sys.dont_write_bytecode = True
 
-import progress
-
 TOP = pathlib.Path(__file__).resolve().parent.parent
 RT = os.environ.get("RT", "rt").split()
-CHECKED = re.compile(r"checked (\S+), \d+ of \d+")
+KINDS = ("Lts", "Proof", "Answers", "Tie")
+# The other modules that are made for each function.
+OTHERS = {"Code", "Goals", "Given", "Invariants", "Key", "Kinds", "Layout", "Met", "Mir", "Named", "Reads", "Statement", "Symbol", "View"}
 
 
-def ticks_below(root):
-    """The processor ticks of a process and of all that it started."""
-    found = progress.looked_at()
-    ticks, left = 0, [root]
-    while left:
-        above = left.pop()
-        ticks += found[above][1] if above in found else 0
-        left += [process for process, (parent, _) in found.items() if parent == above]
-    return ticks
+def written(folder):
+    """Each module whose file is below a folder, with the moment at which that was last written, in this order."""
+    files = folder.rglob("*.oantt")
+    found = ((file.stat().st_mtime, file.name.removesuffix(".oantt").removesuffix(".decls")) for file in files)
+    return sorted(found)
 
 
-def costs(words, folder):
-    """Runs a check, and gives its status and what each of its lines cost, in order, in processor seconds."""
-    found, before = [], 0
-    how = {"cwd": folder, "encoding": "utf-8", "errors": "replace", "stdin": subprocess.DEVNULL}
-    with subprocess.Popen(words, stdout=subprocess.PIPE, stderr=subprocess.STDOUT, **how) as ran:
-        for line in ran.stdout:
-            ticks = ticks_below(ran.pid)
-            if checked := CHECKED.match(line):
-                found.append(((ticks - before) / progress.TICKS, checked[1]))
-                before = ticks
-            elif not line.startswith("note: "):
-                print(line, end="", flush=True)
-    return ran.returncode, found
+def function_of(module):
+    """The function or file of lemmas that a module is of, and the module's kind."""
+    name, kind = module.split("-proofs.", 1)[-1], "others"
+    while (last := name.rpartition(".")) and (last[2] in KINDS or last[2] in OTHERS):
+        name, kind = last[0], last[2] if last[2] in KINDS else kind
+    return name, kind
+
+
+def costs(modules, began):
+    """What each function took, by kinds, and what came before the first module."""
+    found, before = collections.defaultdict(collections.Counter), began
+    for moment, module in modules:
+        name, kind = function_of(module)
+        found[name if before > began else ""][kind] += moment - before
+        before = moment
+    return found, sum(found.pop("", {}).values())
 
 
 def shown(found, least):
-    """The lines of the functions that cost so much, the dearest first, and the sum of all."""
-    lines = [f"{cost:7.1f}  {name}" for cost, name in sorted(found, reverse=True) if cost >= least]
-    return [*lines, f"{sum(cost for cost, _ in found):7.1f}  all {len(found)} functions"]
+    """The lines of the functions that cost so much, the most expensive first, and the sums of all."""
+    rows = sorted(((sum(kinds.values()), name, kinds) for name, kinds in found.items()), key=lambda row: -row[0])
+    all_of = sum((kinds for _, _, kinds in rows), collections.Counter())
+    rows = [row for row in rows if row[0] >= least] + [(sum(all_of.values()), f"all {len(rows)}", all_of)]
+    head = "".join(f"{word:>9}" for word in ("seconds", *KINDS, "others"))
+    lines = ["".join(f"{kinds[kind]:9.1f}" for kind in (*KINDS, "others")) for _, _, kinds in rows]
+    return [head, *(f"{cost:9.1f}{line}  {name}" for (cost, name, _), line in zip(rows, lines))]
 
 
 def main():
     words = sys.argv[1:]
-    least = float(words.pop(words.index("--over") + 1)) if "--over" in words[:-1] else 5.0
+    least = float(words.pop(words.index("--over") + 1)) if "--over" in words[:-1] else 2.0
     flags = ["--test"] if "--tests" in words else []
     names = [word for word in words if word not in ("--over", "--tests")]
     if len(names) != 1 or not (TOP / "crates" / names[0] / "src").is_dir():
         sys.exit(__doc__)
     folder = TOP / "crates" / names[0]
     kept, aside = folder / "out" / "incremental", folder / "out" / "incremental-aside"
+    # The libraries are built first, so that the check has nothing else to do.
+    subprocess.run([*RT, "check", "--jobs", "1", "--only", ""], cwd=folder, stdout=subprocess.DEVNULL, stdin=subprocess.DEVNULL)
     if kept.is_dir():
         shutil.rmtree(aside, ignore_errors=True)
         kept.rename(aside)
@@ -73,8 +88,10 @@ def main():
     kept.mkdir(parents=True)
     status = 1
     try:
-        status, found = costs([*RT, "check", "--jobs", "1", "--progress", *flags], folder)
-        print(*shown(found, least), sep="\n")
+        began = time.time()
+        status = subprocess.run([*RT, "check", "--jobs", "1", *flags], cwd=folder, stdin=subprocess.DEVNULL).returncode
+        found, reading = costs(written(kept), began)
+        print(*shown(found, least), f"{reading:9.1f} before the first module", sep="\n")
     finally:
         if status and aside.is_dir():
             shutil.rmtree(kept, ignore_errors=True)
