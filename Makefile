@@ -50,8 +50,8 @@ run:
 
 # The whole gate: all proofs from nothing, the edits of must-fail/, the tests, the stored runs; then that each wrong body can be
 # applied, and the octets that the tests expect; a thousand seeds of the simulation; and the program that was built: the rows,
-# the examples, growths refused in turn, spoiled datagrams, home servers that are killed, UDP over a network that loses, and
-# memory over two equal loads. The last line counts it all.
+# the examples, other configurations, growths refused in turn, spoiled datagrams, home servers that are killed, UDP over a
+# network that loses, and memory over two equal loads. The last line counts it all.
 test:
 	@python3 tests/gate.py $(PROGRAM)
 

@@ -1,11 +1,11 @@
 #!/usr/bin/env python3
 """The whole gate: what `rt ci` proves, refuses and runs; then that each wrong body can be applied, and the octets that the
 tests expect, as another implementation makes them; a thousand seeds of the simulation that `rt ci` built; and then the program
-that it built: over the rows and the examples, with growths refused in turn, with spoiled datagrams, with standard descriptors
-that are closed, at several addresses, with a flooded source port, with home servers that are killed or not there, with output
-that nobody reads, by when it does what it has to do, by the scripts of the service, over UDP and a network that loses, and by
-what memory it has after a load and after the same load again. Last comes the auditor, over ledgers that Python makes, and over lines
-that are spoiled.
+that it built: over the rows, the examples and other configurations, with growths refused in turn, with spoiled datagrams, with
+standard descriptors that are closed, at several addresses, with a flooded source port, with home servers that are killed or not
+there, with output that nobody reads, by when it does what it has to do, by the scripts of the service, over UDP and a network that
+loses, and by what memory it has after a load and after the same load again. Last comes the auditor, over ledgers that Python makes,
+and over lines that are spoiled.
 
 usage: gate.py PROGRAM
 
@@ -36,6 +36,7 @@ SCRIPTS = {
     "model": ("hostile/model.py", "--check"),
     "rows": ("rows/run.py", "PROGRAM"),
     "examples": ("examples.py", "PROGRAM"),
+    "configurations": ("configurations.py", "PROGRAM"),
     "simulation": ("hostile/simulate.py", "crates/rad_simulation/out/rad_simulation"),
     "growths": ("hostile/growths.py", "PROGRAM"),
     "mutations": ("hostile/mutations.py", "PROGRAM"),

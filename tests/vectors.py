@@ -98,7 +98,7 @@ def of_realms_tests():
 
 
 def of_nas():
-    """What a NAS sends that is not as it should be, or leads nowhere."""
+    """What a NAS sends that is not as it should be, or leads nowhere. configurations.py sends these."""
     secret, octets = b"nas-secret", bytes([0xA5] * 16)
     return {
         "SPOILED_REQUEST": turned(request(7, SESSION, secret), 19),
@@ -226,7 +226,7 @@ def made():
     return {
         "realms_tests": of_realms_tests(),
         "ledger_tests": of_ledgers(),
-        "test_octets": {**of_nas(), **of_lanes(), **of_desks(), **of_services()},
+        "test_octets": {"BARE": of_nas()["BARE"], **of_lanes(), **of_desks(), **of_services()},
         "lane_tests": sums_of_lanes(),
     }
 

@@ -23,6 +23,7 @@ sys.dont_write_bytecode = True
 
 from model import read
 from packets import HOME_SECRET, NAS_SECRET, reply
+from starting import environment
 from trying import conclude, hope
 from vectors import answer, request, user_name
 from waiting import bound, until
@@ -206,6 +207,19 @@ def test_later_address(program, folder):
             hope("how often it is told", len(service.told("address-unbound")), 1)
         finally:
             ip("address", "del", "10.77.0.8/32", "dev", "lo")
+
+
+def test_homes_at_this_machine(program, folder):
+    """A home server at an address of the machine is told where `listen` is at its port of all of them, and nowhere else."""
+    every, one, other = f"0.0.0.0:{PORT}", f"{SERVED[2]}:{PORT}", f"{SERVED[3]}:{PORT}"
+    file = pathlib.Path(folder, "proxy.toml")
+    for listen, home, is_told in [(every, one, True), (every, other, True), (every, f"{SERVED[3]}:{PORT + 1}", False),
+                                  (every, f"10.77.0.9:{PORT}", False), (one, other, False)]:
+        file.write_text(f'listen = "{listen}"\n[[client]]\naddress = "{NASES[0]}"\nsecret = "s"\n'
+                        f'[[home]]\nname = "h"\naddress = "{home}"\nsecret = "s"\n', "utf-8")
+        ran = subprocess.run([program, "check", str(file)], capture_output=True, text=True, env=environment("warn"))
+        line = f'level=warn event=home-address reason="home h at {home}: listen serves it, so requests would come back"\n'
+        hope(f"{home} with {listen}", (ran.stdout, ran.stderr), ("clients 1 homes 1 realms 0\n", line if is_told else ""))
 
 
 def test_port_is_taken(program, folder):

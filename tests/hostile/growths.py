@@ -3,14 +3,16 @@
 
 usage: growths.py PROGRAM [TESTS ..]
 
-`replay` runs over some rows of tests/rows, `check` over a configuration, and `run` is asked for its state and drained, without a ledger and with
-one. In each run an allocation is refused by refuse.c: the first, then the second, and so on until there is none of that number; and once more so, with all
-that follow refused too. `replay` has to end in `configuration: OutOfMemory` or `memory: refused`, with the lines before as
-without the refusal, or it goes on: then each event whose growth was refused says so and has changed nothing, and every
-other line and the end are what model.py answers. `check` ends in one of these two, and `run` too, or in `threads: failed`. Where one
-allocation alone is refused, the program may also do with a smaller one and answer all; where all that follow are refused
-too, `replay` may not. Each thread of `run` is refused in turn as well: then it has to end in `threads: failed`. The row each-call-is-made-twice makes each call that takes memory twice, so that the second one shows
-what is there after a refusal; what-takes-no-memory has to come to its end with every growth refused from some event on.
+`replay` runs over some rows of tests/rows, `check` over configurations, and `run` is asked for its state and drained, without a
+ledger and with one. In each run an allocation is refused by refuse.c: the first, then the second, and so on until there is none of
+that number; and once more so, with all that follow refused too. `replay` has to end in `configuration: OutOfMemory` or `memory:
+refused`, with the lines before as without the refusal, or it goes on: then each event whose growth was refused says so and has
+changed nothing, and every other line and the end are what model.py answers. `check` ends in one of these two; it logs all unread
+keys or none, and so with each of its other warnings. `run` ends in one of these two, or in `threads: failed`. Where one allocation
+alone is refused, the program may also do with a smaller one and answer all; where all that follow are refused too, `replay` may
+not. Each thread of `run` is refused in turn as well: then it has to end in `threads: failed`. The row each-call-is-made-twice
+makes each call that takes memory twice, so that the second one shows what is there after a refusal; what-takes-no-memory has to
+come to its end with every growth refused from some event on.
 
 TESTS are programs of tests, as `rt test` leaves them in crates/CRATE/out/CRATE_tests. With one growth refused, each test has
 to pass or to fail by itself, and not by a fault of memory; beyond the first FIRST ones only some are refused. A test whose
@@ -94,8 +96,8 @@ class Subject:
 
 
 def told_by(ran):
-    """The lines of standard output, and the last one of standard error."""
-    errors = ran.stderr.decode("utf-8", "replace").splitlines()
+    """The lines of standard output, and the last one of standard error that is not of the log."""
+    errors = [line for line in ran.stderr.decode("utf-8", "replace").splitlines() if not line.startswith("level=")]
     return ran.stdout.decode("utf-8", "replace").splitlines(), errors[-1] if errors else ""
 
 
@@ -120,6 +122,19 @@ def fault_of_run(wanted, ran, _):
     if (ran.returncode, told) == (0, wanted):
         return None
     return fault_of_ending(wanted, told, ran.returncode, ENDINGS_OF_RUN.get(error), ran.stderr)
+
+
+def fault_of_check(usual, logs, ran, _):
+    """The same of `check`, which has to log one of these lists of lines, and to end as usual where it does not end early."""
+    told, errors = ran.stdout.decode("utf-8", "replace").splitlines(), ran.stderr.decode("utf-8", "replace").splitlines()
+    logged = [line for line in errors if line.startswith("level=")]
+    last = errors[len(logged) :]
+    if logged not in logs:
+        return f"it logged {logged}"
+    is_early = not told and len(last) == 1 and ran.returncode == ENDINGS.get(last[0])
+    if is_early or (ran.returncode, told, last) == usual:
+        return None
+    return f"it ended with status {ran.returncode} and wrote {told} and {last}"
 
 
 def fault_of_threadless(wanted, ran, _):
@@ -152,6 +167,39 @@ def ending_of(ran):
     return error or next((line for line in told if line in REFUSALS), None)
 
 
+def reason(level, event, text):
+    return f'level={level} event={event} reason="{text}"'
+
+
+def checked(program, folder):
+    """Runs of `check` over texts that it warns of: one with unread keys and a home server that loops, and one that is not TOML."""
+    warned = """listen = "127.0.0.1:1813"
+top = 1
+[[client]]
+address = "10.0.0.1"
+secret = "s"
+name = "c"
+[[home]]
+name = "h1"
+address = "127.0.0.1:1813"
+secret = "s"
+[home.limits]
+window = 1
+"""
+    places = ["top top at line 2, column 1", "client 0 name at line 6, column 1", "home 0 limits at line 11, column 7"]
+    unread = [reason("warn", "unread-key", place) for place in places]
+    loop = reason("warn", "home-address", "home h1 at 127.0.0.1:1813: listen serves it, so requests would come back")
+    no_toml = reason("error", "no-toml", "line 1, column 12: invalid string")
+    texts = {
+        "warned": (warned, (0, ["clients 1 homes 1 realms 0"], []), [[], unread, [loop], [*unread, loop]]),
+        "malformed": ('listen = "1', (2, [], ["configuration: Toml"]), [[], [no_toml]]),
+    }
+    for name, (text, usual, logs) in texts.items():
+        file = pathlib.Path(folder, f"{name}.toml")
+        file.write_text(text, "utf-8")
+        yield Subject(f"check, {name}", [program, "check", str(file)], b"", partial(fault_of_check, usual, logs))
+
+
 def subjects(program, folder):
     """All that is run."""
     for name in ROWS:
@@ -162,6 +210,7 @@ def subjects(program, folder):
     file = pathlib.Path(folder, "one-home.toml")
     file.write_text((rows.ROWS / "one-home.toml").read_text("utf-8").replace("127.0.0.1:1813", listen), "utf-8")
     yield Subject("check", [program, "check", str(file)], b"", partial(fault_of_run, ["clients 1 homes 1 realms 1"]))
+    yield from checked(program, folder)
     wanted = [f"listening {listen}", STATE, "drain: 0 0", "end: queued 0 outstanding 0 untaken 0"]
     words = [program, "run", str(file)]
     ledger = pathlib.Path(folder, "ledger")

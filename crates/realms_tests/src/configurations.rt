@@ -1,11 +1,8 @@
-//! Tests of printed texts, and of what no contract states: the results for packets that another implementation signed,
-//! and that calls succeed.
+//! Tests of what the program does not show of configurations and of the datagrams that passed the checks: their parts, and
+//! the printed faults of limits.
 
 mod checks;
-mod ends;
-mod faults;
 mod printing;
 mod reading;
-mod sizes;
 
 pub use reading::configuration;

@@ -1,4 +1,4 @@
-//! Reading and writing packets, and the printed faults.
+//! Reading and writing packets, and the printed faults of writing.
 
 use crate::comparing::{holds, holds_at};
 use rad_packet::{
@@ -143,28 +143,6 @@ fn tests_each_attribute(rt: HostRuntime) {
     octets[20] = 1;
     octets[21] = 1;
     reads(&rt, &octets, Some(ReadFault::BadAttribute(20)));
-}
-
-const READ_FAULTS: [(ReadFault, &str); 5] = [
-    (ReadFault::Short, "Short"),
-    (ReadFault::BadLength, "BadLength"),
-    (ReadFault::Truncated, "Truncated"),
-    (ReadFault::BadAttribute(20), "BadAttribute 20"),
-    (ReadFault::BadAttribute(4095), "BadAttribute 4095"),
-];
-
-#[test]
-fn faults_of_reading_print_their_names(rt: HostRuntime) -> Result<(), Fail> {
-    for (fault, text) in READ_FAULTS.iter() {
-        holds(&rt, read_fault_prints(rt.alloc(), *fault, text)?);
-    }
-    Ok(())
-}
-
-/// Whether this is printed for a fault of reading.
-fn read_fault_prints(alloc: Global, fault: ReadFault, wanted: &str) -> Result<bool, AllocError> {
-    let text = fault.to_string(alloc)?;
-    Ok(text.as_str() == wanted)
 }
 
 const WRITE_FAULTS: [(WriteFault, &str); 2] = [

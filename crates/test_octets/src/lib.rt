@@ -1,13 +1,12 @@
 //! Packets for tests, between a NAS, the proxy and its home servers.
 //!
 //! The constants are packets as Python's hashlib and hmac sign them (`tests/vectors.py`). [`nas`] has those that a NAS
-//! sends, and the answers to them. [`faulty`] has those that are dropped, and those whose realm is unusual or missing.
-//! [`homes`] has those that are sent to home servers, and the replies to them. The functions make more packets of
-//! `bob@example.org`, signed by `rad_auth`. No contract states what they make: `lane_tests` compares sums of what is
-//! sent for them, and of the responses, with Python's. Only the crates of tests and rad_simulation use this crate.
+//! sends, and the answers to them. [`homes`] has those that are sent to home servers, and the replies to them. The
+//! functions make more packets of `bob@example.org`, signed by `rad_auth`. No contract states what they make:
+//! `lane_tests` compares sums of what is sent for them, and of the responses, with Python's. Only the crates of tests
+//! and rad_simulation use this crate.
 #![tactic(auto)]
 
-pub mod faulty;
 pub mod homes;
 mod making;
 pub mod nas;

@@ -1,22 +1,18 @@
-//! The results of checking datagrams, and the parts of each.
+//! The parts of a configuration, and those of each datagram that passed the checks.
 
-use super::reading::{configuration, configuration_of, has_counts, leads_to};
-use crate::comparing::{holds, holds_of};
-use rad_packet::ReadFault;
-use rad_realms::{
-    Checked, CheckedStatus, Config, Dropped, Endpoint, Incoming, LimitNumbers, check_in,
-};
+use super::reading::configuration;
+use crate::comparing::{holds, holds_at, holds_of};
+use rad_realms::{Checked, CheckedStatus, Config, Endpoint, Incoming, LimitNumbers, check_in};
 use std::process::Abort;
 use std::test::Fail;
-use test_octets::faulty::{
-    BARE, EMPTY_REALM, LOUD, NAMELESS, SIGNED, SPOILED_REQUEST, TWICE, UNASKED, UNLISTED,
-};
-use test_octets::nas::{NAME_ONLY_REQUEST, OTHER_REQUEST, SEVENTH, STATUS};
+use test_octets::nas::{BARE, NAME_ONLY_REQUEST, OTHER_REQUEST, SEVENTH, STATUS};
 
-/// Two clients, two home servers, three realms and no default home server.
+/// Two clients, two home servers and four realms. The second home server is the default one. One realm of the first
+/// lane is before the two of the second lane, and another one is between these two.
 const TEXT: &str = r#"
 listen = "127.0.0.1:1813"
 linger = 0
+default_home = "h2"
 [[client]]
 address = "10.0.0.1"
 secret = "nas-secret"
@@ -44,257 +40,25 @@ home = "h2"
 [[realm]]
 name = "third"
 home = "h1"
-"#;
-
-/// The result for a datagram: the lane of a request, a Status-Server, or the reason to drop it.
-#[derive(Clone, Copy, PartialEq)]
-enum Told {
-    Lane(u16),
-    Status,
-    Dropped(Dropped),
-}
-
-const CLIENT: [u8; 4] = [10, 0, 0, 1];
-
-/// Checks a datagram that comes from this address and port.
-fn checked<'a>(
-    config: &'a Config,
-    address: [u8; 4],
-    port: u16,
-    datagram: &'a [u8],
-) -> Result<Incoming<'a>, Dropped> {
-    check_in(config, address, port, datagram)
-}
-
-fn answer_of(config: &Config, address: [u8; 4], datagram: &[u8]) -> Told {
-    match checked(config, address, 40_000, datagram) {
-        Ok(Incoming::Request(request)) => Told::Lane(request.lane()),
-        Ok(Incoming::Status(_)) => Told::Status,
-        Err(reason) => Told::Dropped(reason),
-    }
-}
-
-/// Checks that each of these datagrams has the result beside it.
-fn each_is_told(rt: &impl Abort, config: &Config, rows: &[(&str, [u8; 4], &[u8], Told)]) {
-    for (what, address, datagram, wanted) in rows {
-        holds_of(rt, what, answer_of(config, *address, datagram) == *wanted);
-    }
-}
-
-static ANSWERS: [(&str, [u8; 4], &[u8], Told); 13] = [
-    ("right", CLIENT, &SEVENTH, Told::Lane(1)),
-    ("a realm in capitals", CLIENT, &LOUD, Told::Lane(1)),
-    ("a Status-Server", CLIENT, &STATUS, Told::Status),
-    (
-        "a stranger",
-        [10, 0, 0, 9],
-        &SEVENTH,
-        Told::Dropped(Dropped::UnknownClient),
-    ),
-    (
-        "a response",
-        CLIENT,
-        &UNASKED,
-        Told::Dropped(Dropped::WrongCode),
-    ),
-    (
-        "spoiled",
-        CLIENT,
-        &SPOILED_REQUEST,
-        Told::Dropped(Dropped::BadAuthenticator),
-    ),
-    (
-        "of another client",
-        [9, 255, 0, 1],
-        &SEVENTH,
-        Told::Dropped(Dropped::BadAuthenticator),
-    ),
-    (
-        "signed twice",
-        CLIENT,
-        &TWICE,
-        Told::Dropped(Dropped::BadMessageAuthenticator),
-    ),
-    (
-        "signed",
-        CLIENT,
-        &SIGNED,
-        Told::Dropped(Dropped::MessageAuthenticatorHere),
-    ),
-    ("no realm", CLIENT, &BARE, Told::Dropped(Dropped::NoRealm)),
-    (
-        "no name",
-        CLIENT,
-        &NAMELESS,
-        Told::Dropped(Dropped::NoRealm),
-    ),
-    (
-        "an empty realm",
-        CLIENT,
-        &EMPTY_REALM,
-        Told::Dropped(Dropped::NoRealm),
-    ),
-    (
-        "an unlisted realm",
-        CLIENT,
-        &UNLISTED,
-        Told::Dropped(Dropped::NoRealm),
-    ),
-];
-
-#[test]
-fn each_datagram_has_its_answer(rt: HostRuntime) -> Result<(), Fail> {
-    let config = configuration(rt.alloc(), TEXT)?;
-    each_is_told(&rt, &config, &ANSWERS);
-    holds(&rt, is_truncated_if_cut(&config, &SEVENTH));
-    Ok(())
-}
-
-/// Whether a datagram without its last octet is truncated.
-fn is_truncated_if_cut(config: &Config, datagram: &[u8]) -> bool {
-    let truncated = Dropped::Unread(ReadFault::Truncated);
-    match datagram.split_last() {
-        Some((_, front)) => answer_of(config, CLIENT, front) == Told::Dropped(truncated),
-        None => false,
-    }
-}
-
-/// The second home server is the default one.
-const DEFAULT: &str = "default_home = \"h2\"\n";
-
-static DEFAULT_ANSWERS: [(&str, [u8; 4], &[u8], Told); 4] = [
-    ("no realm", CLIENT, &BARE, Told::Lane(1)),
-    ("no name", CLIENT, &NAMELESS, Told::Lane(1)),
-    (
-        "an empty realm",
-        CLIENT,
-        &EMPTY_REALM,
-        Told::Dropped(Dropped::NoRealm),
-    ),
-    (
-        "an unlisted realm",
-        CLIENT,
-        &UNLISTED,
-        Told::Dropped(Dropped::NoRealm),
-    ),
-];
-
-#[test]
-fn a_default_home_takes_what_has_no_realm(rt: HostRuntime) -> Result<(), Fail> {
-    let config = configuration_of(rt.alloc(), &[DEFAULT, TEXT])?;
-    each_is_told(&rt, &config, &DEFAULT_ANSWERS);
-    holds(&rt, leads_to_both(&config));
-    Ok(())
-}
-
-/// Whether no User-Name leads to the second lane, and one with the third realm to the first.
-fn leads_to_both(config: &Config) -> bool {
-    leads_to(config, None, Some(1)) && leads_to(config, Some(b"a@THIRD"), Some(0))
-}
-
-/// Returns a request that passed the checks.
-fn request_of<'a>(config: &'a Config, datagram: &'a [u8]) -> Option<Checked<'a>> {
-    match checked(config, CLIENT, 40_001, datagram) {
-        Ok(Incoming::Request(request)) => Some(request),
-        _ => None,
-    }
-}
-
-/// Whether a request, if there is one, comes from the client at port 40,001 and has these octets, secret and realm.
-fn request_tells(
-    request: Option<&Checked<'_>>,
-    octets: &[u8],
-    secret: &[u8],
-    realm: &[u8],
-) -> bool {
-    match request {
-        Some(request) => {
-            request.packet().octets() == octets
-                && request.client() == CLIENT
-                && request.port() == 40_001
-                && request.secret().octets() == secret
-                && request.realm() == Some(realm)
-        }
-        None => false,
-    }
-}
-
-#[test]
-fn checked_requests_tell_their_parts(rt: HostRuntime) -> Result<(), Fail> {
-    let config = configuration(rt.alloc(), TEXT)?;
-    holds(&rt, the_seventh_tells_its_parts(&config));
-    Ok(())
-}
-
-/// Whether the request SEVENTH tells its parts.
-fn the_seventh_tells_its_parts(config: &Config) -> bool {
-    let request = request_of(config, &SEVENTH);
-    request_tells(request.as_ref(), &SEVENTH, b"nas-secret", b"example.org")
-}
-
-/// A second realm of the second home server.
-const FOURTH: &str = r#"
 [[realm]]
 name = "Example.net"
 home = "h2"
 "#;
 
-/// Requests, each with the index of its realm among the realms of its lane. In the configuration, one realm of the
-/// first lane is before the two of the second lane, and another one is between these two.
-static RANKS: [(&str, &[u8], Option<usize>); 4] = [
-    ("the first realm of the first lane", &OTHER_REQUEST, Some(0)),
-    ("the first one of the second lane", &SEVENTH, Some(0)),
-    ("the second one", &NAME_ONLY_REQUEST, Some(1)),
-    ("no realm", &BARE, None),
-];
-
-/// Returns the rank of a request's realm.
-fn rank_of(config: &Config, datagram: &[u8]) -> Option<Option<usize>> {
-    let request = request_of(config, datagram)?;
-    Some(request.rank())
-}
-
 #[test]
-fn checked_requests_tell_their_ranks(rt: HostRuntime) -> Result<(), Fail> {
-    let config = configuration_of(rt.alloc(), &[DEFAULT, TEXT, FOURTH])?;
-    each_has_its_rank(&rt, &config, &RANKS);
-    Ok(())
-}
-
-/// Checks that the realm of each of these requests has the rank beside it.
-fn each_has_its_rank(rt: &impl Abort, config: &Config, rows: &[(&str, &[u8], Option<usize>)]) {
-    for (what, datagram, rank) in rows {
-        holds_of(rt, what, rank_of(config, datagram) == Some(*rank));
-    }
-}
-
-/// Returns a Status-Server that passed the checks.
-fn status_of<'a>(config: &'a Config, datagram: &'a [u8]) -> Option<CheckedStatus<'a>> {
-    match checked(config, CLIENT, 40_001, datagram) {
-        Ok(Incoming::Status(status)) => Some(status),
-        _ => None,
-    }
-}
-
-/// Whether a Status-Server, if there is one, has these octets and this secret.
-fn status_tells(status: Option<&CheckedStatus<'_>>, octets: &[u8], secret: &[u8]) -> bool {
-    match status {
-        Some(status) => { status.packet().octets() == octets && status.secret().octets() == secret }
-        None => false,
-    }
-}
-
-#[test]
-fn checked_statuses_tell_their_parts(rt: HostRuntime) -> Result<(), Fail> {
+fn a_configuration_and_what_passes_tell_their_parts(rt: HostRuntime) -> Result<(), Fail> {
     let config = configuration(rt.alloc(), TEXT)?;
-    holds(&rt, the_status_tells_its_parts(&config));
+    all_tell_their_parts(&rt, &config);
     Ok(())
 }
 
-/// Whether the Status-Server STATUS tells its parts.
-fn the_status_tells_its_parts(config: &Config) -> bool {
-    let status = status_of(config, &STATUS);
-    status_tells(status.as_ref(), &STATUS, b"nas-secret")
+/// Checks the parts of the configuration, and of what passes its checks.
+fn all_tell_their_parts(rt: &impl Abort, config: &Config) {
+    each_part_is_told(rt, config);
+    each_name_leads_to_its_lane(rt, config);
+    holds(rt, the_seventh_tells_its_parts(config));
+    holds(rt, the_status_tells_its_parts(config));
+    each_has_its_rank(rt, config);
 }
 
 const LISTEN: Endpoint = Endpoint {
@@ -314,6 +78,24 @@ const SECOND_NUMBERS: LimitNumbers = LimitNumbers {
     ring: 1,
     ports: 4,
 };
+
+/// Checks the parts of the configuration.
+fn each_part_is_told(rt: &impl Abort, config: &Config) {
+    holds(rt, config.listen() == LISTEN);
+    holds(rt, config.linger() == 0);
+    holds(rt, has_counts(config, 2, 2, 4));
+    holds(rt, client_tells(config, [9, 255, 0, 1], b"other-secret"));
+    holds(rt, config.client_of([9, 255, 0, 2]).is_none());
+    holds(rt, home_tells(config, "h2", b"second-secret"));
+    holds(rt, realm_tells(config, "Example.org"));
+}
+
+/// Whether a configuration has these numbers of clients, home servers and realms.
+fn has_counts(config: &Config, clients: usize, homes: usize, realms: usize) -> bool {
+    config.clients().len() == clients
+        && config.homes().len() == homes
+        && config.realms().len() == realms
+}
 
 /// Whether the client of an address has this secret.
 fn client_tells(config: &Config, address: [u8; 4], secret: &[u8]) -> bool {
@@ -345,19 +127,96 @@ fn realm_tells(config: &Config, name: &str) -> bool {
     }
 }
 
-#[test]
-fn a_configuration_tells_its_parts(rt: HostRuntime) -> Result<(), Fail> {
-    let config = configuration(rt.alloc(), TEXT)?;
-    each_part_is_told(&rt, &config);
-    Ok(())
+/// User-Names, each with its lane. No packet has room for the last one.
+const NAMES: [(Option<&[u8]>, Option<u16>); 4] = [
+    (None, Some(1)),
+    (Some(b"a@THIRD"), Some(0)),
+    (Some(b"a@fourth"), None),
+    (Some(&[b'@'; 255]), None),
+];
+
+/// Checks that each of these User-Names leads to the lane beside it.
+fn each_name_leads_to_its_lane(rt: &impl Abort, config: &Config) {
+    for (place, (name, lane)) in NAMES.iter().enumerate() {
+        holds_at(rt, place, config.lane_of(*name) == *lane);
+    }
 }
 
-/// Checks the parts of the configuration.
-fn each_part_is_told(rt: &impl Abort, config: &Config) {
-    holds(rt, config.listen() == LISTEN);
-    holds(rt, config.linger() == 0);
-    holds(rt, has_counts(config, 2, 2, 3));
-    holds(rt, client_tells(config, [9, 255, 0, 1], b"other-secret"));
-    holds(rt, home_tells(config, "h2", b"second-secret"));
-    holds(rt, realm_tells(config, "Example.org"));
+const CLIENT: [u8; 4] = [10, 0, 0, 1];
+
+/// Returns a request of the client at port 40,001 that passed the checks.
+fn request_of<'a>(config: &'a Config, datagram: &'a [u8]) -> Option<Checked<'a>> {
+    match check_in(config, CLIENT, 40_001, datagram) {
+        Ok(Incoming::Request(request)) => Some(request),
+        _ => None,
+    }
+}
+
+/// Whether a request, if there is one, comes from the client at port 40,001 and has these octets, secret and realm.
+fn request_tells(
+    request: Option<&Checked<'_>>,
+    octets: &[u8],
+    secret: &[u8],
+    realm: &[u8],
+) -> bool {
+    match request {
+        Some(request) => {
+            request.packet().octets() == octets
+                && request.client() == CLIENT
+                && request.port() == 40_001
+                && request.secret().octets() == secret
+                && request.realm() == Some(realm)
+                && request.lane() == 1
+        }
+        None => false,
+    }
+}
+
+/// Whether the request SEVENTH tells its parts.
+fn the_seventh_tells_its_parts(config: &Config) -> bool {
+    let request = request_of(config, &SEVENTH);
+    request_tells(request.as_ref(), &SEVENTH, b"nas-secret", b"example.org")
+}
+
+/// Returns a Status-Server that passed the checks.
+fn status_of<'a>(config: &'a Config, datagram: &'a [u8]) -> Option<CheckedStatus<'a>> {
+    match check_in(config, CLIENT, 40_001, datagram) {
+        Ok(Incoming::Status(status)) => Some(status),
+        _ => None,
+    }
+}
+
+/// Whether a Status-Server, if there is one, has these octets and this secret.
+fn status_tells(status: Option<&CheckedStatus<'_>>, octets: &[u8], secret: &[u8]) -> bool {
+    match status {
+        Some(status) => { status.packet().octets() == octets && status.secret().octets() == secret }
+        None => false,
+    }
+}
+
+/// Whether the Status-Server STATUS tells its parts.
+fn the_status_tells_its_parts(config: &Config) -> bool {
+    let status = status_of(config, &STATUS);
+    status_tells(status.as_ref(), &STATUS, b"nas-secret")
+}
+
+/// Requests, each with the index of its realm among the realms of its lane.
+static RANKS: [(&str, &[u8], Option<usize>); 4] = [
+    ("the first realm of the first lane", &OTHER_REQUEST, Some(0)),
+    ("the first one of the second lane", &SEVENTH, Some(0)),
+    ("the second one", &NAME_ONLY_REQUEST, Some(1)),
+    ("no realm", &BARE, None),
+];
+
+/// Returns the rank of a request's realm.
+fn rank_of(config: &Config, datagram: &[u8]) -> Option<Option<usize>> {
+    let request = request_of(config, datagram)?;
+    Some(request.rank())
+}
+
+/// Checks that the realm of each of these requests has the rank beside it.
+fn each_has_its_rank(rt: &impl Abort, config: &Config) {
+    for (what, datagram, rank) in RANKS.iter() {
+        holds_of(rt, what, rank_of(config, datagram) == Some(*rank));
+    }
 }
