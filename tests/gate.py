@@ -54,6 +54,7 @@ SCRIPTS = {
     "reasons": ("hostile/reasons.py", "PROGRAM"),
     "files": ("hostile/files.py", "PROGRAM"),
     "failures": ("hostile/failures.py", "PROGRAM"),
+    "streams": ("hostile/streams.py", "PROGRAM"),
     "service": ("service/run.py", "PROGRAM"),
     "soak": ("hostile/soak.py", "PROGRAM"),
     "memory": ("hostile/memory.py", "PROGRAM"),
