@@ -140,9 +140,10 @@ def test_a_read_that_fails_behind_the_input_ends_the_replay(stage):
 
 def test_a_write_that_fails_ends_the_replay(stage):
     octets, whole = many_steps(), "step: idle\n" * STEPS + END
-    hope("without a bound", stage.with_room(1 << 20, octets, "replay"), (0, whole, ""))
-    for room in (0, 1, 8192, 10_000, len(whole) - 1):
-        hope(f"room for {room}", stage.with_room(room, octets, "replay"), (4, whole[:room], ""))
+    for room, ends in ((1 << 20, 0), (0, 4), (1, 4), (8192, 4), (10_000, 4), (len(whole) - 1, 4)):
+        status, written, errors = stage.with_room(room, octets, "replay")
+        found = status, len(written), whole.startswith(written), errors
+        hope(f"room for {room}", found, (ends, min(room, len(whole)), True, ""))
 
 
 def test_a_write_that_fails_ends_a_command(stage):
