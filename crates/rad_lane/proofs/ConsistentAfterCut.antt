@@ -1,5 +1,5 @@
 -- What a lane keeps beside its book is in step with the book after a cut, and tells what is cut.
-use Rattle.std.proofs.Common.{◌≡◌, ℕ, zero, suc, ◌+◌, ◌-◌, ◌<◌, ◌≤◌, true, false, cond, List, [], ◌∷◌, ◌++◌, length, get_or, take, drop, Option, Some, None, refl, sym, ap, ◌∙◌, subst, arith}
+use Rattle.std.proofs.Common.{◌≡◌, ℕ, zero, suc, ◌+◌, ◌-◌, ◌<◌, ◌≤◌, true, false, cond, List, [], ◌∷◌, ◌++◌, length, get_or, take, drop, Option, Some, None, refl, sym, ap, ◌∙◌, subst, arith, Fits, w64}
 use Rattle.std.specs.Prelude.{All, option_map, slice_get, ◌==◌}
 use Rattle.std.specs.Option.{option_flatten}
 use Rattle.std.specs.List.{list_any}
@@ -224,11 +224,18 @@ module _ (setup : LaneSetup) (opening : ℕ) (accepted : List Stamp) (kept : Lis
     cut_here : IsCut before now (take n accepted) (drop n accepted)
     cut_here = subst (λ (b : Book). IsCut b now (take n b.accepted) (drop n b.accepted)) (sym same) cuts
 
-    within_here : n ≤ length accepted
+    pub within_here : n ≤ length accepted
     within_here = subst (λ (b : Book). n ≤ length b.accepted) (sym same) within
 
-    counted : length (take n accepted) ≡ n
+    pub counted : length (take n accepted) ≡ n
     counted = length-take-le n accepted within_here
+
+    pub cells_within : n ≤ length cells
+    cells_within = let same = s.cells_are in let within = within_here in omega (arith, same, within)
+
+    -- the opening after the cut is a number that a request may have
+    pub opening_fits : Fits w64 (opening + n)
+    opening_fits = let fits = s.numbers_fit in let within = within_here in omega (arith, fits, within)
 
     -- as many answers are cut off as requests
     pub below_counted : length (answers_below (opening + n) answered) ≡ n

@@ -1,5 +1,5 @@
 -- Why a packet from the home server is not heard, and what it is heard as where its reply is kept.
-use Rattle.std.proofs.Common.{◌≡◌, ℕ, ◌≤◌, List, Bool, Some, false, sym, ap, ◌∙◌, subst}
+use Rattle.std.proofs.Common.{◌≡◌, ℕ, ◌≤◌, List, Bool, Some, None, false, true, sym, ap, ◌∙◌, subst, arith}
 use Rattle.std.specs.Prelude.{IsTrue, Result, Ok, Err, IsErr}
 use Rattle.std.specs.Result.{IsErrAnd}
 use Rattle.std.specs.FinMap as map
@@ -13,11 +13,11 @@ use Rattle.rad_auth.specs.declared.responding.ReplyFault.TheVariants as reply
 use Rattle.rad_tables.specs.declared.slots.Slot.{Slot}
 use Rattle.rad_lane.specs.declared.hearing.Heard.{Heard}
 use Rattle.rad_lane.specs.declared.hearing.HearFault.{HearFault}
-use Rattle.rad_lane.specs.declared.hearing.HearFault.TheVariants.{BadAuthenticator}
+use Rattle.rad_lane.specs.declared.hearing.HearFault.TheVariants.{BadAuthenticator, Unknown}
 use Rattle.rad_lane.specs.declared.entry.Entry.TheVariants.{Sending as sending, Probe as probe}
 use Rattle.rad_lane.specs.Outstanding.{Outstanding, AnswerKept}
 use Rattle.rad_lane.specs.Book.{Book, outstanding_at}
-use Rattle.rad_lane.specs.Hears.{Hears, HearsReply, KeepsAnswer, RefusesToHear, pair, fault_of, with_answer}
+use Rattle.rad_lane.specs.Hears.{Hears, HearsReply, HearsProbe, KeepsAnswer, RefusesToHear, pair, fault_of, with_answer}
 use Rattle.rad_lane.specs.Watch.{GoesUpIfDown}
 use Rattle.rad_lane.specs.Lawful.{IsLawful}
 use Rattle.rad_lane.proofs.LawfulAfterAnswer.{has_passed, identifier_is}
@@ -50,6 +50,28 @@ module _ (book : Book) (port : ℕ) (datagram packet : List ℕ) (read : ReadsAs
 
   pub refused_probe : (octets : List ℕ) → map.get book.held slot ≡ Some (probe octets) → (IsRightResponse book.setup.home_secret (authenticator_of octets) packet → ⊥) → RefusesToHear book port datagram BadAuthenticator
   refused_probe octets there wrong = (packet, read, (code, probe octets, ap (map.get book.held) (sym is_pair) ∙ there, wrong))
+
+  pub refused_unknown : map.get book.held slot ≡ None → RefusesToHear book port datagram Unknown
+  refused_unknown none = (packet, read, (code, ap (map.get book.held) (sym is_pair) ∙ none))
+
+  -- a valid answer to the probe, after which a lane that was down goes up
+  pub hears_probe : (now : ℕ) (octets : List ℕ) → map.get book.held slot ≡ Some (probe octets) → IsRightResponse book.setup.home_secret (authenticator_of octets) packet → (new : Book) → GoesUpIfDown now (record book { last = now }) new book.watch → HearsProbe book now port datagram new
+  hears_probe now octets there right new goes = record {
+    packet = packet;
+    read = read;
+    code = code;
+    octets = octets;
+    there = ap (map.get book.held) (sym is_pair) ∙ there;
+    right = right;
+    book = goes;
+  }
+
+-- the moment of an answer that is kept is the last one
+pub at_last : (after : Book) (now : ℕ) → after.last ≡ now → after.last ≤ now
+at_last after now same = omega (arith, same)
+
+pub right_by : (b : Bool) (home secret auth authenticator packet : List ℕ) → b ≡ true → (IsTrue b → IsRightResponse home auth packet) → home ≡ secret → auth ≡ authenticator → IsRightResponse secret authenticator packet
+right_by b home secret auth authenticator packet is_true h same_home same_auth = rw (← same_home, ← same_auth) (h is_true)
 
 pub wrong_by : (b : Bool) (home secret auth authenticator packet : List ℕ) → b ≡ false → (IsRightResponse home auth packet → IsTrue b) → home ≡ secret → auth ≡ authenticator → IsRightResponse secret authenticator packet → ⊥
 wrong_by b home secret auth authenticator packet is_false h same_home same_auth right =

@@ -120,7 +120,7 @@ module _ (setup : LaneSetup) (opening : ℕ) (accepted : List Stamp) (kept : Lis
   abbrev before : Book
   before = book_of setup opening accepted kept answered served slots drain watch last
 
-  kept_fits : IsLawful before → length kept ≤ length accepted
+  pub kept_fits : IsLawful before → length kept ≤ length accepted
   kept_fits l =
       let whole = ap length l.in_order in
       let joined = length-append (take (length accepted - length kept) accepted) (each (λ q. q.stamp) (each (λ k. k.recorded) kept)) in

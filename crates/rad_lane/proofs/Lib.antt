@@ -26,3 +26,9 @@ pub mod LeadsToItsLane
 pub mod UnknownPort
 pub mod Sessions
 pub mod SpentFound
+pub mod CountedBelow
+pub mod RealmsKept
+pub mod NewRefused
+pub mod ItemsFound
+pub mod CountsSeen
+pub mod NotDone

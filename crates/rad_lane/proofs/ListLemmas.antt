@@ -3,7 +3,7 @@ use Rattle.std.proofs.Common.{◌≡◌, ℕ, zero, suc, ◌+◌, ◌<◌, ◌�
 use Rattle.std.specs.Prelude.{map as each, All, AllPairs, filter, find, not, swap}
 use Rattle.std.specs.List.{range_with_len}
 use Rattle.std.specs.List.Sorted.{IsPermutation, IsStrictlyIncreasing}
-use Rattle.std.proofs.lemmas.List.{append-nil, get_or-append-add, get_or_append_left, get_or-map, length-map, take_at, drop_at, take-append-drop}
+use Rattle.std.proofs.lemmas.List.{length-take-le, append-nil, get_or-append-add, get_or_append_left, get_or-map, length-map, take_at, drop_at, take-append-drop}
 use Rattle.std.proofs.lemmas.List.Elements.{All-head, All-tail, filter-append, filter_more}
 use Rattle.std.proofs.Math.Seq.{drop-cons}
 use Rattle.std.proofs.lemmas.List.Kept.{AllPairs-filter, AllPairs-from_increasing}
@@ -212,3 +212,7 @@ take_less (suc i) (suc n) (x ∷ xs) h = ap (λ ys. x ∷ ys) (take_less i n xs 
 pub no_items : {X : Type 0} (xs : List X) → length xs ≡ 0 → xs ≡ []
 no_items [] h = refl
 no_items (x ∷ xs) h = absurd (omega arith)
+
+-- the length of the front of a list that is read twice
+pub front_counted : {X : Type 0} (n : ℕ) (first again xs : List X) → n ≤ length first → first ≡ xs → again ≡ xs → n ≡ length (take n again)
+front_counted n first again xs within is same = rw same (sym (length-take-le n xs (rw is at within)))

@@ -13,7 +13,7 @@ use Rattle.rad_lane.specs.declared.stepping.Action.TheVariants.{Idle}
 use Rattle.rad_lane.specs.declared.stepping.NextDue.TheVariants.{Now, Later}
 use Rattle.rad_lane.specs.declared.watch.Watch.TheVariants.{Up as up}
 use Rattle.rad_lane.specs.Book.{Book, outstanding_at}
-use Rattle.rad_lane.specs.Dues.{NoneDue, IsNextDue, IsLeastOfAll, as_moment}
+use Rattle.rad_lane.specs.Dues.{NoneDue, IsNextDue, IsSpentDue, IsLeastOfAll, as_moment}
 use Rattle.rad_lane.specs.Lawful.{ProbeStands}
 use Rattle.rad_lane.specs.Steps.{StepsWhileUp, NothingToSend}
 use Rattle.rad_lane.specs.Entries.{due_in, number_in, is_spent_in}
@@ -75,6 +75,10 @@ module _ (book value : Book) (same : book ≡ value) (is_up : value.watch ≡ up
 pub none_due : (book : Book) (now : ℕ) (which : Bool) (next : Option ℕ) → FindsNextDue book now which (Later next) → NoneDue book now which
 none_due book now which None h slot entry there kind = absurd (h slot entry there kind)
 none_due book now which (Some due) h slot entry there kind = let least = h.least slot entry there kind in omega (arith, h.later, least)
+
+-- something spent is due
+pub spent_due : (book : Book) (now : ℕ) (slot : Slot) → FindsNextDue book now true (Now slot) → IsSpentDue book now
+spent_due book now slot h = record { slot = slot; entry = h.0; there = h.1.there; spent = h.1.kind; due = h.1.due }
 
 module _ (book : Book) where
   none_at_all : (b : Bool) (slot : Slot) (entry : Outstanding) → outstanding_at book slot entry → is_spent entry ≡ b → NoneIsSo book false → NoneIsSo book true → ⊥

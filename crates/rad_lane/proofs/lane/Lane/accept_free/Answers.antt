@@ -1,11 +1,12 @@
-use Rattle.std.proofs.Common.{◌≡◌, ◌∙◌, None, ap, sym, refl}
+use Rattle.std.proofs.Common.{◌≡◌, ◌≤◌, ◌∙◌, None, ap, sym, subst, refl}
 use Rattle.std.specs.FinMap as map
 use Rattle.rad_tables.proofs.KeyLemmas.{as_before, there_inserted}
 use Rattle.rad_lane.specs.Book.{Book}
 use Rattle.rad_lane.specs.Repeat.{repeats}
 use Rattle.rad_lane.specs.Accepts.{request_key, with_request}
 use Rattle.rad_lane.proofs.LawfulAfterAccept.{stands_accepted, seen_accepted}
-use Rattle.rad_lane.proofs.RepeatFound.{repeats_known, repeats_seen, repeat_accepted}
+use Rattle.rad_lane.proofs.RepeatFound.{repeats_known, repeats_seen, repeat_accepted, since_opening}
+use Rattle.rad_lane.proofs.NewRefused.{leaves_room}
 use Rattle.rad_lane.proofs.lane.Lane.accept_free.Goals as goal
 
 pub returns-in_default : goal.returns-in_default
@@ -72,3 +73,23 @@ returns g c =
           ∙ ap (λ n. with_request c.args.self.now c.args.request.now n) c.moment_of-now.ensures.value,
       c.in_default-taken_as.ensures.1,
     )
+
+pub since-seen-requires-clause-told : goal.since-seen-requires-clause-told
+since-seen-requires-clause-told g c = c.self.invariant.indices
+
+pub since-seen-requires-clause-rising : goal.since-seen-requires-clause-rising
+since-seen-requires-clause-rising g c = c.self.invariant.lawful.serials_rise
+
+pub invariant_of-self : goal.invariant_of-self
+invariant_of-self g c = rw c.in_default.ensures.err c.self.invariant
+
+pub repeat_of-requires : goal.repeat_of-requires
+repeat_of-requires g c =
+    rw c.since-seen.ensures.opening
+    (since_opening c.self.inside.duplicates _ c.self.invariant.since_opening _ _ c.in-Ok.ensures.last)
+
+pub set_last-requires : goal.set_last-requires
+set_last-requires g c = subst (λ (b : Book). b.last ≤ c.moment_of-now.result) (sym c.self.view_is) c.moment_of-now.ensures.later
+
+pub record_of-requires : goal.record_of-requires
+record_of-requires g c = leaves_room c.args.request.now c.requires.free.3

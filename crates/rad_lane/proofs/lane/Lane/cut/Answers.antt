@@ -1,7 +1,8 @@
-use Rattle.std.proofs.Common.{◌+◌, take, refl, ap, ◌∙◌}
+use Rattle.std.proofs.Common.{◌+◌, take, refl, sym, ap, ◌∙◌}
 use Rattle.rad_lane.specs.Volumes.{is_below, answers_below}
-use Rattle.rad_lane.proofs.ListLemmas.{filter_front}
-use Rattle.rad_lane.proofs.ConsistentAfterCut.{below_counted, under_keys, stands_cut, cut_seen}
+use Rattle.rad_lane.proofs.ListLemmas.{filter_front, front_counted}
+use Rattle.rad_lane.proofs.NotDone.{not_done, stays_so}
+use Rattle.rad_lane.proofs.ConsistentAfterCut.{below_counted, under_keys, stands_cut, cut_seen, within_here, counted, cells_within, opening_fits}
 use Rattle.rad_lane.proofs.lane.Lane.cut.Goals as goal
 
 pub end_of-end-requires : goal.end_of-end-requires
@@ -30,3 +31,41 @@ returns-clause-ok g c =
     in
     rw (c.drop_front.ensures, c.drop_below.ensures, c.from_vec.ensures, c.in_ok-stamps.ensures.items, c.as_slice.ensures, c.from_vec-2.ensures, answered)
     (cut_seen _ _ _ _ _ _ c.self.inside.slots _ _ _ _ c.self.view_is c.args.now c.args.count c.requires.later c.requires.is_cut c.requires.within _ _ _ _ c.self.invariant _ _ refl refl)
+
+pub overflow_add-next : goal.overflow_add-next
+overflow_add-next g c =
+    opening_fits _ _ _ _ _ _ c.self.inside.slots _ _ _ _ c.self.view_is c.args.now c.args.count c.requires.later c.requires.is_cut c.requires.within _ _ _ _ c.self.invariant
+
+pub slice_bounds-from_slice-end : goal.slice_bounds-from_slice-end
+slice_bounds-from_slice-end g c =
+    rw c.as_slice.ensures
+    (sym (counted _ _ _ _ _ _ c.self.inside.slots _ _ _ _ c.self.view_is c.args.now c.args.count c.requires.later c.requires.is_cut c.requires.within _ _ _ _ c.self.invariant))
+
+pub returns-in_err-stamps-clause-ok : goal.returns-in_err-stamps-clause-ok
+returns-in_err-stamps-clause-ok g c = not_done c.from_residual.result _ c.from_residual.ensures.0
+
+pub returns-in_err-stamps-clause-err : goal.returns-in_err-stamps-clause-err
+returns-in_err-stamps-clause-err g c = stays_so c.from_residual.result _ refl
+
+pub slice_bounds-answers_below-end : goal.slice_bounds-answers_below-end
+slice_bounds-answers_below-end g c = front_counted c.end_of-end.result _ _ _ c.end_of-end.ensures.within c.as_slice-2.ensures c.as_slice-3.ensures
+
+pub returns-in_err-answered-clause-ok : goal.returns-in_err-answered-clause-ok
+returns-in_err-answered-clause-ok g c = not_done c.from_residual-in_err-answered.result _ c.from_residual-in_err-answered.ensures.0
+
+pub returns-in_err-answered-clause-err : goal.returns-in_err-answered-clause-err
+returns-in_err-answered-clause-err g c = stays_so c.from_residual-in_err-answered.result _ refl
+
+pub drop_front-requires : goal.drop_front-requires
+drop_front-requires g c =
+    within_here _ _ _ _ _ _ c.self.inside.slots _ _ _ _ c.self.view_is c.args.now c.args.count c.requires.later c.requires.is_cut c.requires.within _ _ _ _ c.self.invariant
+
+pub drop_front-requires-2 : goal.drop_front-requires-2
+drop_front-requires-2 g c =
+    cells_within _ _ _ _ _ _ c.self.inside.slots _ _ _ _ c.self.view_is c.args.now c.args.count c.requires.later c.requires.is_cut c.requires.within _ _ _ _ c.self.invariant
+
+pub drop_below-requires-clause-within : goal.drop_below-requires-clause-within
+drop_below-requires-clause-within g c = rw c.as_slice-2.ensures at c.end_of-end.ensures.within
+
+pub drop_below-requires-clause-none_behind : goal.drop_below-requires-clause-none_behind
+drop_below-requires-clause-none_behind g c = rw c.as_slice-2.ensures at c.end_of-end.ensures.none_behind

@@ -1,6 +1,7 @@
 use Rattle.std.proofs.Common.{◌∙◌, refl, ap, sym, subst, arith}
 use Rattle.rad_lane.specs.declared.stamp.Stamp.{Stamp}
 use Rattle.rad_lane.specs.Book.{Book}
+use Rattle.rad_lane.specs.Hears.{with_answer}
 use Rattle.rad_lane.specs.internal.KeepAnswer.{AnswersSending}
 use Rattle.rad_lane.proofs.LawfulAfterAnswer.{number_since, number_within, stands_answered, served_within, one_less}
 use Rattle.rad_lane.proofs.lane.Lane.keep_answer.Goals as goal
@@ -44,3 +45,11 @@ invariant_of-self g c = rw c.reserve_one.ensures.items c.self.invariant
 
 pub returns-in_default-clause-err : goal.returns-in_default-clause-err
 returns-in_default-clause-err g c = (refl, rw c.reserve_one.ensures.items c.self.view_is)
+
+pub push-requires : goal.push-requires
+push-requires g c = c.in-Ok.ensures.ok
+
+pub returns-clause-ok : goal.returns-clause-ok
+returns-clause-ok g c =
+    rw (c.push.ensures, c.take.ensures.taken, c.reserve_one.ensures.items)
+    (ap (λ (b : Book). with_answer b c.args.now c.args.slot c.args.answer) c.self.view_is)

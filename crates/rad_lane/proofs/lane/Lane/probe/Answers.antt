@@ -1,4 +1,7 @@
-use Rattle.std.proofs.Common.{◌≡◌, length, arith}
+use Rattle.std.proofs.Common.{◌≡◌, length, ap, ◌∙◌, arith}
+use Rattle.rad_tables.specs.Pairs.{Table}
+use Rattle.rad_lane.specs.Book.{Book}
+use Rattle.rad_lane.specs.declared.entry.Entry.{Entry}
 use Rattle.rad_lane.proofs.LawfulAfterWatch.{few_free, stands_probed, is_probe}
 use Rattle.rad_lane.proofs.lane.Lane.probe.Goals as goal
 
@@ -14,3 +17,16 @@ invariant_of-self g c =
     let made = is_probe c.self.inside.setup c.free_slot-slot.result _ _ c.args.random _ sixteen c.of.ensures c.make_status.ensures.made c.home.ensures in
     rw (c.put.ensures, c.free.ensures)
     (stands_probed _ _ _ _ _ _ c.self.inside.slots _ _ _ _ c.self.view_is c.args.now c.requires.later _ _ _ c.self.invariant _ _ c.args.out c.requires.is_down.1 c.free_slot-slot.result _ _ _ free in_range made)
+
+pub free_slot-slot-requires-clause-pairs : goal.free_slot-slot-requires-clause-pairs
+free_slot-slot-requires-clause-pairs g c = ap (λ (t : Table Entry). t.ports) c.free.ensures ∙ c.self.invariant.ports_are
+
+pub put-requires-clause-in_range : goal.put-requires-clause-in_range
+put-requires-clause-in_range g c = c.free_slot-slot.ensures.in_range
+
+pub put-requires-clause-free : goal.put-requires-clause-free
+put-requires-clause-free g c = c.free_slot-slot.ensures.free.free
+
+pub returns-clause-another : goal.returns-clause-another
+returns-clause-another g c = λ is.
+    c.free_slot-slot.ensures.another (ap (λ (t : Table Entry). t.allotted) c.free.ensures ∙ ap (λ (b : Book). b.allotted) c.self.view_is ∙ is)

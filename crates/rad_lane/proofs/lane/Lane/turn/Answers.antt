@@ -1,7 +1,11 @@
-use Rattle.std.proofs.Common.{take, drop, refl, ap, ◌∙◌, subst}
+use Rattle.std.proofs.Common.{◌++◌, take, drop, refl, ap, ◌∙◌, subst}
+use Rattle.std.proofs.lemmas.List.{take-append-drop}
 use Rattle.rad_config.specs.declared.limits.LimitNumbers.{LimitNumbers}
+use Rattle.rad_lane.specs.declared.turning.Volume.{Volume}
+use Rattle.rad_lane.specs.Book.{Book}
+use Rattle.rad_lane.specs.Repeat.{repeats}
 use Rattle.rad_lane.specs.Volumes.{BeginsUnended}
-use Rattle.rad_lane.proofs.ConsistentAfterCut.{cut_is, cut_some, none_over}
+use Rattle.rad_lane.proofs.ConsistentAfterCut.{cut_within, cut_is, cut_some, none_over}
 use Rattle.rad_lane.proofs.VolumeLeaves.{volume_answered, volume_repeats}
 use Rattle.rad_lane.proofs.lane.Lane.turn.Goals as goal
 
@@ -61,3 +65,24 @@ returns-then-count-eq0-clause-turns g c =
           (none_over _ _ c.self.view_is _ _ _ _ _ c.self.invariant _ c.as_slice.ensures _ span c.moment_of-now.result c.count_over-count.result found.within found.over found.longest c.if-count-eq0.true),
       refl,
     )
+
+pub returns-then-count-eq0-clause-repeats : goal.returns-then-count-eq0-clause-repeats
+returns-then-count-eq0-clause-repeats g c = λ key later after. refl
+
+pub cut-requires-clause-later : goal.cut-requires-clause-later
+cut-requires-clause-later g c = c.moment_of-now.ensures.later
+
+pub cut-requires-clause-within : goal.cut-requires-clause-within
+cut-requires-clause-within g c =
+    let span = ap (λ (n : LimitNumbers). n.span) (c.numbers-span.ensures.value ∙ c.limits.ensures.value) in
+    let found = c.count_over-count.ensures in
+    cut_within _ _ c.self.view_is _ _ _ _ _ c.self.invariant _ c.as_slice.ensures _ span c.moment_of-now.result c.count_over-count.result found.within found.over found.longest
+
+pub returns-in-Ok-clause-joined : goal.returns-in-Ok-clause-joined
+returns-in-Ok-clause-joined g c =
+    ap (λ (v : Volume). v.stamps ++ c.cut.new.self.accepted) c.in-Ok.ensures.ok.0
+    ∙ ap (λ (b : Book). take c.count_over-count.result c.args.self.now.accepted ++ b.accepted) c.in-Ok.ensures.ok.1
+    ∙ take-append-drop c.count_over-count.result c.args.self.now.accepted
+
+pub returns-in-Err-clause-repeats : goal.returns-in-Err-clause-repeats
+returns-in-Err-clause-repeats g c = λ key later after. ap (λ (b : Book). repeats b key later) c.in-Err.ensures.err
