@@ -22,6 +22,13 @@ use Rattle.rad_lane.specs.Watch.{GoesUpIfDown}
 use Rattle.rad_lane.specs.Lawful.{IsLawful}
 use Rattle.rad_lane.proofs.LawfulAfterAnswer.{has_passed, identifier_is}
 
+-- the pair at which a packet with the Identifier of the pair arrived
+pub pair_is : (slot : Slot) (packet : List ℕ) → slot.identifier ≡ identifier_of packet → slot ≡ pair slot.port packet
+pair_is slot packet same = ap (λ (i : ℕ). let s : Slot = record { port = slot.port; identifier = i } in s) same
+
+pub passed_by : (moment last now : ℕ) → moment ≤ last → last ≤ now → moment ≤ now
+passed_by moment last now passed later = omega (arith, passed, later)
+
 module _ (book : Book) (port : ℕ) (datagram packet : List ℕ) (read : ReadsAs datagram packet) (code : code_of packet ≡ 5) (slot : Slot) (is_pair : slot ≡ pair port packet) where
   by_reason : (entry : Outstanding) → outstanding_at book (pair port packet) entry → (reason : ReplyFault) → RefusesReply entry.octets packet book.setup.home_secret reason → RefusesToHear book port datagram (fault_of reason)
   by_reason entry there reply.BadAuthenticator refuses = (packet, read, (code, sending entry, there, refuses))

@@ -1,15 +1,19 @@
 //! Hearing a datagram from the home server.
 
-ghost use Rattle.std.specs.Prelude.{◌≡◌, ◌≤◌, IfOk, IfErr};
+ghost use Rattle.std.specs.Prelude.{◌≡◌, ◌≤◌, ℕ, List, IfOk, IfErr};
+ghost use Rattle.rad_packet.specs.Packet.{code_of, identifier_of};
+ghost use Rattle.rad_packet.specs.Reading.{ReadsAs};
+ghost use Rattle.rad_lane.specs.Book.{moment_in};
 ghost use Rattle.rad_lane.specs.declared.hearing.HearFault.TheVariants.{OutOfMemory};
 ghost use Rattle.rad_lane.specs.Hears.{Hears, with_answer};
 ghost use Rattle.rad_lane.specs.internal.KeepAnswer.{AnswersSending};
 
 use crate::answered::AnswerIndex;
+use crate::watch::free;
 use crate::{Answered, Entry, Lane, Outgoing, Record};
 use block_queue::Fifo;
 use rad_auth::{ACCOUNTING_RESPONSE, ReplyFault, check_response};
-use rad_packet::{ReadFault, read};
+use rad_packet::{PacketRef, ReadFault, read};
 use rad_tables::{Moment, Slot};
 use std::alloc::Global;
 use std::fmt;
@@ -119,17 +123,33 @@ impl<Q: Fifo<Record>> Lane<Q> {
             identifier: packet.identifier(),
         };
         let now = self.moment_of(moment);
+        self.hear_response(alloc, now, slot, &packet)
+    }
+
+    /// Hears an Accounting-Response that arrived at the source port of a pair and has the pair's Identifier.
+    fn hear_response(
+        &mut self,
+        alloc: Global,
+        now: Moment,
+        slot: Slot,
+        packet: &PacketRef<'_>,
+    ) -> Result<Heard, HearFault>
+        requires later { self.old.last ≤ now }
+        requires code { code_of packet.now ≡ 5 }
+        requires identifier { slot.identifier ≡ identifier_of packet.now }
+        ensures { (moment : ℕ) (datagram : List ℕ) → now ≡ moment_in self.old moment → ReadsAs datagram packet.now → Hears self.old moment slot.port datagram result self.new }
+    {
         match self.slots.get(slot) {
             None => Err(HearFault::Unknown),
             Some(Entry::Probe(probe)) => {
-                if !check_response(&packet, &probe.authenticator(), self.setup.home()) {
+                if !check_response(packet, &probe.authenticator(), self.setup.home()) {
                     return Err(HearFault::BadAuthenticator);
                 }
                 self.go_up_if_down(now);
                 Ok(Heard::ProbeAnswered)
             }
             Some(Entry::Sending(sending)) => {
-                let (answer, outgoing) = sending.answer(alloc, &packet, now, self.served)?;
+                let (answer, outgoing) = sending.answer(alloc, packet, now, self.served)?;
                 self.keep_answer(slot, answer, now)?;
                 self.go_up_if_down(now);
                 Ok(Heard::Answer(outgoing))
@@ -154,7 +174,7 @@ impl<Q: Fifo<Record>> Lane<Q> {
             return Err(HearFault::OutOfMemory);
         };
         let place = (answer.stamp().number - self.opening) as usize;
-        self.slots.take(slot);
+        free(&mut self.slots, Some(slot));
         self.indices.set(
             place,
             Some(AnswerIndex {

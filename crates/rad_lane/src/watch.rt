@@ -129,11 +129,11 @@ impl<Q: Fifo<Record>> Lane<Q> {
     }
 }
 
-/// Frees the pair of a probe.
-pub(crate) fn free(slots: &mut Slots<Entry>, probe: Option<Slot>)
-    ensures { slots.new ≡ record slots.old { entries = freed slots.old.entries probe } }
+/// Frees a pair, if there is one.
+pub(crate) fn free(slots: &mut Slots<Entry>, pair: Option<Slot>)
+    ensures { slots.new ≡ record slots.old { entries = freed slots.old.entries pair } }
 {
-    if let Some(slot) = probe {
+    if let Some(slot) = pair {
         slots.take(slot);
     }
 }

@@ -36,7 +36,7 @@ invariant_of-self-2 g c =
     let last = ap (λ (b : Book). b.last) c.self.view_is in
     let later = c.requires.later in
     let number = ap (λ (s : Stamp). s.number) (c.stamp.ensures.value ∙ a.keeps.stamp) in
-    rw (c.push.ensures, c.take.ensures.taken, c.set.ensures, c.reserve_one.ensures.items, number)
+    rw (c.push.ensures, c.free.ensures, c.set.ensures, c.reserve_one.ensures.items, number)
     (stands_answered _ c.self.invariant.lawful c.args.slot a.entry a.there c.args.now (omega (arith, last, later)) _ _ a.keeps _ c.self.invariant.cells_are c.self.invariant.indices _ _ _ _ c.self.invariant)
 
 -- where memory is refused, nothing changes
@@ -51,5 +51,5 @@ push-requires g c = c.in-Ok.ensures.ok
 
 pub returns-clause-ok : goal.returns-clause-ok
 returns-clause-ok g c =
-    rw (c.push.ensures, c.take.ensures.taken, c.reserve_one.ensures.items)
+    rw (c.push.ensures, c.free.ensures, c.reserve_one.ensures.items)
     (ap (λ (b : Book). with_answer b c.args.now c.args.slot c.args.answer) c.self.view_is)
