@@ -289,3 +289,27 @@ module _ (setup : LaneSetup) (opening : ℕ) (accepted : List Stamp) (kept : Lis
     cut_seen volume new is becomes =
         subst (λ (b : Book). (volume ≡ volume_of b (take n b.accepted)) × (new ≡ without_cut b now (take n b.accepted) (drop n b.accepted))) same
         (is ∙ ap (λ m. the_volume m) (sym counted), becomes ∙ as_cut)
+
+    -- the same of lists that are read from the fields
+    module _ (left : List Stamp) (left_is : left ≡ drop n accepted) (others : List AnswerKept) (others_are : others ≡ answers_since (opening + n) answered) where
+      abbrev left_book : Book
+      left_book = book_of setup (opening + n) left kept others served slots drain watch now
+
+      left_book_is : left_book ≡ cut_book
+      left_book_is =
+          ap (λ (xs : List Stamp). book_of setup (opening + n) xs kept others served slots drain watch now) left_is
+          ∙ ap (λ (xs : List AnswerKept). book_of setup (opening + n) (drop n accepted) kept xs served slots drain watch now) others_are
+
+      pub stands_left : (left_cells : List (Option AnswerIndex)) → left_cells ≡ drop n cells → (gone : List Stamp) → gone ≡ take n accepted → (forgotten : map.FinMap key_cmp ℕ) → ((key : Key) → map.get forgotten key ≡ unless_of gone (map.get numbers key)) → IsConsistent left_book kept ports forgotten left_cells count
+      stands_left left_cells cells_are gone gone_are forgotten forgets =
+          subst (λ (b : Book). IsConsistent b kept ports forgotten left_cells count) (sym left_book_is)
+          (subst (λ (xs : List (Option AnswerIndex)). IsConsistent cut_book kept ports forgotten xs count) (sym cells_are)
+          (stands_cut forgotten (subst (λ (xs : List Stamp). (key : Key) → map.get forgotten key ≡ unless_of xs (map.get numbers key)) gone_are forgets)))
+
+      pub left_seen : (gone : List Stamp) → gone ≡ take n accepted → (below : List AnswerKept) → below ≡ answers_below (opening + n) answered
+          → ((let volume : Volume = record { opening = opening; stamps = gone; answered = below } in volume) ≡ volume_of value (take n value.accepted)) × (left_book ≡ without_cut value now (take n value.accepted) (drop n value.accepted))
+      left_seen gone gone_are below below_are =
+          cut_seen _ _
+          (ap (λ (xs : List Stamp). let volume : Volume = record { opening = opening; stamps = xs; answered = below } in volume) gone_are
+          ∙ ap (λ (xs : List AnswerKept). let volume : Volume = record { opening = opening; stamps = take n accepted; answered = xs } in volume) below_are)
+          left_book_is

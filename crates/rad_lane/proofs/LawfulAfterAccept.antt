@@ -153,3 +153,45 @@ module _ (setup : LaneSetup) (opening : ℕ) (accepted : List Stamp) (kept : Lis
     seen_accepted s count is =
         as_request request now k s.lawful (is ∙ ap (λ n. record_of n request now) (count ∙ ap (λ (b : Book). next_number b) (sym same)))
         ∙ ap (λ (b : Book). with_request b request now) same
+
+    -- the same of fields that are read after the changes
+    module _ (all : List Stamp) (all_are : all ≡ accepted ++ k.recorded.stamp ∷ []) (queue : List Kept) (queue_is : queue ≡ kept ++ k ∷ []) where
+      abbrev taken_book : Book
+      taken_book = book_of setup opening all queue answered served slots drain watch now
+
+      taken_book_is : taken_book ≡ book_of setup opening (accepted ++ k.recorded.stamp ∷ []) (kept ++ k ∷ []) answered served slots drain watch now
+      taken_book_is =
+          ap (λ (xs : List Stamp). book_of setup opening xs queue answered served slots drain watch now) all_are
+          ∙ ap (λ (xs : List Kept). book_of setup opening (accepted ++ k.recorded.stamp ∷ []) xs answered served slots drain watch now) queue_is
+
+      pub stands_taken : (key : Key) → key ≡ request_key request → (replaced : map.FinMap key_cmp ℕ) → replaced ≡ map.insert numbers key number → (more : List (Option AnswerIndex)) → more ≡ cells ++ None ∷ []
+          → IsConsistent before kept ports numbers cells outstanding → value.last ≤ now → IsTaken value request → repeats value (request_key request) now ≡ fresh → IsRefused value request OutOfMemory → number ≡ next_number value → k.recorded ≡ record_of number request now → IsRecord k.recorded → HasRoom k
+          → IsConsistent taken_book queue ports replaced more outstanding
+      stands_taken key key_is replaced replaced_is more more_is s later taken new free count is is_record room =
+          let numbers_are : replaced ≡ map.insert numbers (request_key request) number = replaced_is ∙ ap (λ q. map.insert numbers q number) key_is in
+          subst (λ (b : Book). IsConsistent b queue ports replaced more outstanding) (sym taken_book_is)
+          (subst (λ (xs : List Kept). IsConsistent (book_of setup opening (accepted ++ k.recorded.stamp ∷ []) (kept ++ k ∷ []) answered served slots drain watch now) xs ports replaced more outstanding) (sym queue_is)
+          (subst (λ m. IsConsistent (book_of setup opening (accepted ++ k.recorded.stamp ∷ []) (kept ++ k ∷ []) answered served slots drain watch now) (kept ++ k ∷ []) ports m more outstanding) (sym numbers_are)
+          (subst (λ (xs : List (Option AnswerIndex)). IsConsistent (book_of setup opening (accepted ++ k.recorded.stamp ∷ []) (kept ++ k ∷ []) answered served slots drain watch now) (kept ++ k ∷ []) ports (map.insert numbers (request_key request) number) xs outstanding) (sym more_is)
+          (stands_accepted s later taken new free count is is_record room))))
+
+      pub seen_taken : (at : ℕ) → now ≡ at → IsConsistent before kept ports numbers cells outstanding → number ≡ next_number value → k.recorded ≡ record_of number request now → taken_book ≡ with_request value request at
+      seen_taken at at_is s count is = taken_book_is ∙ seen_accepted s count is ∙ ap (λ n. with_request value request n) at_is
+
+  -- fields that are as they were
+  module _ (all : List Stamp) (all_are : all ≡ accepted) (queue : List Kept) (queue_is : queue ≡ kept) where
+    same_book : book_of setup opening all queue answered served slots drain watch last ≡ before
+    same_book =
+        ap (λ (xs : List Stamp). book_of setup opening xs queue answered served slots drain watch last) all_are
+        ∙ ap (λ (xs : List Kept). book_of setup opening accepted xs answered served slots drain watch last) queue_is
+
+    pub seen_still : (value : Book) → before ≡ value → book_of setup opening all queue answered served slots drain watch last ≡ value
+    seen_still value same = same_book ∙ same
+
+    pub stands_still : (ports : ℕ) (numbers : map.FinMap key_cmp ℕ) (cells : List (Option AnswerIndex)) (outstanding : ℕ) → IsConsistent before kept ports numbers cells outstanding → (restored : map.FinMap key_cmp ℕ) → restored ≡ numbers → (again : List (Option AnswerIndex)) → again ≡ cells
+        → IsConsistent (book_of setup opening all queue answered served slots drain watch last) queue ports restored again outstanding
+    stands_still ports numbers cells outstanding s restored restored_is again again_are =
+        subst (λ (b : Book). IsConsistent b queue ports restored again outstanding) (sym same_book)
+        (subst (λ (xs : List Kept). IsConsistent before xs ports restored again outstanding) (sym queue_is)
+        (subst (λ m. IsConsistent before kept ports m again outstanding) (sym restored_is)
+        (subst (λ (xs : List (Option AnswerIndex)). IsConsistent before kept ports numbers xs outstanding) (sym again_are) s)))

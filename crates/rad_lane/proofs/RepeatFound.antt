@@ -1,9 +1,10 @@
 -- What a request repeats, as it is found by the last number of its key.
-use Rattle.std.proofs.Common.{◌≡◌, ℕ, List, Option, Some, None, refl, sym, ap, ◌∙◌}
+use Rattle.std.proofs.Common.{◌≡◌, ℕ, List, Option, Some, None, IsSome, refl, sym, ap, ◌∙◌, subst}
 use Rattle.std.specs.Prelude.{◌≤◌, IfSome, option_map, Ok}
 use Rattle.std.specs.FinMap as map
 use Rattle.rad_tables.specs.declared.duplicates.Key.{Key}
 use Rattle.rad_tables.specs.Keys.{key_cmp}
+use Rattle.rad_tables.proofs.KeyLemmas.{there_inserted}
 use Rattle.rad_realms.specs.Checking.{Request}
 use Rattle.rad_lane.specs.declared.stamp.Stamp.{Stamp}
 use Rattle.rad_lane.specs.declared.accepting.Taken.{Taken}
@@ -48,6 +49,16 @@ module _ (book value : Book) (same : book ≡ value) (numbers : map.FinMap key_c
   pub repeats_seen : (key : Key) (now span : ℕ) (answered : List AnswerKept) (last : Option ℕ) (told : Repeats) → last ≡ map.get numbers key → span ≡ book.setup.limits.span → answered ≡ book.answered → ((b : Book) → b.setup.limits.span ≡ span → b.answered ≡ answered → told ≡ repeats_number b now last) → repeats value key now ≡ told
   repeats_seen key now span answered last told h spans answers tells =
       sym (tells value (sym (spans ∙ ap (λ (b : Book). b.setup.limits.span) same)) (sym (answers ∙ ap (λ (b : Book). b.answered) same)) ∙ repeats_known key now last h)
+
+  -- the same of a key and a moment that are read
+  pub repeats_told : (key read : Key) → read ≡ key → (at now : ℕ) → now ≡ at → (span : ℕ) (answered : List AnswerKept) (last : Option ℕ) (told : Repeats) → last ≡ map.get numbers read → span ≡ book.setup.limits.span → answered ≡ book.answered → ((b : Book) → b.setup.limits.span ≡ span → b.answered ≡ answered → told ≡ repeats_number b now last) → repeats value key at ≡ told
+  repeats_told key read read_is at now now_is span answered last told h spans answers tells =
+      ap (λ n. repeats value key n) (sym now_is)
+      ∙ repeats_seen key now span answered last told (h ∙ ap (λ q. map.get numbers q) read_is) spans answers tells
+
+-- a key that was inserted has a number
+pub had_inserted : (numbers replaced : map.FinMap key_cmp ℕ) (key : Key) (number : ℕ) → replaced ≡ map.insert numbers key number → IsSome (map.get replaced key)
+had_inserted numbers replaced key number is = subst (λ m. IsSome (map.get m key)) (sym is) (there_inserted numbers key number)
 
 -- the last number of a key is none of those that are gone
 pub since_opening : (numbers : map.FinMap key_cmp ℕ) (opening : ℕ) → ((key : Key) (number : ℕ) → map.get numbers key ≡ Some number → opening ≤ number) → (key : Key) (last : Option ℕ) → last ≡ map.get numbers key → IfSome last (λ number. opening ≤ number)
