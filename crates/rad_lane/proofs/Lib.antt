@@ -32,3 +32,4 @@ pub mod NewRefused
 pub mod ItemsFound
 pub mod CountsSeen
 pub mod NotDone
+pub mod AnswerKeeping
