@@ -33,3 +33,5 @@ pub mod ItemsFound
 pub mod CountsSeen
 pub mod NotDone
 pub mod AnswerKeeping
+pub mod SendingAllowed
+pub mod ProbeSent

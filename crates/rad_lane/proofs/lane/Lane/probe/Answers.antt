@@ -2,6 +2,7 @@ use Rattle.std.proofs.Common.{◌≡◌, length, ap, ◌∙◌, arith}
 use Rattle.rad_tables.specs.Pairs.{Table}
 use Rattle.rad_lane.specs.Book.{Book}
 use Rattle.rad_lane.specs.declared.entry.Entry.{Entry}
+use Rattle.rad_lane.proofs.ProbeSent.{probes_so}
 use Rattle.rad_lane.proofs.LawfulAfterWatch.{few_free, stands_probed, is_probe}
 use Rattle.rad_lane.proofs.lane.Lane.probe.Goals as goal
 
@@ -30,3 +31,9 @@ put-requires-clause-free g c = c.free_slot-slot.ensures.free.free
 pub returns-clause-another : goal.returns-clause-another
 returns-clause-another g c = λ is.
     c.free_slot-slot.ensures.another (ap (λ (t : Table Entry). t.allotted) c.free.ensures ∙ ap (λ (b : Book). b.allotted) c.self.view_is ∙ is)
+
+pub returns-clause-probes : goal.returns-clause-probes
+returns-clause-probes g c =
+    probes_so c.self.inside.setup c.self.inside.opening c.self.inside.accepted.items (g.Q.Fifo.items c.self.inside.queued) c.self.inside.answered.items c.self.inside.served c.self.inside.slots c.self.inside.drain c.self.inside.watch c.self.inside.last c.args.self.now c.self.view_is c.self.invariant.ports_are c.args.now c.args.until c.args.out c.free_slot-slot.result c.free.new.slots c.free.ensures
+    c.free_slot-slot.ensures.free c.args.random c.make_status.new.datagram c.home.result.now c.make_status.ensures.made c.home.ensures c.of.result c.of.ensures c.put.new.self c.put.ensures
+    c.numbers-every.result (c.numbers-every.ensures.value ∙ c.limits.ensures.value) c.get.result c.from.result c.get.ensures.value c.from.ensures c.args.datagram.now

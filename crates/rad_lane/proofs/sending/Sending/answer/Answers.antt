@@ -1,4 +1,4 @@
-use Rattle.std.proofs.Common.{rules, ◌≡◌, ◌≤◌, refl, ap, sym, ◌∙◌, subst, arith, List, ℕ}
+use Rattle.std.proofs.Common.{◌≡◌, ◌≤◌, refl, ap, sym, ◌∙◌, subst, arith, List, ℕ}
 use Rattle.rad_packet.specs.Packet.{identifier_of}
 use Rattle.rad_auth.specs.Forwarding.{forwarded}
 use Rattle.rad_auth.specs.Mark.{EndsWithMark}
@@ -13,6 +13,7 @@ use Rattle.rad_lane.specs.declared.stamp.Stamp.{Stamp}
 use Rattle.rad_lane.specs.Hears.{KeepsAnswer}
 use Rattle.rad_lane.specs.Outstanding.{Outstanding, AnswerKept, IsForwarded, IsAnswered}
 use Rattle.rad_lane.specs.Stamp.{Recorded, IsRecord}
+use Rattle.rad_lane.proofs.NotDone.{not_done, told_fault}
 use Rattle.rad_lane.proofs.sending.Sending.answer.Goals as goal
 
 pub respond-requires-clause-code : goal.respond-requires-clause-code
@@ -98,21 +99,21 @@ pub returns-in_err-reply-clause-err : goal.returns-in_err-reply-clause-err
 returns-in_err-reply-clause-err c =
     let home = ap (λ (o : Outstanding). o.home) c.self.view_is in
     let refused = refused_here c.args.self.now c.packet.result c.args.packet.now c.self.inside.home c.in_err-reply.field-0.0 c.packet.ensures home c.in_err-reply.ensures.refused in
-    search (rules, refused)
+    told_fault c.from_residual.result _ _ c.from_residual.ensures refused
 
 pub returns-in_err-answer-clause-err : goal.returns-in_err-answer-clause-err
 returns-in_err-answer-clause-err c =
     let made = c.in_ok-reply.ensures.made in
     let home = made.4 ∙ ap (λ (o : Outstanding). o.home) c.self.view_is in
     let refused = memory_refused c.args.self.now c.args.packet.now c.in_ok-reply.reply c.in_ok-reply.ensures.answers (made.1 ∙ c.packet.ensures) made.2 home in
-    search (rules, refused)
+    told_fault c.from_residual-in_err-answer.result _ _ c.from_residual-in_err-answer.ensures refused
 
 pub returns-in_err-outgoing-clause-err : goal.returns-in_err-outgoing-clause-err
 returns-in_err-outgoing-clause-err c =
     let made = c.in_ok-reply.ensures.made in
     let home = made.4 ∙ ap (λ (o : Outstanding). o.home) c.self.view_is in
     let refused = memory_refused c.args.self.now c.args.packet.now c.in_ok-reply.reply c.in_ok-reply.ensures.answers (made.1 ∙ c.packet.ensures) made.2 home in
-    search (rules, refused)
+    told_fault c.from_residual-in_err-outgoing.result _ _ c.from_residual-in_err-outgoing.ensures refused
 
 pub returns-clause-kept : goal.returns-clause-kept
 returns-clause-kept c =
@@ -123,3 +124,24 @@ returns-clause-kept c =
     let home : c.in_ok-reply.reply.home ≡ c.args.self.now.home = made.4 ∙ ap (λ (o : Outstanding). o.home) c.self.view_is in
     keeps_made c.args.self.now c.args.packet.now c.stamp-stamp.result c.args.now c.args.serial c.in_ok-reply.reply c.in_ok-answer.answer c.in_ok-answer.ensures c.in_ok-reply.ensures.answers stamp
     (ap (λ (h : RequestHead). h.identifier) made.0) (ap (λ (h : RequestHead). h.authenticator) made.0) (made.1 ∙ c.packet.ensures) made.2 client home
+
+pub returns-in_err-reply-clause-kept : goal.returns-in_err-reply-clause-kept
+returns-in_err-reply-clause-kept c = not_done c.from_residual.result _ c.from_residual.ensures.0
+
+pub returns-in_err-reply-clause-out : goal.returns-in_err-reply-clause-out
+returns-in_err-reply-clause-out c = not_done c.from_residual.result _ c.from_residual.ensures.0
+
+pub returns-in_err-answer-clause-kept : goal.returns-in_err-answer-clause-kept
+returns-in_err-answer-clause-kept c = not_done c.from_residual-in_err-answer.result _ c.from_residual-in_err-answer.ensures.0
+
+pub returns-in_err-answer-clause-out : goal.returns-in_err-answer-clause-out
+returns-in_err-answer-clause-out c = not_done c.from_residual-in_err-answer.result _ c.from_residual-in_err-answer.ensures.0
+
+pub returns-in_err-outgoing-clause-kept : goal.returns-in_err-outgoing-clause-kept
+returns-in_err-outgoing-clause-kept c = not_done c.from_residual-in_err-outgoing.result _ c.from_residual-in_err-outgoing.ensures.0
+
+pub returns-in_err-outgoing-clause-out : goal.returns-in_err-outgoing-clause-out
+returns-in_err-outgoing-clause-out c = not_done c.from_residual-in_err-outgoing.result _ c.from_residual-in_err-outgoing.ensures.0
+
+pub returns-clause-out : goal.returns-clause-out
+returns-clause-out c = c.in_ok-outgoing.ensures
