@@ -97,7 +97,7 @@ impl Answered {
     }
 
     /// Makes an answer. An error means that memory was refused.
-    pub(crate) fn new(
+    fn new(
         alloc: Global,
         stamp: Stamp,
         moment: Moment,
@@ -118,9 +118,26 @@ impl Answered {
         })
     }
 
+    /// Makes an answer, and the response on its way to the client. An error means that memory was refused.
+    pub(crate) fn with_outgoing(
+        alloc: Global,
+        stamp: Stamp,
+        moment: Moment,
+        serial: u64,
+        reply: Reply,
+    ) -> Result<(Answered, Outgoing), AllocError>
+        requires { IsAnswered (record { stamp = stamp; moment = moment; serial = serial; reply = reply }) }
+        ensures answer { IfOk result (λ made. made.0 ≡ record { stamp = stamp; moment = moment; serial = serial; reply = reply }) }
+        ensures out { IfOk result (λ made. GoesOut made.0 made.1) }
+    {
+        let answer = Answered::new(alloc, stamp, moment, serial, reply)?;
+        let outgoing = answer.outgoing(alloc)?;
+        Ok((answer, outgoing))
+    }
+
     /// Returns the response on its way to the client, with a copy of what it rests on. An error means that memory was
     /// refused.
-    pub(crate) fn outgoing(&self, alloc: Global) -> Result<Outgoing, AllocError>
+    fn outgoing(&self, alloc: Global) -> Result<Outgoing, AllocError>
         ensures { IfOk result (GoesOut self.now) }
     {
         let client = self.kept.stamp.client;

@@ -152,9 +152,8 @@ impl Sending {
         };
         let client = self.request.client_secret();
         let reply = respond(alloc, head, &self.packet(), packet, client, &self.home)?;
-        let answer = Answered::new(alloc, stamp, now, serial, reply)?;
-        let outgoing = answer.outgoing(alloc)?;
-        Ok((answer, outgoing))
+        let made = Answered::with_outgoing(alloc, stamp, now, serial, reply)?;
+        Ok(made)
     }
 
     /// Returns the number of the request.
