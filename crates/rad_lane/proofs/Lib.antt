@@ -35,3 +35,5 @@ pub mod NotDone
 pub mod AnswerKeeping
 pub mod SendingAllowed
 pub mod ProbeSent
+pub mod FirstSent
+pub mod SentSeen

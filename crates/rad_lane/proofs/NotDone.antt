@@ -25,3 +25,8 @@ on_true false P h = tt
 pub on_false : (b : Bool) (P : Type 0) → (b ≡ false → P) → OnFalse b P
 on_false true P h = tt
 on_false false P h = h refl
+
+-- what holds in any case holds if it is done
+pub done_so : {T E : Type 0} (result : Result T E) (P : Type 0) → P → IfOk result (λ _. P)
+done_so (Ok value) P h = h
+done_so (Err fault) P h = tt

@@ -1,4 +1,4 @@
-use Rattle.std.proofs.Common.{[], ◌∙◌, arith}
+use Rattle.std.proofs.Common.{[], ◌≡◌, ℕ, ◌+◌, ◌<◌, ap, ◌∙◌, arith}
 use Rattle.std.specs.Prelude.{replicate}
 use Rattle.rad_packet.specs.Packet.{packet_text}
 use Rattle.rad_lane.specs.declared.running.Given.{Given}
@@ -19,16 +19,23 @@ loop-event-preserved g c =
       runs = runs_on _ c.args.events.now c.loop-event.event-index c.event-item.result c.loop-event-test.true c.event-item.is _ _ _ _ _ given c.push_reserved.ensures.items _ c.loop-event.invariant.datagram _ c.copy.ensures c.loop-event.invariant.runs c.give-answer.ensures;
       datagram = came_on _ c.args.events.now c.loop-event.event-index c.event-item.result c.loop-event-test.true c.event-item.is c.args.lane.now c.loop-event.lane c.give-answer.new.lane _ _ given c.push_reserved.ensures.items _ c.loop-event.invariant.datagram _ c.copy.ensures;
       setup = gives_stays _ _ _ _ _ c.give-answer.ensures ∙ c.loop-event.invariant.setup;
-      count = grind (arith, c.push_reserved.ensures.len, c.loop-event.invariant.count);
-      room = grind (arith, c.push_reserved.ensures.capacity, c.loop-event.invariant.room);
+      count = c.push_reserved.ensures.len ∙ ap (λ n. n + 1) c.loop-event.invariant.count;
+      room = c.push_reserved.ensures.capacity ∙ c.loop-event.invariant.room;
     }
 
 pub returns-clause-headline : goal.returns-clause-headline
 returns-clause-headline g c =
-    let all = take_all c.loop-event.event-index c.args.events.now (omega arith) in
+    let all = take_all c.loop-event.event-index c.args.events.now c.loop-event-test.false in
     record {
       was_lawful = c.look_at.ensures;
       is_lawful = c.look_at-2.ensures;
       each_call = rw all at c.loop-event.invariant.runs;
       none_lost = runs_lose_none _ _ _ _ _ (rw all at c.loop-event.invariant.runs);
     }
+
+-- each event has its place in the list of results
+place_left : (count index room events : ℕ) → count ≡ index → room ≡ events → index < events → count < room
+place_left count index room events counted all below = omega (arith, counted, all, below)
+
+pub push_reserved-requires : goal.push_reserved-requires
+push_reserved-requires g c = place_left _ _ _ _ c.loop-event.invariant.count c.loop-event.invariant.room c.loop-event-test.true

@@ -1,3 +1,4 @@
+use Rattle.std.proofs.Common.{◌≤◌, sym, subst}
 use Rattle.rad_lane.proofs.LawfulWhenEmpty.{stands_empty}
 use Rattle.rad_lane.proofs.lane.Lane.new.Goals as goal
 
@@ -6,3 +7,9 @@ invariant_of-result g c =
     let last = rw c.unwrap.ensures at c.new-in-Ok-6.ensures in
     rw (c.in-Ok.ensures, c.ports.ensures.value, c.new-in-Ok.ensures, c.new-in-Ok-2.ensures, c.new-in-Ok-3.ensures, c.new-in-Ok-4.ensures, c.new-in-Ok-5.ensures, last.1)
     (stands_empty c.args.setup c.ports.ensures.least c.ports.ensures.most)
+
+pub new-requires-clause-least : goal.new-requires-clause-least
+new-requires-clause-least g c = subst (λ n. 1 ≤ n) (sym c.ports.ensures.value) c.ports.ensures.least
+
+pub new-requires-clause-most : goal.new-requires-clause-most
+new-requires-clause-most g c = subst (λ n. n ≤ 4) (sym c.ports.ensures.value) c.ports.ensures.most
