@@ -1,7 +1,6 @@
 -- A sending as it is made, from what was read and written for it.
-use Rattle.std.proofs.Common.{◌≡◌, ℕ, ◌+◌, ◌<◌, ◌≤◌, List, length, refl, sym, ap, ◌∙◌, subst, arith, Fits, w8}
+use Rattle.std.proofs.Common.{◌≡◌, ℕ, ◌+◌, ◌≤◌, List, sym, ap, ◌∙◌, subst, arith, Fits, w8}
 use Rattle.rad_auth.specs.Forwarding.{forwarded}
-use Rattle.rad_auth.specs.declared.mark.Mark.{Mark}
 use Rattle.rad_config.specs.declared.limits.LimitNumbers.{LimitNumbers}
 use Rattle.rad_config.specs.Limits.{AreInRange}
 use Rattle.rad_tables.specs.Waiting.{wait_of}

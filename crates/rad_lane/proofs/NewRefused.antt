@@ -1,5 +1,5 @@
 -- Why a lane refuses a new request, by the tests of its fields.
-use Rattle.std.proofs.Common.{◌≡◌, ℕ, ◌+◌, ◌^◌, ◌<◌, ◌≤◌, ◌⊎◌, inl, inr, Bool, false, List, length, Option, refl, sym, ap, ◌∙◌, subst, arith}
+use Rattle.std.proofs.Common.{◌≡◌, ℕ, ◌^◌, ◌<◌, ◌≤◌, inl, inr, Bool, false, List, length, sym, ap, ◌∙◌, arith}
 use Rattle.std.specs.Prelude.{map as each, IsNone}
 use Rattle.std.specs.Option.{is_some}
 use Rattle.std.proofs.lemmas.List.{length-map}
@@ -7,7 +7,7 @@ use Rattle.std.proofs.lemmas.Bool.Decides.{leb_tells}
 use Rattle.rad_config.specs.declared.limits.LimitNumbers.{LimitNumbers}
 use Rattle.rad_realms.specs.Checking.{Request}
 use Rattle.rad_lane.specs.declared.stamp.Stamp.{Stamp}
-use Rattle.rad_lane.specs.Stamp.{Kept, Recorded}
+use Rattle.rad_lane.specs.Stamp.{Kept}
 use Rattle.rad_lane.specs.Book.{Book, next_number}
 use Rattle.rad_lane.specs.Accepts.{IsBookFull, IsQueueFull, IsTooLong}
 

@@ -1,5 +1,5 @@
 -- The fields of a lane as a probe is sent.
-use Rattle.std.proofs.Common.{◌≡◌, ℕ, ◌+◌, ◌≤◌, List, Option, Some, refl, sym, ap, ◌∙◌, subst}
+use Rattle.std.proofs.Common.{◌≡◌, ℕ, ◌+◌, List, Option, Some, ap, ◌∙◌, subst}
 use Rattle.std.specs.FinMap as map
 use Rattle.rad_auth.specs.Status.{status_server}
 use Rattle.rad_config.specs.declared.limits.LimitNumbers.{LimitNumbers}

@@ -1,4 +1,4 @@
-use Rattle.std.proofs.Common.{ℕ, Some, None, refl, ap, sym, subst, ◌∙◌}
+use Rattle.std.proofs.Common.{ℕ, Some, refl, ap, sym, subst, ◌∙◌}
 use Rattle.std.specs.FinMap as map
 use Rattle.rad_lane.specs.declared.entry.Entry.{Entry}
 use Rattle.rad_auth.specs.declared.responding.ReplyFault.TheVariants as reply
