@@ -15,7 +15,7 @@ ghost use Rattle.rad_lane.specs.Setup.{IsOf};
 use crate::desk::Desk;
 use crate::proxy::Stepped;
 use rad_auth::Secret;
-use rad_lane::{Action, Counts, Refusal, Taken};
+use rad_lane::{Action, Counts, Refusal, Stamp, Taken};
 use rad_packet::Datagram;
 use rad_realms::Checked;
 use rad_tables::Moment;
@@ -57,7 +57,7 @@ impl Desk {
     {
         self.keep_law();
         let taken = self.lane.accept(alloc, request, moment, datagram);
-        let _ = self.lane.accepted();
+        self.keep_law();
         taken
     }
 
@@ -92,7 +92,7 @@ impl Desk {
     {
         self.keep_law();
         let action = self.lane.step(moment, random, datagram);
-        let _ = self.lane.accepted();
+        self.keep_law();
         action
     }
 
@@ -155,6 +155,14 @@ impl Desk {
     pub(crate) fn keep_law(&self)
         ensures { IsLawful (book self.now) }
     {
-        let _ = self.lane.accepted();
+        let _ = self.accepted();
+    }
+
+    /// Returns the stamps of the requests that the book holds.
+    pub(crate) fn accepted(&self) -> &[Stamp]
+        ensures value { result.now ≡ (book self.now).accepted }
+        ensures lawful { IsLawful (book self.now) }
+    {
+        self.lane.accepted()
     }
 }

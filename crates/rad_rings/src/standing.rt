@@ -30,9 +30,9 @@ impl Desk {
         ensures standing { result ≡ standing_of (book self.now) }
         ensures lawful { IsLawful (book self.now) }
     {
-        let counts = self.lane.counts();
+        let counts = self.counts();
         let first_queued = self.first_queued();
-        let first_held = moment_at(self.lane.accepted(), 0);
+        let first_held = moment_at(self.accepted(), 0);
         let last_answered = moment_of_last(self.lane.answered());
         Standing {
             counts,
@@ -48,7 +48,7 @@ impl Desk {
     fn first_queued(&self) -> Option<Moment>
         ensures { result ≡ option_map (λ r. r.stamp.moment) (slice_get (book self.now).queued 0) }
     {
-        let accepted = self.lane.accepted();
+        let accepted = self.accepted();
         let sent = self.lane.sent().len();
         moment_at(accepted, sent)
     }

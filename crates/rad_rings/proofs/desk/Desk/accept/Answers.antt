@@ -20,7 +20,7 @@ returns-clause-lawful c = record {
   old = c.args.self.now.lane;
   new = c.accept-taken.new.self;
   lawful = c.keep_law.ensures;
-  stays = c.accepted.ensures.lawful;
+  stays = c.keep_law-2.ensures;
   taken = c.requires;
   accepts = c.accept-taken.ensures;
 }

@@ -15,4 +15,4 @@ returns-clause-departs c =
     departs _ _ _ _ _ _ sixteen c.keep_law.ensures c.step-action.ensures.steps
 
 pub returns-clause-lawful : goal.returns-clause-lawful
-returns-clause-lawful c = (c.keep_law.ensures, c.accepted.ensures.lawful)
+returns-clause-lawful c = (c.keep_law.ensures, c.keep_law-2.ensures)
