@@ -6,6 +6,7 @@ pub mod Rests
 pub mod Accounting
 pub mod Inlets
 pub mod Endings
+pub mod Rooms
 pub mod Untouched
 pub mod OutletAfterTurn
 pub mod Standings

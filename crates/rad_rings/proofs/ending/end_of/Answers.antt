@@ -1,7 +1,10 @@
-use Rattle.std.proofs.Common.{◌≡◌, List, refl, sym, ap, ◌∙◌, subst}
+use Rattle.std.proofs.Common.{◌≡◌, List, refl, sym, ap, ◌∙◌, subst, arith}
 use Rattle.rad_lane.specs.declared.counts.Counts.{Counts}
+use Rattle.rad_lane.specs.Stamp.{Kept}
 use Rattle.rad_lane.specs.Outstanding.{AnswerKept}
 use Rattle.rad_lane.specs.Closes.{Left}
+use Rattle.std.specs.Prelude.{map as each, length}
+use Rattle.std.proofs.lemmas.List.{length-map}
 use Rattle.std.specs.FinMap as map
 use Rattle.rad_tables.specs.declared.slots.Slot.{Slot}
 use Rattle.rad_tables.specs.Pairs.{Table}
@@ -38,3 +41,16 @@ returns-clause-end c =
       accounts = accounts (book c.args.desk) left _ lawful leaves (record { accepted = accepted; answered = answered; outstanding = outstanding }) counts;
       rest = subst (λ n. TellsRest c.args.lane (book c.args.desk).answered n c.args.inlet c.rest_of-rest.result) served told;
     }
+
+pub rest_of-rest-requires : goal.rest_of-rest-requires
+rest_of-rest-requires c = c.requires
+
+pub returns-clause-queued : goal.returns-clause-queued
+returns-clause-queued c = ap (λ (l : Left). l.queued) (sym c.into_parts-parts.ensures) ∙ c.close.ensures.leaves.queued
+
+pub returns-clause-bounded : goal.returns-clause-bounded
+returns-clause-bounded c =
+    let kept = c.into_parts-parts.result.queued.items in
+    let queued : each (λ (k : Kept). k.recorded) kept ≡ (book c.args.desk).queued =
+    ap (λ (l : Left). l.queued) (sym c.into_parts-parts.ensures) ∙ c.close.ensures.leaves.queued in
+    omega (arith, length-map kept (λ (k : Kept). k.recorded), ap length queued, c.close.ensures.lawful.queued_bounded, c.close.ensures.bounded)

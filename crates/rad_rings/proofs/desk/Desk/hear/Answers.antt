@@ -1,11 +1,14 @@
 use Rattle.std.proofs.Common.{◌≡◌, ℕ, zero, suc, ◌<◌, ◌↔◌, Bool, true, false, IsTrue, [], ◌∷◌, ◌++◌, length, refl, sym, ap, ◌∙◌, subst, arith}
 use Rattle.std.specs.Prelude.{Ok}
-use Rattle.rad_lane.specs.declared.hearing.Heard.TheVariants.{Answer}
+use Rattle.rad_lane.specs.declared.hearing.Heard.TheVariants.{Answer, ProbeAnswered}
 use Rattle.rad_lane.specs.Hears.{Hears}
 use Rattle.rtrb.specs.Ring.{known_free}
 use Rattle.rad_rings.specs.Outlet.{IsOutlet}
-use Rattle.rad_rings.proofs.Outlets.{outlet_answered, bounded_answered}
+use Rattle.rad_lane.specs.Book.{moment_in}
+use Rattle.rad_rings.proofs.Answers.{same_by_probe}
+use Rattle.rad_rings.proofs.Outlets.{outlet_answered, bounded_answered, outlet_same, bounded_same}
 use Rattle.rad_rings.proofs.desk.Desk.hear.Goals as goal
+use Rattle.rad_rings.proofs.desk.Desk.hear.Goals.{In-Ok-ProbeAnswered}
 
 -- a ring that is not full has a free place
 some_free : (free : ℕ) (full : Bool) → IsTrue full ↔ (free ≡ 0) → full ≡ false → 0 < free
@@ -47,4 +50,56 @@ returns-in-Ok-Answer c =
       seen = c.is_full.ensures.looked.2;
       tells = (some_free free _ c.is_full.ensures.value c.if-is_full.false, response, c.give-serial.ensures.serial, heard, given, sym c.give-serial.ensures.free);
       ring = ((ring.0.0 ∙ looked.0.0, ring.0.1 ∙ looked.0.1, ring.0.2 ∙ looked.0.2, ring.0.3 ∙ looked.0.3), ring.1 ∙ looked.1);
+    }
+
+-- the lane hears this datagram as the answer to its probe
+heard_probe : (c : In-Ok-ProbeAnswered) → Hears c.args.self.now.lane c.args.moment c.args.port c.args.datagram.now (Ok ProbeAnswered) c.hear.new.self
+heard_probe c = subst (λ h. Hears c.args.self.now.lane c.args.moment c.args.port c.args.datagram.now (Ok h) c.hear.new.self) c.in-Ok-ProbeAnswered.field-0-is c.in-Ok-ProbeAnswered.ensures
+
+pub invariant_of-self : goal.invariant_of-self
+invariant_of-self c = record {
+  outlet = subst (IsOutlet c.args.self.now.lane) (sym c.is_full.ensures.looked.1) c.args.self.now.outlet;
+  bounded = c.args.self.now.bounded;
+}
+
+pub returns-then-is_full : goal.returns-then-is_full
+returns-then-is_full c =
+    let looked = c.is_full.ensures.looked in
+    record {
+      free = known_free c.is_full.new.self;
+      seen = looked.2;
+      tells = (c.is_full.ensures.value.0 c.if-is_full.true, refl, looked.1, refl);
+      ring = looked.0;
+    }
+
+pub invariant_of-self-in-Ok-ProbeAnswered : goal.invariant_of-self-in-Ok-ProbeAnswered
+invariant_of-self-in-Ok-ProbeAnswered c =
+    let old = c.args.self.now.lane in
+    let new = c.hear.new.self in
+    let same = same_by_probe old new (moment_in old c.args.moment) c.args.port c.args.datagram.now (heard_probe c) in
+    record {
+      outlet = subst (IsOutlet new) (sym c.is_full.ensures.looked.1) (outlet_same old new _ same c.args.self.now.outlet);
+      bounded = bounded_same old new same c.args.self.now.bounded;
+    }
+
+pub returns-in-Ok-ProbeAnswered : goal.returns-in-Ok-ProbeAnswered
+returns-in-Ok-ProbeAnswered c =
+    let looked = c.is_full.ensures.looked in
+    let free = known_free c.is_full.new.self in
+    record {
+      free = free;
+      seen = looked.2;
+      tells = (some_free free _ c.is_full.ensures.value c.if-is_full.false, heard_probe (goal.at.returns-in-Ok-ProbeAnswered c).In-Ok-ProbeAnswered, looked.1, refl);
+      ring = looked.0;
+    }
+
+pub returns-in-Err : goal.returns-in-Err
+returns-in-Err c =
+    let looked = c.is_full.ensures.looked in
+    let free = known_free c.is_full.new.self in
+    record {
+      free = free;
+      seen = looked.2;
+      tells = (some_free free _ c.is_full.ensures.value c.if-is_full.false, c.in-Err.ensures, looked.1, refl);
+      ring = looked.0;
     }
