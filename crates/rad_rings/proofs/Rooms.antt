@@ -1,5 +1,5 @@
--- The inlets, once one more of them has room.
-use Rattle.std.proofs.Common.{ℕ, zero, suc, ◌+◌, ◌<◌, ◌≤◌, List, [], ◌∷◌, length, get_or, set, refl, ◌∙◌, subst, arith}
+-- One more of a list: of the inlets that have room, and of the answers that agree.
+use Rattle.std.proofs.Common.{◌≡◌, ℕ, zero, suc, ◌+◌, ◌<◌, List, [], ◌∷◌, length, get_or, set, refl, ◌∙◌, subst, arith, below_more}
 use Rattle.std.proofs.Math.ListN.{length-set}
 use Rattle.std.proofs.lemmas.List.{get_or_default}
 use Rattle.rad_rings.specs.declared.inlet.Inlet.{Inlet}
@@ -26,6 +26,13 @@ one_more P (x ∷ xs) (suc place) y there here h (suc k) d below =
     let inside : place < length xs = omega arith in
     let before : k < place + 1 = omega arith in
     one_more P xs place y inside here (λ j e less. h (suc j) e (omega arith)) k d before
+
+-- What holds of all elements before a place holds of one more, if it holds of the one there.
+pub all_more : {X : Type 0} (P : X → Type 0) (xs : List X) (place : ℕ) (x : X) → place < length xs → x ≡ get_or xs place x → P x → ((k : ℕ) (d : X) → k < place → P (get_or xs k d)) → (k : ℕ) (d : X) → k < place + 1 → P (get_or xs k d)
+all_more {X = X} P xs place x there is here h k d below =
+    let At : ℕ → Type 0 = λ n. (e : X) → P (get_or xs n e) in
+    let last : At place = λ e. subst P (is ∙ get_or_default xs place x e there) here in
+    below_more At place (λ n less e. h n e less) last k below d
 
 pub untouched_at_first : (inlets : List Inlet) → AreUntouched inlets inlets
 untouched_at_first inlets = record { counted = refl; each = λ place d within. record { lane = refl; taker = refl } }

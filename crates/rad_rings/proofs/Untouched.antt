@@ -1,5 +1,6 @@
 -- What is told of inlets that got room is what is told of them before.
-use Rattle.std.proofs.Common.{◌≡◌, ℕ, ◌<◌, ◌≤◌, List, [], ◌++◌, length, get_or, sym, ◌∙◌, subst, arith, inl, inr}
+use Rattle.std.proofs.Common.{◌≡◌, ℕ, ◌<◌, ◌≤◌, List, [], ◌++◌, length, get_or, take, drop, sym, ap, ◌∙◌, subst, arith, inl, inr}
+use Rattle.std.proofs.Math.Seq.{take-append_seam}
 use Rattle.std.specs.Prelude.{slice_get, Option, Some, None}
 use Rattle.std.proofs.lemmas.Option.{slice_get_cases, slice_get_past, slice_get-get_or}
 use Rattle.rtrb.specs.Ring.{received, consumer_capacity, SameConsumer}
@@ -83,3 +84,9 @@ report_before desks old new report u h = record {
       };
   queued = h.queued;
 }
+
+-- All that is in a vector, once its inlets are replaced by as many.
+pub all_of_them : (old new : List Inlet) (len : ℕ) → len ≡ length old → AreUntouched old new → take len (new ++ drop (length new) old) ≡ new
+all_of_them old new len count u =
+    let same : len ≡ length new = omega (arith, u.counted, count) in
+    ap (λ n. take n (new ++ drop (length new) old)) same ∙ take-append_seam new (drop (length new) old)

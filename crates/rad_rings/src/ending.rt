@@ -1,6 +1,6 @@
 //! The end of the lanes, from their desks and inlets.
 
-ghost use Rattle.std.specs.Prelude.{◌≡◌, ◌≤◌, ◌↔◌, ℕ, [], length, map as each, All, IsTrue};
+ghost use Rattle.std.specs.Prelude.{◌≡◌, ◌≤◌, ◌↔◌, ℕ, [], length, map as each, All, IsTrue, Some};
 ghost use Rattle.std.specs.Option.{ForSome};
 ghost use Rattle.std.specs.Vec.{vec_len, vec_capacity};
 ghost use Rattle.rad_rings.specs.Desk.{book};
@@ -73,6 +73,14 @@ fn rest_of(lane: u16, answered: &[Answered], served: u64, inlet: Option<Inlet>) 
     let Some(mut inlet) = inlet else {
         return Rest::Unknown;
     };
+    rest_in(lane, answered, served, &mut inlet)
+}
+
+/// Returns the rest of a lane, which it takes from this inlet.
+fn rest_in(lane: u16, answered: &[Answered], served: u64, inlet: &mut Inlet) -> Rest
+    requires { HasRoom inlet.old }
+    ensures { TellsRest lane answered.now served (Some inlet.old) result }
+{
     if inlet.lane() != lane {
         return Rest::Unknown;
     }

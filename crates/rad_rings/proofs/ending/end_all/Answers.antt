@@ -5,6 +5,7 @@ use Rattle.std.specs.Option.{option_to_list}
 use Rattle.std.specs.Vec.Iter.{into_iter_items}
 use Rattle.std.proofs.lemmas.Grind.{common_steps}
 use Rattle.std.proofs.lemmas.List.{nil_from_length}
+use Rattle.rad_lane.specs.Stamp.{Kept}
 use Rattle.rad_rings.specs.declared.report.LaneEnd.{LaneEnd}
 use Rattle.rad_rings.specs.Desk.{book}
 use Rattle.rad_rings.specs.Inlet.{HasRoom}
@@ -64,3 +65,36 @@ returns c =
     record { counted = was.count; ends = was.ends; queued = was.queued } in
     subst (λ es. IsReport c.args.desks.items c.args.inlets.items (record { ends = es; queued = at.queued })) made
     (subst (λ ds. IsReport ds c.args.inlets.items (record { ends = at.ends.items; queued = at.queued })) all report)
+
+pub loop-desk-init : goal.loop-desk-init
+loop-desk-init c =
+    let none = ap length c.requires.none in
+    let empty = ap length c.new-queued.ensures in
+    record {
+      desks = c.into_iter-desk-iterator.ensures.into_iter_gives.0;
+      desks_len = omega (arith, c.into_iter-desk-iterator.ensures.into_iter_gives.1, ap length c.into_iter-desk-iterator.ensures.into_iter_gives.0, c.args.desks.ok.0);
+      inlets = sym c.into_iter-inlets.ensures.rest;
+      inlets_len = omega (arith, c.into_iter-inlets.ensures.len, ap length c.into_iter-inlets.ensures.rest, c.args.inlets.ok.0);
+      rooms = subst (All HasRoom) (sym c.into_iter-inlets.ensures.rest) c.requires.rooms;
+      count = none;
+      places = c.requires.places;
+      ends = λ lane below. absurd (omega (arith, below));
+      queued = ap (each (λ (k : Kept). k.recorded)) c.new-queued.ensures;
+      bounded = omega (arith, empty);
+    }
+
+pub append-requires : goal.append-requires
+append-requires c =
+    let at = c.loop-desk in
+    let was = at.invariant in
+    omega (arith, was.bounded, c.end_of-end.ensures.bounded, length-append at.yielded (into_iter_items at.desk-iterator), ap length was.desks, c.args.desks.ok.0, c.requires.few)
+
+pub push_reserved-requires : goal.push_reserved-requires
+push_reserved-requires c =
+    let at = c.loop-desk in
+    let was = at.invariant in
+    let left = ap length c.in-Some.ensures.steps.0 in
+    omega (arith, was.count, was.places, at.ends.ok.0, length-append at.yielded (into_iter_items at.desk-iterator), ap length was.desks, left, c.args.desks.ok.0)
+
+pub loop-desk-smaller : goal.loop-desk-smaller
+loop-desk-smaller c = omega (arith, c.in-Some.ensures.steps.1)

@@ -1,53 +1,9 @@
-use Rattle.std.proofs.Common.{◌≡◌, Some, sym, length, subst, arith, true}
-use Rattle.std.specs.Prelude.{All}
-use Rattle.rad_rings.specs.declared.report.Rest.TheVariants.{Known, Unknown}
-use Rattle.rad_rings.specs.Outlet.{InOrder}
-use Rattle.rad_rings.specs.Inlet.{lane_of, taken}
-use Rattle.rad_rings.specs.Ending.{GoOnFrom, AgreesAmong, TellsRest, IsKnown, IsNotKnown, IsTheRest}
-use Rattle.rad_rings.proofs.Rests.{rest_goes_on}
-use Rattle.rad_rings.proofs.Inlets.{is_the_rest, all_taken}
+use Rattle.std.proofs.Common.{sym, subst}
+use Rattle.rad_rings.specs.Ending.{TellsRest}
 use Rattle.rad_rings.proofs.ending.rest_of.Goals as goal
-use Rattle.rad_rings.proofs.ending.rest_of.Goals.{else-has_taken-via-then-has_taken+else-agree, else-has_taken-via-else-has_taken}
 
-pub agree-requires : goal.agree-requires
-agree-requires c =
-    let before = taken c.in-Some.inlet in
-    let rest = c.empty-rest.result.items in
-    let after = c.empty-rest.new.self in
-    let goes : GoOnFrom (length before) rest = rest_goes_on before rest (subst InOrder c.empty-rest.ensures.took after.in_order) in
-    (length before, subst (λ r. GoOnFrom (length before) r) (sym c.as_slice.ensures.value) goes)
-
-pub returns-then-agree : goal.returns-then-agree
-returns-then-agree c =
-    let inlet = c.in-Some.inlet in
-    let rest = c.empty-rest.result.items in
-    let after = c.empty-rest.new.self in
-    let lane : lane_of inlet ≡ c.args.lane = omega arith in
-    let count : length (taken after) ≡ c.args.served = c.has_taken.ensures.0 c.if-has_taken.true in
-    let agree : All (AgreesAmong rest) c.args.answered.now =
-    subst (λ r. All (AgreesAmong r) c.args.answered.now) c.as_slice.ensures.value (c.agree.ensures.0 c.if-agree.true) in
-    let known : IsKnown c.args.answered.now c.args.served inlet rest =
-    (after, c.empty-rest.ensures, is_the_rest _ _ inlet rest after c.empty-rest.ensures count agree) in
-    let told : TellsRest c.args.lane c.args.answered.now c.args.served (Some inlet) (Known c.from_vec.result) =
-    (lane, subst (IsKnown c.args.answered.now c.args.served inlet) (sym c.from_vec.ensures) known) in
-    subst (λ i. TellsRest c.args.lane c.args.answered.now c.args.served i (Known c.from_vec.result)) (sym c.in-Some.is) told
+pub rest_in-requires : goal.rest_in-requires
+rest_in-requires c = c.requires c.in-Some.inlet c.in-Some.is
 
 pub returns : goal.returns
-returns c =
-    let inlet = c.in-Some.inlet in
-    let rest = c.empty-rest.result.items in
-    let after = c.empty-rest.new.self in
-    let Whole : Type 0 = IsTheRest c.args.answered.now c.args.served (taken inlet) rest in
-    let not_whole : ¬ Whole = elim c.else-has_taken.branch [
-      | else-has_taken-via-then-has_taken+else-agree w ↦ λ is.
-          let agree = subst (λ r. All (AgreesAmong r) c.args.answered.now) (sym w.as_slice.ensures.value) is.agree in
-          let yes : w.agree.result ≡ true = w.agree.ensures.1 agree in
-          let no = w.if-agree.false in
-          cc
-      | else-has_taken-via-else-has_taken w ↦ λ is.
-          let yes : c.has_taken.result ≡ true = c.has_taken.ensures.1 (all_taken _ _ inlet rest after c.empty-rest.ensures is) in
-          let no = w.if-has_taken.false in
-          cc
-    ] in
-    let unknown : lane_of inlet ≡ c.args.lane → IsNotKnown c.args.answered.now c.args.served inlet = λ _. (rest, after, c.empty-rest.ensures, not_whole) in
-    subst (λ i. TellsRest c.args.lane c.args.answered.now c.args.served i Unknown) (sym c.in-Some.is) unknown
+returns c = subst (λ i. TellsRest c.args.lane c.args.answered.now c.args.served i c.rest_in.result) (sym c.in-Some.is) c.rest_in.ensures
