@@ -1,11 +1,11 @@
-use Rattle.std.proofs.Common.{◌≡◌, sym, subst}
+use Rattle.std.proofs.Common.{◌≡◌, sym, subst, refl}
 use Rattle.rad_lane.specs.declared.accepting.Taken.TheVariants.{Again}
 use Rattle.rad_desk.specs.declared.handling.Handled.TheVariants.{Taken, Answered}
 use Rattle.rad_lane.specs.Datagrams.{Datagrams}
 use Rattle.rad_desk.specs.Traffic.{told}
 use Rattle.rad_desk.specs.Calls.{IsQuiet}
 use Rattle.rad_desk.specs.Once.{IsAnswerTo}
-use Rattle.rad_desk.proofs.CallsJoined.{passes_one}
+use Rattle.rad_desk.proofs.CallsJoined.{passes_one, passes_none}
 use Rattle.rad_desk.proofs.FrontWork.{unanswered, answer_after}
 use Rattle.rad_desk.proofs.Responses.{again_handled, status_handled}
 use Rattle.rad_desk.proofs.front.serve.Goals as goal
@@ -44,3 +44,27 @@ returns-in-Ok-Answered-clause-sends g c =
 
 pub returns-in-Err-clause-sends : goal.returns-in-Err-clause-sends
 returns-in-Err-clause-sends g c = unanswered _ _ _ _ _ (passes_one IsQuiet (told c.now-moment.result) _ _ tt c.now-moment.ensures)
+
+pub returns-then-not-may-clause-sends : goal.returns-then-not-may-clause-sends
+returns-then-not-may-clause-sends g c = unanswered _ _ _ _ _ (passes_none IsQuiet _ _ tt refl)
+
+pub returns-then-not-may-clause-turns : goal.returns-then-not-may-clause-turns
+returns-then-not-may-clause-turns g c = refl
+
+pub returns-in-Ok-Taken-default-New-clause-turns : goal.returns-in-Ok-Taken-default-New-clause-turns
+returns-in-Ok-Taken-default-New-clause-turns g c = refl
+
+pub returns-in-Ok-Taken-default-Waiting-clause-turns : goal.returns-in-Ok-Taken-default-Waiting-clause-turns
+returns-in-Ok-Taken-default-Waiting-clause-turns g c = refl
+
+pub returns-then-fits-clause-turns : goal.returns-then-fits-clause-turns
+returns-then-fits-clause-turns g c = c.send.ensures.turns
+
+pub returns-else-fits-clause-turns : goal.returns-else-fits-clause-turns
+returns-else-fits-clause-turns g c = refl
+
+pub returns-in-Ok-Answered-clause-turns : goal.returns-in-Ok-Answered-clause-turns
+returns-in-Ok-Answered-clause-turns g c = c.send-in-Ok-Answered.ensures.turns
+
+pub returns-in-Err-clause-turns : goal.returns-in-Err-clause-turns
+returns-in-Err-clause-turns g c = refl

@@ -12,3 +12,12 @@ returns-in-Ok-clause-quiet g c = passes_one IsQuiet (told c.now.result) _ _ tt c
 
 pub returns-in_default-clause-quiet : goal.returns-in_default-clause-quiet
 returns-in_default-clause-quiet g c = passes_one IsQuiet (told c.now.result) _ _ tt c.now.ensures
+
+pub returns-then-not-may-clause-turns : goal.returns-then-not-may-clause-turns
+returns-then-not-may-clause-turns g c = refl
+
+pub returns-in-Ok-clause-turns : goal.returns-in-Ok-clause-turns
+returns-in-Ok-clause-turns g c = refl
+
+pub returns-in_default-clause-turns : goal.returns-in_default-clause-turns
+returns-in_default-clause-turns g c = refl
