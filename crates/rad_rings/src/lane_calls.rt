@@ -141,7 +141,7 @@ impl Desk {
     pub fn is_draining(&self) -> bool
         ensures { IsTrue result ↔ IsSome (book self.now).drain }
     {
-        self.lane.is_draining()
+        self.counts().draining
     }
 
     /// Returns whether the lane is drained, with nothing queued and nothing outstanding.

@@ -44,12 +44,11 @@ impl Desk {
 
     /// Returns when the first request of the queue was accepted, whose stamp follows those of all requests that were
     /// sent.
-    #[tactic(auto, using(crate::proofs::Standings::first_queued_at))]
     fn first_queued(&self) -> Option<Moment>
         ensures { result ≡ option_map (λ r. r.stamp.moment) (slice_get (book self.now).queued 0) }
     {
         let accepted = self.accepted();
-        let sent = self.lane.sent().len();
+        let sent = accepted.len() - self.counts().queued;
         moment_at(accepted, sent)
     }
 }

@@ -9,7 +9,7 @@ returns-in_ok-taken-in-Request g c =
     (record { request = c.in-Request.request; is = c.in-Request.is; nowhere = ensures.lane; returns = ensures.returns; accepts = ensures.accepts }, c.lane.ensures.value)
 
 pub returns-in-Status : goal.returns-in-Status
-returns-in-Status g c = 
+returns-in-Status g c =
     let status = c.in-Status.status in
     record {
       status = status;
