@@ -11,6 +11,7 @@ use Rattle.rad_lane.specs.declared.outgoing.Outgoing.{Outgoing}
 use Rattle.rad_lane.specs.Setup.{LaneSetup}
 use Rattle.rad_lane.specs.Outstanding.{AnswerKept}
 use Rattle.rad_lane.specs.Book.{Book}
+use Rattle.rad_lane.specs.Empty.{empty_book}
 use Rattle.rad_lane.specs.Hears.{HearsReply, GoesOut}
 use Rattle.rad_rings.specs.Outlet.{InOrder, Agrees, AgreesAtItsSerial, IsOutlet}
 use Rattle.rad_rings.proofs.Answers.{answers_of, one_more_by_reply}
@@ -57,6 +58,10 @@ agrees_by old new now port datagram answer outgoing h out = record {
   reply = ap (λ (r : Replied). r.reply) out.reply;
   response = ap (λ (r : Replied). r.response) out.reply;
 }
+
+-- Nothing was served yet.
+pub outlet_at_first : (setup : LaneSetup) → IsOutlet (empty_book setup) []
+outlet_at_first setup = record { served = refl; in_order = refl; agree = λ k d below. absurd (omega arith) }
 
 -- The answer's response goes in as the next.
 pub outlet_answered : (old new : Book) (now port : ℕ) (datagram : List ℕ) (answer : AnswerKept) (outgoing : Outgoing) (given : List Outgoing) → HearsReply old now port datagram answer new → GoesOut answer outgoing → IsOutlet old given → IsOutlet new (given ++ outgoing ∷ [])

@@ -1,4 +1,5 @@
-use Rattle.std.proofs.Common.{◌≡◌, sym, length, subst, arith, true}
+use Rattle.std.proofs.lemmas.Bool.{false≢true}
+use Rattle.std.proofs.Common.{◌≡◌, ◌∙◌, sym, length, subst, arith, true}
 use Rattle.std.specs.Prelude.{All}
 use Rattle.rad_rings.specs.Outlet.{InOrder}
 use Rattle.rad_rings.specs.Inlet.{lane_of, taken}
@@ -40,10 +41,10 @@ returns-else-has_taken c =
           let agree = subst (λ r. All (AgreesAmong r) c.args.answered.now) (sym w.as_slice.ensures.value) is.agree in
           let yes : w.agree.result ≡ true = w.agree.ensures.1 agree in
           let no = w.if-agree.false in
-          cc
+          false≢true (sym no ∙ yes)
       | else-has_taken-via-else-has_taken w ↦ λ is.
           let yes : c.has_taken.result ≡ true = c.has_taken.ensures.1 (all_taken _ _ inlet rest after c.empty-rest.ensures is) in
           let no = w.if-has_taken.false in
-          cc
+          false≢true (sym no ∙ yes)
     ] in
     λ _. (rest, after, c.empty-rest.ensures, not_whole)

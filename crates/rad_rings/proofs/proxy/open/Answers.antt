@@ -1,4 +1,4 @@
-use Rattle.std.proofs.Common.{◌≡◌, [], length, ap, ◌∙◌, arith}
+use Rattle.std.proofs.Common.{◌≡◌, ◌≤◌, [], length, ap, ◌∙◌, arith}
 use Rattle.std.specs.Prelude.{map as each}
 use Rattle.std.specs.List.{range_with_len}
 use Rattle.std.proofs.lemmas.List.Elements.{All-push}
@@ -51,3 +51,8 @@ returns-clause-inlets c =
 
 pub returns-clause-taken : goal.returns-clause-taken
 returns-clause-taken c = c.loop-lane.invariant.untaken
+
+pub invariant_of-result : goal.invariant_of-result
+invariant_of-result c =
+    let few : length c.loop-lane.desks.items ≤ 64 = omega (arith, c.loop-lane.desks.ok.0, c.loop-lane.invariant.desks, c.homes.ensures.most, ap length c.homes.ensures.value) in
+    few
