@@ -1,5 +1,5 @@
 -- The look for an attribute that is invalid.
-use Rattle.std.proofs.Common.{◌≡◌, ℕ, ◌+◌, ◌-◌, ◌<◌, ◌≤◌, List, ◌++◌, length, take, drop, refl, sym, ap, subst, ◌∙◌, arith, length-append, length-drop, length-take, get_or-take, slice_range}
+use Rattle.std.proofs.Common.{◌≡◌, ℕ, ◌+◌, ◌-◌, ◌<◌, ◌≤◌, List, ◌++◌, length, take, drop, refl, sym, ap, subst, ◌∙◌, arith, length-append, length-drop, length-take, get_or-take, slice_range, ◌⊎◌, inl, inr}
 use Rattle.std.proofs.Math.Seq.{take-add}
 use Rattle.std.proofs.lemmas.List.{take_at, drop-drop, take_rest, drop-take, take-take}
 use Rattle.rad_packet.specs.Attribute.{attribute_text, AreAttributes}
@@ -49,6 +49,11 @@ invalid_here octets seen place e v h none = record {
   before = v.before;
   none = subst BeginsNoAttribute e none;
 }
+
+-- a Length that is out of range
+pub out_of_range : (n m : ℕ) → n ≡ m → (n < 20) ⊎ ((20 ≤ n) × (4096 < n)) → (m < 20) ⊎ (4096 < m)
+out_of_range n m e (inl h) = inl (omega arith)
+out_of_range n m e (inr h) = inr (omega (arith, h.1))
 
 -- the octets that Length counts, of a datagram that has them
 module _ (datagram : List ℕ) (n : ℕ) (e : n ≡ length_of datagram) (least : 20 ≤ n) (here : n ≤ length datagram) where
