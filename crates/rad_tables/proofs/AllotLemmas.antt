@@ -1,6 +1,6 @@
 -- The cyclic order of the pairs is that of the places.
-use Rattle.std.proofs.Common.{◌≡◌, ◌≢◌, ℕ, zero, suc, ◌+◌, ◌-◌, ◌*◌, ◌/◌, ◌%◌, ◌<◌, ◌≤◌, List, length, Option, Some, None, is_some, IsSome, refl, sym, ap, ◌∙◌, inl, inr, arith}
-use Rattle.std.specs.Option.{IfSome}
+use Rattle.std.proofs.Common.{◌≡◌, ◌≢◌, ℕ, zero, suc, ◌+◌, ◌-◌, ◌*◌, ◌/◌, ◌%◌, ◌<◌, ◌≤◌, List, length, Option, Some, None, is_some, IsSome, refl, sym, ap, subst, ◌∙◌, inl, inr, arith}
+use Rattle.std.specs.Option.{IfSome, MatchOption}
 use Rattle.std.specs.FinMap.{get, len}
 use Rattle.std.proofs.lemmas.Bool.{cases_lt, cond-true, cond-false, lt-ltb, le-ltb, false≢true}
 use Rattle.rad_tables.specs.declared.slots.Slot.{Slot}
@@ -177,3 +177,17 @@ module _ {T : Type 0} (contents : List (Option T)) (ports : ℕ) (allotted : Opt
         | inl behind ↦ absurd (again_behind place slot behind is same)
         | inr before ↦ again_before place slot before.0 before.1 is same
       ]
+
+-- none is free from the start on, so the first free place is that before the start
+pub free_behind : {T : Type 0} (contents : List (Option T)) (start n : ℕ) → length contents ≡ n → (first : Option ℕ) → InUseBetween contents start n → MatchOption first (InUseBetween contents 0 start) (IsFirstFreeBetween contents 0 start) → MatchOption first (InUseBetween contents 0 n) (IsFirstFreeBehind contents start)
+free_behind contents start n e None behind before = λ place low high.
+    elim (cases_lt place start) [
+      | inl first ↦ before place low first
+      | inr late ↦ behind place late high
+    ]
+free_behind contents start n e (Some place) behind before = inr (subst (InUseBetween contents start) (sym e) behind, before)
+
+-- the search starts among the cells, or behind the last one
+pub start_within : (allotted : Option Slot) (ports : ℕ) → IfSome allotted (IsInRange ports) → start_of allotted ≤ 256 * ports
+start_within None ports range = omega arith
+start_within (Some last) ports range = omega (arith, range.0, range.1)

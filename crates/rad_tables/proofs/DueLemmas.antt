@@ -8,6 +8,7 @@ use Rattle.rad_tables.specs.Dues.{NotAfter, IsLeastDue, IsFirstDue, NoneIs}
 use Rattle.rad_tables.specs.internal.Least.{NoneAmong, IsLeastAmong, due_and_number, IsEarlier}
 use Rattle.rad_tables.specs.internal.Kept.{place_of, slot_at, at, entries_of, IsIndex}
 use Rattle.rad_tables.proofs.ContentsLemmas.{get_place, stored}
+use Rattle.rad_tables.proofs.IndexLemmas.{within}
 
 some_is : {T : Type 0} (a b : T) → Some a ≡ Some b → a ≡ b
 some_is a b e = ap (λ o. unwrap_or o a) e
@@ -139,3 +140,7 @@ module _ {T : Type 0} (due number : T → ℕ) (spent : T → Bool) (contents : 
                       ];
                 })
           ]
+
+-- the least stands at a place of the list
+pub least_below : {T : Type 0} (due number : T → ℕ) (spent : T → Bool) (contents : List (Option T)) (places : List ℕ) (which : Bool) (count : ℕ) (waiting : Waiting) → IsLeastAmong due number spent contents places which count waiting → waiting.place < length contents
+least_below due number spent contents places which count waiting least = within contents waiting.place (ap is_some least.there)

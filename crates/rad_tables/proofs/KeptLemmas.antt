@@ -1,9 +1,10 @@
 -- How each change keeps the cells and the list of the places in use.
-use Rattle.std.proofs.Common.{◌≡◌, ℕ, ◌-◌, ◌*◌, ◌<◌, ◌≤◌, List, [], ◌∷◌, ◌++◌, length, get_or, set, replicate, Option, Some, None, is_some, is_none, IsSome, true, false, refl, sym, ap, subst, ◌∙◌, arith, length-set, inl, inr}
+use Rattle.std.proofs.Common.{◌≡◌, ℕ, ◌+◌, ◌-◌, ◌*◌, ◌<◌, ◌≤◌, List, [], ◌∷◌, ◌++◌, length, get_or, set, replicate, Option, Some, None, is_some, is_none, IsSome, true, false, refl, sym, ap, subst, ◌∙◌, arith, length-set, inl, inr}
 use mathlib.Core.Bool.{Bool, beq}
 use Rattle.std.specs.List.{swap_remove}
 use Rattle.std.specs.FinMap.{FinMap, get, insert, remove, len, len-empty}
-use Rattle.std.proofs.lemmas.List.{length-replicate, map-set, get_or_past, get_or-replicate, length_push, length-take, get_or-map}
+use Rattle.std.proofs.lemmas.List.{length-replicate, map-set, get_or_past, get_or-replicate, length_push, length-take, get_or-map, map-append, replicate-append-replicate}
+use Rattle.std.proofs.Math.Seq.{map-set_same}
 use Rattle.std.proofs.lemmas.Bool.{cases_lt, false≢true}
 use Rattle.rad_tables.specs.declared.slots.Slot.{Slot}
 use Rattle.rad_tables.specs.declared.cells.Cell.{Cell}
@@ -142,6 +143,17 @@ module _ {T : Type 0} where
         (subst (λ (l : List ℕ). IsKept (set (contents_of cells) (place_of slot) None) (swap_remove places (get_or positions (place_of slot) 0) d) l room' ports allotted) (sym back)
         (subst (λ (r : ℕ). IsKept (set (contents_of cells) (place_of slot) None) (swap_remove places (get_or positions (place_of slot) 0) d) (set positions (get_or places (length places - 1) 0) (get_or positions (place_of slot) 0)) r ports allotted) (sym same_room)
         (kept_freed (contents_of cells) places positions room ports allotted kept slot d fits used))))
+
+  -- one more free cell
+  pub free_pushed : (cells cells' : List (Cell T)) (n : ℕ) → cells' ≡ cells ++ Free ∷ [] → contents_of cells ≡ replicate n None → contents_of cells' ≡ replicate (n + 1) None
+  free_pushed cells cells' n pushed free =
+      ap contents_of pushed ∙ map-append entry_of cells (Free ∷ []) ∙ ap (λ (l : List (Option T)). l ++ None ∷ []) free ∙ replicate-append-replicate n 1 None
+
+  -- a free cell, written free again
+  pub kept_free : (cells : List (Cell T)) (places positions : List ℕ) (room ports : ℕ) (allotted : Option Slot) → IsKept (contents_of cells) places positions room ports allotted → (p : ℕ) (cell new : Cell T) → cell ≡ get_or cells p cell → cell ≡ Free → new ≡ Free → IsKept (contents_of (set cells p new)) places positions room ports allotted
+  kept_free cells places positions room ports allotted kept p cell new is was now =
+      let same : entry_of new ≡ entry_of (get_or cells p cell) = ap entry_of (now ∙ sym was ∙ is) in
+      subst (λ (contents : List (Option T)). IsKept contents places positions room ports allotted) (sym (map-set_same entry_of cells p new cell same)) kept
 
   -- new slots
   pub kept_new : (count room ports : ℕ) (positions : List ℕ) → 1 ≤ ports → ports ≤ 4 → count ≡ 256 * ports → count ≤ room → length positions ≡ count → IsKept {T = T} (replicate count None) [] positions room ports None

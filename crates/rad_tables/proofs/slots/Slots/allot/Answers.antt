@@ -1,11 +1,11 @@
-use Rattle.std.proofs.Common.{List, length, is_some, sym, ap, subst, ◌∙◌, arith}
+use Rattle.std.proofs.Common.{List, length, is_some, sym, ap, subst, ◌∙◌, arith, ◌≤◌, refl}
 use Rattle.std.proofs.lemmas.Bool.{false≢true}
 use Rattle.std.proofs.lemmas.List.{length-map}
 use Rattle.std.specs.FinMap as map
 use Rattle.rad_tables.specs.declared.cells.Cell.{Cell}
-use Rattle.rad_tables.specs.Pairs.{Table, AllInUse, IsFirstFree}
+use Rattle.rad_tables.specs.Pairs.{Table, AllInUse, IsFirstFree, IsInRange}
 use Rattle.rad_tables.specs.internal.Kept.{slot_at, contents_of, entry_of, start_of, InUseBetween, IsFirstFreeBehind}
-use Rattle.rad_tables.proofs.AllotLemmas.{found, found_inside, found_free, all_in_use, full, not_all, again}
+use Rattle.rad_tables.proofs.AllotLemmas.{found, found_inside, found_free, all_in_use, full, not_all, again, start_within}
 use Rattle.rad_tables.proofs.slots.Slots.allot.Goals as goal
 
 pub returns-in_err-place-clause-none : goal.returns-in_err-place-clause-none
@@ -66,3 +66,43 @@ returns-clause-again g c = λ same.
     let ports = ap (λ t. t.ports) c.self.view_is in
     let last = ap (λ t. t.allotted) c.self.view_is ∙ same in
     omega (arith, again (contents_of cells) _ _ kept.pairs kept.last c.in_ok-place.place c.slot_at.result is last (sym c.slot_at.ensures))
+
+pub first_free_behind-requires : goal.first_free_behind-requires
+first_free_behind-requires g c =
+    let kept = c.self.invariant in
+    let cells = c.self.inside.cells.items in
+    subst (λ (l : List (Cell g.row.T.Denot)). c.start_of.result ≤ length l) (sym c.deref.ensures.value)
+    (omega (arith, start_within c.self.inside.allotted c.self.inside.ports kept.last, c.start_of.ensures, kept.pairs, length-map cells entry_of))
+
+pub returns-in_err-place-clause-first : goal.returns-in_err-place-clause-first
+returns-in_err-place-clause-first g c = rw c.from_residual.ensures tt
+
+pub returns-in_err-place-clause-in_range : goal.returns-in_err-place-clause-in_range
+returns-in_err-place-clause-in_range g c = rw c.from_residual.ensures tt
+
+pub returns-in_err-place-clause-again : goal.returns-in_err-place-clause-again
+returns-in_err-place-clause-again g c = rw c.from_residual.ensures tt
+
+pub slot_at-requires : goal.slot_at-requires
+slot_at-requires g c =
+    let cells = c.self.inside.cells.items in
+    let kept = c.self.invariant in
+    let is : IsFirstFreeBehind (contents_of cells) (start_of c.self.inside.allotted) c.in_ok-place.place =
+    subst (λ (l : List (Cell g.row.T.Denot)). IsFirstFreeBehind (contents_of l) (start_of c.self.inside.allotted) c.in_ok-place.place) c.deref.ensures.value
+    (subst (λ start. IsFirstFreeBehind (contents_of c.deref.result.now) start c.in_ok-place.place) c.start_of.ensures c.in_ok-place.ensures) in
+    let inside = found_inside (contents_of cells) _ _ kept.pairs kept.last c.in_ok-place.place is in
+    omega (arith, inside, kept.pairs, kept.most)
+
+pub returns-clause-in_range : goal.returns-clause-in_range
+returns-clause-in_range g c =
+    let cells = c.self.inside.cells.items in
+    let kept = c.self.invariant in
+    let is : IsFirstFreeBehind (contents_of cells) (start_of c.self.inside.allotted) c.in_ok-place.place =
+    subst (λ (l : List (Cell g.row.T.Denot)). IsFirstFreeBehind (contents_of l) (start_of c.self.inside.allotted) c.in_ok-place.place) c.deref.ensures.value
+    (subst (λ start. IsFirstFreeBehind (contents_of c.deref.result.now) start c.in_ok-place.place) c.start_of.ensures c.in_ok-place.ensures) in
+    let inside = found_inside (contents_of cells) _ _ kept.pairs kept.last c.in_ok-place.place is in
+    let range : IsInRange c.self.inside.ports (slot_at c.in_ok-place.place) = (omega (arith, inside, kept.pairs), omega arith) in
+    subst (λ n. IsInRange n c.slot_at.result) (ap (λ t. t.ports) c.self.view_is) (subst (λ slot. IsInRange c.self.inside.ports slot) (sym c.slot_at.ensures) range)
+
+pub returns-clause-room : goal.returns-clause-room
+returns-clause-room g c = λ _. refl

@@ -1,7 +1,8 @@
+use Rattle.std.proofs.lemmas.List.{length-map}
 use Rattle.std.proofs.Common.{◌≡◌, ◌<◌, Some, sym, ap, subst, ◌∙◌, arith, length, vec_capacity}
 use Rattle.std.specs.FinMap as map
 use Rattle.rad_tables.specs.Pairs.{IsInRange}
-use Rattle.rad_tables.specs.internal.Kept.{contents_of}
+use Rattle.rad_tables.specs.internal.Kept.{contents_of, entry_of}
 use Rattle.rad_tables.proofs.ContentsLemmas.{len_at_most}
 use Rattle.rad_tables.proofs.KeptLemmas.{entries_of-set_used, kept_put, place_below, room_for_one, table}
 use Rattle.rad_tables.proofs.slots.Slots.put.Goals as goal
@@ -39,3 +40,21 @@ returns g c =
     ap (λ entries. table c.self.inside.ports entries (Some slot))
     (entries_of-set_used cells slot c.place_of-place.result c.args.entry c.place_of-place.ensures range.1 inside)
     ∙ ap (λ t. table t.ports (map.insert t.entries slot c.args.entry) (Some slot)) c.self.view_is
+
+pub index_mut-requires : goal.index_mut-requires
+index_mut-requires g c =
+    let kept = c.self.invariant in
+    let ports = ap (λ t. t.ports) c.self.view_is in
+    omega (arith, ports, c.requires.in_range.0, c.requires.in_range.1, c.place_of-place.ensures, kept.pairs, kept.index.back, c.self.inside.positions.ok.0)
+
+pub overflow_cast-place : goal.overflow_cast-place
+overflow_cast-place g c =
+    let kept = c.self.invariant in
+    let ports = ap (λ t. t.ports) c.self.view_is in
+    omega (arith, ports, c.requires.in_range.0, c.requires.in_range.1, c.place_of-place.ensures, kept.most)
+
+pub index_mut-requires-2 : goal.index_mut-requires-2
+index_mut-requires-2 g c =
+    let kept = c.self.invariant in
+    let ports = ap (λ t. t.ports) c.self.view_is in
+    omega (arith, ports, c.requires.in_range.0, c.requires.in_range.1, c.place_of-place.ensures, kept.pairs, length-map c.self.inside.cells.items entry_of, c.self.inside.cells.ok.0)

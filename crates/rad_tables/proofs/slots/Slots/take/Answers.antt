@@ -1,10 +1,11 @@
-use Rattle.std.proofs.Common.{ℕ, ◌-◌, ◌<◌, ◌≡◌, ◌≤◌, None, is_some, IsSome, get_or, refl, sym, ap, subst, ◌∙◌, arith, length}
+use Rattle.std.proofs.lemmas.Bool.{false≢true}
+use Rattle.std.proofs.Common.{ℕ, ◌-◌, ◌<◌, ◌≡◌, ◌≤◌, None, is_some, IsSome, get_or, refl, sym, ap, subst, ◌∙◌, arith, length, ◌*◌}
 use Rattle.std.proofs.lemmas.List.{length-map, get_or_past, get_or_read}
 use Rattle.std.specs.FinMap as map
 use Rattle.rad_tables.specs.internal.Kept.{place_of, at, contents_of, entry_of}
 use Rattle.rad_tables.proofs.ContentsLemmas.{get_slot, remove_absent}
 use Rattle.rad_tables.proofs.IndexLemmas.{within}
-use Rattle.rad_tables.proofs.KeptLemmas.{cell_at, entries_of-set_free, kept_take, table}
+use Rattle.rad_tables.proofs.KeptLemmas.{cell_at, entries_of-set_free, kept_take, table, kept_free}
 use Rattle.rad_tables.proofs.slots.Slots.take.Goals as goal
 
 -- where something stands at a place, there is something
@@ -148,3 +149,36 @@ returns-in-Used-clause-taken g c =
     ap (λ entries. table c.self.inside.ports entries c.self.inside.allotted)
     (entries_of-set_free cells slot c.place_of-place.result c.replace.new.dest c.replace.ensures.after c.place_of-place.ensures (omega arith) inside)
     ∙ ap (λ t. table t.ports (map.remove t.entries slot) t.allotted) c.self.view_is
+
+pub returns-then-place-len-clause-in_range : goal.returns-then-place-len-clause-in_range
+returns-then-place-len-clause-in_range g c = λ wrong. absurd (false≢true wrong)
+
+pub index_mut-requires : goal.index_mut-requires
+index_mut-requires g c = subst (λ n. c.place_of-place.result < n) c.len.ensures c.if-place-len.false
+
+pub invariant_of-self : goal.invariant_of-self
+invariant_of-self g c =
+    let cells = c.self.inside.cells.items in
+    let place = c.place_of-place.result in
+    let fits : place < length cells = subst (λ n. place < n) (c.len.ensures ∙ c.self.inside.cells.ok.0) c.if-place-len.false in
+    kept_free cells _ _ _ _ _ c.self.invariant place c.index_mut.result.now c.replace.new.dest c.index_mut.ensures.value (sym c.in-Free.ensures.value) c.replace.ensures.after
+
+pub index-position-requires : goal.index-position-requires
+index-position-requires g c =
+    let cells = c.self.inside.cells.items in
+    let place = c.place_of-place.result in
+    let fits : place < length cells = subst (λ n. place < n) (c.len.ensures ∙ c.self.inside.cells.ok.0) c.if-place-len.false in
+    as_far place place (length cells) (length (contents_of cells)) _ refl fits (length-map cells entry_of) (c.self.inside.positions.ok.0 ∙ c.self.invariant.index.back)
+
+pub returns-in-Free-clause-in_range : goal.returns-in-Free-clause-in_range
+returns-in-Free-clause-in_range g c = λ wrong. absurd (false≢true wrong)
+
+pub returns-in-Used-clause-in_range : goal.returns-in-Used-clause-in_range
+returns-in-Used-clause-in_range g c =
+    let cells = c.self.inside.cells.items in
+    let place = c.place_of-place.result in
+    let fits : place < length cells = subst (λ n. place < n) (c.len.ensures ∙ c.self.inside.cells.ok.0) c.if-place-len.false in
+    let kept = c.self.invariant in
+    let inside : place < 256 * c.self.inside.ports = omega (arith, fits, kept.pairs, length-map cells entry_of) in
+    let ports = ap (λ t. t.ports) c.self.view_is in
+    λ _. (omega (arith, inside, ports, c.place_of-place.ensures), omega arith)
