@@ -1,3 +1,4 @@
 pub mod FirstValue
+pub mod Lanes
 pub mod UserNames
 pub mod Exclusive

@@ -187,15 +187,15 @@ impl fmt::Display for Dropped {
     ghost output = { λ reason. Some (dropped_text reason) };
 
     fn fmt<W: fmt::Write>(&self, f: &mut fmt::Formatter<W>) -> fmt::Result {
-        match self {
-            Dropped::UnknownClient => f.write_str("UnknownClient"),
-            Dropped::Unread(fault) => write!(f, "Unread {fault}"),
-            Dropped::WrongCode => f.write_str("WrongCode"),
-            Dropped::BadAuthenticator => f.write_str("BadAuthenticator"),
-            Dropped::BadMessageAuthenticator => f.write_str("BadMessageAuthenticator"),
-            Dropped::MessageAuthenticatorHere => f.write_str("MessageAuthenticatorHere"),
-            Dropped::NoRealm => f.write_str("NoRealm"),
-        }
+        f.write_str(match self {
+            Dropped::UnknownClient => "UnknownClient",
+            Dropped::Unread(fault) => return write!(f, "Unread {fault}"),
+            Dropped::WrongCode => "WrongCode",
+            Dropped::BadAuthenticator => "BadAuthenticator",
+            Dropped::BadMessageAuthenticator => "BadMessageAuthenticator",
+            Dropped::MessageAuthenticatorHere => "MessageAuthenticatorHere",
+            Dropped::NoRealm => "NoRealm",
+        })
     }
 }
 
@@ -284,7 +284,8 @@ fn check_status_server<'a>(
     ensures { MatchResult result (λ incoming. TakesPacket config.now client.now port packet.entry incoming) (λ reason. DropsPacket config.now client.now.secret packet.entry reason) }
 {
     let secret = client.secret();
-    if check_status(&packet, secret) {
+    let right = check_status(&packet, secret);
+    if right {
         Ok(Incoming::Status(CheckedStatus { packet, secret }))
     } else {
         Err(Dropped::BadMessageAuthenticator)
