@@ -1,5 +1,5 @@
 -- One step of a reading behind another.
-use Rattle.std.proofs.Common.{◌≡◌, Bool, true, false, cond, Option, Some, None, Result, Ok, Err, refl, ap}
+use Rattle.std.proofs.Common.{◌≡◌, Bool, true, false, cond, Option, Some, None, Result, Ok, Err, refl, ap, ◌∙◌}
 use Rattle.std.specs.Prelude.{ok_or}
 use Rattle.rad_config.specs.declared.reading.faults.ConfigFault.{ConfigFault}
 use Rattle.rad_config.specs.Walk.{◌>>=◌, refuse_if}
@@ -23,3 +23,10 @@ known {A} (Some y) fault x e = ap (λ (z : A). Some z) (same_ok y x (Ok y) refl 
 pub kept_by : {A : Type 0} (b : Bool) (x y : A) (fault : ConfigFault) → cond b (Ok x) (Err fault) ≡ Ok y → (b ≡ true) × (x ≡ y)
 kept_by true x y fault e = (refl, same_ok x y (Ok x) refl e)
 kept_by false x y fault e = absurd cc
+
+-- a step that was read, with the rest behind it; and a step that told of a fault, behind which nothing is read
+pub read_on : {A B : Type 0} (r : Result A ConfigFault) (f : A → Result B ConfigFault) (x : A) (whole : Result B ConfigFault) → Ok x ≡ r → whole ≡ f x → whole ≡ (r >>= f)
+read_on r f x whole read rest = rest ∙ ap (λ q. q >>= f) read
+
+pub stops_here : {A B : Type 0} (r : Result A ConfigFault) (f : A → Result B ConfigFault) (fault told : ConfigFault) (whole : Result B ConfigFault) → whole ≡ Err told → told ≡ fault → Err fault ≡ r → whole ≡ (r >>= f)
+stops_here r f fault told whole is same stopped = is ∙ ap Err same ∙ ap (λ q. q >>= f) stopped

@@ -37,17 +37,18 @@ impl fmt::Display for ConfigFault {
     ghost output = { λ e. Some (fault_text e) };
 
     fn fmt<W: fmt::Write>(&self, f: &mut fmt::Formatter<W>) -> fmt::Result {
-        match self {
-            ConfigFault::Toml => f.write_str("Toml"),
-            ConfigFault::OutOfMemory => f.write_str("OutOfMemory"),
-            ConfigFault::Missing(spot) => write!(f, "Missing at {spot}"),
-            ConfigFault::WrongType(spot) => write!(f, "WrongType at {spot}"),
-            ConfigFault::OutOfRange(spot) => write!(f, "OutOfRange at {spot}"),
-            ConfigFault::DoubleName(spot) => write!(f, "DoubleName at {spot}"),
-            ConfigFault::UnknownHome(spot) => write!(f, "UnknownHome at {spot}"),
-            ConfigFault::BadAddress(spot) => write!(f, "BadAddress at {spot}"),
-            ConfigFault::TooMany(spot) => write!(f, "TooMany at {spot}"),
-        }
+        let (name, spot) = match self {
+            ConfigFault::Toml => return f.write_str("Toml"),
+            ConfigFault::OutOfMemory => return f.write_str("OutOfMemory"),
+            ConfigFault::Missing(spot) => ("Missing", spot),
+            ConfigFault::WrongType(spot) => ("WrongType", spot),
+            ConfigFault::OutOfRange(spot) => ("OutOfRange", spot),
+            ConfigFault::DoubleName(spot) => ("DoubleName", spot),
+            ConfigFault::UnknownHome(spot) => ("UnknownHome", spot),
+            ConfigFault::BadAddress(spot) => ("BadAddress", spot),
+            ConfigFault::TooMany(spot) => ("TooMany", spot),
+        };
+        write!(f, "{name} at {spot}")
     }
 }
 
