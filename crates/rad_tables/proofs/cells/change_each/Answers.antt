@@ -1,4 +1,4 @@
-use Rattle.std.proofs.Common.{◌<◌, length, sym, ap, ◌∙◌, arith}
+use Rattle.std.proofs.Common.{◌<◌, length, sym, ap, ◌∙◌, arith, refl}
 use Rattle.std.specs.Option.{option_map}
 use Rattle.rad_tables.specs.internal.Kept.{entry_of}
 use Rattle.rad_tables.proofs.ChangeLemmas.{one_more_done, one_less_left, all_done}
@@ -19,3 +19,12 @@ loop-cell-preserved g c =
 pub returns : goal.returns
 returns g c =
     all_done (g.C.Change.changed c.args.change.now) c.args.cells.now c.loop-cell.cells c.loop-cell.cell-index c.loop-cell.auto.cells (omega arith) c.loop-cell.invariant.done
+
+pub loop-cell-init : goal.loop-cell-init
+loop-cell-init g c = record { done = λ place below. absurd (omega arith); left = λ place above. refl }
+
+pub bounds-cells-cell-index : goal.bounds-cells-cell-index
+bounds-cells-cell-index g c = omega arith
+
+pub loop-cell-smaller : goal.loop-cell-smaller
+loop-cell-smaller g c = omega arith
