@@ -2,6 +2,7 @@ pub mod Blocks
 mod Cells
 pub mod Ends
 mod Fronts
+mod JoinedFronts
 mod Lending
 mod NodeSteps
 mod Places
