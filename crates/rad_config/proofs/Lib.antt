@@ -1,5 +1,6 @@
 pub mod Numbers
 pub mod Addresses
+pub mod OptionSteps
 pub mod Places
 pub mod Names
 pub mod ArrayTables
