@@ -4,6 +4,7 @@ pub mod OptionSteps
 pub mod Places
 pub mod Names
 pub mod ArrayTables
+pub mod TablesRead
 pub mod Turns
 pub mod LastSigns
 pub mod Ranges
