@@ -28,6 +28,13 @@ struct HandledText<'a> {
     written: PacketText<'a>,
 }
 
+/// A request's lane and its number there.
+#[derive(Clone, Copy)]
+struct RequestText {
+    lane: u16,
+    number: u64,
+}
+
 /// The line of a lane's step.
 #[derive(Clone, Copy)]
 pub struct StepLine<'a> {
@@ -99,12 +106,31 @@ impl fmt::Display for HandledText<'_> {
         let written = self.written;
         match self.handled {
             Handled::Answered => write!(f, "status {written}"),
-            Handled::Taken(lane, Taken::New(number)) => write!(f, "new {lane} {number}"),
-            Handled::Taken(lane, Taken::Waiting(number)) => write!(f, "waiting {lane} {number}"),
+            Handled::Taken(lane, Taken::New(number)) => {
+                let request = RequestText { lane, number };
+                write!(f, "new {request}")
+            }
+            Handled::Taken(lane, Taken::Waiting(number)) => {
+                let request = RequestText { lane, number };
+                write!(f, "waiting {request}")
+            }
             Handled::Taken(lane, Taken::Again(number)) => {
-                write!(f, "again {lane} {number} {written}")
+                let request = RequestText { lane, number };
+                write!(f, "again {request} {written}")
             }
         }
+    }
+}
+
+impl fmt::Display for RequestText {
+    ghost use Rattle.std.specs.Prelude.{Some};
+    ghost use Rattle.rad_replay.specs.Lines.{request_text};
+
+    ghost output = { λ request. Some (request_text request.lane request.number) };
+
+    fn fmt<W: fmt::Write>(&self, f: &mut fmt::Formatter<W>) -> fmt::Result {
+        let RequestText { lane, number } = *self;
+        write!(f, "{lane} {number}")
     }
 }
 
