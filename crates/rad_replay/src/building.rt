@@ -142,9 +142,8 @@ fn write_made(make: &Make<'_>, sender: Sender<'_>, octets: &mut Vec<u8>) -> Resu
 {
     let attributes = &make.attributes;
     let length = 20 + attributes.count();
-    let length = [(length / 256) as u8, (length % 256) as u8];
-    octets.extend_from_slice(&[make.code, make.identifier])?;
-    octets.extend_from_slice(&length)?;
+    let [high, low] = [(length / 256) as u8, (length % 256) as u8];
+    octets.extend_from_slice(&[make.code, make.identifier, high, low])?;
     octets.extend_from_slice(&[0; 16])?;
     attributes.push_to(octets)?;
     sign(octets, sender);

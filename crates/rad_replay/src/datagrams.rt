@@ -4,7 +4,7 @@ ghost use Rattle.std.specs.Prelude.{◌≤◌, length, IfSome};
 ghost use Rattle.rad_replay.specs.Hex.{octets_of};
 
 use crate::hex::Hex;
-use crate::numbers::{parse_u8, parse_usize};
+use crate::numbers::{next_u8, next_usize, next_word};
 use rad_console::Pieces;
 
 /// How a datagram is made.
@@ -54,15 +54,26 @@ const MOST_ATTRIBUTES: usize = 4076;
 
 /// Reads how a datagram is made.
 pub fn parse_packet<'a>(words: &mut Pieces<'a>) -> Option<Packet<'a>> {
-    let word = words.next()?;
+    let word = next_word(words)?;
     if word == b"raw".as_slice() {
         return parse_raw(words);
     }
+    parse_made(word, words)
+}
+
+/// Reads how a packet is made and changed, from this word on.
+fn parse_made<'a>(word: &'a [u8], words: &mut Pieces<'a>) -> Option<Packet<'a>> {
+    let (changes, word) = parse_changes(word, words)?;
+    let template = parse_template(word, words)?;
+    Some(Packet::Made(template, changes))
+}
+
+/// Reads the changes to a packet, and the word after them.
+fn parse_changes<'a>(word: &'a [u8], words: &mut Pieces<'a>) -> Option<(Changes<'a>, &'a [u8])> {
     let (spoil, word) = parse_spoil(word, words)?;
     let (pad, word) = parse_pad(word, words)?;
     let (cut, word) = parse_cut(word, words)?;
-    let template = parse_template(word, words)?;
-    Some(Packet::Made(template, Changes { spoil, pad, cut }))
+    Some((Changes { spoil, pad, cut }, word))
 }
 
 /// Reads the words after `raw`.
@@ -74,7 +85,7 @@ fn parse_raw<'a>(words: &mut Pieces<'a>) -> Option<Packet<'a>> {
 /// Reads whether a packet is spoiled, and the word after that.
 fn parse_spoil<'a>(word: &'a [u8], words: &mut Pieces<'a>) -> Option<(bool, &'a [u8])> {
     if word == b"spoil".as_slice() {
-        return Some((true, words.next()?));
+        return Some((true, next_word(words)?));
     }
     Some((false, word))
 }
@@ -82,8 +93,8 @@ fn parse_spoil<'a>(word: &'a [u8], words: &mut Pieces<'a>) -> Option<(bool, &'a 
 /// Reads the octets that are added to a packet, and the word after them.
 fn parse_pad<'a>(word: &'a [u8], words: &mut Pieces<'a>) -> Option<(Hex<'a>, &'a [u8])> {
     if word == b"pad".as_slice() {
-        let octets = Hex::parse(words.next()?)?;
-        return Some((octets, words.next()?));
+        let octets = next_hex(words)?;
+        return Some((octets, next_word(words)?));
     }
     Some((Hex::none(), word))
 }
@@ -91,8 +102,8 @@ fn parse_pad<'a>(word: &'a [u8], words: &mut Pieces<'a>) -> Option<(Hex<'a>, &'a
 /// Reads how many octets are removed from a packet, and the word after that.
 fn parse_cut<'a>(word: &'a [u8], words: &mut Pieces<'a>) -> Option<(usize, &'a [u8])> {
     if word == b"cut".as_slice() {
-        let count = parse_usize(words.next()?)?;
-        return Some((count, words.next()?));
+        let count = next_usize(words)?;
+        return Some((count, next_word(words)?));
     }
     Some((0, word))
 }
@@ -108,8 +119,8 @@ fn parse_template<'a>(word: &[u8], words: &mut Pieces<'a>) -> Option<Template<'a
 
 /// Reads the words after `make`.
 fn parse_make<'a>(words: &mut Pieces<'a>) -> Option<Template<'a>> {
-    let code = parse_u8(words.next()?)?;
-    let identifier = parse_u8(words.next()?)?;
+    let code = next_u8(words)?;
+    let identifier = next_u8(words)?;
     let attributes = parse_hex(words, MOST_ATTRIBUTES)?;
     Some(Template::Make(Make {
         code,
@@ -120,7 +131,7 @@ fn parse_make<'a>(words: &mut Pieces<'a>) -> Option<Template<'a>> {
 
 /// Reads the word after `status`.
 fn parse_status<'a>(words: &mut Pieces<'a>) -> Option<Template<'a>> {
-    let identifier = parse_u8(words.next()?)?;
+    let identifier = next_u8(words)?;
     Some(Template::Status { identifier })
 }
 
@@ -128,9 +139,14 @@ fn parse_status<'a>(words: &mut Pieces<'a>) -> Option<Template<'a>> {
 fn parse_hex<'a>(words: &mut Pieces<'a>, most: usize) -> Option<Hex<'a>>
     ensures { IfSome result (λ octets. length (octets_of octets) ≤ most) }
 {
-    let octets = Hex::parse(words.next()?)?;
+    let octets = next_hex(words)?;
     if octets.count() > most {
         return None;
     }
     Some(octets)
+}
+
+/// Reads the next word as octets.
+fn next_hex<'a>(words: &mut Pieces<'a>) -> Option<Hex<'a>> {
+    Hex::parse(next_word(words)?)
 }

@@ -1,7 +1,7 @@
 //! The events of a script, one on each line.
 
 use crate::datagrams::{Packet, Template, parse_packet};
-use crate::numbers::{parse_address, parse_u16, parse_usize};
+use crate::numbers::{next_address, next_u16, next_usize, next_word};
 use rad_console::{Command, Pieces};
 
 /// An event that happens to the proxy.
@@ -43,12 +43,17 @@ impl<'a> Event<'a> {
     /// Reads the event of a line, if the line is one.
     pub fn parse(line: &'a [u8]) -> Option<Self> {
         let mut words = Pieces::new(line, b' ');
-        let first = words.next()?;
-        let event = parse_event(first, &mut words)?;
-        match words.next() {
-            Some(_) => None,
-            None => Some(event),
-        }
+        parse_line(&mut words)
+    }
+}
+
+/// Reads the event of all these words.
+fn parse_line<'a>(words: &mut Pieces<'a>) -> Option<Event<'a>> {
+    let first = next_word(words)?;
+    let event = parse_event(first, words)?;
+    match next_word(words) {
+        Some(_) => None,
+        None => Some(event),
     }
 }
 
@@ -57,18 +62,25 @@ fn parse_event<'a>(first: &[u8], words: &mut Pieces<'a>) -> Option<Event<'a>> {
     match first {
         b"nas" => parse_nas(words),
         b"home" => parse_home(words),
+        b"at" => parse_at(words),
+        _ => parse_act(first, words),
+    }
+}
+
+/// Reads an event in which a lane or the console acts, from this word on.
+fn parse_act<'a>(first: &[u8], words: &mut Pieces<'a>) -> Option<Event<'a>> {
+    match first {
         b"take" => parse_take(words),
         b"step" => parse_step(words),
         b"turn" => parse_turn(words),
-        b"at" => parse_at(words),
         _ => parse_command(first),
     }
 }
 
 /// Reads the words after `nas`.
 fn parse_nas<'a>(words: &mut Pieces<'a>) -> Option<Event<'a>> {
-    let address = parse_address(words.next()?)?;
-    let port = parse_u16(words.next()?)?;
+    let address = next_address(words)?;
+    let port = next_u16(words)?;
     let packet = parse_packet(words)?;
     Some(Event::Nas {
         address,
@@ -79,7 +91,7 @@ fn parse_nas<'a>(words: &mut Pieces<'a>) -> Option<Event<'a>> {
 
 /// Reads the words after `home`, which describe no Status-Server, since a home server sends none.
 fn parse_home<'a>(words: &mut Pieces<'a>) -> Option<Event<'a>> {
-    let (lane, port) = parse_source(words.next()?)?;
+    let (lane, port) = parse_source(next_word(words)?)?;
     match parse_packet(words)? {
         Packet::Made(Template::Status { .. }, _) => None,
         packet => Some(Event::Home { lane, port, packet }),
@@ -89,12 +101,17 @@ fn parse_home<'a>(words: &mut Pieces<'a>) -> Option<Event<'a>> {
 /// Reads a lane and, after a dot, its source port, which without one is the first.
 fn parse_source(word: &[u8]) -> Option<(u16, u16)> {
     let mut numbers = Pieces::new(word, b'.');
-    let lane = parse_u16(numbers.next()?)?;
-    let port = match numbers.next() {
-        Some(port) => parse_u16(port)?,
-        None => 0,
-    };
-    match numbers.next() {
+    parse_lane_and_port(&mut numbers)
+}
+
+/// Reads a lane's number and, if another number follows, its source port, which otherwise is the first.
+fn parse_lane_and_port(numbers: &mut Pieces<'_>) -> Option<(u16, u16)> {
+    let lane = next_u16(numbers)?;
+    if numbers.rest().is_none() {
+        return Some((lane, 0));
+    }
+    let port = next_u16(numbers)?;
+    match numbers.rest() {
         Some(_) => None,
         None => Some((lane, port)),
     }
@@ -102,25 +119,25 @@ fn parse_source(word: &[u8]) -> Option<(u16, u16)> {
 
 /// Reads the word after `at`.
 fn parse_at<'a>(words: &mut Pieces<'a>) -> Option<Event<'a>> {
-    let milliseconds = parse_usize(words.next()?)? as u64;
+    let milliseconds = next_usize(words)? as u64;
     Some(Event::At { milliseconds })
 }
 
 /// Reads the lane after `take`.
 fn parse_take<'a>(words: &mut Pieces<'a>) -> Option<Event<'a>> {
-    let lane = parse_u16(words.next()?)?;
+    let lane = next_u16(words)?;
     Some(Event::Take { lane })
 }
 
 /// Reads the lane after `step`.
 fn parse_step<'a>(words: &mut Pieces<'a>) -> Option<Event<'a>> {
-    let lane = parse_u16(words.next()?)?;
+    let lane = next_u16(words)?;
     Some(Event::Step { lane })
 }
 
 /// Reads the lane after `turn`.
 fn parse_turn<'a>(words: &mut Pieces<'a>) -> Option<Event<'a>> {
-    let lane = parse_u16(words.next()?)?;
+    let lane = next_u16(words)?;
     Some(Event::Turn { lane })
 }
 

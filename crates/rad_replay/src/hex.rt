@@ -1,8 +1,8 @@
 //! Octets as the events write them, in hexadecimal digits.
 
-ghost use Rattle.std.specs.Prelude.{◌≡◌, ◌<◌};
+ghost use Rattle.std.specs.Prelude.{◌≡◌, ◌<◌, ◌↔◌, IsTrue};
 ghost use Rattle.std.specs.List.{list_all};
-ghost use Rattle.rad_replay.specs.Hex.{is_digit as the_is_digit, digit_value};
+ghost use Rattle.rad_replay.specs.Hex.{AreDigits, is_digit as the_is_digit, digit_value};
 
 use std::alloc::AllocError;
 
@@ -32,8 +32,7 @@ impl<'a> Hex<'a> {
         if word == b"-".as_slice() {
             return Some(Hex::none());
         }
-        let is_even = word.len() % 2 == 0;
-        if word.is_empty() || !is_even || !are_digits(word) {
+        if !is_written(word) {
             return None;
         }
         Some(Hex { digits: word })
@@ -77,6 +76,14 @@ impl<'a> Hex<'a> {
         let low = self.digits[2 * index + 1];
         16 * value_of(high) + value_of(low)
     }
+}
+
+/// Returns whether a word is an even number of digits, at least two.
+fn is_written(word: &[u8]) -> bool
+    ensures { IsTrue result ↔ AreDigits word.now }
+{
+    let is_even = word.len() % 2 == 0;
+    !word.is_empty() && is_even && are_digits(word)
 }
 
 /// Returns whether a text has digits only.

@@ -28,7 +28,7 @@ struct HandledText<'a> {
     written: PacketText<'a>,
 }
 
-/// A request's lane and its number there.
+/// A lane, and the number of a request or of a response there.
 #[derive(Clone, Copy)]
 struct RequestText {
     lane: u16,
@@ -58,6 +58,13 @@ pub struct HomeLine {
 #[derive(Drop)]
 pub struct TakeLine {
     pub taken: Option<Outgoing>,
+}
+
+/// The client that a response is sent to.
+#[derive(Clone, Copy)]
+struct ReceiverText {
+    client: [u8; 4],
+    port: u16,
 }
 
 /// The line of the removal of a volume from a lane's book.
@@ -199,7 +206,10 @@ impl fmt::Display for HomeLine {
     fn fmt<W: fmt::Write>(&self, f: &mut fmt::Formatter<W>) -> fmt::Result {
         let lane = self.lane;
         match self.outcome {
-            Ok(Told::Answer(serial)) => write!(f, "home: answer {lane} {serial}"),
+            Ok(Told::Answer(number)) => {
+                let request = RequestText { lane, number };
+                write!(f, "home: answer {request}")
+            }
             Ok(Told::ProbeAnswered) => f.write_str("home: probe"),
             Err(fault) => write!(f, "home: dropped {fault}"),
         }
@@ -215,13 +225,28 @@ impl fmt::Display for TakeLine {
     fn fmt<W: fmt::Write>(&self, f: &mut fmt::Formatter<W>) -> fmt::Result {
         match &self.taken {
             Some(response) => {
-                let client = AddressText(response.client);
-                let port = response.port;
+                let receiver = ReceiverText {
+                    client: response.client,
+                    port: response.port,
+                };
                 let packet = PacketText::new(response_of(&response.reply));
-                write!(f, "take: {client} {port} {packet}")
+                write!(f, "take: {receiver} {packet}")
             }
             None => f.write_str("take: none"),
         }
+    }
+}
+
+impl fmt::Display for ReceiverText {
+    ghost use Rattle.std.specs.Prelude.{Some};
+    ghost use Rattle.rad_replay.specs.Lines.{receiver_text};
+
+    ghost output = { λ receiver. Some (receiver_text receiver.client receiver.port) };
+
+    fn fmt<W: fmt::Write>(&self, f: &mut fmt::Formatter<W>) -> fmt::Result {
+        let client = AddressText(self.client);
+        let port = self.port;
+        write!(f, "{client} {port}")
     }
 }
 

@@ -45,7 +45,7 @@ struct IdentifierText {
 struct AttributesText<'a>(&'a [u8]);
 
 impl<'a> PacketText<'a> {
-    ghost use Rattle.std.specs.Prelude.{◌≡◌, ◌≤◌, length};
+    ghost use Rattle.std.specs.Prelude.{◌≡◌, ◌≤◌, drop, length};
 
     /// Makes the text of a packet from its octets.
     pub fn new(octets: &'a [u8]) -> Self
@@ -62,6 +62,13 @@ impl<'a> PacketText<'a> {
         HeadText {
             octets: self.octets,
         }
+    }
+
+    /// Returns the attributes of the packet.
+    fn attributes(&self) -> AttributesText<'a>
+        ensures { result.0.now ≡ drop 20 self.now.octets.now }
+    {
+        AttributesText(&self.octets[20..])
     }
 }
 
@@ -96,8 +103,7 @@ impl fmt::Display for SentText<'_> {
 
     fn fmt<W: fmt::Write>(&self, f: &mut fmt::Formatter<W>) -> fmt::Result {
         let head = self.head();
-        let packet = self.packet;
-        let rest = AttributesText(&packet.octets[20..]);
+        let rest = self.packet.attributes();
         write!(f, "{head} {rest}")
     }
 }
@@ -143,7 +149,7 @@ impl fmt::Display for PacketText<'_> {
 
     fn fmt<W: fmt::Write>(&self, f: &mut fmt::Formatter<W>) -> fmt::Result {
         let head = self.head();
-        let attributes = AttributesText(&self.octets[20..]);
+        let attributes = self.attributes();
         write!(f, "{head} {attributes}")
     }
 }

@@ -32,11 +32,17 @@ pub fn replay<T: Wait, R: Read + Drop, W: Write + Drop>(
 {
     let input = read_input(alloc, reader)?;
     let (configuration, events) = split_input(input.as_slice());
+    let config = read_config(alloc, configuration, events)?;
+    run(rt, alloc, &config, events, writer)
+}
+
+/// Reads the configuration, if the events are text too.
+fn read_config(alloc: Global, configuration: &[u8], events: &[u8]) -> Result<Config, ReplayFault> {
     if str::from_utf8(events).is_err() {
         return Err(ReplayFault::Configuration(ConfigFault::Toml));
     }
     match read_configuration(alloc, configuration) {
-        Ok(config) => run(rt, alloc, &config, events, writer),
+        Ok(config) => Ok(config),
         Err(fault) => Err(ReplayFault::Configuration(fault)),
     }
 }
