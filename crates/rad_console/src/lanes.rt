@@ -24,8 +24,16 @@ pub struct DrainLine {
 }
 
 /// The counts of a lane, as they are printed.
-#[derive(Drop)]
-struct CountsText(Counts);
+#[derive(Clone, Copy)]
+struct CountsText<'a>(&'a Counts);
+
+/// Whether a lane's home server is marked up or down, whether the lane is drained, and its counts.
+#[derive(Clone, Copy)]
+struct StatusText<'a>(&'a Counts);
+
+/// The counts of a lane after those of its accepted and queued requests.
+#[derive(Clone, Copy)]
+struct SentCountsText<'a>(&'a Counts);
 
 /// Returns whether a home server is marked up or down, as it is printed.
 fn watch_name(up: bool) -> &'static str
@@ -54,27 +62,52 @@ impl fmt::Display for StateLine<'_> {
     fn fmt<W: fmt::Write>(&self, f: &mut fmt::Formatter<W>) -> fmt::Result {
         let lane = self.lane;
         let name = self.name;
-        let watch = watch_name(self.counts.up);
-        let mode = mode_name(&self.counts);
-        let counts = CountsText(self.counts);
-        write!(f, "lane {lane} {name} ")?;
+        let status = StatusText(&self.counts);
+        write!(f, "lane {lane} {name} {status}")
+    }
+}
+
+impl fmt::Display for StatusText<'_> {
+    ghost use Rattle.std.specs.Prelude.{Some, ◌++◌, codes};
+    ghost use Rattle.rad_console.specs.Lanes.{watch_name, mode_name, counts_text};
+
+    ghost output = { λ status. Some (watch_name status.0.now.up
+        ++ codes " " ++ mode_name status.0.now.draining status.0.now.queued status.0.now.outstanding
+        ++ codes " " ++ counts_text status.0.now) };
+
+    fn fmt<W: fmt::Write>(&self, f: &mut fmt::Formatter<W>) -> fmt::Result {
+        let watch = watch_name(self.0.up);
+        let mode = mode_name(self.0);
+        let counts = CountsText(self.0);
         write!(f, "{watch} {mode} {counts}")
     }
 }
 
-impl fmt::Display for CountsText {
+impl fmt::Display for CountsText<'_> {
     ghost use Rattle.std.specs.Prelude.{Some};
     ghost use Rattle.rad_console.specs.Lanes.{counts_text};
 
-    ghost output = { λ line. Some (counts_text line.0) };
+    ghost output = { λ counts. Some (counts_text counts.0.now) };
 
     fn fmt<W: fmt::Write>(&self, f: &mut fmt::Formatter<W>) -> fmt::Result {
         let accepted = self.0.accepted;
         let queued = self.0.queued;
+        let rest = SentCountsText(self.0);
+        write!(f, "accepted {accepted} queued {queued} {rest}")
+    }
+}
+
+impl fmt::Display for SentCountsText<'_> {
+    ghost use Rattle.std.specs.Prelude.{Some, ◌++◌, codes};
+    ghost use Rattle.std.specs.Fmt.{decimal};
+
+    ghost output = { λ counts. Some (codes "outstanding " ++ decimal counts.0.now.outstanding
+        ++ codes " answered " ++ decimal counts.0.now.answered ++ codes " opening " ++ decimal counts.0.now.opening) };
+
+    fn fmt<W: fmt::Write>(&self, f: &mut fmt::Formatter<W>) -> fmt::Result {
         let outstanding = self.0.outstanding;
         let answered = self.0.answered;
         let opening = self.0.opening;
-        write!(f, "accepted {accepted} queued {queued} ")?;
         write!(
             f,
             "outstanding {outstanding} answered {answered} opening {opening}"

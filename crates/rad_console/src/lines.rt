@@ -14,6 +14,10 @@ pub struct EndLine {
     pub untaken: Option<usize>,
 }
 
+/// How many responses were not taken, if that is known.
+#[derive(Clone, Copy)]
+struct UntakenText(Option<usize>);
+
 /// The line of how many clients, home servers and realms a configuration has.
 #[derive(Clone, Copy)]
 pub struct CountLine {
@@ -48,8 +52,22 @@ impl fmt::Display for EndLine {
     fn fmt<W: fmt::Write>(&self, f: &mut fmt::Formatter<W>) -> fmt::Result {
         let queued = self.queued;
         let outstanding = self.outstanding;
-        write!(f, "end: queued {queued} outstanding {outstanding} ")?;
-        match self.untaken {
+        let untaken = UntakenText(self.untaken);
+        write!(
+            f,
+            "end: queued {queued} outstanding {outstanding} {untaken}"
+        )
+    }
+}
+
+impl fmt::Display for UntakenText {
+    ghost use Rattle.std.specs.Prelude.{Some};
+    ghost use Rattle.rad_console.specs.Lines.{untaken_text};
+
+    ghost output = { λ text. Some (untaken_text text.0) };
+
+    fn fmt<W: fmt::Write>(&self, f: &mut fmt::Formatter<W>) -> fmt::Result {
+        match self.0 {
             Some(untaken) => write!(f, "untaken {untaken}"),
             None => f.write_str("untaken unknown"),
         }

@@ -1,5 +1,6 @@
-use Rattle.std.proofs.Common.{rules, ◌≡◌, ◌≢◌, ◌≤◌, ◌++◌, ◌∷◌, length, take, drop, ◌+◌, sym, ap, subst, ◌∙◌, arith}
-use Rattle.std.proofs.lemmas.List.{length-take}
+use Rattle.std.proofs.Common.{rules, ◌≡◌, ◌≢◌, ◌<◌, ◌≤◌, ◌++◌, ◌∷◌, length, take, drop, ◌+◌, sym, ap, subst, ◌∙◌, arith}
+use Rattle.std.proofs.lemmas.List.{length-take, length-take-le, drop_all}
+use Rattle.std.proofs.lemmas.Option.{slice_get_within}
 use Rattle.std.proofs.lemmas.List.Elements.{All-append, All-take}
 use Rattle.rad_console.specs.Commands.{HasNoFeed, IsFront, Asks}
 use Rattle.rad_console.proofs.CommandLemmas.{split_round}
@@ -33,4 +34,35 @@ returns-in-Some-clause-ends g c =
         asks = subst (λ xs. Asks xs c.end.result) c.push.ensures c.end.ensures.asked;
       },
       c.end.ensures.empty,
+    )
+
+pub slice_bounds-push-end : goal.slice_bounds-push-end
+slice_bounds-push-end g c =
+    let count = c.in-Some.count in
+    let unread = c.as_slice-unread.result.now in
+    let found = c.in-Some.ensures in
+    let within : count < length unread = slice_get_within unread count 10 found.there in
+    sym (length-take-le count unread (omega (arith, within)))
+
+pub skip-requires : goal.skip-requires
+skip-requires g c =
+    let unread = c.as_slice-unread.result.now in
+    let found = c.in-Some.ensures in
+    let within : c.in-Some.count < length unread = slice_get_within unread c.in-Some.count 10 found.there in
+    omega (arith, within, ap length c.as_slice-unread.ensures)
+
+pub invariant_of-self : goal.invariant_of-self
+invariant_of-self g c = record { front = subst IsFront (sym c.end.ensures.empty) (omega arith, (λ k d less is. absurd (omega (arith, less)))) }
+
+pub skip-requires-in-None : goal.skip-requires-in-None
+skip-requires-in-None g c = omega (arith, ap length c.as_slice-unread.ensures)
+
+pub returns-in-None-clause-ends : goal.returns-in-None-clause-ends
+returns-in-None-clause-ends g c =
+    let line = c.args.self.now.line in
+    let same = c.as_slice-unread.ensures in
+    let unended : HasNoFeed c.as_slice-unread.result.now = c.in-None.ensures in (
+      c.push-in-None.ensures ∙ ap (λ xs. take 64 (line ++ xs)) same,
+      c.skip-in-None.ensures ∙ drop_all (length c.as_slice-unread.result.now) c.args.self.now.unread (omega (arith, ap length same)),
+      subst HasNoFeed same unended,
     )
