@@ -1,7 +1,8 @@
 -- What loops over lists keep.
-use Rattle.std.proofs.Common.{◌≡◌, ℕ, zero, suc, ◌+◌, ◌<◌, map, take, List, [], ◌∷◌, ◌++◌, length, get_or, drop, Option, Some, None, refl, sym, ap, ◌∙◌, append_assoc}
-use Rattle.std.proofs.lemmas.List.{drop_more}
-use Rattle.std.specs.List.{filter_map, cons_option}
+use Rattle.std.proofs.Common.{◌≡◌, ℕ, zero, suc, ◌+◌, ◌-◌, ◌<◌, min, map, take, List, [], ◌∷◌, ◌++◌, length, get_or, drop, Option, Some, None, refl, sym, ap, ◌∙◌, append_assoc, arith}
+use Rattle.std.proofs.lemmas.List.{drop_more, take_more, length-map, length-take, map-append}
+use Rattle.std.proofs.lemmas.List.Elements.{All-nil, All-push}
+use Rattle.std.specs.List.{All, filter_map, cons_option}
 use Rattle.std.specs.Option.{option_to_list}
 
 cons_is_append : {Y : Type 0} (o : Option Y) (ys : List Y) → cons_option o ys ≡ option_to_list o ++ ys
@@ -26,3 +27,30 @@ take_of_map f (suc n) (x ∷ xs) = ap (λ ys. f x ∷ ys) (take_of_map f n xs)
 -- the first ones, however many there are
 pub first_ones : {X Y : Type 0} (f : X → Y) (n : ℕ) (xs front : List X) (told : List Y) → take n xs ≡ front → told ≡ map f front → told ≡ take n (map f xs)
 first_ones f n xs front told e same = same ∙ ap (map f) (sym e) ∙ take_of_map f n xs
+
+-- the number of the others
+pub others : {X Y : Type 0} (f : X → Y) (most : ℕ) (xs : List X) (count : ℕ) → count ≡ min (length xs) most → length xs - count ≡ length (map f xs) - most
+others f most xs count e = rw (length-map xs f) (omega arith)
+
+-- the end of a front of the list, where it is not longer than the list
+pub end_of_front : {X : Type 0} (most : ℕ) (xs : List X) (count : ℕ) → count ≡ min (length xs) most → count ≡ length (take count xs)
+end_of_front most xs count e = simp length-take (omega arith)
+
+-- the images of no elements, and what holds of each of them
+pub images_of_none : {X Y : Type 0} (f : X → Y) (xs : List X) → xs ≡ [] → map f xs ≡ []
+images_of_none f xs e = ap (map f) e
+
+pub all_of_none : {X : Type 0} (P : X → Type 0) (xs : List X) → xs ≡ [] → All P xs
+all_of_none P xs e = rw e (All-nil P)
+
+-- one element more has the image of the next element of another list
+pub images_of_more : {X Y Z : Type 0} (f : X → Z) (g : Y → Z) (old new : List X) (x : X) (ys : List Y) (i : ℕ) (d : Y)
+    → new ≡ old ++ x ∷ [] → i < length ys → f x ≡ g (get_or ys i d) → map f old ≡ map g (take i ys) → map f new ≡ map g (take (i + 1) ys)
+images_of_more f g old new x ys i d e lt here before =
+    let left : map f new ≡ map f old ++ f x ∷ [] = ap (map f) e ∙ map-append f old (x ∷ []) in
+    let right : map g (take (i + 1) ys) ≡ map g (take i ys) ++ g (get_or ys i d) ∷ [] = ap (map g) (take_more ys i d lt) ∙ map-append g (take i ys) (get_or ys i d ∷ []) in
+    cc
+
+-- what holds of each element holds of each with one more
+pub all_of_more : {X : Type 0} (P : X → Type 0) (old new : List X) (x : X) → new ≡ old ++ x ∷ [] → All P old → P x → All P new
+all_of_more P old new x e before here = rw e (All-push P old x before here)
