@@ -1,7 +1,10 @@
 -- What is wrong with an entry, out of what its parts show.
-use Rattle.std.proofs.Common.{ℕ, List, Option, Some, None, MatchOption, IfSome, Result, Ok, Err, IfOk}
+use Rattle.std.proofs.Common.{◌≡◌, ℕ, subst, true, false, List, Option, Some, None, MatchOption, IfSome, Result, Ok, Err, IfOk}
+use Rattle.std.specs.Bool.{IsTrue}
 use Rattle.rad_packet.specs.Packet.{IsPacketText}
-use Rattle.rad_ledger.specs.Judging.{ArePackets, ArePacketsRight, HasSent, HasReply, HasResponse, IsWrong, IsWrongPacket, JudgesReply, head_of}
+use Rattle.rad_ledger.specs.Judging.{ArePackets, ArePacketsRight, HasSent, HasReply, HasResponse, IsSent, IsWrong, IsWrongPacket, JudgesReply, head_of, mark_of}
+use Rattle.rad_auth.specs.declared.mark.Mark.{Mark}
+use Rattle.rad_auth.specs.declared.reply.RequestHead.{RequestHead}
 use Rattle.rad_ledger.specs.declared.entry.Entry.{Entry}
 use Rattle.rad_ledger.specs.declared.reason.Reason.{Reason}
 use Rattle.rad_ledger.specs.declared.reason.Reason.TheVariants.{NotEntry, NoPacket, WrongSent, WrongReply, WrongResponse, SerialNotAbove, UnknownLane}
@@ -18,6 +21,14 @@ module _ (e : Entry) where
 
   pub are_packets : IsPacketText e.sent.now → IsPacketText e.reply.now → IsPacketText e.response.now → ArePackets e
   are_packets s r p = record { sent = s; reply = r; response = p }
+
+  -- what was sent with the entry's mark is told of the entry
+  module _ (home : List ℕ) (mark : Mark) (sent : List ℕ) (marked : mark ≡ mark_of e) (whole : sent ≡ e.sent.now) where
+    pub has_sent : IsSent home mark sent → HasSent home e
+    has_sent s = rw (marked, whole) at s
+
+    pub not_sent : (IsSent home mark sent → IsTrue false) → ¬ HasSent home e
+    not_sent n s = let no : false ≡ true = n (rw (marked, whole) s) in cc
 
   module _ (client : Option (List ℕ)) where
     -- of a home server whose secret is not known
@@ -42,6 +53,13 @@ module _ (e : Entry) where
       pub judged : {E : Type 0} (result : Result (Option Reason) E) → IfOk result (λ wrong. JudgesReply home client (head_of e) e.sent.now e.reply.now e.response.now wrong) → IfOk result (λ wrong. MatchOption wrong (ArePacketsRight e (Some home) client) (λ reason. IsWrongPacket e (Some home) client reason))
       judged (Ok wrong) j = by_reason wrong j
       judged (Err refused) j = tt
+
+      -- the same by the head and the packets that were read
+      pub judged_of : {E : Type 0} (result : Result (Option Reason) E) (head : RequestHead) (sent reply : List ℕ) → head ≡ head_of e → sent ≡ e.sent.now → reply ≡ e.reply.now → IfOk result (λ wrong. JudgesReply home client head sent reply e.response.now wrong) → IfOk result (λ wrong. MatchOption wrong (ArePacketsRight e (Some home) client) (λ reason. IsWrongPacket e (Some home) client reason))
+      judged_of result head sent reply h o r j = judged result (
+          subst (λ x. IfOk result (λ wrong. JudgesReply home client (head_of e) e.sent.now x e.response.now wrong)) r
+          (subst (λ x. IfOk result (λ wrong. JudgesReply home client (head_of e) x reply e.response.now wrong)) o
+          (subst (λ x. IfOk result (λ wrong. JudgesReply home client x sent reply e.response.now wrong)) h j)))
 
   module _ (home client : Option (List ℕ)) (next : Option ℕ) where
     -- what is wrong with the packets is wrong first

@@ -1,5 +1,5 @@
 -- What a response that was made shows of the entry's.
-use Rattle.std.proofs.Common.{◌≡◌, ◌≢◌, ℕ, List, subst}
+use Rattle.std.proofs.Common.{◌≡◌, ◌≢◌, ℕ, true, false, List, subst}
 use Rattle.rad_packet.specs.Packet.{code_of, identifier_of}
 use Rattle.rad_auth.specs.Answers.{Answers}
 use Rattle.rad_auth.specs.Refusing.{IsAnsweredOrRefused, RefusesReply}
@@ -42,3 +42,7 @@ module _ (home sent reply : List ℕ) where
 
     pub is_no_response : (its : List ℕ) → ((h : RequestHead) (s r c o a b : List ℕ) → Answers h s r c o a → Answers h s r c o b → a ≡ b) → response ≢ its → ¬ Answers head sent reply client home its
     is_no_response its one n other = n (one head sent reply client home response its answers other)
+
+-- A test is not both.
+pub other_octets : false ≡ true → ⊥
+other_octets e = cc

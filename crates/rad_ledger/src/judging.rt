@@ -43,7 +43,6 @@ pub fn judge(
 }
 
 /// Returns the first thing that is wrong with the packets of an entry, if anything is.
-#[tactic(auto, using(crate::proofs::Judged::sent_is_none, crate::proofs::Judged::reply_is_none, crate::proofs::Judged::response_is_none, crate::proofs::Judged::are_packets, crate::proofs::Judged::not_judged, crate::proofs::Judged::judged))]
 fn judge_packets(
     alloc: Global,
     entry: &Entry<'_>,
@@ -106,7 +105,6 @@ fn is_sent(sent: &PacketRef<'_>, mark: Mark, home: &Secret) -> bool
 }
 
 /// Returns what is wrong with the reply or the response, if anything is. Nothing is wrong with what was sent.
-#[tactic(auto, using(crate::proofs::Replies::is_reply, crate::proofs::Replies::is_response, crate::proofs::Replies::is_no_response))]
 fn judge_reply(
     alloc: Global,
     head: RequestHead,

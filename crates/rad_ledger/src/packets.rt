@@ -10,7 +10,6 @@ use rad_auth::{MARK_LENGTH, Mark, PROXY_STATE};
 use rad_packet::{AttributeRef, PacketRef, read};
 
 /// Returns the packet that these octets are, if they are one and no octets follow it.
-#[tactic(auto, using(crate::proofs::Whole::refused_is_none, crate::proofs::Whole::padded_is_none, crate::proofs::Whole::same_is_whole, crate::proofs::Whole::same_is_packet))]
 pub fn whole_packet(octets: &[u8]) -> Option<PacketRef<'_>>
     ensures { MatchOption result (¬ IsPacketText octets.now) (λ packet. (packet ≡ octets.now) × IsPacketText octets.now) }
 {
