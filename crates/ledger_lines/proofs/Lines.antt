@@ -1,5 +1,6 @@
 -- A value that lacks what a line has is none.
-use Rattle.std.proofs.Common.{ℕ, ◌^◌, List, [], ◌∷◌, Option, codes, option_copied}
+use Rattle.std.proofs.Common.{◌≡◌, ◌↔◌, ℕ, ◌^◌, Bool, true, false, subst, sym, Result, Ok, Err, IsErrAnd, MatchResult, List, [], ◌∷◌, Option, codes, option_copied}
+use Rattle.std.specs.Bool.{IsTrue}
 use Rattle.json.specs.Json.{Json}
 use Rattle.ledger_lines.specs.Lines.{Denies, HasText, HasNumber, HasOctets, MayHaveNumber, MayHaveWords, HasOnly, keys_of_entry, HasRun, HasTime, HasClient, HasAuthenticator, HasLanes, IsEntry, IsBegin, IsEnd, IsLaneStart, IsLaneCount}
 use Rattle.rad_ledger.specs.declared.entry.Entry.{Entry}
@@ -14,6 +15,15 @@ use Rattle.ledger_lines.specs.declared.faults.LineFault.TheVariants.{NotALine, O
 pub denied : (A B : Type 0) → (B → A) → (fault : LineFault) → Denies fault A → Denies fault B
 denied A B f NotALine n = λ b. n (f b)
 denied A B f OutOfMemory n = tt
+
+-- A fault that is passed on denies what it denied.
+pub passed_on : (there : Type 0) {T : Type 0} (result : Result T LineFault) (P : T → Type 0) (fault : LineFault) → IsErrAnd result (λ f. f ≡ fault) → Denies fault there → MatchResult result P (λ f. Denies f there)
+passed_on there (Ok x) P fault e d = absurd e
+passed_on there (Err f) P fault e d = subst (λ x. Denies x there) (sym e) d
+
+-- A test that fails shows that its fact is not so.
+pub has_others : (b : Bool) (P : Type 0) → (IsTrue b ↔ P) → b ≡ false → ¬ P
+has_others b P f fails p = let holds : b ≡ true = f.1 p in cc
 
 module _ (value : Json) (fault : LineFault) where
   abbrev pub IsEntryThere : Type 0

@@ -98,7 +98,6 @@ pub fn read_line<'a>(
 }
 
 /// The line that a value is.
-#[tactic(auto, using(crate::proofs::Types::no_type, crate::proofs::Types::entry_denied, crate::proofs::Types::begin_denied, crate::proofs::Types::end_denied, crate::proofs::Types::other_denied))]
 fn line_of<'a>(
     alloc: Global,
     value: &Value<'a>,
@@ -138,7 +137,6 @@ const ENTRY_KEYS: [&str; 19] = [
 ];
 
 /// The entry that a value is.
-#[tactic(auto, using(crate::proofs::Lines::entry_members))]
 fn entry_of<'a>(value: &Value<'a>, room: &'a mut Octets) -> Result<Entry<'a>, LineFault>
     requires { HasText (codes "type") (value_view value.now) (codes "entry") }
     ensures { MatchResult result (λ entry. IsEntry (value_view value.now) entry) (λ fault. Denies fault ((entry : TheEntry) × IsEntry (value_view value.now) entry)) }
@@ -190,7 +188,6 @@ fn entry_of<'a>(value: &Value<'a>, room: &'a mut Octets) -> Result<Entry<'a>, Li
 }
 
 /// The first line of a file that a value is.
-#[tactic(auto, using(crate::proofs::Lines::begin_members, crate::proofs::Lines::begin_run, crate::proofs::Lines::begin_time, crate::proofs::Lines::begin_version, crate::proofs::Lines::begin_file, crate::proofs::Lines::begin_lanes))]
 fn begin_of<'a>(alloc: Global, value: &Value<'a>) -> Result<Begin<'a>, LineFault>
     requires { HasText (codes "type") (value_view value.now) (codes "begin") }
     ensures { MatchResult result (λ begin. IsBegin (value_view value.now) begin) (λ fault. Denies fault ((begin : TheBegin) × IsBegin (value_view value.now) begin)) }
@@ -227,7 +224,6 @@ fn starts_of<'a>(alloc: Global, values: &[Value<'a>]) -> Result<Vec<LaneStart<'a
 }
 
 /// The lane that a value of that list is.
-#[tactic(auto, using(crate::proofs::Lines::start_members, crate::proofs::Lines::start_lane, crate::proofs::Lines::start_home, crate::proofs::Lines::start_serial))]
 fn start_of<'a>(value: &Value<'a>) -> Result<LaneStart<'a>, LineFault>
     ensures { MatchResult result (λ start. IsLaneStart (value_view value.now) start) (λ fault. Denies fault ((start : TheStart) × IsLaneStart (value_view value.now) start)) }
 {
@@ -242,7 +238,6 @@ fn start_of<'a>(value: &Value<'a>) -> Result<LaneStart<'a>, LineFault>
 }
 
 /// The end line that a value is.
-#[tactic(auto, using(crate::proofs::Lines::end_members, crate::proofs::Lines::end_run, crate::proofs::Lines::end_time, crate::proofs::Lines::end_lanes))]
 fn end_of<'a>(alloc: Global, value: &Value<'a>) -> Result<End<'a>, LineFault>
     requires { HasText (codes "type") (value_view value.now) (codes "end") }
     ensures { MatchResult result (λ end. IsEnd (value_view value.now) end) (λ fault. Denies fault ((end : TheEnd) × IsEnd (value_view value.now) end)) }
@@ -277,7 +272,6 @@ fn counts_of(alloc: Global, values: &[Value<'_>]) -> Result<Vec<LaneCount>, Line
 }
 
 /// The lane that a value of that list counts.
-#[tactic(auto, using(crate::proofs::Lines::count_members, crate::proofs::Lines::count_lane, crate::proofs::Lines::count_entries))]
 fn count_of(value: &Value<'_>) -> Result<LaneCount, LineFault>
     ensures { MatchResult result (λ count. IsLaneCount (value_view value.now) count) (λ fault. Denies fault ((count : TheCount) × IsLaneCount (value_view value.now) count)) }
 {

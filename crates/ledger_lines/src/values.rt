@@ -143,7 +143,6 @@ pub(crate) fn octet_at(value: &Value<'_>, key: &str) -> Result<u8, LineFault>
 }
 
 /// The octets whose digits stand at a key, in this room.
-#[tactic(auto, using(crate::proofs::Found::octets_found, crate::proofs::Found::no_octets, crate::proofs::Found::no_octets_text))]
 pub(crate) fn octets_at<'r>(
     value: &Value<'_>,
     key: &str,
@@ -262,7 +261,6 @@ pub(crate) fn words_at<'a>(
 }
 
 /// An Acct-Status-Type, where there is one.
-#[tactic(auto, using(crate::proofs::Parts::status_none, crate::proofs::Parts::status_found, crate::proofs::Parts::no_status, crate::proofs::Parts::no_status_number))]
 pub(crate) fn status_at(value: &Value<'_>) -> Result<Option<u32>, LineFault>
     ensures { MatchResult result (λ status. MayHaveNumber (codes "status") (2 ^ 32) (value_view value.now) status) (λ fault. Denies fault ((status : Option ℕ) × MayHaveNumber (codes "status") (2 ^ 32) (value_view value.now) status)) }
 {

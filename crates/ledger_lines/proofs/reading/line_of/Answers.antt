@@ -1,0 +1,58 @@
+use Rattle.json.specs.Value.{value_view}
+use Rattle.ledger_lines.specs.Lines.{IsLineOf}
+use Rattle.ledger_lines.specs.declared.faults.LineFault.TheVariants.{NotALine}
+use Rattle.ledger_lines.proofs.Lines.{passed_on}
+use Rattle.ledger_lines.proofs.Types.{LineThere, no_type, entry_denied, begin_denied, end_denied, other_denied}
+use Rattle.ledger_lines.proofs.reading.line_of.Goals as goal
+
+pub returns-in_err-text_at : goal.returns-in_err-text_at
+returns-in_err-text_at c =
+    let value = value_view c.args.value.now in
+    let fault = c.in_err-text_at.field-0.0 in
+    passed_on (LineThere value fault) c.from_residual.result (IsLineOf value) fault c.from_residual.ensures.1 (no_type value fault c.in_err-text_at.ensures)
+
+pub entry_of-requires : goal.entry_of-requires
+entry_of-requires c = rw c.in-entry.is at c.in_ok-text_at.ensures
+
+pub returns-in_ok-entry_of-in-entry : goal.returns-in_ok-entry_of-in-entry
+returns-in_ok-entry_of-in-entry c = c.in_ok-entry_of-in-entry.ensures
+
+pub returns-in_err-entry_of-in-entry : goal.returns-in_err-entry_of-in-entry
+returns-in_err-entry_of-in-entry c =
+    let value = value_view c.args.value.now in
+    let fault = c.in_err-entry_of-in-entry.field-0.0 in
+    let gone = c.from_residual-in_err-entry_of-in-entry in
+    passed_on (LineThere value fault) gone.result (IsLineOf value) fault gone.ensures.1
+    (entry_denied value fault c.in_ok-text_at.field-0.now c.in_ok-text_at.ensures c.in-entry.is c.in_err-entry_of-in-entry.ensures)
+
+pub begin_of-requires : goal.begin_of-requires
+begin_of-requires c = rw c.in-begin.is at c.in_ok-text_at.ensures
+
+pub returns-in_ok-begin_of-in-begin : goal.returns-in_ok-begin_of-in-begin
+returns-in_ok-begin_of-in-begin c = c.in_ok-begin_of-in-begin.ensures
+
+pub returns-in_err-begin_of-in-begin : goal.returns-in_err-begin_of-in-begin
+returns-in_err-begin_of-in-begin c =
+    let value = value_view c.args.value.now in
+    let fault = c.in_err-begin_of-in-begin.field-0.0 in
+    let gone = c.from_residual-in_err-begin_of-in-begin in
+    passed_on (LineThere value fault) gone.result (IsLineOf value) fault gone.ensures.1
+    (begin_denied value fault c.in_ok-text_at.field-0.now c.in_ok-text_at.ensures c.in-begin.is c.in_err-begin_of-in-begin.ensures)
+
+pub end_of-requires : goal.end_of-requires
+end_of-requires c = rw c.in-end.is at c.in_ok-text_at.ensures
+
+pub returns-in_ok-end_of-in-end : goal.returns-in_ok-end_of-in-end
+returns-in_ok-end_of-in-end c = c.in_ok-end_of-in-end.ensures
+
+pub returns-in_err-end_of-in-end : goal.returns-in_err-end_of-in-end
+returns-in_err-end_of-in-end c =
+    let value = value_view c.args.value.now in
+    let fault = c.in_err-end_of-in-end.field-0.0 in
+    let gone = c.from_residual-in_err-end_of-in-end in
+    passed_on (LineThere value fault) gone.result (IsLineOf value) fault gone.ensures.1
+    (end_denied value fault c.in_ok-text_at.field-0.now c.in_ok-text_at.ensures c.in-end.is c.in_err-end_of-in-end.ensures)
+
+pub returns-in_default : goal.returns-in_default
+returns-in_default c =
+    other_denied (value_view c.args.value.now) NotALine c.in_ok-text_at.field-0.now c.in_ok-text_at.ensures c.in_default.not-entry c.in_default.not-begin c.in_default.not-end
