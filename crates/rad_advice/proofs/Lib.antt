@@ -1,3 +1,4 @@
+mod Items
 mod LastLines
 mod Lists
 mod Names

@@ -257,7 +257,6 @@ fn find_place(
 }
 
 /// Returns the keys of a document that are not read.
-#[tactic(auto, unfolding(crate::specs::Keys::unread_in))]
 fn unread_of_document(alloc: Global, document: &Table) -> Result<Vec<Unread<'_>>, AllocError>
     ensures { IfOk result (λ found. map entry_found found.items ≡ unread_in (table_view document.now)) }
 {
