@@ -5,7 +5,7 @@ use Rattle.ledger_lines.specs.Lines.{has_form}
 use Rattle.ledger_lines.proofs.values.is_time.Goals as goal
 
 pub returns : goal.returns
-returns c = (λ t. record { long = c.if-octets-ne24.false; formed = λ place lt. c.loop-place.invariant place (omega arith) }, λ is. refl)
+returns c = (λ t. record { long = omega arith; formed = λ place lt. c.loop-place.invariant place (omega arith) }, λ is. refl)
 
 pub loop-place-preserved : goal.loop-place-preserved
 loop-place-preserved c =
