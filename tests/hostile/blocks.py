@@ -21,8 +21,8 @@ from trying import try_each
 PASSES, APPENDS = "what_passes_takes_no_block", "what_is_appended_empty_takes_no_room"
 # A block for each 32 of the 20,000 items would be more than 600.
 ALLOCATIONS = 200
-# Items of 256 octets are 5 MB, and 160 MB where each has a block of its own.
-OCTETS = 64 * 1024 * 1024
+# 100,000 items of 8 octets are 1 MB, and 28 MB where each has a block of its own.
+OCTETS = 12 * 1024 * 1024
 
 
 def name_of(program, test):
