@@ -5,8 +5,9 @@ usage: configurations.py PROGRAM
 
 Most tables have texts, each with its first fault, or none, and with the lines of the log that come before the line of that fault. Each
 text is read by `check` without a log, by `check` with one, and by `replay`, which logs nothing. The clients, home servers and realms of
-a text without a fault are counted by Python's TOML reader. The other tables have datagrams, each with the line that `replay` prints for
-it; vectors.py makes their octets. What is not as it has to be is told with its table, its row from 0 on, and what the row is about. The
+a text without a fault are counted by Python's TOML reader. Others have datagrams, each with the line that `replay` prints for it. The
+last ones have conversations: a request, what goes to the home server, its reply, and what the NAS gets. vectors.py makes all octets, so
+a wrong Authenticator of what is sent shows in a reply that is dropped. What is not as it has to be is told with its table, its row from 0 on, and what the row is about. The
 last line is `N passed, M failed`, of what was looked at.
 """
 import pathlib
@@ -64,6 +65,9 @@ class Trial(trying.Trial):
         for table in DATAGRAMS:
             for place, row in enumerate(table()):
                 self.replays(f"{table.__name__}, row {place}", *row)
+        for table in CONVERSATIONS:
+            for place, row in enumerate(table()):
+                self.plays(f"{table.__name__}, row {place}", *row)
 
     def ended(self, *words, log=None, given=b""):
         """The status, what was printed and what was told."""
@@ -85,8 +89,12 @@ class Trial(trying.Trial):
 
     def replays(self, row, what, text, datagrams, wanted):
         """Looks at what is printed for datagrams that come to a proxy of this configuration: these lines, and the end."""
-        events = (f"nas {address} {port} raw {octets.hex()}" for address, port, octets in datagrams)
-        end, status = end_after(sum(line.startswith("nas: new ") for line in wanted))
+        self.plays(row, what, text, [f"nas {address} {port} raw {octets.hex()}" for address, port, octets in datagrams], wanted)
+
+    def plays(self, row, what, text, events, wanted):
+        """Looks at what is printed for the events of a script: these lines, and the end."""
+        new, sent = (sum(line.startswith(start) for line in wanted) for start in ("nas: new ", "step: sent 4 "))
+        end, status = end_after(new - sent)
         found = self.ended("replay", given=f"{text}%%\n{lines(events)}".encode())
         self.compare(f"{row}, {what}", found, (status, lines([*wanted, end]), ""))
 
@@ -623,6 +631,10 @@ def octets_that_are_no_text():
         # the text before these octets is not TOML either
         (b"listen = \n\xff", 2, 1),
     ]
+    # each place of a text with an empty line, and with characters of two and three octets
+    text = "ab\n\n\u00e9\u20acx\n".encode()
+    places = [(0, 1, 1), (1, 1, 2), (2, 1, 3), (3, 2, 1), (4, 3, 1), (6, 3, 2), (9, 3, 3), (10, 3, 4), (11, 4, 1)]
+    rows += [(text[:offset] + b"\xff", line, column) for offset, line, column in places]
     return alone((text, "Toml", no_toml(line, column, "no UTF-8")) for text, line, column in rows)
 
 
@@ -810,6 +822,59 @@ def every_client_and_realm():
 
 
 DATAGRAMS = [reasons, with_a_default, every_client_and_realm]
+
+
+# Conversations.
+
+SERVER_SECRET = b"home-secret"
+
+
+def conversation(what, attributes, before, behind, client=NAS_SECRET, home=SERVER_SECRET):
+    """A request with these attributes, and the reply to it with others before and behind the proxy's mark."""
+    text = (f'{TOP}default_home = "h1"\n[[client]]\naddress = "{NAS}"\nsecret = "{client.decode()}"\n'
+            f'[[home]]\nname = "h1"\naddress = "127.0.0.1:2813"\nsecret = "{home.decode()}"\n{REALM}')
+    its_mark, others = vectors.mark(0, 0), before + behind
+    asked, sent = vectors.request(0x77, attributes, client), vectors.request(0, attributes + its_mark, home)
+    reply = vectors.answer(sent, 0, before + its_mark + behind, home)
+    talk = [
+        (f"nas {NAS} 40001 raw {asked.hex()}", "nas: new 0 0"),
+        ("step 0", f"step: sent 4 0 {len(sent)} {sent[20:].hex()}"),
+        (f"home 0 raw {vectors.turned(reply, 19).hex()}", "home: dropped BadAuthenticator"),
+        (f"home 0 raw {reply.hex()}", "home: answer 0 0"),
+        ("take 0", f"take: {NAS} 40001 5 119 {20 + len(others)} {others.hex() or '-'}"),
+    ]
+    events, wanted = zip(*talk)
+    return what, text, events, wanted
+
+
+def secrets_of_each_length():
+    """Each end of a secret's range, and one of characters of two octets, as the client's secret and as the home server's."""
+    secrets = {"one octet": b"s", "128 octets": bytes(range(0x30, 0x5B)) * 2 + b"a" * 42, "64 characters": "\u00e9".encode() * 64}
+    for what, secret in secrets.items():
+        yield conversation(f"the client's secret of {what}", vectors.SESSION, b"", vectors.A_CLASS, client=secret)
+        yield conversation(f"the home server's secret of {what}", vectors.SESSION, b"", vectors.A_CLASS, home=secret)
+
+
+def requests_of_many_lengths():
+    """The longest request that is forwarded, and shorter ones, so that each length of the last block of MD5 occurs."""
+    for octets in range(4064, -1, -63):
+        yield conversation(f"a request of {octets + 20} octets", vectors.classes(octets), vectors.FROM_NAS, vectors.A_CLASS)
+
+
+def replies_of_many_lengths():
+    """The longest reply, of 4096 octets, and shorter ones in the same way."""
+    for octets in [*range(4064, -1, -63), 0]:
+        yield conversation(f"a reply of {octets + 32} octets", vectors.SESSION + vectors.FROM_NAS, b"", vectors.classes(octets))
+
+
+def proxy_states():
+    """The last of several Proxy-States is taken out, and what is before and behind it stays."""
+    yield conversation("one of the NAS", vectors.SESSION + vectors.FROM_NAS, vectors.FROM_NAS, vectors.A_CLASS)
+    eight = b"".join(vectors.attribute(vectors.PROXY_STATE, bytes([state]) * 5) for state in range(8))
+    yield conversation("eight of the NAS", vectors.SESSION + eight, eight, vectors.A_CLASS)
+
+
+CONVERSATIONS = [secrets_of_each_length, requests_of_many_lengths, replies_of_many_lengths, proxy_states]
 
 
 def main():

@@ -75,28 +75,6 @@ FROM_NAS = attribute(PROXY_STATE, b"abc")
 A_CLASS = attribute(CLASS, b"CLS")
 
 
-def of_realms_tests():
-    """Packets under secrets of their own, with a mark that has no octet twice."""
-    client, home, its_mark = b"client secret", b"the secret of the home", mark(0x1234, 0x0123456789ABCDEF)
-    asked = request(0x77, SESSION + FROM_NAS, client)
-    forwarded = request(0xA5, SESSION + FROM_NAS + its_mark, home)
-    probe = status(9, bytes(range(0xF0, 0x100)), b"", b"", client)
-    among = attribute(NAS_IP_ADDRESS, bytes([10, 0, 0, 1])), attribute(NAS_IDENTIFIER, b"nas")
-    classes = b"".join(attribute(CLASS, bytes([octet]) * 253) for octet in b"ABCDEFGHIJKLMNO")
-    longest = SESSION + classes + attribute(CLASS, b"Z" * 210)
-    return {
-        "REQUEST": asked,
-        "FORWARDED": forwarded,
-        "REPLY": answer(forwarded, 0xA5, FROM_NAS + its_mark + A_CLASS, home),
-        "RESPONSE": answer(asked, 0x77, FROM_NAS + A_CLASS, client),
-        "STATUS": probe,
-        "STATUS_ANSWER": answer(probe, 9, b"", client),
-        "STATUS_AMONG_OTHERS": status(9, probe[4:20], *among, client),
-        "TWO_MESSAGE_AUTHENTICATORS": status(9, probe[4:20], b"", attribute(MESSAGE_AUTHENTICATOR, ZEROS), client),
-        "LONG_AUTHENTICATOR": request(0xA5, longest + its_mark, home)[4:20],
-    }
-
-
 def of_nas():
     """What a NAS sends that is not as it should be, or leads nowhere. configurations.py sends these."""
     secret, octets = b"nas-secret", bytes([0xA5] * 16)
@@ -224,7 +202,6 @@ def of_ledgers():
 def made():
     """What the tests of each crate expect, by the names that it has there."""
     return {
-        "realms_tests": of_realms_tests(),
         "ledger_tests": of_ledgers(),
         "test_octets": {"BARE": of_nas()["BARE"], **of_lanes(), **of_desks(), **of_services()},
         "lane_tests": sums_of_lanes(),

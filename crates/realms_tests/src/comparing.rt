@@ -7,11 +7,6 @@ pub fn holds(rt: &impl Abort, is_right: bool) {
     assert!(rt; is_right);
 }
 
-/// Checks that a condition is true, and says what it is about if it is not.
-pub fn holds_of(rt: &impl Abort, what: &str, is_right: bool) {
-    assert!(rt; is_right, "{what}");
-}
-
 /// Checks that the row of a table at this place is right.
 pub fn holds_at(rt: &impl Abort, place: usize, is_right: bool) {
     assert!(rt; is_right, "row {place}");
