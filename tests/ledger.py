@@ -93,8 +93,9 @@ def worded(key, octets):
 
 
 def text(lines):
-    """Lines as they stand in a file."""
-    return "".join(f"{line if isinstance(line, str) else json.dumps(line, separators=(',', ':'))}\n" for line in lines)
+    """Lines as they stand in a file: without spaces, with the shortest escapes, and with characters beyond ASCII as they are."""
+    how = {"separators": (",", ":"), "ensure_ascii": False}
+    return "".join(f"{line if isinstance(line, str) else json.dumps(line, **how)}\n" for line in lines)
 
 
 CLIENT = "192.0.2.10", b"one long random text for this NAS"

@@ -188,15 +188,52 @@ def of_services():
     }
 
 
+# What a realm and a session may be: no octets; characters that JSON writes by others; characters of two, three and four octets;
+# and octets that are no text, at their front, in their middle and at their end.
+WORDS = [
+    b"",
+    b"S1",
+    b'a"b\\c/d',
+    b"\x00\x01\x08\t\n\x0c\r\x1f\x7f",
+    b'{"type":"entry"}',
+    "\u00e9\u20ac\U0001f600\ufeff\u2028".encode(),
+    b"00ff",
+    b"\xff",
+    b"\xffab",
+    b"a\xc3",
+    b"a\xed\xa0\x80b",
+    b"\xf5\x80\x80\x80",
+]
+
+
 def of_ledgers():
     """Lines of a ledger, without their line ends. The module that makes them takes its packets from this one, so it is read here."""
     import ledger
 
     run = ledger.Run(0xA0B1C2D3E4F50617, [ledger.Lane(2, "h3", b"home-secret", serial=5, record=300)])
-    begin, entry = run.begin(), run.entry(status=3, more=FROM_NAS)
-    binary = run.entry(user=b"bob@\xff", session=b"\xfe", status=None)
-    lines = {"BEGIN_LINE": begin, "ENTRY_LINE": entry, "BINARY_LINE": binary, "END_LINE": run.end()}
-    return {name: ledger.text([line])[:-1] for name, line in lines.items()}
+    binary = {"user": b"bob@\xff", "session": b"\xfe", "status": None}
+    lines = [run.begin(), run.entry(status=3, more=FROM_NAS), run.entry(**binary), run.end()]
+    # the least and the greatest of each number, with no word and with empty packets
+    ends = ledger.Run(0, [], version='0.1.0 "x"')
+    least = {"home": "h1", "lane": 0, "serial": 0, "record": 0, "client": "0.0.0.0", "port": 0, "identifier": 0, "authenticator": "00" * 16}
+    empty = {"sent": "", "reply": "", "response": ""}
+    lines += [{**ends.head("entry"), **least, **empty}]
+    ends.run, most = 2**64 - 1, 2**63 - 1
+    greatest = {"lane": 65535, "serial": most, "record": ends.run, "client": "255.255.255.255", "port": 65535, "identifier": 255}
+    others = {"authenticator": "ff" * 16, "status": 2**32 - 1, "sent": "ffffff", "reply": "00ff", "response": "80"}
+    lines += [{**ends.head("entry"), **least, **greatest, **others}]
+    # no lanes, and lanes with names that JSON writes by others
+    lanes = [(0, "h1", 0), (7, '"\\\n\U0001f600', 1), (65535, "", most)]
+    for some in ([], lanes):
+        ends.file, ends.lanes = ends.run, [ledger.Lane(number, home, b"", serial) for number, home, serial in some]
+        lines += [ends.begin(), ends.end()]
+    lines[-1]["lanes"][-1]["entries"] = ends.run
+    # each form of a realm with another one of a session, without the characters that may not stand in a source
+    forms = [word.replace(b"\x7f", b"").replace("\ufeff\u2028".encode(), b"") for word in WORDS]
+    for at, realm in enumerate(forms):
+        words = {**ledger.worded("realm", realm), **ledger.worded("session", forms[(at + 3) % len(forms)])}
+        lines += [{**ends.head("entry"), **least, **words, **empty}]
+    return {"LINES": [ledger.text([line])[:-1] for line in lines]}
 
 
 def made():
@@ -210,15 +247,16 @@ def made():
 
 SUM = re.compile(r"const (\w+): u64 = 0x([0-9a-f_]+);")
 ARRAY = re.compile(r"const (\w+): \[u8; \d+\] = \[((?:\s*0x[0-9a-f]{2},?)+)\s*\];")
-LINE = re.compile(r'const (\w+): &str =\s+r#"(\{"type":.*)"#;')
+LINES = re.compile(r'const (\w+): &\[&str\] = &\[((?:\s+r#"\{"type":.*"#,)+)\s*\];')
 
 
 def as_written(name, octets):
-    """A sum, a line or an array as a test has it, the array with sixteen octets to a line."""
+    """A sum, lines or an array as a test has it, the array with sixteen octets to a line."""
     if isinstance(octets, int):
         return f"const {name}: u64 = 0x{octets:_x};"
-    if isinstance(octets, str):
-        return f'const {name}: &str =\n    r#"{octets}"#;'
+    if isinstance(octets, list):
+        rows = "".join(f'    r#"{line}"#,\n' for line in octets)
+        return f"const {name}: &[&str] = &[\n{rows}];"
     lines = [octets[at : at + 16] for at in range(0, len(octets), 16)]
     rows = "".join(f"    {', '.join(f'0x{octet:02x}' for octet in line)},\n" for line in lines)
     return f"const {name}: [u8; {len(octets)}] = [\n{rows}];"
@@ -232,7 +270,8 @@ def standing():
         if "test" in str(path):
             text = file.read_text(encoding="utf-8")
             values = [(name, bytes.fromhex("".join(re.findall(r"0x(..)", array)))) for name, array in ARRAY.findall(text)]
-            values += [(name, int(value, 16)) for name, value in SUM.findall(text)] + LINE.findall(text)
+            values += [(name, int(value, 16)) for name, value in SUM.findall(text)]
+            values += [(name, re.findall(r'r#"(.*)"#', rows)) for name, rows in LINES.findall(text)]
             found += [((path.parts[1], name), path, value) for name, value in values]
     return found
 
