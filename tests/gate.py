@@ -48,6 +48,7 @@ SCRIPTS = {
     "ending": ("hostile/ending.py", "PROGRAM"),
     "moments": ("hostile/moments.py", "PROGRAM"),
     "metrics": ("hostile/metrics.py", "PROGRAM"),
+    "conversation": ("hostile/conversation.py", "PROGRAM"),
     "lists": ("hostile/lists.py", "PROGRAM"),
     "calls": ("hostile/calls.py", "PROGRAM"),
     "blocks": ("hostile/blocks.py", str(QUEUE_TESTS)),

@@ -85,7 +85,8 @@ class Proxy:
             parts.append(f'[[realm]]\nname = "{home}.example"\nhome = "{home}"\n')
         file = pathlib.Path(folder, f"{name}.toml")
         file.write_text("".join(parts), "utf-8")
-        environment = {"RAD_PROXY_LOG": level, "RAD_PROXY_COUNTERS": str(self.counters)} | dict(variables)
+        named = {} if level is None else {"RAD_PROXY_LOG": level}
+        environment = named | {"RAD_PROXY_COUNTERS": str(self.counters)} | dict(variables)
         with self.log.open("wb") as log:
             pipes = {"stdin": subprocess.PIPE, "stdout": subprocess.PIPE, "stderr": log if errors is None else errors}
             self.ran = subprocess.Popen([program, "run", str(file)], env=environment, **pipes)
