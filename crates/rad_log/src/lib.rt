@@ -31,4 +31,4 @@ pub use telling::{
     logs_at, open_log_if_asked, tell, tell_error, tell_reason, tell_warning, warn_of_reason,
 };
 pub use told_stream::ToldStream;
-pub use writer_state::WriterState;
+pub use writer_state::{WriterState, wait_until_set};

@@ -1,12 +1,11 @@
 //! Log lines on their way from the threads that log to the one thread that writes them.
 
 use crate::line_room::LineRoom;
-use crate::line_writer::{LineOutput, LineWriter};
+use crate::line_writer::{LineOutput, LineWriter, line_in};
 use crate::writer_state::WriterState;
 use std::alloc::{AllocError, Global};
 use std::fmt::Display;
 use std::hint::spin_loop;
-use std::io::Write;
 use std::mem;
 use std::sync::atomic::{AtomicU64, Ordering};
 use std::sync::{Mutex, MutexGuard, Wait};
@@ -65,12 +64,8 @@ impl<O: LineOutput + Drop> LineQueue<O> {
 
     /// Adds a line, or counts it as dropped if it is too long or finds no room.
     pub fn put<D: Display>(&self, line: &D) {
-        let mut octets = [0; LONGEST];
-        let mut free = octets.as_mut_slice();
-        let is_whole = writeln!(free, "{line}").is_ok();
-        let count = LONGEST.saturating_sub(free.len());
-        let text = octets.get(..count).unwrap_or(&[]);
-        self.put_text(text, is_whole);
+        let mut room = [0; LONGEST];
+        self.put_text(line_in(&mut room, line));
         if self.state.is_started() {
             self.state.notify();
         } else {
@@ -78,14 +73,15 @@ impl<O: LineOutput + Drop> LineQueue<O> {
         }
     }
 
-    /// Adds the text of a line, or counts it as dropped if it is not whole or others hold the buffer for too long.
-    fn put_text(&self, text: &[u8], is_whole: bool) {
-        match self.hold() {
-            Some(mut room) if is_whole => room.put(text),
-            _ => {
-                self.missed.fetch_add(1, Ordering::SeqCst);
+    /// Adds the text of a line, or counts a line as dropped if it has no text or others hold the buffer for too long.
+    fn put_text(&self, text: Option<&[u8]>) {
+        if let Some(text) = text {
+            if let Some(mut room) = self.hold() {
+                room.put(text);
+                return;
             }
         }
+        self.missed.fetch_add(1, Ordering::SeqCst);
     }
 
     /// Locks the buffer, if that succeeds soon.
@@ -106,10 +102,7 @@ impl<O: LineOutput + Drop> LineQueue<O> {
             if let Some(mut room) = self.hold() {
                 outlet.take(&mut room);
             }
-            outlet
-                .batch
-                .drop_more(self.missed.swap(0, Ordering::SeqCst));
-            outlet.write(false);
+            self.write_taken(&mut outlet, false);
         }
     }
 
@@ -135,10 +128,15 @@ impl<O: LineOutput + Drop> LineQueue<O> {
     fn write_batch<R: Wait>(&self, rt: &R) {
         let mut outlet = self.outlet.lock(rt);
         outlet.take(&mut self.room.lock(rt));
-        outlet
-            .batch
-            .drop_more(self.missed.swap(0, Ordering::SeqCst));
-        outlet.write(true);
+        self.write_taken(&mut outlet, true);
+    }
+
+    /// Writes the lines that were taken, and how many were dropped after them.
+    fn write_taken(&self, outlet: &mut Outlet<O>, is_patient: bool) {
+        let missed = self.missed.swap(0, Ordering::SeqCst);
+        let Outlet { writer, batch } = outlet;
+        batch.drop_more(missed);
+        writer.write(batch, is_patient);
     }
 
     /// Makes the thread, if there is one, write what waits and end, and waits for it at most until `longest` after
@@ -154,11 +152,5 @@ impl<O: LineOutput> Outlet<O> {
     fn take(&mut self, room: &mut LineRoom) {
         self.batch.clear();
         mem::swap(&mut self.batch, room);
-    }
-
-    /// Writes the lines that were taken.
-    fn write(&mut self, is_patient: bool) {
-        let Outlet { writer, batch } = self;
-        writer.write(batch, is_patient);
     }
 }

@@ -4,10 +4,14 @@ use crate::line_room::LineRoom;
 use libc::STDERR_FILENO;
 use libc::net::{POLLOUT, poll};
 use libc::types::pollfd;
+use std::fmt::{self, Display};
 use std::io::Write;
 
 /// The most octets in one write. A pipe that is ready accepts this many.
 const MOST: usize = 4096;
+
+/// The octets of room for the line that says how many lines were lost. The longest one has 58.
+const LOST_LINE: usize = 64;
 
 /// An output for lines.
 pub trait LineOutput {
@@ -48,6 +52,10 @@ pub struct LineWriter<O> {
     /// How many lines were lost since their number was last written.
     lost: u64,
 }
+
+/// The line that says how many lines were lost.
+#[derive(Clone, Copy)]
+struct LostLine(u64);
 
 impl<O: LineOutput> LineWriter<O> {
     /// Makes a writer that has written nothing yet.
@@ -90,19 +98,20 @@ impl<O: LineOutput> LineWriter<O> {
         if self.is_inside && self.put(b"\n", is_patient) == 0 {
             return false;
         }
-        let mut octets = [0; 64];
-        let mut free = octets.as_mut_slice();
-        let lost = self.lost;
-        if writeln!(free, "level=warn event=lines-dropped count={lost}").is_err() {
-            return false;
-        }
-        let count = 64usize.saturating_sub(free.len());
-        let line = octets.get(..count).unwrap_or(&[]);
-        let is_told = self.put(line, is_patient) >= line.len();
+        let is_told = self.put_lost(is_patient);
         if is_told {
             self.lost = 0;
         }
         is_told
+    }
+
+    /// Writes how many lines were lost, and returns whether all of that is written.
+    fn put_lost(&mut self, is_patient: bool) -> bool {
+        let mut room = [0; LOST_LINE];
+        match line_in(&mut room, &LostLine(self.lost)) {
+            Some(line) => self.put(line, is_patient) >= line.len(),
+            None => false,
+        }
     }
 
     /// Writes octets as far as the output accepts them, and returns how many.
@@ -123,6 +132,22 @@ impl<O: LineOutput> LineWriter<O> {
         }
         taken
     }
+}
+
+impl Display for LostLine {
+    fn fmt<W: fmt::Write>(&self, f: &mut fmt::Formatter<W>) -> fmt::Result {
+        let lost = self.0;
+        write!(f, "level=warn event=lines-dropped count={lost}")
+    }
+}
+
+/// Writes a line and its line end into this room, and returns them if the room suffices.
+pub fn line_in<'a, D: Display>(room: &'a mut [u8], line: &D) -> Option<&'a [u8]> {
+    let size = room.len();
+    let mut free = &mut room[..];
+    writeln!(free, "{line}").ok()?;
+    let count = size.saturating_sub(free.len());
+    room.get(..count)
 }
 
 /// Returns how many lines end in these octets.

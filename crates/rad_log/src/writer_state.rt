@@ -80,20 +80,33 @@ impl WriterState {
 
     /// Waits until the thread, if there is one, has written everything, at most until `longest` after `start`.
     pub fn wait<R: Clock + Wait>(&self, rt: &R, start: Instant, longest: Duration) {
-        for _ in rt.forever() {
-            if !self.is_started() || self.finished.load(Ordering::SeqCst) != 0 {
-                return;
-            }
-            let Ok(passed) = start.elapsed(rt) else {
-                return;
-            };
-            let Some(left) = longest.checked_sub(passed) else {
-                return;
-            };
-            if left.is_zero() {
-                return;
-            }
-            self.finished.park_timeout(rt, 0, left);
+        if self.is_started() {
+            wait_until_set(rt, &self.finished, start, longest);
         }
+    }
+}
+
+/// Waits until a word is not 0, at most until `longest` after `start`. Whoever sets the word wakes those that wait for
+/// it. If the clock fails, it does not wait.
+pub fn wait_until_set<R: Clock + Wait>(
+    rt: &R,
+    word: &AtomicU64,
+    start: Instant,
+    longest: Duration,
+) {
+    for _ in rt.forever() {
+        let left = time_left(rt, start, longest);
+        if left.is_zero() || word.load(Ordering::SeqCst) != 0 {
+            return;
+        }
+        word.park_timeout(rt, 0, left);
+    }
+}
+
+/// Returns how long it is until `longest` after `start`; 0 if that is over, or if the clock fails.
+fn time_left<R: Clock>(rt: &R, start: Instant, longest: Duration) -> Duration {
+    match start.elapsed(rt) {
+        Ok(passed) => longest.saturating_sub(passed),
+        Err(_) => Duration::ZERO,
     }
 }
