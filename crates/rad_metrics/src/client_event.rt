@@ -50,7 +50,7 @@ pub(crate) struct ReasonText(pub ClientEvent);
 pub(crate) const EVENTS: usize = 17;
 
 /// Each kind of event, at its index.
-pub const CLIENT_EVENTS: [ClientEvent; EVENTS] = [
+pub const CLIENT_EVENTS: &[ClientEvent] = &[
     ClientEvent::Received,
     ClientEvent::Accepted,
     ClientEvent::Waiting,
@@ -71,7 +71,7 @@ pub const CLIENT_EVENTS: [ClientEvent; EVENTS] = [
 ];
 
 /// The families, in the order in which they are written.
-pub(crate) const CLIENT_FAMILIES: [ClientFamily; 6] = [
+pub(crate) const CLIENT_FAMILIES: &[ClientFamily] = &[
     ClientFamily::Received,
     ClientFamily::Accepted,
     ClientFamily::Repeats,

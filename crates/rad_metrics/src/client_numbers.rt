@@ -1,6 +1,7 @@
 //! The counts of each client's events. Counting takes no lock and no memory.
 
-use crate::client_event::{CLIENT_EVENTS, ClientEvent, EVENTS};
+use crate::atomics::atomics;
+use crate::client_event::{ClientEvent, EVENTS};
 use rad_realms::Config;
 use std::alloc::{AllocError, Global};
 use std::collections::BTreeMap;
@@ -30,7 +31,7 @@ impl ClientNumbers {
     ///
     /// `AllocError` if memory is refused.
     pub(crate) fn new(alloc: Global, config: &Config) -> Result<ClientNumbers, AllocError> {
-        let counts = no_counts(alloc, config.clients().len())?;
+        let counts = atomics(alloc, config.clients().len().saturating_mul(EVENTS), 0)?;
         let places = places_of(alloc, config)?;
         Ok(ClientNumbers {
             places,
@@ -105,19 +106,4 @@ fn places_of(alloc: Global, config: &Config) -> Result<BTreeMap<[u8; 4], usize>,
         places.insert(client.address(), place)?;
     }
     Ok(places)
-}
-
-/// Returns the counts of this number of clients, all 0.
-///
-/// # Errors
-///
-/// `AllocError` if memory is refused.
-fn no_counts(alloc: Global, clients: usize) -> Result<Vec<AtomicU64>, AllocError> {
-    let mut counts = Vec::new(alloc);
-    for _ in 0..clients {
-        for _ in CLIENT_EVENTS {
-            counts.push(AtomicU64::new(0))?;
-        }
-    }
-    Ok(counts)
 }

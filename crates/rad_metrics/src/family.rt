@@ -1,7 +1,7 @@
 //! Families of metrics: what precedes the samples of one name.
 
 ghost use Rattle.std.specs.Prelude.{◌≡◌};
-ghost use Rattle.rad_metrics.specs.declared.family.Kind.TheVariants.{Counter as counting, Gauge as standing, Histogram as lasting};
+ghost use Rattle.rad_metrics.specs.declared.family.Kind.TheVariants.{Counter as counting, Gauge as standing};
 
 use std::fmt;
 
@@ -44,19 +44,6 @@ impl Family {
         Family {
             name,
             kind: Kind::Counter,
-            help,
-        }
-    }
-
-    /// Makes a family of histograms, which count how long something took.
-    pub(crate) fn histogram(name: &'static str, help: &'static str) -> Family
-        ensures name { result.name.now ≡ name.now }
-        ensures kind { result.kind ≡ lasting }
-        ensures help { result.help.now ≡ help.now }
-    {
-        Family {
-            name,
-            kind: Kind::Histogram,
             help,
         }
     }

@@ -39,7 +39,7 @@ pub enum HomeNumber {
 }
 
 /// The metrics, in the order in which they are written.
-pub(crate) const HOME_NUMBERS: [HomeNumber; 14] = [
+pub(crate) const HOME_NUMBERS: &[HomeNumber] = &[
     HomeNumber::Up,
     HomeNumber::Since,
     HomeNumber::Told,

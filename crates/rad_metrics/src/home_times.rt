@@ -2,6 +2,7 @@
 
 ghost use Rattle.std.specs.Prelude.{◌≡◌, ◌+◌, ◌*◌, ◌%◌, ◌^◌};
 
+use crate::atomics::atomics;
 use crate::histogram::Histogram;
 use crate::timed_word::{passed, time_in, word_of};
 use rad_realms::LimitNumbers;
@@ -57,12 +58,14 @@ impl HomeTimes {
     ///
     /// `AllocError` if memory is refused.
     pub(crate) fn new(alloc: Global, limits: LimitNumbers) -> Result<HomeTimes, AllocError> {
-        let pairs = limits.ports.saturating_mul(IDENTIFIERS);
+        let pairs = limits.ports.saturating_mul(IDENTIFIERS) as usize;
+        let waiting = limits.queue.saturating_add(BESIDE) as usize;
+        let leaving = limits.ring.saturating_mul(2) as usize;
         Ok(HomeTimes {
-            waiting: places(alloc, limits.queue.saturating_add(BESIDE), UNTOLD)?,
-            accepted: places(alloc, pairs, 0)?,
-            sent: places(alloc, pairs, 0)?,
-            leaving: places(alloc, limits.ring.saturating_mul(2), UNTOLD)?,
+            waiting: atomics(alloc, waiting, UNTOLD)?,
+            accepted: atomics(alloc, pairs, 0)?,
+            sent: atomics(alloc, pairs, 0)?,
+            leaving: atomics(alloc, leaving, UNTOLD)?,
             replies: Histogram::new(),
             responses: Histogram::new(),
         })
@@ -134,15 +137,6 @@ impl HomeTimes {
     pub(crate) fn responses(&self) -> &Histogram {
         &self.responses
     }
-}
-
-/// Makes `count` places with the content `first`.
-fn places(alloc: Global, count: u32, first: u64) -> Result<Vec<AtomicU64>, AllocError> {
-    let mut places = Vec::new(alloc);
-    for _ in 0..count {
-        places.push(AtomicU64::new(first))?;
-    }
-    Ok(places)
 }
 
 /// Returns the place of a number: the one at the remainder of its division by the number of places.

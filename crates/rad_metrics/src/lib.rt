@@ -14,6 +14,7 @@
 //! the bounds of a histogram.
 #![tactic(auto)]
 
+mod atomics;
 mod client_event;
 mod client_numbers;
 mod draft;

@@ -19,7 +19,7 @@ pub enum LimitNumber {
 }
 
 /// The limits, in the order in which they are written.
-pub(crate) const LIMIT_NUMBERS: [LimitNumber; 5] = [
+pub(crate) const LIMIT_NUMBERS: &[LimitNumber] = &[
     LimitNumber::Book,
     LimitNumber::Queue,
     LimitNumber::Window,

@@ -3,7 +3,6 @@
 use crate::client_event::ClientEvent;
 use crate::client_numbers::ClientNumbers;
 use crate::home_cells::{HomeCell, home_cells};
-use crate::home_times::HomeTimes;
 use crate::reading::Reading;
 use crate::socket_numbers::{SocketNumbers, SocketReading};
 use rad_desk::{Note, Repeat, Standing, UpReason, Worker};
@@ -211,28 +210,14 @@ impl<R> Numbers<'_, R> {
         self.sockets.read(rt, table, readings)
     }
 
-    /// Returns how often an event happened to the client at this index of the configuration.
-    pub fn of_client(&self, place: usize, event: ClientEvent) -> u64 {
-        self.clients.get(place, event)
+    /// Returns the counts of the clients' events.
+    pub(crate) fn clients(&self) -> &ClientNumbers {
+        &self.clients
     }
 
-    /// Returns how many datagrams came from senders that are not clients.
-    pub fn strangers(&self) -> u64 {
-        self.clients.strangers()
-    }
-
-    /// Returns how often a lane's home server was marked up for a reason.
-    pub fn ups(&self, lane: usize, reason: UpReason) -> u64 {
-        match self.homes.get(lane) {
-            Some(home) => home.ups(reason),
-            None => 0,
-        }
-    }
-
-    /// Returns how long the requests of a lane take.
-    pub(crate) fn times(&self, lane: usize) -> Option<&HomeTimes> {
-        let home = self.homes.get(lane)?;
-        Some(home.times())
+    /// Returns what is known of each home server, in order.
+    pub(crate) fn homes(&self) -> &[HomeCell] {
+        self.homes.as_slice()
     }
 
     /// Replaces `readings` with what was last reported of each lane, in order.

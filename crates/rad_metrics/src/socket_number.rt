@@ -17,7 +17,7 @@ pub enum SocketNumber {
 }
 
 /// The metrics, in the order in which they are written.
-pub(crate) const SOCKET_NUMBERS: [SocketNumber; 2] = [SocketNumber::Buffer, SocketNumber::Dropped];
+pub(crate) const SOCKET_NUMBERS: &[SocketNumber] = &[SocketNumber::Buffer, SocketNumber::Dropped];
 
 impl SocketNumber {
     /// Returns the name, the kind and the help text of the family, which precede its samples.

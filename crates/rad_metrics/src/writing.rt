@@ -1,8 +1,10 @@
 //! The text of all metrics, one family after the other.
 
 use crate::client_event::{CLIENT_EVENTS, CLIENT_FAMILIES, ClientEvent, ClientFamily};
-use crate::family::{Family, HelpLine, TypeLine};
+use crate::client_numbers::ClientNumbers;
+use crate::family::{Family, HelpLine, Kind, TypeLine};
 use crate::histogram::{BUCKETS, Histogram, bound_label};
+use crate::home_cells::HomeCell;
 use crate::home_number::{HOME_NUMBERS, HomeNumber};
 use crate::home_times::HomeTimes;
 use crate::limit_number::{LIMIT_NUMBERS, LimitNumber};
@@ -14,7 +16,7 @@ use crate::socket_number::{SOCKET_NUMBERS, SocketNumber};
 use crate::socket_numbers::SocketReading;
 use crate::value::Value;
 use rad_desk::{UpReason, Worker};
-use rad_realms::Config;
+use rad_realms::{Config, Home};
 use std::io::{self, Write};
 use std::time::Clock;
 
@@ -30,39 +32,45 @@ enum Timed {
     Responses,
 }
 
-impl Timed {
-    fn family(self) -> Family {
-        match self {
-            Timed::Replies => Family::histogram(
-                "reply_seconds",
-                "From the first sending of a request to the home server's reply.",
-            ),
-            Timed::Responses => Family::histogram(
-                "response_seconds",
-                "From the acceptance of a request to the response to the client.",
-            ),
-        }
-    }
-
+/// The names of the metrics of a histogram.
+#[derive(Clone, Copy)]
+struct TimedNames {
+    family: Family,
     /// The name of the samples that count up to a bound.
-    fn bucket(self) -> &'static str {
-        match self {
-            Timed::Replies => "reply_seconds_bucket",
-            Timed::Responses => "response_seconds_bucket",
-        }
-    }
+    bucket: &'static str,
+    sum: &'static str,
+    count: &'static str,
+}
 
-    fn sum(self) -> &'static str {
-        match self {
-            Timed::Replies => "reply_seconds_sum",
-            Timed::Responses => "response_seconds_sum",
-        }
-    }
+/// The names of the histogram of the home servers' replies.
+const REPLIES: TimedNames = TimedNames {
+    family: Family {
+        name: "reply_seconds",
+        kind: Kind::Histogram,
+        help: "From the first sending of a request to the home server's reply.",
+    },
+    bucket: "reply_seconds_bucket",
+    sum: "reply_seconds_sum",
+    count: "reply_seconds_count",
+};
 
-    fn count(self) -> &'static str {
+/// The names of the histogram of the responses to the clients.
+const RESPONSES: TimedNames = TimedNames {
+    family: Family {
+        name: "response_seconds",
+        kind: Kind::Histogram,
+        help: "From the acceptance of a request to the response to the client.",
+    },
+    bucket: "response_seconds_bucket",
+    sum: "response_seconds_sum",
+    count: "response_seconds_count",
+};
+
+impl Timed {
+    fn names(self) -> TimedNames {
         match self {
-            Timed::Replies => "reply_seconds_count",
-            Timed::Responses => "response_seconds_count",
+            Timed::Replies => REPLIES,
+            Timed::Responses => RESPONSES,
         }
     }
 
@@ -75,14 +83,15 @@ impl Timed {
     }
 }
 
-/// The name of the family that counts how often the home servers were marked up.
-const UPS: &str = "ups_total";
-
-/// The help text of that family.
-const UPS_HELP: &str = "How often the home server was marked up again.";
+/// The family that counts how often the home servers were marked up.
+const UPS: Family = Family {
+    name: "ups_total",
+    kind: Kind::Counter,
+    help: "How often the home server was marked up again.",
+};
 
 /// Why a home server is marked up.
-const UP_REASONS: [UpReason; 3] = [
+const UP_REASONS: &[UpReason] = &[
     UpReason::Answered,
     UpReason::ProbeAnswered,
     UpReason::DownWaitOver,
@@ -92,44 +101,34 @@ const UP_REASONS: [UpReason; 3] = [
 ///
 /// # Errors
 ///
-/// The writer's own error.
-pub fn write_numbers<W: Write, R: Clock>(
-    writer: &mut W,
+/// `OutOfMemory` if memory is refused.
+pub fn write_numbers<R: Clock>(
+    text: &mut Vec<u8>,
     config: &Config,
     numbers: &Numbers<'_, R>,
     readings: &[Reading],
     sockets: &[SocketReading],
 ) -> io::Result<()> {
-    write_program(writer, numbers.started(), numbers.now())?;
-    write_clients(writer, config, numbers)?;
-    write_limits(writer, config)?;
-    write_homes(writer, config, readings)?;
-    write_ups(writer, config, numbers)?;
-    write_times(writer, Timed::Replies, config, numbers)?;
-    write_times(writer, Timed::Responses, config, numbers)?;
-    write_sockets(writer, config, sockets)
+    write_program(text, numbers.started(), numbers.now())?;
+    write_clients(text, config, numbers.clients())?;
+    write_limits(text, config.homes())?;
+    write_homes(text, config.homes(), readings)?;
+    write_ups(text, config.homes(), numbers.homes())?;
+    write_times(text, Timed::Replies, config.homes(), numbers.homes())?;
+    write_times(text, Timed::Responses, config.homes(), numbers.homes())?;
+    write_sockets(text, config.homes(), sockets)
 }
 
 /// Writes the lines that precede the samples of a family.
-fn write_head<W: Write>(writer: &mut W, family: Family) -> io::Result<()> {
+fn write_head(text: &mut Vec<u8>, family: Family) -> io::Result<()> {
     let help = HelpLine(family);
-    writeln!(writer, "{help}")?;
     let kind = TypeLine(family);
-    writeln!(writer, "{kind}")
-}
-
-fn write_sample<W: Write>(
-    writer: &mut W,
-    family: Family,
-    labels: Labels<'_>,
-    value: Value,
-) -> io::Result<()> {
-    write_named(writer, family.name, labels, value)
+    write!(text, "{help}\n{kind}\n")
 }
 
 /// Writes a sample with this name.
-fn write_named<W: Write>(
-    writer: &mut W,
+fn write_sample(
+    text: &mut Vec<u8>,
     name: &'static str,
     labels: Labels<'_>,
     value: Value,
@@ -139,74 +138,70 @@ fn write_named<W: Write>(
         labels,
         value,
     };
-    writeln!(writer, "{sample}")
+    writeln!(text, "{sample}")
 }
 
 /// Writes a family of one sample.
-fn write_one<W: Write>(
-    writer: &mut W,
+fn write_one(
+    text: &mut Vec<u8>,
     number: ProgramNumber,
     labels: Labels<'_>,
     value: Value,
 ) -> io::Result<()> {
     let family = number.family();
-    write_head(writer, family)?;
-    write_sample(writer, family, labels, value)
+    write_head(text, family)?;
+    write_sample(text, family.name, labels, value)
 }
 
 /// Writes the metrics of the program, which started at `started` and is asked at `now`.
-fn write_program<W: Write>(writer: &mut W, started: u64, now: u64) -> io::Result<()> {
+fn write_program(text: &mut Vec<u8>, started: u64, now: u64) -> io::Result<()> {
     let labels = Labels::Version(VERSION);
-    write_one(writer, ProgramNumber::BuildInfo, labels, Value::Count(1))?;
-    write_time(writer, ProgramNumber::Start, started)?;
-    write_time(writer, ProgramNumber::Report, now)
+    write_one(text, ProgramNumber::BuildInfo, labels, Value::Count(1))?;
+    write_time(text, ProgramNumber::Start, started)?;
+    write_time(text, ProgramNumber::Report, now)
 }
 
-fn write_time<W: Write>(writer: &mut W, number: ProgramNumber, time: u64) -> io::Result<()> {
-    write_one(writer, number, Labels::None, Value::Milliseconds(time))
+fn write_time(text: &mut Vec<u8>, number: ProgramNumber, time: u64) -> io::Result<()> {
+    write_one(text, number, Labels::None, Value::Milliseconds(time))
 }
 
 /// Writes the metrics of all clients, and of senders that are not clients.
-fn write_clients<W: Write, R>(
-    writer: &mut W,
-    config: &Config,
-    numbers: &Numbers<'_, R>,
-) -> io::Result<()> {
-    let strangers = Value::Count(numbers.strangers());
-    write_one(writer, ProgramNumber::Strangers, Labels::None, strangers)?;
+fn write_clients(text: &mut Vec<u8>, config: &Config, clients: &ClientNumbers) -> io::Result<()> {
+    let strangers = Value::Count(clients.strangers());
+    write_one(text, ProgramNumber::Strangers, Labels::None, strangers)?;
     for family in CLIENT_FAMILIES {
-        write_client_family(writer, family, config, numbers)?;
+        write_client_family(text, *family, config, clients)?;
     }
     Ok(())
 }
 
 /// Writes a family of the clients, in the order of the configuration.
-fn write_client_family<W: Write, R>(
-    writer: &mut W,
+fn write_client_family(
+    text: &mut Vec<u8>,
     family: ClientFamily,
     config: &Config,
-    numbers: &Numbers<'_, R>,
+    clients: &ClientNumbers,
 ) -> io::Result<()> {
-    write_head(writer, family.family())?;
+    write_head(text, family.family())?;
     for (place, client) in config.clients().iter().enumerate() {
-        write_client(writer, family, place, client.address(), numbers)?;
+        write_client(text, family, place, client.address(), clients)?;
     }
     Ok(())
 }
 
 /// Writes the samples of a family for a client.
-fn write_client<W: Write, R>(
-    writer: &mut W,
+fn write_client(
+    text: &mut Vec<u8>,
     family: ClientFamily,
     place: usize,
     address: [u8; 4],
-    numbers: &Numbers<'_, R>,
+    clients: &ClientNumbers,
 ) -> io::Result<()> {
     for event in CLIENT_EVENTS {
         if event.family() == family {
-            let labels = labels_of(address, event);
-            let value = Value::Count(numbers.of_client(place, event));
-            write_sample(writer, family.family(), labels, value)?;
+            let labels = labels_of(address, *event);
+            let value = Value::Count(clients.get(place, *event));
+            write_sample(text, family.family().name, labels, value)?;
         }
     }
     Ok(())
@@ -227,112 +222,86 @@ fn labels_of<'a>(address: [u8; 4], event: ClientEvent) -> Labels<'a> {
 }
 
 /// Writes the limits of all lanes.
-fn write_limits<W: Write>(writer: &mut W, config: &Config) -> io::Result<()> {
+fn write_limits(text: &mut Vec<u8>, homes: &[Home]) -> io::Result<()> {
     for limit in LIMIT_NUMBERS {
-        write_head(writer, limit.family())?;
-        write_limit(writer, limit, config)?;
+        write_limit(text, *limit, homes)?;
     }
     Ok(())
 }
 
 /// Writes a limit of each lane.
-fn write_limit<W: Write>(writer: &mut W, limit: LimitNumber, config: &Config) -> io::Result<()> {
-    for (lane, home) in config.homes().iter().enumerate() {
+fn write_limit(text: &mut Vec<u8>, limit: LimitNumber, homes: &[Home]) -> io::Result<()> {
+    let family = limit.family();
+    write_head(text, family)?;
+    for (lane, home) in homes.iter().enumerate() {
+        let labels = Labels::Home(lane, home.name());
         let value = limit.value(home.limits().numbers());
-        write_sample(
-            writer,
-            limit.family(),
-            Labels::Home(lane, home.name()),
-            value,
-        )?;
+        write_sample(text, family.name, labels, value)?;
     }
     Ok(())
 }
 
 /// Writes what was read of all home servers.
-fn write_homes<W: Write>(writer: &mut W, config: &Config, readings: &[Reading]) -> io::Result<()> {
+fn write_homes(text: &mut Vec<u8>, homes: &[Home], readings: &[Reading]) -> io::Result<()> {
     for number in HOME_NUMBERS {
-        write_head(writer, number.family())?;
-        write_home_number(writer, number, config, readings)?;
+        write_home_number(text, *number, homes, readings)?;
     }
     Ok(())
 }
 
 /// Writes a number of each home server of which something was read.
-fn write_home_number<W: Write>(
-    writer: &mut W,
+fn write_home_number(
+    text: &mut Vec<u8>,
     number: HomeNumber,
-    config: &Config,
+    homes: &[Home],
     readings: &[Reading],
 ) -> io::Result<()> {
-    for (lane, (home, reading)) in config.homes().iter().zip(readings.iter()).enumerate() {
+    let family = number.family();
+    write_head(text, family)?;
+    for (lane, (home, reading)) in homes.iter().zip(readings.iter()).enumerate() {
         let labels = Labels::Home(lane, home.name());
-        write_sample(writer, number.family(), labels, reading.value(number))?;
+        write_sample(text, family.name, labels, reading.value(number))?;
     }
     Ok(())
 }
 
 /// Writes how often each home server was marked up for each reason.
-fn write_ups<W: Write, R>(
-    writer: &mut W,
-    config: &Config,
-    numbers: &Numbers<'_, R>,
-) -> io::Result<()> {
-    let family = Family::counter(UPS, UPS_HELP);
-    write_head(writer, family)?;
-    for (lane, home) in config.homes().iter().enumerate() {
-        write_ups_of(writer, family, lane, home.name(), numbers)?;
+fn write_ups(text: &mut Vec<u8>, homes: &[Home], cells: &[HomeCell]) -> io::Result<()> {
+    write_head(text, UPS)?;
+    for (lane, (home, cell)) in homes.iter().zip(cells.iter()).enumerate() {
+        write_ups_of(text, lane, home.name(), cell)?;
     }
     Ok(())
 }
 
 /// Writes how often a home server was marked up for each reason.
-fn write_ups_of<W: Write, R>(
-    writer: &mut W,
-    family: Family,
-    lane: usize,
-    home: &str,
-    numbers: &Numbers<'_, R>,
-) -> io::Result<()> {
+fn write_ups_of(text: &mut Vec<u8>, lane: usize, home: &str, cell: &HomeCell) -> io::Result<()> {
     for reason in UP_REASONS {
-        let ups = Value::Count(numbers.ups(lane, reason));
-        write_sample(writer, family, Labels::HomeUp(lane, home, reason), ups)?;
+        let labels = Labels::HomeUp(lane, home, *reason);
+        write_sample(text, UPS.name, labels, Value::Count(cell.ups(*reason)))?;
     }
     Ok(())
 }
 
 /// Writes how long each home server takes to reply, or the clients wait for their responses.
-fn write_times<W: Write, R>(
-    writer: &mut W,
+fn write_times(
+    text: &mut Vec<u8>,
     timed: Timed,
-    config: &Config,
-    numbers: &Numbers<'_, R>,
+    homes: &[Home],
+    cells: &[HomeCell],
 ) -> io::Result<()> {
-    write_head(writer, timed.family())?;
-    for (lane, home) in config.homes().iter().enumerate() {
-        write_times_of(writer, timed, lane, home.name(), numbers)?;
+    let names = timed.names();
+    write_head(text, names.family)?;
+    for (lane, (home, cell)) in homes.iter().zip(cells.iter()).enumerate() {
+        write_histogram(text, names, lane, home.name(), timed.of(cell.times()))?;
     }
     Ok(())
 }
 
-/// Writes the histogram of a home server.
-fn write_times_of<W: Write, R>(
-    writer: &mut W,
-    timed: Timed,
-    lane: usize,
-    home: &str,
-    numbers: &Numbers<'_, R>,
-) -> io::Result<()> {
-    match numbers.times(lane) {
-        Some(times) => write_histogram(writer, timed, lane, home, timed.of(times)),
-        None => Ok(()),
-    }
-}
-
 /// Writes how often something took no longer than each bound, the sum of all durations, and their number.
-fn write_histogram<W: Write>(
-    writer: &mut W,
-    timed: Timed,
+fn write_histogram(
+    text: &mut Vec<u8>,
+    names: TimedNames,
     lane: usize,
     home: &str,
     histogram: &Histogram,
@@ -341,49 +310,46 @@ fn write_histogram<W: Write>(
     for bucket in 0..BUCKETS {
         count = count.saturating_add(histogram.get(bucket));
         let labels = Labels::HomeBound(lane, home, bound_label(bucket));
-        write_named(writer, timed.bucket(), labels, Value::Count(count))?;
+        write_sample(text, names.bucket, labels, Value::Count(count))?;
     }
     let labels = Labels::Home(lane, home);
     let sum = Value::Microseconds(histogram.sum());
-    write_named(writer, timed.sum(), labels, sum)?;
-    write_named(writer, timed.count(), labels, Value::Count(count))
+    write_sample(text, names.sum, labels, sum)?;
+    write_sample(text, names.count, labels, Value::Count(count))
 }
 
 /// Writes the metrics of the sockets, in the order in which they were bound.
-fn write_sockets<W: Write>(
-    writer: &mut W,
-    config: &Config,
-    sockets: &[SocketReading],
-) -> io::Result<()> {
+fn write_sockets(text: &mut Vec<u8>, homes: &[Home], sockets: &[SocketReading]) -> io::Result<()> {
     for number in SOCKET_NUMBERS {
-        write_head(writer, number.family())?;
-        write_socket_number(writer, number, config, sockets)?;
+        write_socket_number(text, *number, homes, sockets)?;
     }
     Ok(())
 }
 
 /// Writes a number of each socket.
-fn write_socket_number<W: Write>(
-    writer: &mut W,
+fn write_socket_number(
+    text: &mut Vec<u8>,
     number: SocketNumber,
-    config: &Config,
+    homes: &[Home],
     sockets: &[SocketReading],
 ) -> io::Result<()> {
+    let family = number.family();
+    write_head(text, family)?;
     for socket in sockets {
-        let labels = socket_labels(config, socket);
-        write_sample(writer, number.family(), labels, number.value(socket))?;
+        let labels = socket_labels(homes, socket);
+        write_sample(text, family.name, labels, number.value(socket))?;
     }
     Ok(())
 }
 
 /// Returns the labels of a socket. A lane's socket is labelled by its index, since its port is another one at each
 /// start.
-fn socket_labels<'a>(config: &'a Config, socket: &SocketReading) -> Labels<'a> {
+fn socket_labels<'a>(homes: &'a [Home], socket: &SocketReading) -> Labels<'a> {
     match socket.worker {
         Worker::Front => Labels::Socket(socket.at),
         Worker::Lane(lane) => {
             let lane = usize::from(lane);
-            let home = match config.homes().get(lane) {
+            let home = match homes.get(lane) {
                 Some(home) => home.name(),
                 None => "none",
             };
