@@ -8,7 +8,7 @@ use std::fmt::{self, Display};
 use std::io::Error;
 
 /// Why the ledger is not written. A step that the system refused has the system's error number, or 0 if it gave none.
-#[derive(Clone, Copy, Debug, PartialEq, Eq)]
+#[derive(Clone, Copy, PartialEq, Eq)]
 pub enum LedgerFault {
     /// The value of the variable is not UTF-8.
     NoText,

@@ -60,4 +60,4 @@ pub use socket_number::SocketNumber;
 pub use socket_numbers::SocketReading;
 pub use udp_sockets::{UdpSockets, read_udp_sockets};
 pub use value::Value;
-pub use writing::{VERSION, write_numbers};
+pub use writing::{VERSION, write_head, write_numbers};

@@ -120,7 +120,11 @@ pub fn write_numbers<R: Clock>(
 }
 
 /// Writes the lines that precede the samples of a family.
-fn write_head(text: &mut Vec<u8>, family: Family) -> io::Result<()> {
+///
+/// # Errors
+///
+/// `OutOfMemory` if memory is refused.
+pub fn write_head(text: &mut Vec<u8>, family: Family) -> io::Result<()> {
     let help = HelpLine(family);
     let kind = TypeLine(family);
     write!(text, "{help}\n{kind}\n")
@@ -256,31 +260,55 @@ fn write_home_number(
     homes: &[Home],
     readings: &[Reading],
 ) -> io::Result<()> {
-    let family = number.family();
-    write_head(text, family)?;
-    for (lane, (home, reading)) in homes.iter().zip(readings.iter()).enumerate() {
-        let labels = Labels::Home(lane, home.name());
-        write_sample(text, family.name, labels, reading.value(number))?;
+    write_head(text, number.family())?;
+    for (lane, home) in homes.iter().enumerate() {
+        write_reading(text, number, lane, home.name(), readings)?;
     }
     Ok(())
+}
+
+/// Writes a number of a home server, if something was read of it.
+fn write_reading(
+    text: &mut Vec<u8>,
+    number: HomeNumber,
+    lane: usize,
+    home: &str,
+    readings: &[Reading],
+) -> io::Result<()> {
+    match readings.get(lane) {
+        Some(reading) => {
+            let labels = Labels::Home(lane, home);
+            write_sample(text, number.family().name, labels, reading.value(number))
+        }
+        None => Ok(()),
+    }
 }
 
 /// Writes how often each home server was marked up for each reason.
 fn write_ups(text: &mut Vec<u8>, homes: &[Home], cells: &[HomeCell]) -> io::Result<()> {
     write_head(text, UPS)?;
-    for (lane, (home, cell)) in homes.iter().zip(cells.iter()).enumerate() {
-        write_ups_of(text, lane, home.name(), cell)?;
+    for (lane, home) in homes.iter().enumerate() {
+        write_ups_of(text, lane, home.name(), cells)?;
     }
     Ok(())
 }
 
 /// Writes how often a home server was marked up for each reason.
-fn write_ups_of(text: &mut Vec<u8>, lane: usize, home: &str, cell: &HomeCell) -> io::Result<()> {
+fn write_ups_of(text: &mut Vec<u8>, lane: usize, home: &str, cells: &[HomeCell]) -> io::Result<()> {
     for reason in UP_REASONS {
         let labels = Labels::HomeUp(lane, home, *reason);
-        write_sample(text, UPS.name, labels, Value::Count(cell.ups(*reason)))?;
+        let ups = Value::Count(ups_of(cells, lane, *reason));
+        write_sample(text, UPS.name, labels, ups)?;
     }
     Ok(())
+}
+
+/// Returns how often a lane's home server was marked up for a reason.
+fn ups_of(cells: &[HomeCell], lane: usize, reason: UpReason) -> u64 {
+    match cells.get(lane) {
+        Some(cell) => cell.ups(reason),
+        None => 0,
+    }
 }
 
 /// Writes how long each home server takes to reply, or the clients wait for their responses.
@@ -290,12 +318,25 @@ fn write_times(
     homes: &[Home],
     cells: &[HomeCell],
 ) -> io::Result<()> {
-    let names = timed.names();
-    write_head(text, names.family)?;
-    for (lane, (home, cell)) in homes.iter().zip(cells.iter()).enumerate() {
-        write_histogram(text, names, lane, home.name(), timed.of(cell.times()))?;
+    write_head(text, timed.names().family)?;
+    for (lane, home) in homes.iter().enumerate() {
+        write_times_of(text, timed, lane, home.name(), cells)?;
     }
     Ok(())
+}
+
+/// Writes the histogram of a home server.
+fn write_times_of(
+    text: &mut Vec<u8>,
+    timed: Timed,
+    lane: usize,
+    home: &str,
+    cells: &[HomeCell],
+) -> io::Result<()> {
+    match cells.get(lane) {
+        Some(cell) => write_histogram(text, timed.names(), lane, home, timed.of(cell.times())),
+        None => Ok(()),
+    }
 }
 
 /// Writes how often something took no longer than each bound, the sum of all durations, and their number.
