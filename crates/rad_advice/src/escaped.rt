@@ -10,7 +10,7 @@ const MOST_OCTETS: usize = 64;
 
 /// A name. An octet is printed as it is, or as `%` and two hexadecimal digits. A name of more than 64 octets is cut
 /// after 64, and `..` follows.
-#[derive(Clone, Copy, Debug)]
+#[derive(Clone, Copy)]
 pub(crate) struct Escaped<'a>(pub &'a str);
 
 /// Octets of a name.

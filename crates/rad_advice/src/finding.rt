@@ -27,7 +27,7 @@ struct Wanted<'a> {
 }
 
 /// The kind of table that the next pair belongs to.
-#[derive(Clone, Copy, PartialEq, Eq)]
+#[derive(Clone, Copy)]
 enum Section {
     /// The top: no header was passed yet.
     Top,
@@ -89,11 +89,8 @@ fn find(alloc: Global, text: &str, wanted: Wanted<'_>) -> Result<Option<usize>, 
     let mut rest = skip_mark(text);
     for _ in 0..text.len() {
         let start = skip_blank(rest, true);
-        if let Some(found) = find_in_expression(alloc, wanted, &mut passed, start)? {
-            let offset = text.len().saturating_sub(found.len());
-            if stands_at(alloc, text, offset, wanted.name)? {
-                return Ok(Some(offset));
-            }
+        if let Some(offset) = find_offset(alloc, text, wanted, &mut passed, start)? {
+            return Ok(Some(offset));
         }
         match skip_expression(alloc, start)? {
             Some(after) => rest = after,
@@ -101,6 +98,28 @@ fn find(alloc: Global, text: &str, wanted: Wanted<'_>) -> Result<Option<usize>, 
         }
     }
     Ok(None)
+}
+
+/// Returns the offset of the key in a text, if the key is in the header or pair at the front of `start`, which is the
+/// rest of the text.
+fn find_offset(
+    alloc: Global,
+    text: &str,
+    wanted: Wanted<'_>,
+    passed: &mut Passed,
+    start: &str,
+) -> Result<Option<usize>, AllocError>
+    ensures { IfOk result (λ found. IfSome found (λ offset. (offset ≤ length text.now) × BeginsAt wanted.entry.name.now offset text.now)) }
+{
+    let Some(found) = find_in_expression(alloc, wanted, passed, start)? else {
+        return Ok(None);
+    };
+    let offset = text.len().saturating_sub(found.len());
+    if stands_at(alloc, text, offset, wanted.name)? {
+        Ok(Some(offset))
+    } else {
+        Ok(None)
+    }
 }
 
 /// Returns a text without the byte order mark that it may begin with.
@@ -118,10 +137,7 @@ fn stands_at(alloc: Global, text: &str, offset: usize, name: &str) -> Result<boo
     let Some(rest) = text.get(offset..) else {
         return Ok(false);
     };
-    match read_key(alloc, rest)? {
-        Some((parts, _)) => Ok(is_part(parts.as_slice(), 0, name)),
-        None => Ok(false),
-    }
+    begins_with(alloc, rest, name)
 }
 
 /// Whether the part of a key at this index has this name.
@@ -169,26 +185,47 @@ fn find_in_header<'t>(
     key: &'t str,
 ) -> Result<Option<&'t str>, AllocError> {
     passed.section = Section::Other;
-    let Some((parts, _)) = read_key(alloc, key)? else {
-        return Ok(None);
+    let place = match read_key(alloc, key)? {
+        Some((parts, _)) => place_in_header(wanted, passed, double, parts.as_slice()),
+        None => None,
     };
-    let parts = parts.as_slice();
+    match place {
+        Some(Place::First) => Ok(Some(key)),
+        Some(Place::Second) => skip_part(alloc, key),
+        None => Ok(None),
+    }
+}
+
+/// Where the key of a header has the key that is looked for.
+#[derive(Clone, Copy)]
+enum Place {
+    /// At its first part.
+    First,
+    /// At its second part, after the name of the array.
+    Second,
+}
+
+/// Passes a header whose key has these parts, and returns where it has the key that is looked for, if it has it.
+fn place_in_header(
+    wanted: Wanted<'_>,
+    passed: &mut Passed,
+    double: bool,
+    parts: &[String],
+) -> Option<Place> {
     if wanted.part == Part::Top {
-        return Ok(some_if(is_part(parts, 0, wanted.name), key));
+        return is_part(parts, 0, wanted.name).then_some(Place::First);
     }
     if !is_part(parts, 0, wanted.array) {
-        return Ok(None);
+        return None;
     }
-    if parts.len() == 1 {
-        if double {
-            passed.begin();
-        }
-        return Ok(None);
+    if parts.len() > 1 {
+        let found = passed.is_at(wanted.index) && is_part(parts, 1, wanted.name);
+        return found.then_some(Place::Second);
     }
-    if passed.is_at(wanted.index) && is_part(parts, 1, wanted.name) {
-        return skip_part(alloc, key);
+    if double {
+        passed.begin();
     }
-    Ok(None)
+    None
 }
 
 impl Passed {
@@ -211,33 +248,52 @@ fn find_in_pair<'t>(
     passed: &Passed,
     start: &'t str,
 ) -> Result<Option<&'t str>, AllocError> {
-    let Some((parts, after)) = read_key(alloc, start)? else {
-        return Ok(None);
+    let pair = match read_key(alloc, start)? {
+        Some((parts, after)) => pair_of(wanted, passed, parts.as_slice(), after),
+        None => Pair::Other,
     };
-    let parts = parts.as_slice();
-    if is_array(wanted, passed, parts) {
-        return find_in_array(alloc, wanted, after);
+    match pair {
+        Pair::Wanted => Ok(Some(start)),
+        Pair::Array(value) => find_in_array(alloc, wanted, value),
+        Pair::Other => Ok(None),
     }
-    let found = is_section(wanted, passed) && is_part(parts, 0, wanted.name);
-    Ok(some_if(found, start))
 }
 
-/// Returns a text if `test` is true.
-fn some_if(test: bool, text: &str) -> Option<&str> {
-    if test { Some(text) } else { None }
+/// What a pair is for the search.
+#[derive(Clone, Copy)]
+enum Pair<'t> {
+    /// Its key is the one that is looked for.
+    Wanted,
+    /// Its value is the part's array, and begins this text.
+    Array(&'t str),
+    /// Any other pair.
+    Other,
+}
+
+/// Returns what a pair is whose key has these parts. Its value is in the text after the key.
+fn pair_of<'t>(wanted: Wanted<'_>, passed: &Passed, parts: &[String], after: &'t str) -> Pair<'t> {
+    if is_array(wanted, passed, parts) {
+        return Pair::Array(after);
+    }
+    if is_section(wanted, passed) && is_part(parts, 0, wanted.name) {
+        return Pair::Wanted;
+    }
+    Pair::Other
 }
 
 /// Whether this is the key of the part's array, at the top.
 fn is_array(wanted: Wanted<'_>, passed: &Passed, parts: &[String]) -> bool {
-    wanted.part != Part::Top && passed.section == Section::Top && is_part(parts, 0, wanted.array)
+    wanted.part != Part::Top
+        && matches!(passed.section, Section::Top)
+        && is_part(parts, 0, wanted.array)
 }
 
 /// Whether the next pair belongs to the table that is looked for.
 fn is_section(wanted: Wanted<'_>, passed: &Passed) -> bool {
     if wanted.part == Part::Top {
-        return passed.section == Section::Top;
+        return matches!(passed.section, Section::Top);
     }
-    passed.section == Section::Array && passed.is_at(wanted.index)
+    matches!(passed.section, Section::Array) && passed.is_at(wanted.index)
 }
 
 /// The open brackets in an array that is written as one value.
@@ -265,10 +321,8 @@ fn find_in_array<'t>(
     let mut rest = value;
     for _ in 0..value.len() {
         let start = skip_blank(rest, true);
-        if brackets.key_next && brackets.element == wanted.index {
-            if begins_with(alloc, start, wanted.name)? {
-                return Ok(Some(start));
-            }
+        if brackets.are_at(wanted.index) && begins_with(alloc, start, wanted.name)? {
+            return Ok(Some(start));
         }
         let Some((token, after)) = next_token(alloc, start)? else {
             return Ok(None);
@@ -282,7 +336,9 @@ fn find_in_array<'t>(
 }
 
 /// Whether a text begins with a key whose first part is this name.
-fn begins_with(alloc: Global, text: &str, name: &str) -> Result<bool, AllocError> {
+fn begins_with(alloc: Global, text: &str, name: &str) -> Result<bool, AllocError>
+    ensures { IfOk result (λ begins. IsTrue begins → BeginsAt name.now 0 text.now) }
+{
     match read_key(alloc, text)? {
         Some((parts, _)) => Ok(is_part(parts.as_slice(), 0, name)),
         None => Ok(false),
@@ -290,6 +346,11 @@ fn begins_with(alloc: Global, text: &str, name: &str) -> Result<bool, AllocError
 }
 
 impl Brackets {
+    /// Whether a key of the element of this index, or its end, comes next.
+    fn are_at(&self, index: usize) -> bool {
+        self.key_next && self.element == index
+    }
+
     /// Passes a token, and returns whether the array goes on.
     fn pass(&mut self, token: Token) -> bool {
         match token {
@@ -299,6 +360,6 @@ impl Brackets {
             Token::Comma | Token::Other => {}
         }
         self.key_next = self.depth == 2 && matches!(token, Token::Open | Token::Comma);
-        token != Token::Close || self.depth > 0
+        !matches!(token, Token::Close) || self.depth > 0
     }
 }

@@ -12,7 +12,7 @@ use std::alloc::{AllocError, Global};
 use std::fmt;
 
 /// Why the address and port of a home server cannot be correct.
-#[derive(Clone, Copy, Debug, PartialEq, Eq)]
+#[derive(Clone, Copy, PartialEq, Eq)]
 pub enum AddressFault {
     /// The proxy itself receives what is sent to it, on `listen`, so each request would come back as one of a client.
     Listen,
@@ -27,7 +27,7 @@ pub enum AddressFault {
 }
 
 /// A home server, and the fault of its address. It is printed as one line.
-#[derive(Clone, Copy, Debug)]
+#[derive(Clone, Copy)]
 pub struct HomeAdvice<'c> {
     /// The home server's name in the configuration.
     pub name: &'c str,

@@ -7,7 +7,7 @@ ghost use Rattle.rad_advice.specs.Place.{is_line_feed, begins_character, line_be
 use std::fmt;
 
 /// A place in a text. It is printed as `line 3, column 10`.
-#[derive(Clone, Copy, Debug, PartialEq, Eq)]
+#[derive(Clone, Copy, PartialEq, Eq)]
 pub struct Place {
     /// The line, counted from 1.
     pub line: usize,

@@ -11,7 +11,7 @@ use std::alloc::{AllocError, Global};
 use std::fmt;
 
 /// Why a text is not TOML, and where. It is printed as `line 3, column 10: invalid string`.
-#[derive(Debug, Drop)]
+#[derive(Drop)]
 pub struct SyntaxError {
     /// The place of the error.
     place: Place,

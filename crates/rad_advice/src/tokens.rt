@@ -11,7 +11,7 @@ use toml_parser::text::{first, skip, skip_blank, skip_ws};
 use toml_parser::{ParseError, dotted_key, quoted, starts_string};
 
 /// A token of a value.
-#[derive(Clone, Copy, PartialEq, Eq)]
+#[derive(Clone, Copy)]
 pub(crate) enum Token {
     /// `[` or `{`.
     Open,

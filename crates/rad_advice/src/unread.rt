@@ -20,7 +20,7 @@ const MOST_LISTED: usize = 20;
 
 /// A key of a configuration that is not read. It is printed as `home 0 windw at line 7, column 1`. Its name is
 /// escaped, and cut if it is long.
-#[derive(Debug, Drop)]
+#[derive(Drop)]
 pub struct UnreadKey {
     /// The part whose table contains it.
     part: Part,
@@ -123,7 +123,7 @@ impl fmt::Display for AtText {
 }
 
 /// The first keys of a configuration that are not read, and the number of the others.
-#[derive(Debug, Drop)]
+#[derive(Drop)]
 pub struct UnreadKeys {
     /// The first ones, at most 20.
     listed: Vec<UnreadKey>,
