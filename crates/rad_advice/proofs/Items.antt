@@ -1,5 +1,5 @@
 -- What the loops over the values of an array and over the keys of a table keep, and what is found in a document.
-use Rattle.std.proofs.Common.{◌≡◌, ℕ, ◌+◌, ◌<◌, ◌≤◌, List, [], ◌∷◌, ◌++◌, length, get_or, drop, unwrap_or, String, Global, string_bytes, sym, ap, ◌∙◌, append_assoc}
+use Rattle.std.proofs.Common.{◌≡◌, ℕ, ◌+◌, ◌<◌, ◌≤◌, List, ◌∷◌, ◌++◌, length, get_or, drop, unwrap_or, String, Global, string_bytes, sym, ap, ◌∙◌, append_assoc}
 use Rattle.std.proofs.lemmas.List.{append-nil, drop_more}
 use Rattle.std.proofs.Math.ListN.{drop_of_length-le}
 use Rattle.toml.specs.Data.{Members, as_table, no_members}
@@ -8,7 +8,8 @@ use Rattle.toml.specs.declared.value.Value.{Value}
 use Rattle.rad_config.specs.declared.reading.faults.Part.{Part}
 use Rattle.rad_config.specs.declared.reading.faults.Part.TheVariants.{Top, Client, Home, Realm}
 use Rattle.rad_config.specs.declared.reading.faults.Key.TheVariants as its
-use Rattle.rad_advice.specs.Keys.{UnreadEntry, unless_read, read_names, unread_in_table, unread_in_items, unread_in_part, unread_in}
+use Rattle.rad_realms.specs.Spot.{part_name}
+use Rattle.rad_advice.specs.Keys.{UnreadEntry, unless_read, read_names, items_at, unread_in_table, unread_in_items, unread_in_part, unread_in}
 
 module _ (part : Part) (names : List (List ℕ)) (values : List Value) where
   -- what was found so far, and what will be found in the rest
@@ -48,17 +49,17 @@ module _ (part : Part) (index : ℕ) (names : List (List ℕ)) where
       ∙ e
 
 -- four lists, each appended to what was there
-four_appended : (none a b c d p q r s : List UnreadEntry) → none ≡ [] → a ≡ none ++ p → b ≡ a ++ q → c ≡ b ++ r → d ≡ c ++ s → d ≡ p ++ (q ++ (r ++ s))
-four_appended none a b c d p q r s e f g h i = rw (i, h, g, f, e) (simp append_assoc)
+four_appended : (before a b c d p q r s : List UnreadEntry) → a ≡ before ++ p → b ≡ a ++ q → c ≡ b ++ r → d ≡ c ++ s → d ≡ before ++ (p ++ (q ++ (r ++ s)))
+four_appended before a b c d p q r s f g h i = rw (i, h, g, f) (simp append_assoc)
 
 -- the keys of a document, out of those of the top and of each part
-pub document_joined : (document : Members) (names : List (List ℕ)) (none a b c d : List UnreadEntry) → none ≡ [] → names ≡ read_names Top
-    → a ≡ none ++ unread_in_table Top 0 names document
-    → b ≡ a ++ unread_in_part Client its.Client document
-    → c ≡ b ++ unread_in_part Home its.Home document
-    → d ≡ c ++ unread_in_part Realm its.Realm document
-    → d ≡ unread_in document
-unfolding unread_in
-document_joined document names none a b c d e same f g h i =
-    four_appended none a b c d (unread_in_table Top 0 (read_names Top) document) (unread_in_part Client its.Client document) (unread_in_part Home its.Home document) (unread_in_part Realm its.Realm document)
-    e (f ∙ ap (λ (ns : List (List ℕ)). none ++ unread_in_table Top 0 ns document) same) g h i
+pub document_joined : (document : Members) (before a b c d : List UnreadEntry)
+    → a ≡ before ++ unread_in_table Top 0 (read_names Top) document
+    → b ≡ a ++ unread_in_items Client 0 (read_names Client) (items_at (part_name Client) document)
+    → c ≡ b ++ unread_in_items Home 0 (read_names Home) (items_at (part_name Home) document)
+    → d ≡ c ++ unread_in_items Realm 0 (read_names Realm) (items_at (part_name Realm) document)
+    → d ≡ before ++ unread_in document
+unfolding unread_in unread_in_part
+document_joined document before a b c d f g h i =
+    four_appended before a b c d (unread_in_table Top 0 (read_names Top) document) (unread_in_part Client its.Client document) (unread_in_part Home its.Home document) (unread_in_part Realm its.Realm document)
+    f g h i

@@ -2,13 +2,14 @@
 use Rattle.std.proofs.Common.{◌≡◌, ℕ, ◌==◌, ◌||◌, true, List, [], ◌∷◌, map, String, Global, string_bytes, Option, Some, option_map, refl, sym, ap, ◌∙◌, arith}
 use Rattle.std.proofs.lemmas.Bool.{and_parts}
 use Rattle.std.proofs.lemmas.Bool.Decides.{nat_tests}
+use Rattle.std.specs.Borrow.{Bor}
 use Rattle.std.specs.List.{list_any, slice_get}
 use Rattle.std.specs.Str.{bytes_eq}
 use Rattle.rad_advice.specs.Keys.{is_one_of}
 
-pub among_bytes : (names : List (String Global)) (name : List ℕ) → list_any (λ n. bytes_eq (string_bytes n) name) names ≡ is_one_of (map string_bytes names) name
+pub among_bytes : (names : List (Bor (List ℕ))) (name : List ℕ) → list_any (λ n. bytes_eq n.now name) names ≡ is_one_of (map (λ n. n.now) names) name
 among_bytes [] name = refl
-among_bytes (n ∷ ns) name = ap (λ b. bytes_eq (string_bytes n) name || b) (among_bytes ns name)
+among_bytes (n ∷ ns) name = ap (λ b. bytes_eq n.now name || b) (among_bytes ns name)
 
 -- texts that are compared as one are one
 pub bytes_same : (xs ys : List ℕ) → bytes_eq xs ys ≡ true → xs ≡ ys

@@ -7,9 +7,9 @@ ghost use Rattle.std.specs.Prelude.{◌≡◌, ◌≤◌, Some, length, option_c
 ghost use Rattle.std.specs.List.{slice_get};
 ghost use Rattle.rad_advice.specs.Keys.{BeginsAt};
 
-use crate::keys::name_of;
+use crate::keys::part_name;
 use crate::tokens::{Token, next_token, read_key, skip_expression, skip_part};
-use rad_realms::{Key, Part};
+use rad_realms::Part;
 use std::alloc::{AllocError, Global};
 use toml_parser::text::{byte_at, first, skip, skip_blank, skip_ws};
 
@@ -18,8 +18,6 @@ use toml_parser::text::{byte_at, first, skip, skip_blank, skip_ws};
 struct Wanted<'a> {
     /// The part that the table belongs to.
     part: Part,
-    /// The name of the part's array. It is empty for the top.
-    array: &'a str,
     /// The index of the table in that array, counted from 0.
     index: usize,
     /// The name of the key.
@@ -57,25 +55,8 @@ pub(crate) fn find_key(
 ) -> Result<Option<usize>, AllocError>
     ensures { IfOk result (λ found. IfSome found (λ offset. (offset ≤ length text.now) × BeginsAt name.now offset text.now)) }
 {
-    let array = array_name(alloc, part)?;
-    let array = array.as_str();
-    let wanted = Wanted {
-        part,
-        array,
-        index,
-        name,
-    };
+    let wanted = Wanted { part, index, name };
     find(alloc, text, wanted)
-}
-
-/// Returns the name of a part's array of tables, which is empty for the top.
-fn array_name(alloc: Global, part: Part) -> Result<String, AllocError> {
-    match part {
-        Part::Top => Ok(String::new(alloc)),
-        Part::Client => name_of(alloc, Key::Client),
-        Part::Home => name_of(alloc, Key::Home),
-        Part::Realm => name_of(alloc, Key::Realm),
-    }
 }
 
 /// Searches a text until the key is found.
@@ -215,7 +196,7 @@ fn place_in_header(
     if wanted.part == Part::Top {
         return is_part(parts, 0, wanted.name).then_some(Place::First);
     }
-    if !is_part(parts, 0, wanted.array) {
+    if !is_part(parts, 0, part_name(wanted.part)) {
         return None;
     }
     if parts.len() > 1 {
@@ -285,7 +266,7 @@ fn pair_of<'t>(wanted: Wanted<'_>, passed: &Passed, parts: &[String], after: &'t
 fn is_array(wanted: Wanted<'_>, passed: &Passed, parts: &[String]) -> bool {
     wanted.part != Part::Top
         && matches!(passed.section, Section::Top)
-        && is_part(parts, 0, wanted.array)
+        && is_part(parts, 0, part_name(wanted.part))
 }
 
 /// Whether the next pair belongs to the table that is looked for.

@@ -1,87 +1,61 @@
 //! The keys of a configuration that are read, by part.
 
-ghost use Rattle.std.specs.Prelude.{◌≡◌, map, IfOk, string_bytes};
-ghost use Rattle.std.specs.List.{list_any};
-ghost use Rattle.std.specs.Str.{bytes_eq};
-ghost use Rattle.rad_realms.specs.Spot.{key_name};
-ghost use Rattle.rad_advice.specs.Keys.{read_keys, read_names, is_one_of};
+ghost use Rattle.std.specs.Prelude.{◌≡◌, map};
+ghost use Rattle.rad_realms.specs.Spot.{part_name as name_of_part};
+ghost use Rattle.rad_advice.specs.Keys.{read_names, is_one_of};
 
-use rad_realms::{Key, Part, Spot};
-use std::alloc::{AllocError, Global};
-use toml_parser::text::skip;
-
-/// Returns the keys that are read in the tables of a part.
-fn keys_of(part: Part) -> &'static [Key]
-    ensures { result.now ≡ read_keys part }
-{
-    match part {
-        Part::Top => {
-            &[
-                Key::Listen,
-                Key::DefaultHome,
-                Key::Linger,
-                Key::Client,
-                Key::Home,
-                Key::Realm,
-            ]
-        }
-        Part::Client => &[Key::Address, Key::Secret],
-        Part::Home => {
-            &[
-                Key::Name,
-                Key::Address,
-                Key::Secret,
-                Key::Window,
-                Key::Queue,
-                Key::Book,
-                Key::Tries,
-                Key::FirstWait,
-                Key::ProbeEvery,
-                Key::DownWait,
-                Key::Span,
-                Key::Ring,
-                Key::Ports,
-            ]
-        }
-        Part::Realm => &[Key::Name, Key::Home],
-    }
-}
+use rad_realms::Part;
 
 /// Returns the names of the keys that are read in the tables of a part.
-pub(crate) fn names_of(alloc: Global, part: Part) -> Result<Vec<String>, AllocError>
-    ensures { IfOk result (λ names. map string_bytes names.items ≡ read_names part) }
+fn names_of(part: Part) -> &'static [&'static str]
+    ensures { map (λ name. name.now) result.now ≡ read_names part }
 {
-    let mut names = Vec::new(alloc);
-    for key in keys_of(part) {
-        let name = name_of(alloc, *key)?;
-        names.push(name)?;
+    match part {
+        Part::Top => &[
+            "listen",
+            "default_home",
+            "linger",
+            "client",
+            "home",
+            "realm",
+        ],
+        Part::Client => &["address", "secret"],
+        Part::Home => {
+            &[
+                "name",
+                "address",
+                "secret",
+                "window",
+                "queue",
+                "book",
+                "tries",
+                "first_wait",
+                "probe_every",
+                "down_wait",
+                "span",
+                "ring",
+                "ports",
+            ]
+        }
+        Part::Realm => &["name", "home"],
     }
-    Ok(names)
 }
 
-/// Returns a key as it is written in the configuration, which is also how it is printed after `top `.
-pub(crate) fn name_of(alloc: Global, key: Key) -> Result<String, AllocError>
-    ensures { IfOk result (λ name. string_bytes name ≡ key_name key) }
+/// Returns the name of a part, which is also that of its array of tables.
+pub(crate) fn part_name(part: Part) -> &'static str
+    ensures { result.now ≡ name_of_part part }
 {
-    let spot = Spot {
-        part: Part::Top,
-        index: 0,
-        key,
-    };
-    let text = format!(in alloc; "{spot}")?;
-    String::from_str(alloc, skip(text.as_str(), 4))
+    match part {
+        Part::Top => "top",
+        Part::Client => "client",
+        Part::Home => "home",
+        Part::Realm => "realm",
+    }
 }
 
-/// Whether `name` is one of these names.
-pub(crate) fn is_among(names: &[String], name: &str) -> bool
-    ensures { result ≡ is_one_of (map string_bytes names.now) name.now }
+/// Whether a key of this name is read in the tables of a part.
+pub(crate) fn is_read(part: Part, name: &str) -> bool
+    ensures { result ≡ is_one_of (read_names part) name.now }
 {
-    has_name(names, name)
-}
-
-/// Whether `name` is one of these texts.
-fn has_name(names: &[String], name: &str) -> bool
-    ensures { result ≡ list_any (λ read. bytes_eq (string_bytes read) name.now) names.now }
-{
-    names.iter().any(|read| read.as_str() == name)
+    names_of(part).contains(&name)
 }

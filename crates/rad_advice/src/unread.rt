@@ -3,14 +3,14 @@
 ghost use Rattle.std.specs.Prelude.{◌≡◌, ◌≤◌, ◌-◌, ◌++◌, [], All, List, length, map, take, option_map, option_and_then, unwrap_or, IfOk, IfSome, OnOk, IsUtf8, string_bytes};
 ghost use Rattle.toml.specs.Data.{no_items, no_members, as_array, as_table, get_member};
 ghost use Rattle.toml.specs.View.{view, items_view, table_view};
-ghost use Rattle.rad_realms.specs.Spot.{key_name};
-ghost use Rattle.rad_advice.specs.Keys.{unless_read, unread_in_table, unread_in_items, items_at, unread_in_part, unread_in, unread_in_text, entry_listed, entry_found, BeginsAtPlace, StandsIn};
+ghost use Rattle.rad_realms.specs.Spot.{part_name as name_of_part};
+ghost use Rattle.rad_advice.specs.Keys.{unless_read, read_names, unread_in_table, unread_in_items, items_at, unread_in, unread_in_text, entry_listed, entry_found, BeginsAtPlace, StandsIn};
 
 use crate::escaped::Escaped;
 use crate::finding::find_key;
-use crate::keys::{is_among, name_of, names_of};
+use crate::keys::{is_read, part_name};
 use crate::place::{Place, place_of};
-use rad_realms::{Key, Part};
+use rad_realms::Part;
 use std::alloc::{AllocError, Global};
 use std::fmt;
 use toml::{Table, Value};
@@ -98,13 +98,12 @@ impl fmt::Display for TableText {
     ghost output = { λ table. Some (table_text table.part table.index) };
 
     fn fmt<W: fmt::Write>(&self, f: &mut fmt::Formatter<W>) -> fmt::Result {
-        let index = self.index;
-        match self.part {
-            Part::Top => write!(f, "top "),
-            Part::Client => write!(f, "client {index} "),
-            Part::Home => write!(f, "home {index} "),
-            Part::Realm => write!(f, "realm {index} "),
+        let name = part_name(self.part);
+        if self.part == Part::Top {
+            return write!(f, "{name} ");
         }
+        let index = self.index;
+        write!(f, "{name} {index} ")
     }
 }
 
@@ -261,47 +260,42 @@ fn unread_of_document(alloc: Global, document: &Table) -> Result<Vec<Unread<'_>>
     ensures { IfOk result (λ found. map entry_found found.items ≡ unread_in (table_view document.now)) }
 {
     let mut found = Vec::new(alloc);
-    let names = names_of(alloc, Part::Top)?;
-    add_of_table(&mut found, Part::Top, 0, names.as_slice(), document)?;
-    add_of_part(alloc, &mut found, Part::Client, Key::Client, document)?;
-    add_of_part(alloc, &mut found, Part::Home, Key::Home, document)?;
-    add_of_part(alloc, &mut found, Part::Realm, Key::Realm, document)?;
+    add_of_document(&mut found, document)?;
     Ok(found)
 }
 
-/// Appends the keys of a part's tables that are not read.
-#[tactic(auto, unfolding(crate::specs::Keys::unread_in_part))]
-fn add_of_part<'t>(
-    alloc: Global,
-    found: &mut Vec<Unread<'t>>,
-    part: Part,
-    key: Key,
-    document: &'t Table,
-) -> Result<(), AllocError>
-    ensures { OnOk result (map entry_found found.new.items ≡ map entry_found found.old.items ++ unread_in_part part key (table_view document.now)) }
+/// Appends the keys of a document that are not read.
+fn add_of_document<'t>(found: &mut Vec<Unread<'t>>, document: &'t Table) -> Result<(), AllocError>
+    ensures { OnOk result (map entry_found found.new.items ≡ map entry_found found.old.items ++ unread_in (table_view document.now)) }
 {
-    let array = name_of(alloc, key)?;
-    let names = names_of(alloc, part)?;
-    add_of_values(
-        found,
-        part,
-        names.as_slice(),
-        values_at(array.as_str(), document),
-    )
+    add_of_table(found, Part::Top, 0, document)?;
+    add_of_part(found, Part::Client, document)?;
+    add_of_part(found, Part::Home, document)?;
+    add_of_part(found, Part::Realm, document)
 }
 
-/// Appends the keys that are not read of each value that is a table.
+/// Appends the keys of a part's tables that are not read.
+fn add_of_part<'t>(
+    found: &mut Vec<Unread<'t>>,
+    part: Part,
+    document: &'t Table,
+) -> Result<(), AllocError>
+    ensures { OnOk result (map entry_found found.new.items ≡ map entry_found found.old.items ++ unread_in_items part 0 (read_names part) (items_at (name_of_part part) (table_view document.now))) }
+{
+    add_of_values(found, part, values_at(part_name(part), document))
+}
+
+/// Appends the keys that are not read of each value that is a table of a part.
 fn add_of_values<'t>(
     found: &mut Vec<Unread<'t>>,
     part: Part,
-    names: &[String],
     values: &'t [Value],
 ) -> Result<(), AllocError>
-    ensures { OnOk result (map entry_found found.new.items ≡ map entry_found found.old.items ++ unread_in_items part 0 (map string_bytes names.now) (items_view values.now)) }
+    ensures { OnOk result (map entry_found found.new.items ≡ map entry_found found.old.items ++ unread_in_items part 0 (read_names part) (items_view values.now)) }
 {
     let mut index = 0;
     for value in values {
-        add_of_value(found, part, index, names, value)?;
+        add_of_value(found, part, index, value)?;
         index += 1;
     }
     Ok(())
@@ -339,44 +333,41 @@ fn add_of_value<'t>(
     found: &mut Vec<Unread<'t>>,
     part: Part,
     index: usize,
-    names: &[String],
     value: &'t Value,
 ) -> Result<(), AllocError>
-    ensures { OnOk result (map entry_found found.new.items ≡ map entry_found found.old.items ++ unread_in_table part index (map string_bytes names.now) (unwrap_or (as_table (view value.now)) no_members)) }
+    ensures { OnOk result (map entry_found found.new.items ≡ map entry_found found.old.items ++ unread_in_table part index (read_names part) (unwrap_or (as_table (view value.now)) no_members)) }
 {
     match value.as_table() {
-        Some(table) => add_of_table(found, part, index, names, table),
+        Some(table) => add_of_table(found, part, index, table),
         None => Ok(()),
     }
 }
 
-/// Appends the keys of a table that are not among `names`.
+/// Appends the keys of a part's table that are not read.
 fn add_of_table<'t>(
     found: &mut Vec<Unread<'t>>,
     part: Part,
     index: usize,
-    names: &[String],
     table: &'t Table,
 ) -> Result<(), AllocError>
-    ensures { OnOk result (map entry_found found.new.items ≡ map entry_found found.old.items ++ unread_in_table part index (map string_bytes names.now) (table_view table.now)) }
+    ensures { OnOk result (map entry_found found.new.items ≡ map entry_found found.old.items ++ unread_in_table part index (read_names part) (table_view table.now)) }
 {
     'keys: for (key, _value) in table.iter() {
-        add_unless_read(found, part, index, names, key.as_str())?;
+        add_unless_read(found, part, index, key.as_str())?;
     }
     Ok(())
 }
 
-/// Appends a key, unless it is one of `names`.
+/// Appends a key of a part's table, unless it is read.
 fn add_unless_read<'t>(
     found: &mut Vec<Unread<'t>>,
     part: Part,
     index: usize,
-    names: &[String],
     name: &'t str,
 ) -> Result<(), AllocError>
-    ensures { OnOk result (map entry_found found.new.items ≡ map entry_found found.old.items ++ unless_read part index (map string_bytes names.now) name.now) }
+    ensures { OnOk result (map entry_found found.new.items ≡ map entry_found found.old.items ++ unless_read part index (read_names part) name.now) }
 {
-    if is_among(names, name) {
+    if is_read(part, name) {
         return Ok(());
     }
     found.push(Unread { part, index, name })?;
