@@ -3,10 +3,10 @@
 ghost use Rattle.std.specs.Prelude.{◌≡◌, ◌≢◌, ◌+◌, ◌≤◌, ◌++◌, [], length, IfOk, IfErr, MatchResult};
 ghost use Rattle.std.specs.Bool.{OnTrue, OnFalse};
 ghost use Rattle.rad_packet.specs.Attribute.{AreAttributes, of_kind};
-ghost use Rattle.rad_packet.specs.Packet.{IsPacketText, code_of, identifier_of, packet_attributes};
+ghost use Rattle.rad_packet.specs.Packet.{IsPacketText, code_of, identifier_of, authenticator_of, packet_attributes};
 ghost use Rattle.rad_packet.specs.Place.{IsLastAt};
 ghost use Rattle.rad_auth.specs.Mark.{EndsWithMark};
-ghost use Rattle.rad_auth.specs.Authenticator.{accounting_response};
+ghost use Rattle.rad_auth.specs.Authenticator.{IsRightResponse, accounting_response};
 ghost use Rattle.rad_auth.specs.Replied.{IsAnswer};
 ghost use Rattle.rad_auth.specs.internal.Returning.{HasAttributeAt, IsLastOrNone, IsReturnedAt, octets_without};
 ghost use Rattle.rad_auth.specs.Refusing.{RefusesReply, ReturnsItsMark};
@@ -92,6 +92,30 @@ pub fn respond(
     if !check_response(reply, &sending.authenticator(), home) {
         return Err(ReplyFault::BadAuthenticator);
     }
+    respond_to_right(alloc, head, sending, reply, client, home)
+}
+
+/// Makes the response from a reply whose Response Authenticator is valid.
+///
+/// # Errors
+///
+/// Any [`ReplyFault`] but the first.
+fn respond_to_right(
+    alloc: Global,
+    head: RequestHead,
+    sending: &PacketRef<'_>,
+    reply: &PacketRef<'_>,
+    client: &Secret,
+    home: &Secret,
+) -> Result<Reply, ReplyFault>
+    requires code { code_of reply.now ≡ 5 }
+    requires identifier { identifier_of reply.now ≡ identifier_of sending.now }
+    requires mark { (mark : Mark) × EndsWithMark mark sending.now }
+    requires right { IsRightResponse home.now (authenticator_of sending.now) reply.now }
+    ensures made { IfOk result (λ made. (made.head ≡ head) × (made.sending ≡ sending.now) × (made.reply ≡ reply.now) × (made.client ≡ client.now) × (made.home ≡ home.now)) }
+    ensures answers { IfOk result IsAnswer }
+    ensures refused { IfErr result (λ fault. RefusesReply sending.now reply.now home.now fault) }
+{
     let Some(last) = last_proxy_state(reply)? else {
         return Err(ReplyFault::NoProxyState);
     };
