@@ -126,31 +126,11 @@ def of_lanes():
     }
 
 
-def sum_of(packets):
-    """The sum of all octets of packets, in order: Fowler, Noll and Vo's of 64 bits, as FNV-1a."""
-    value = 0xCBF29CE484222325
-    for octet in b"".join(packets):
-        value = (value ^ octet) * 0x100000001B3 % 2**64
-    return value
-
-
 def classes(octets):
     """Class attributes of so many octets in all: each has 128, but for the last."""
     whole = max(octets // 128 - 1, 0)
     rest = octets - 128 * whole
     return whole * attribute(CLASS, b"A" * 126) + (attribute(CLASS, b"A" * (rest - 2)) if rest else b"")
-
-
-def sums_of_lanes():
-    """Of 5,120 requests, with replies short and long: the sum of what is sent, and that of the responses."""
-    client, home, forwarded, responses = b"nas-secret", b"home-secret", [], []
-    for count in range(80 * 64):
-        attributes = BOB + attribute(ACCT_SESSION_ID, count.to_bytes(2, "big"))
-        asked = request(count % 256, attributes, client)
-        forwarded.append(request(count % 256, attributes + mark(0, count), home))
-        octets = count % 128 if count < 5112 else count - 1055
-        responses.append(answer(asked, count % 256, classes(0 if octets == 1 else octets), client))
-    return {"SENT": sum_of(forwarded), "RESPONSES": sum_of(responses)}
 
 
 def of_desks():
@@ -241,19 +221,15 @@ def made():
     return {
         "ledger_tests": of_ledgers(),
         "test_octets": {"BARE": of_nas()["BARE"], **of_lanes(), **of_desks(), **of_services()},
-        "lane_tests": sums_of_lanes(),
     }
 
 
-SUM = re.compile(r"const (\w+): u64 = 0x([0-9a-f_]+);")
 ARRAY = re.compile(r"const (\w+): \[u8; \d+\] = \[((?:\s*0x[0-9a-f]{2},?)+)\s*\];")
 LINES = re.compile(r'const (\w+): &\[&str\] = &\[((?:\s+r#"\{"type":.*"#,)+)\s*\];')
 
 
 def as_written(name, octets):
-    """A sum, lines or an array as a test has it, the array with sixteen octets to a line."""
-    if isinstance(octets, int):
-        return f"const {name}: u64 = 0x{octets:_x};"
+    """Lines or an array as a test has it, the array with sixteen octets to a line."""
     if isinstance(octets, list):
         rows = "".join(f'    r#"{line}"#,\n' for line in octets)
         return f"const {name}: &[&str] = &[\n{rows}];"
@@ -263,14 +239,13 @@ def as_written(name, octets):
 
 
 def standing():
-    """The arrays and sums in hexadecimal and the lines that stand in the tests: the crate and the name, the file, and the value."""
+    """The arrays in hexadecimal and the lines that stand in the tests: the crate and the name, the file, and the value."""
     found = []
     for file in sorted(TOP.glob("crates/*/src/**/*.rt")):
         path = file.relative_to(TOP)
         if "test" in str(path):
             text = file.read_text(encoding="utf-8")
             values = [(name, bytes.fromhex("".join(re.findall(r"0x(..)", array)))) for name, array in ARRAY.findall(text)]
-            values += [(name, int(value, 16)) for name, value in SUM.findall(text)]
             values += [(name, re.findall(r'r#"(.*)"#', rows)) for name, rows in LINES.findall(text)]
             found += [((path.parts[1], name), path, value) for name, value in values]
     return found
