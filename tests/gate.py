@@ -29,7 +29,7 @@ import progress
 
 TOP = pathlib.Path(__file__).resolve().parent.parent
 RT = os.environ.get("RT", "rt").split()
-QUEUE_TESTS = TOP / "crates" / "collections_tests" / "out" / "collections_tests_tests"
+QUEUE_TESTS = TOP / "crates" / "library_tests" / "out" / "library_tests_tests"
 SCRIPTS = {
     "wrong-bodies": ("edits.py", "--check"),
     "vectors": ("vectors.py", "--check"),

@@ -219,7 +219,7 @@ def of_ledgers():
 def made():
     """What the tests of each crate expect, by the names that it has there."""
     return {
-        "ledger_tests": of_ledgers(),
+        "library_tests": of_ledgers(),
         "test_octets": {"BARE": of_nas()["BARE"], **of_lanes(), **of_desks(), **of_services()},
     }
 

@@ -1,9 +1,9 @@
 #!/usr/bin/env python3
-"""What the blocks of a queue take, which no contract tells: the tests of `collections_tests` that pass many items, with little memory.
+"""What the blocks of a queue take, which no contract tells: the tests of `library_tests` that pass many items, with little memory.
 
 usage: blocks.py TESTS
 
-TESTS is the program that `rt test` leaves in crates/collections_tests/out. An item that passes a queue which stays as long takes no
+TESTS is the program that `rt test` leaves in crates/library_tests/out. An item that passes a queue which stays as long takes no
 block: the test of that has few allocations, whatever passes. A block of no items that an appended queue brings along is used for
 the next items: the test of that comes to its end in little more memory than its items take. The last line is `N passed, M failed`.
 """
