@@ -6,6 +6,7 @@ pub mod Names
 pub mod ArrayTables
 pub mod TablesRead
 pub mod Turns
+pub mod Failing
 pub mod LastSigns
 pub mod Ranges
 pub mod Steps
