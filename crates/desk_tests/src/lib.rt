@@ -1,10 +1,16 @@
-//! Tests of the public calls of `rad_desk`, and of what a command of `rad_console` does where its writes fail, in a crate
-//! of their own, so that no proof of these crates is repeated for a test. It has no other code.
+//! Tests of what only a call of `rad_desk` shows: what is known of the responses left at the end, by the inlets that close
+//! is given; that it closes when it is called again after memory was refused; and that each request gets its response
+//! where the workers are in threads of their own. What the workers do in each turn, and what the calls of a lane do
+//! through its lock, is compared by `rad_simulation`. The crate has no other code.
 #![tactic(auto)]
 
 #[cfg(test)]
+mod closing;
+#[cfg(test)]
 mod comparing;
 #[cfg(test)]
-mod console;
+mod setting;
 #[cfg(test)]
-mod desk;
+mod threads;
+#[cfg(test)]
+mod wires;

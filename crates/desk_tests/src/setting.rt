@@ -1,0 +1,45 @@
+//! The configuration of the tests, and the endpoints of those who send.
+
+use rad_realms::{Config, Endpoint, read_config};
+use std::alloc::Global;
+use std::test::Fail;
+
+/// A client, and two home servers with a realm each. The ring of the first one has four places.
+const TEXT: &str = r#"
+listen = "127.0.0.1:1813"
+[[client]]
+address = "10.0.0.1"
+secret = "nas-secret"
+[[realm]]
+name = "example.org"
+home = "h1"
+[[realm]]
+name = "other.org"
+home = "h2"
+[[home]]
+name = "h1"
+address = "127.0.0.1:2813"
+secret = "home-secret"
+ring = 4
+[[home]]
+name = "h2"
+address = "127.0.0.2:2814"
+secret = "other-secret"
+"#;
+
+/// The client's endpoint.
+pub const CLIENT: Endpoint = Endpoint {
+    address: [10, 0, 0, 1],
+    port: 40_000,
+};
+
+/// The endpoint of the first home server.
+pub const HOME: Endpoint = Endpoint {
+    address: [127, 0, 0, 1],
+    port: 2813,
+};
+
+/// Returns the tests' configuration.
+pub fn config(alloc: Global) -> Result<Config, Fail> {
+    Ok(read_config(alloc, TEXT)?)
+}
