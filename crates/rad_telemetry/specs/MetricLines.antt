@@ -1,9 +1,8 @@
 -- The counters in Prometheus' text format, line by line without the line feeds (own).
 use Rattle.std.specs.Prelude.{ℕ, List, ◌++◌, codes}
 use Rattle.std.specs.Fmt.{decimal}
-use Rattle.rad_telemetry.specs.EventKinds.{reason_text, metric_help, metric_name}
+use Rattle.rad_telemetry.specs.EventKinds.{reason_text, metric_name}
 use Rattle.rad_telemetry.specs.declared.event_kind.EventKind.{EventKind}
-use Rattle.rad_telemetry.specs.declared.metric.Metric.{Metric}
 use Rattle.rad_telemetry.specs.declared.metric_lines.CounterLine.{CounterLine}
 use Rattle.rad_telemetry.specs.declared.metric_lines.Labels.{Labels}
 use Rattle.rad_telemetry.specs.declared.metric_lines.Labels.TheVariants.{Clients, Reason, Home, HomeReason}
@@ -26,11 +25,3 @@ labels_text (HomeReason lane home kind) = home_labels lane home.now ++ codes ","
 abbrev pub counter_line : CounterLine → List ℕ
 counter_line line =
     (codes "rad_proxy_" ++ metric_name line.metric ++ codes "{" ++ labels_text line.labels ++ codes "} ") ++ decimal line.count
-
--- The line that precedes the counters of a metric.
-abbrev pub type_line : Metric → List ℕ
-type_line m = codes "# TYPE rad_proxy_" ++ metric_name m ++ codes " counter"
-
--- The line that precedes that one: what the metric counts.
-abbrev pub help_line : Metric → List ℕ
-help_line m = codes "# HELP rad_proxy_" ++ metric_name m ++ codes " " ++ metric_help m

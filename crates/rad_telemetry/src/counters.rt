@@ -50,11 +50,8 @@ impl Counters {
     ///
     /// `AllocError` if memory is refused.
     pub fn new(alloc: Global, lanes: usize) -> Result<Counters, AllocError> {
-        let mut counters = Vec::new(alloc);
-        for _ in 0..lanes {
-            push_row(&mut counters)?;
-        }
-        push_row(&mut counters)?;
+        let rows = lanes.saturating_add(1);
+        let counters = no_counts(alloc, rows.saturating_mul(EVENT_KINDS.len()))?;
         let realm = LastRealm::new();
         Ok(Counters { counters, realm })
     }
@@ -134,9 +131,10 @@ impl Counters {
     }
 }
 
-/// Adds the counters of one more worker.
-fn push_row(counters: &mut Vec<Counter>) -> Result<(), AllocError> {
-    for _ in EVENT_KINDS {
+/// Makes `count` counters. Nothing is counted yet.
+fn no_counts(alloc: Global, count: usize) -> Result<Vec<Counter>, AllocError> {
+    let mut counters = Vec::new(alloc);
+    for _ in 0..count {
         counters.push(Counter {
             count: AtomicU64::new(0),
             given: AtomicU64::new(0),
@@ -144,7 +142,7 @@ fn push_row(counters: &mut Vec<Counter>) -> Result<(), AllocError> {
             most_marks: AtomicU64::new(0),
         })?;
     }
-    Ok(())
+    Ok(counters)
 }
 
 /// Returns how much a count rose.

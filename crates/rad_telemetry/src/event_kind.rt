@@ -44,7 +44,7 @@ pub struct ReasonText(pub EventKind);
 
 /// All kinds, in the order of their places. `Sent`, which is counted most often, is the first. The kinds of one
 /// metric are in the order of their reasons.
-pub const EVENT_KINDS: [EventKind; 30] = [
+pub const EVENT_KINDS: &[EventKind] = &[
     EventKind::Sent,
     EventKind::Probed,
     EventKind::Dropped(Dropped::UnknownClient),

@@ -52,22 +52,12 @@ impl<'a, L: Log> EventLog<'a, L> {
         tell(self.log, level, line);
     }
 
-    /// Logs an event of a worker, with what else is known of it.
-    fn tell_of<D: Display>(&self, level: Level, event: &str, worker: Worker, rest: &D) {
+    /// Logs an event of a worker, with what else is known of it. The key of the worker's name is `worker`, or `home` if
+    /// the event is about its home server.
+    fn tell_of<D: Display>(&self, level: Level, event: &str, key: &str, worker: Worker, rest: &D) {
         let line = WorkerLine {
             event,
-            key: "worker",
-            name: self.name(worker),
-            rest,
-        };
-        self.tell(level, &line);
-    }
-
-    /// Logs an event of the home server of a lane's worker, with what else is known of it.
-    fn tell_of_home<D: Display>(&self, level: Level, event: &str, worker: Worker, rest: &D) {
-        let line = WorkerLine {
-            event,
-            key: "home",
+            key,
             name: self.name(worker),
             rest,
         };
@@ -99,7 +89,7 @@ impl<'a, L: Log> EventLog<'a, L> {
     /// Logs that a worker ended by itself.
     pub fn ended(&self, worker: Worker) {
         let rest = " reason=\"ended by itself\"";
-        self.tell_of(Level::Error, "stopped", worker, &rest);
+        self.tell_of(Level::Error, "stopped", "worker", worker, &rest);
     }
 
     /// Logs a worker's note about `peer`. It does not log `WentDown` and `WentUp`, which have calls of their own.
@@ -107,8 +97,20 @@ impl<'a, L: Log> EventLog<'a, L> {
         match note {
             Note::WentDown | Note::WentUp => {}
             Note::Cut(count) => self.cut(worker, count),
-            Note::ReceiveFault => self.tell_of(Level::Debug, "receive-fault", worker, &""),
-            Note::SendFault => self.tell_of(Level::Debug, "send-fault", worker, &PeerWords(peer)),
+            Note::ReceiveFault => self.tell_of(
+                Level::Debug,
+                "receive-fault",
+                "worker",
+                worker,
+                &"",
+            ),
+            Note::SendFault => self.tell_of(
+                Level::Debug,
+                "send-fault",
+                "worker",
+                worker,
+                &PeerWords(peer),
+            ),
             Note::NotHome => self.not_home(worker, peer),
             Note::Unheard(fault) => self.unheard(worker, fault),
             Note::Dropped(reason) => self.tell_of_client("dropped", worker, peer, &reason),
@@ -131,7 +133,7 @@ impl<'a, L: Log> EventLog<'a, L> {
     /// Logs that a lane accepted the request that the front received last.
     pub fn accepted(&self, lane: u16, number: u64) {
         let rest = NumberWords(number, self.last.words(Worker::Front));
-        self.tell_of_home(Level::Trace, "accepted", Worker::Lane(lane), &rest);
+        self.tell_of(Level::Trace, "accepted", "home", Worker::Lane(lane), &rest);
     }
 
     /// Logs that a request of a lane was answered.
@@ -177,12 +179,12 @@ impl<'a, L: Log> EventLog<'a, L> {
 
     fn passed(&self, event: &str, worker: Worker, peer: Endpoint, octets: &[u8]) {
         let rest = PassedWords(peer, octets);
-        self.tell_of(Level::Trace, event, worker, &rest);
+        self.tell_of(Level::Trace, event, "worker", worker, &rest);
     }
 
     fn tell_serial(&self, event: &str, lane: u16, serial: u64) {
         let rest = SerialWord(serial);
-        self.tell_of_home(Level::Trace, event, Worker::Lane(lane), &rest);
+        self.tell_of(Level::Trace, event, "home", Worker::Lane(lane), &rest);
     }
 
     fn cut(&self, worker: Worker, count: u64) {
@@ -193,7 +195,7 @@ impl<'a, L: Log> EventLog<'a, L> {
 
     fn not_home(&self, worker: Worker, from: Endpoint) {
         let rest = StrangeWords(from, self.last.words(worker));
-        self.tell_of_home(Level::Debug, "unheard", worker, &rest);
+        self.tell_of(Level::Debug, "unheard", "home", worker, &rest);
     }
 
     fn unheard(&self, worker: Worker, fault: DeskFault) {
@@ -201,6 +203,6 @@ impl<'a, L: Log> EventLog<'a, L> {
             packet: self.last.words(worker),
             reason: &fault,
         };
-        self.tell_of_home(Level::Debug, "unheard", worker, &rest);
+        self.tell_of(Level::Debug, "unheard", "home", worker, &rest);
     }
 }

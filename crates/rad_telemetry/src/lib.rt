@@ -15,9 +15,11 @@
 
 mod atomic_endpoint;
 mod counter_file;
+mod counter_text;
 mod counter_texts;
 mod counters;
 mod delta_lines;
+mod delta_log;
 mod event_kind;
 mod event_lines;
 mod event_log;

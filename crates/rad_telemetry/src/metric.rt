@@ -1,7 +1,10 @@
 //! The metrics of the counters: the kinds of events that are counted under one name, each with a label of its own.
 
 ghost use Rattle.std.specs.Prelude.{◌≡◌};
+ghost use Rattle.rad_metrics.specs.declared.family.Kind.TheVariants.{Counter as counting};
 ghost use Rattle.rad_telemetry.specs.EventKinds.{event_of, metric_help, metric_name};
+
+use rad_metrics::{Family, Kind};
 
 /// A group of kinds of events that differ only by their reason.
 #[derive(Clone, Copy, PartialEq, Eq)]
@@ -26,7 +29,7 @@ pub enum Metric {
 
 /// The metrics that are written, in their order. `WentUp` is not among them: `rad_metrics` writes it, with its
 /// reasons.
-pub const METRICS: [Metric; 10] = [
+pub const METRICS: &[Metric] = &[
     Metric::Dropped,
     Metric::Refused,
     Metric::Unheard,
@@ -75,6 +78,19 @@ impl Metric {
             Metric::Probed => "probes_total",
             Metric::Cut => "cut_total",
             Metric::Marked => "marked_total",
+        }
+    }
+
+    /// Returns the name, the kind and the help text of the family, which precede its counters.
+    pub fn family(self) -> Family
+        ensures name { result.name.now ≡ metric_name self }
+        ensures kind { result.kind ≡ counting }
+        ensures help { result.help.now ≡ metric_help self }
+    {
+        Family {
+            name: self.name(),
+            kind: Kind::Counter,
+            help: self.help(),
         }
     }
 

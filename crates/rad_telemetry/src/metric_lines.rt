@@ -33,14 +33,6 @@ pub struct CounterLine<'a> {
     pub count: u64,
 }
 
-/// The `# TYPE` line of a metric. It precedes its counters.
-#[derive(Clone, Copy)]
-pub struct TypeLine(pub Metric);
-
-/// The `# HELP` line of a metric: what it counts. It precedes the `# TYPE` line.
-#[derive(Clone, Copy)]
-pub struct HelpLine(pub Metric);
-
 impl Display for ReasonLabel {
     ghost use Rattle.std.specs.Prelude.{Some};
     ghost use Rattle.rad_telemetry.specs.MetricLines.{reason_label};
@@ -96,30 +88,5 @@ impl Display for CounterLine<'_> {
         let labels = self.labels;
         let count = self.count;
         write!(f, "rad_proxy_{name}{{{labels}}} {count}")
-    }
-}
-
-impl Display for TypeLine {
-    ghost use Rattle.std.specs.Prelude.{Some};
-    ghost use Rattle.rad_telemetry.specs.MetricLines.{type_line};
-
-    ghost output = { λ line. Some (type_line line.0) };
-
-    fn fmt<W: fmt::Write>(&self, f: &mut fmt::Formatter<W>) -> fmt::Result {
-        let name = self.0.name();
-        write!(f, "# TYPE rad_proxy_{name} counter")
-    }
-}
-
-impl Display for HelpLine {
-    ghost use Rattle.std.specs.Prelude.{Some};
-    ghost use Rattle.rad_telemetry.specs.MetricLines.{help_line};
-
-    ghost output = { λ line. Some (help_line line.0) };
-
-    fn fmt<W: fmt::Write>(&self, f: &mut fmt::Formatter<W>) -> fmt::Result {
-        let name = self.0.name();
-        let help = self.0.help();
-        write!(f, "# HELP rad_proxy_{name} {help}")
     }
 }

@@ -1,7 +1,8 @@
 //! The flag that makes a reporter stop.
 
+use rad_log::wait_until_set;
+use std::sync::Wait;
 use std::sync::atomic::{AtomicU64, Ordering};
-use std::sync::{Wait, WaitMethods};
 use std::time::{Clock, Duration, Instant};
 
 /// Whether a reporter is to stop. The reporter shares the flag with other threads.
@@ -29,20 +30,8 @@ impl StopFlag {
 
     /// Waits for `milliseconds`, or until the flag is set.
     pub(crate) fn wait<R: Clock + Wait>(&self, rt: &R, milliseconds: u64) {
-        let Ok(start) = Instant::now(rt) else {
-            return;
-        };
-        for _ in rt.forever() {
-            let Ok(passed) = start.elapsed(rt) else {
-                return;
-            };
-            let Some(left) = Duration::from_millis(milliseconds).checked_sub(passed) else {
-                return;
-            };
-            if left.is_zero() || self.is_set() {
-                return;
-            }
-            self.is_set.park_timeout(rt, 0, left);
+        if let Ok(start) = Instant::now(rt) {
+            wait_until_set(rt, &self.is_set, start, Duration::from_millis(milliseconds));
         }
     }
 }
