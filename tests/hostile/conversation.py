@@ -284,18 +284,19 @@ def numbers_of_home(talk, lane):
     for name in ("reply", "response"):
         numbers |= {f'{name}_seconds_bucket{{{home},le="+Inf"}}': done, f"{name}_seconds_count{{{home}}}": done}
     numbers |= {f"sent_total{{{home}}}": sent, f"probes_total{{{home}}}": probes, f"resent_total{{{home}}}": sent - done}
-    numbers |= {f"home_up{{{home}}}": 1, f"downs_total{{{home}}}": lane, f"book_limit{{{home}}}": 2}
+    numbers |= {f"home_up{{{home}}}": 1, f"draining{{{home}}}": 1, f"downs_total{{{home}}}": lane, f"book_limit{{{home}}}": 2}
     numbers[f'ups_total{{{home},reason="probe answered"}}'] = lane
     numbers |= {f'unheard_total{{{home},reason="{reason}"}}': 1 - lane for reason in UNHEARD}
     return numbers
 
 
 def all_metrics_are_written(program, folder):
-    """After the conversation the text of the metrics has each line that is wanted, in order, and no other one."""
+    """After the conversation, and once each lane drains, the text of the metrics has each line that is wanted, in order, and no other one."""
     begun = time.time()
     with Stage(program, folder, LIMITS, count=2) as stage:
         talk = Talk(stage)
         converse(talk)
+        stage.say(b"drain", 2)
         stage.next_report()
         stage.next_report()
         stage.ends()

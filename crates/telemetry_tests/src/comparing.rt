@@ -1,19 +1,13 @@
-//! The comparisons that end a test that fails. Each one is proved once here, and not in each test.
+//! The checks that end a test that fails. Each comparison is proved once here, and not in each test.
 
-use std::fmt::Debug;
 use std::process::Abort;
 
-/// Compares a value with the expected one, and ends the test if they differ.
-pub fn same<T: PartialEq + Debug + Copy>(rt: &impl Abort, given: T, wanted: T) {
-    assert_eq!(rt; given, wanted);
-}
-
-/// Ends the test unless `is_right` is true.
+/// Checks a condition.
 pub fn holds(rt: &impl Abort, is_right: bool) {
     assert!(rt; is_right);
 }
 
-/// Ends the test unless `is_right` is true, with the name of the case that is wrong.
-pub fn holds_of(rt: &impl Abort, case: &str, is_right: bool) {
-    assert!(rt; is_right, "{case}");
+/// Checks a condition of a text, which is printed if it fails.
+pub fn holds_of(rt: &impl Abort, text: &str, is_right: bool) {
+    assert!(rt; is_right, "{text}");
 }

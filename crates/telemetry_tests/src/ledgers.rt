@@ -1,13 +1,9 @@
-//! Tests of what no clause says of the ledger: what is counted and logged of it, and when.
+//! A test of what no clause says of the ledger: what is counted and logged of it, and when.
 
-use crate::comparing::{holds, same};
-use crate::shared::{MemoryLog, Setup, TWO_HOMES};
+use crate::comparing::holds;
+use crate::logs::{MemoryLog, has_logged, log_up_to};
 use rad_log::LevelFilter;
 use rad_telemetry::{LedgerFault, LedgerState};
-use std::alloc::Global;
-use std::result::Result;
-use std::test::Fail;
-use std::time::{Duration, Instant};
 
 /// What happens to a ledger.
 #[derive(Clone, Copy)]
@@ -29,7 +25,7 @@ enum Step {
 }
 
 /// What happens to the ledger of the lines below.
-const STEPS: [Step; 24] = [
+const STEPS: [Step; 25] = [
     Step::Tell,
     Step::Fail(LedgerFault::Create(2)),
     Step::Tell,
@@ -54,6 +50,7 @@ const STEPS: [Step; 24] = [
     Step::Write(2),
     Step::Fail(LedgerFault::Memory),
     Step::TellLeft,
+    Step::Put,
 ];
 
 /// The lines of a ledger that can't be written at first.
@@ -91,72 +88,38 @@ fn happen(ledger: &LedgerState, log: &MemoryLog, step: Step) {
     }
 }
 
-/// Returns whether exactly these lines are logged, up to a level.
-fn tells(alloc: Global, level: LevelFilter, expected: &str) -> Result<bool, Fail> {
-    let setup = Setup::new(alloc, TWO_HOMES, level)?;
+/// Returns whether the entries of these steps are counted, and whether the oldest one has its age, which is 0 if the
+/// clock went back and if there is none.
+fn is_counted(ledger: &LedgerState) -> bool {
+    let reading = ledger.reading(9_000);
+    ledger.set_oldest(Some(8_433));
+    let age = ledger.reading(9_000).age;
+    let before = ledger.reading(8_000).age;
+    ledger.set_oldest(None);
+    let without = ledger.reading(9_000).age;
+    reading.written == 3
+        && reading.waiting == 1
+        && reading.dropped == 3
+        && reading.age == 0
+        && age == 567
+        && before == 0
+        && without == 0
+}
+
+/// Lets all steps happen to a ledger, and returns whether exactly these lines are logged.
+fn tells(log: &MemoryLog, expected: &str) -> bool {
     let ledger = LedgerState::new();
     for next in STEPS {
-        happen(&ledger, setup.log(), next);
+        happen(&ledger, log, next);
     }
-    Ok(setup.has_logged(expected))
-}
-
-/// Returns a ledger of five entries, of which two are written. One more found no room.
-pub fn five_entries() -> LedgerState {
-    let ledger = LedgerState::new();
-    for _ in 0..5 {
-        ledger.count_put();
-    }
-    ledger.count_written(2);
-    ledger.count_dropped();
-    ledger
+    is_counted(&ledger) && has_logged(log, expected)
 }
 
 #[test]
-fn what_happens_to_a_ledger_is_logged_once(rt: HostRuntime) -> Result<(), Fail> {
-    let is_right = tells(rt.alloc(), LevelFilter::Info, LINES)?
-        && tells(rt.alloc(), LevelFilter::Error, ERRORS)?;
-    holds(&rt, is_right);
-    Ok(())
-}
-
-/// When the oldest entry that waits was handed over, the moment of a reading, and the age that it has there.
-#[derive(Clone, Copy)]
-struct Age(Option<u64>, u64, u64);
-
-const AGES: [Age; 3] = [
-    Age(Some(8_433), 9_000, 567),
-    Age(Some(8_433), 8_000, 0),
-    Age(None, 9_000, 0),
-];
-
-#[test]
-fn the_entries_are_counted(rt: HostRuntime) {
-    let ledger = five_entries();
-    same(&rt, ledger.reading(9_000).age, 0);
-    for age in &AGES {
-        let Age(oldest, now, wanted) = *age;
-        ledger.set_oldest(oldest);
-        let reading = ledger.reading(now);
-        holds(
-            &rt,
-            reading.written == 2 && reading.waiting == 3 && reading.dropped == 1,
-        );
-        same(&rt, reading.age, wanted);
-    }
-}
-
-#[test]
-fn a_ledger_begins_and_ends(rt: HostRuntime) -> Result<(), Fail> {
-    let start = Instant::now(&rt)?;
-    let ledger = LedgerState::new();
-    holds(&rt, !ledger.is_begun() && !ledger.begin_round());
-    ledger.begin();
+fn what_happens_to_a_ledger_is_logged_once(rt: HostRuntime) {
+    holds(&rt, tells(&log_up_to(rt.alloc(), LevelFilter::Info), LINES));
     holds(
         &rt,
-        ledger.is_begun() && !ledger.begin_round() && !ledger.is_clean(),
+        tells(&log_up_to(rt.alloc(), LevelFilter::Error), ERRORS),
     );
-    ledger.end(&rt, true, start, Duration::from_millis(0));
-    holds(&rt, ledger.begin_round() && ledger.is_clean());
-    Ok(())
 }

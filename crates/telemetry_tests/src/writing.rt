@@ -1,7 +1,7 @@
-//! Tests of what no clause says of the log's lines on their way: which ones find room, and what follows a write that
-//! was cut short.
+//! A test of what no clause says of the log's lines on their way: how many find no room, and what follows a write that was
+//! cut short.
 
-use crate::comparing::{holds, holds_of};
+use crate::comparing::holds_of;
 use rad_log::{LineOutput, LineRoom, LineWriter};
 use std::alloc::{AllocError, Global};
 use std::result::Result;
@@ -34,57 +34,78 @@ impl LineOutput for Disk<'_> {
     }
 }
 
-/// How many octets the output accepts in each write, and the text that it has then.
+/// The lines of a buffer of eight octets, how many octets the output accepts in each write, and the text that it has then.
 #[derive(Clone, Copy)]
-struct Case(&'static str, &'static [usize], &'static str);
+struct Case(
+    &'static str,
+    &'static [&'static str],
+    &'static [usize],
+    &'static str,
+);
 
-const CASES: [Case; 6] = [
+/// Two lines that fill the buffer.
+const BOTH: &[&str] = &["one\n", "two\n"];
+
+const CASES: &[Case] = &[
     Case(
         "whole lines are in order",
+        BOTH,
         &[],
         "one\ntwo\none\ntwo\none\ntwo\n",
     ),
     Case(
         "parts of lines are in order",
+        BOTH,
         &[1, 2, 3],
         "one\ntwo\none\ntwo\none\ntwo\n",
     ),
     Case(
         "a part of a line stands alone",
+        BOTH,
         &[6, 0],
         "one\ntw\nlevel=warn event=lines-dropped count=1\none\ntwo\none\ntwo\n",
     ),
     Case(
         "behind a whole line comes no line end",
+        BOTH,
         &[4, 0],
         "one\nlevel=warn event=lines-dropped count=1\none\ntwo\none\ntwo\n",
     ),
     Case(
         "lines are counted until that is told",
+        BOTH,
         &[0, 0, 0],
         "level=warn event=lines-dropped count=4\none\ntwo\n",
     ),
     Case(
         "what is told of them may be cut too",
+        BOTH,
         &[0, 5, 0],
         "level\nlevel=warn event=lines-dropped count=2\none\ntwo\none\ntwo\n",
     ),
+    Case(
+        "lines behind one that finds no room are dropped too",
+        &["one\n", "four\n", "two\n"],
+        &[],
+        "one\nlevel=warn event=lines-dropped count=2\none\nlevel=warn event=lines-dropped count=2\n\
+            one\nlevel=warn event=lines-dropped count=2\n",
+    ),
 ];
 
-/// Returns a buffer with these lines.
-fn room_of(alloc: Global, size: usize, lines: &[&str]) -> Result<LineRoom, AllocError> {
-    let mut room = LineRoom::new(alloc, size)?;
+/// Returns a buffer of eight octets to which these lines were put.
+fn room_of(alloc: Global, lines: &[&str]) -> Result<LineRoom, AllocError> {
+    let mut room = LineRoom::new(alloc, 8)?;
     for line in lines {
         room.put(line.as_bytes());
     }
     Ok(room)
 }
 
-/// Returns whether a disk that accepts this many octets in each write has this text, after the lines were written
-/// three times.
-fn has_written(alloc: Global, takes: &[usize], expected: &str) -> Result<bool, AllocError> {
+/// Returns whether the disk of a case has its text, after its lines were written three times.
+fn has_written(alloc: Global, case: Case) -> Result<bool, AllocError> {
+    let Case(_, lines, takes, expected) = case;
     let text = Mutex::new(Vec::new(alloc));
-    let room = room_of(alloc, 100, &["one\n", "two\n"])?;
+    let room = room_of(alloc, lines)?;
     let mut writer = LineWriter::new(Disk { takes, text: &text });
     for _ in 0..3 {
         writer.write(&room, true);
@@ -96,29 +117,9 @@ fn has_written(alloc: Global, takes: &[usize], expected: &str) -> Result<bool, A
 }
 
 #[test]
-fn lines_that_find_no_room_are_counted(rt: HostRuntime) -> Result<(), Fail> {
-    let alloc = rt.alloc();
-    let mut room = room_of(alloc, 8, &["one\n", "four\n", "two\n"])?;
-    holds(
-        &rt,
-        room.lines() == b"one\n".as_slice() && room.dropped() == 2,
-    );
-    room.clear();
-    holds(&rt, room.lines().is_empty() && room.dropped() == 0);
-    room.put(b"one\n");
-    room.put(b"two\n");
-    holds(
-        &rt,
-        room.lines() == b"one\ntwo\n".as_slice() && room.dropped() == 0,
-    );
-    Ok(())
-}
-
-#[test]
 fn lines_are_written(rt: HostRuntime) -> Result<(), Fail> {
-    for case in &CASES {
-        let Case(name, takes, expected) = *case;
-        holds_of(&rt, name, has_written(rt.alloc(), takes, expected)?);
+    for case in CASES {
+        holds_of(&rt, case.0, has_written(rt.alloc(), *case)?);
     }
     Ok(())
 }
