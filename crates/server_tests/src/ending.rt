@@ -1,34 +1,38 @@
-//! Tests of what no contract says of a worker that ends by itself: the others end too, its end is reported, and no
-//! input is waited for.
+//! Tests of what no contract says of a worker that ends by itself: the others end too, its end is reported, and neither
+//! input nor a lane is waited for. An interrupted read ends nothing.
 
 use crate::comparing::holds;
-use crate::gates::{Rule, TestGate};
-use crate::journal::Journal;
-use crate::serving::ran;
-use crate::streams::Narrow;
-use crate::wires::{Coming, LOOKS, pause, served};
+use crate::gates::Ending;
+use rad_addresses::LocalAddresses;
 use rad_console::EndLine;
 use rad_desk::Worker;
-use rad_server::{Descriptors, ServeFault};
+use rad_realms::{Config, read_config};
+use rad_server::{Descriptors, ServeFault, run};
 use std::alloc::Global;
 use std::io::{self, Error, ErrorKind, Read};
-use std::net::Net;
+use std::net::{Ipv4Addr, Net, SocketAddr, UdpSocket};
 use std::os::fd::AsRawFd;
 use std::os::unix::net::UnixStream;
 use std::random::RandomSource;
 use std::sync::Wait;
 use std::test::Fail;
-use std::thread::Threads;
-use std::time::Clock;
+use std::thread::{self, Threads};
+use std::time::{Clock, Duration};
+use test_octets::nas::SEVENTH;
 
-/// A client and a home server on this machine.
-const ONE_HOME: &str = r#"
-listen = "127.0.0.1:1816"
+/// A client and two home servers on this machine. A lane that holds a request is waited for longer than a test may take.
+const TWO_HOMES: &str = r#"
+listen = "127.0.0.1:1815"
+linger = 600000
 [[client]]
 address = "127.0.0.1"
 secret = "nas-secret"
 [[home]]
 name = "h1"
+address = "127.0.0.1:2815"
+secret = "home-secret"
+[[home]]
+name = "h2"
 address = "127.0.0.1:2816"
 secret = "home-secret"
 [[realm]]
@@ -36,20 +40,47 @@ name = "example.org"
 home = "h1"
 "#;
 
-/// A reader that gives no line for a long time, and then fails.
+/// The front's worker and those of the lanes.
+const WORKERS: &[Worker] = &[Worker::Front, Worker::Lane(0), Worker::Lane(1)];
+
+/// What is printed before a worker ends.
+const LISTENING: &[u8] = b"listening 127.0.0.1:1815\n";
+
+/// The most times that a reader looks whether a request is accepted, a millisecond apart.
+const LOOKS: u32 = 10_000;
+
+/// A machine without addresses. They are not read, since no configuration here listens at all addresses.
+#[derive(Clone, Copy)]
+struct NoAddresses;
+
+impl LocalAddresses for NoAddresses {
+    fn read(&self, alloc: Global) -> io::Result<Vec<[u8; 4]>> {
+        Ok(Vec::new(alloc))
+    }
+}
+
+/// A client that is the input: it sends a request, and ends once that is accepted. Then the gate's worker is to end. Each
+/// read before that is interrupted.
 #[derive(Drop)]
-struct Silent<'a, R> {
+struct Client<'a, R> {
     clock: &'a R,
+    socket: &'a UdpSocket,
+    gate: &'a Ending,
     looks: u32,
 }
 
-impl<R: Clock> Read for Silent<'_, R> {
+impl<R: Clock> Read for Client<'_, R> {
     fn read(&mut self, _buf: &mut [u8]) -> io::Result<usize> {
+        if self.gate.is_due_after_a_request() {
+            return Ok(0);
+        }
         if self.looks == 0 {
             return Err(Error::from(ErrorKind::Other));
         }
         self.looks -= 1;
-        pause(self.clock);
+        let listen = SocketAddr::from((Ipv4Addr::LOCALHOST, 1815));
+        self.socket.send_to(&SEVENTH, listen)?;
+        thread::sleep(self.clock, Duration::from_millis(1));
         Err(Error::from(ErrorKind::Interrupted))
     }
 }
@@ -59,78 +90,76 @@ fn is_told(ran: Result<EndLine, ServeFault>, worker: Worker) -> bool {
     matches!(ran, Err(ServeFault::Ended(ended)) if ended == worker)
 }
 
-/// Wires on which nothing comes.
-const NOTHING: Coming<'static> = Coming {
-    front: &[],
-    first: &[],
-    second: &[],
-};
-
-/// Serves over wires on which nothing comes, and returns whether the worker's end is reported and nothing is printed.
-fn ends_the_service<'a, R: Clock + Threads + Wait + Sync>(
-    journal: &'a Journal<'a, R>,
-    worker: Worker,
-) -> Result<bool, Fail> {
-    let clock = journal.rt;
-    let mut taken = Vec::new(journal.alloc);
-    let reader = Silent {
-        clock,
-        looks: LOOKS,
-    };
-    let writer = Narrow {
-        taken: &mut taken,
-        room: 1000,
-    };
-    let rule = Rule::Ending(worker);
-    let gate = TestGate { clock, rule };
-    let served = served(journal, NOTHING, &gate, reader, writer);
-    let is_silent = taken.is_empty();
-    drop(taken);
-    Ok(is_told(served?, worker) && is_silent)
-}
-
-#[test]
-fn a_worker_that_ends_ends_the_service(rt: HostRuntime) -> Result<(), Fail> {
-    let journal = Journal::new(&rt, rt.alloc());
-    for worker in [Worker::Front, Worker::Lane(0), Worker::Lane(1)] {
-        holds(&rt, ends_the_service(&journal, worker)?);
-    }
-    Ok(())
-}
-
-/// Serves while a reader waits, and returns whether the worker's end is reported and only the listening address is
-/// printed.
-fn ends_the_wait<R>(
+/// Serves with this input, and returns whether the worker's end is reported and nothing is printed but where it listens.
+fn ends<R, I>(
     rt: &R,
     alloc: Global,
+    config: &Config,
+    gate: &Ending,
     worker: Worker,
-    reader: &UnixStream,
-) -> Result<bool, Fail>
+    reader: I,
+    input: Descriptors,
+) -> bool
 where
     R: Clock + Net + RandomSource + Threads + Wait + Sync,
+    I: Read + Drop,
 {
-    let mut taken = Vec::new(alloc);
-    let writer = Narrow {
-        taken: &mut taken,
-        room: 1000,
-    };
-    let descriptors = Descriptors {
-        input: Some(reader.as_raw_fd()),
-        output: None,
-    };
-    let rule = Rule::Ending(worker);
-    let gate = TestGate { clock: rt, rule };
-    let ran = ran(rt, alloc, ONE_HOME, &gate, reader, writer, descriptors);
-    let is_right = taken.as_slice() == b"listening 127.0.0.1:1816\n".as_slice();
-    drop(taken);
-    Ok(is_told(ran?, worker) && is_right)
+    let mut printed = Vec::new(alloc);
+    let ran = run(
+        rt,
+        &NoAddresses,
+        alloc,
+        config,
+        gate,
+        reader,
+        &mut printed,
+        input,
+    );
+    let is_right = printed.as_slice() == LISTENING;
+    drop(printed);
+    is_told(ran, worker) && is_right
 }
 
 #[test]
 fn a_worker_that_ends_ends_the_wait_for_input(rt: HostRuntime) -> Result<(), Fail> {
     let (reader, _silent) = UnixStream::pair(&rt)?;
-    for worker in [Worker::Front, Worker::Lane(0)] {
-        holds(&rt, ends_the_wait(&rt, rt.alloc(), worker, &reader)?);
+    let config = read_config(rt.alloc(), TWO_HOMES)?;
+    let input = Descriptors {
+        input: Some(reader.as_raw_fd()),
+        output: None,
+    };
+    let mut is_right = true;
+    for worker in WORKERS {
+        let gate = Ending::new(*worker, true);
+        is_right &= ends(&rt, rt.alloc(), &config, &gate, *worker, &reader, input);
     }
+    drop(config);
+    holds(&rt, is_right);
+    Ok(())
+}
+
+#[test]
+fn a_worker_that_ends_while_a_lane_is_waited_for_is_told(rt: HostRuntime) -> Result<(), Fail> {
+    let socket = UdpSocket::bind(&rt, SocketAddr::from((Ipv4Addr::LOCALHOST, 0)))?;
+    let config = read_config(rt.alloc(), TWO_HOMES)?;
+    let gate = Ending::new(Worker::Lane(0), false);
+    let client = Client {
+        clock: &rt,
+        socket: &socket,
+        gate: &gate,
+        looks: LOOKS,
+    };
+    let none = Descriptors::none();
+    let is_right = ends(
+        &rt,
+        rt.alloc(),
+        &config,
+        &gate,
+        Worker::Lane(0),
+        client,
+        none,
+    );
+    drop(config);
+    holds(&rt, is_right);
     Ok(())
 }
