@@ -11,3 +11,8 @@ pub fn holds(rt: &impl Abort, is_right: bool) {
 pub fn holds_at(rt: &impl Abort, place: usize, is_right: bool) {
     assert!(rt; is_right, "at {place}");
 }
+
+/// Checks a condition of a text, which is printed if it fails.
+pub fn holds_of(rt: &impl Abort, text: &str, is_right: bool) {
+    assert!(rt; is_right, "{text}");
+}

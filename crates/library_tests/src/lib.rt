@@ -1,15 +1,19 @@
-//! Tests of what only a call of a library shows, in a crate of their own, so that no proof of a library is repeated for a
-//! test. It has no other code. They are in one crate, since reading the libraries costs as much as proving the tests of
-//! several of them. What the programs show is tested over the built programs, by the scripts of `tests`.
+//! Tests of what only a call of a library shows, or what no run of a program comes to, in a crate of their own, so that no
+//! proof of a library is repeated for a test. It has no other code. They are in one crate, since reading the libraries costs
+//! as much as proving the tests of several of them. What the programs show is tested over the built programs, by the scripts
+//! of `tests`.
 //!
 //! `advice`, `digests` and `printing` test what reads packets and configurations, `queues`, `sliding` and `tables` the
-//! collections, `lane` a lane, and `lines` and `moments` the lines of a ledger.
+//! collections, `lane` a lane, `desk` the lanes with their workers, `server` sockets and threads, `telemetry` the log and
+//! the metrics, and `lines` and `moments` the lines of a ledger.
 #![tactic(auto)]
 
 #[cfg(test)]
 mod advice;
 #[cfg(test)]
 mod comparing;
+#[cfg(test)]
+mod desk;
 #[cfg(test)]
 mod digests;
 #[cfg(test)]
@@ -25,8 +29,12 @@ mod printing;
 #[cfg(test)]
 mod queues;
 #[cfg(test)]
+mod server;
+#[cfg(test)]
 mod sliding;
 #[cfg(test)]
 mod tables;
+#[cfg(test)]
+mod telemetry;
 #[cfg(test)]
 mod vectors;

@@ -3,7 +3,7 @@
 //! the kinds.
 
 use crate::comparing::holds;
-use crate::logs::{MemoryLog, has_logged, log_up_to};
+use crate::telemetry::logs::{MemoryLog, has_logged, log_up_to};
 use rad_desk::{DeskFault, Gate, Note, Standing, Worker};
 use rad_lane::Counts;
 use rad_log::LevelFilter;

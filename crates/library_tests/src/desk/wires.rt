@@ -2,7 +2,7 @@
 
 ghost use Rattle.std.specs.Prelude.{◌≤◌};
 
-use crate::setting::{CLIENT, HOME};
+use crate::desk::setting::{CLIENT, HOME};
 use rad_auth::{ACCOUNTING_RESPONSE, Secret, check_response};
 use rad_desk::{Call, Delivery, Gate, Go, Received, Wire, Worker};
 use rad_packet::{Datagram, read};

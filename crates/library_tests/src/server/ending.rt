@@ -2,7 +2,7 @@
 //! input nor a lane is waited for. An interrupted read ends nothing.
 
 use crate::comparing::holds;
-use crate::gates::Ending;
+use crate::server::gates::Ending;
 use rad_addresses::LocalAddresses;
 use rad_console::EndLine;
 use rad_desk::Worker;

@@ -1,8 +1,8 @@
 //! The end of a proxy: what is known of the responses that are left, by the inlets that it is closed with.
 
 use crate::comparing::holds_at;
-use crate::setting::{CLIENT, config};
-use crate::wires::start;
+use crate::desk::setting::{CLIENT, config};
+use crate::desk::wires::start;
 use rad_desk::{CloseFault, Inlet, LaneEnd, Proxy, Report, Rest, Told, open};
 use rad_lane::{Action, Taken};
 use rad_packet::Datagram;

@@ -1,7 +1,7 @@
 //! A test of what no clause says of the ledger: what is counted and logged of it, and when.
 
 use crate::comparing::holds;
-use crate::logs::{MemoryLog, has_logged, log_up_to};
+use crate::telemetry::logs::{MemoryLog, has_logged, log_up_to};
 use rad_log::LevelFilter;
 use rad_telemetry::{LedgerFault, LedgerState};
 

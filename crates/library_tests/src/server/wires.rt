@@ -3,7 +3,7 @@
 ghost use Rattle.std.specs.Prelude.{Some};
 
 use crate::comparing::holds;
-use crate::gates::Ending;
+use crate::server::gates::Ending;
 use rad_desk::{Delivery, Received, Traffic, Wire, Worker};
 use rad_realms::read_config;
 use rad_server::{Notifiers, Wires, serve};

@@ -1,0 +1,8 @@
+//! What no run of the program comes to in `rad_server` and `rad_addresses`: workers that end, a notification that
+//! interrupts a read, and lists of addresses that no machine has.
+
+mod addresses;
+mod ending;
+mod gates;
+mod interrupting;
+mod wires;
