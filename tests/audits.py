@@ -191,12 +191,10 @@ def runs():
     run = one(3)
     odd = [run.begin(), run.entry(), run.end(), changed(run.end(), lanes=[{"lane": 0, "entries": 6}])]
     run.lanes[0].serial = run.lanes[0].record = 9
-    last = run.entry()
     told = [f"ledger:4: run {NAME:016x} lane 0 h1 gap 4 to 5", f"ledger:5: run {NAME:016x} lane 0 h1 gap 4 to 8", "ledger:6: SerialNotAbove"]
-    yield "an-entry-behind-two-ends", {"ledger": text([*odd, last, last])}, [*told, counted(0, "h1", 3, 2, "gap 4 to 8")], 5
+    yield "an-entry-behind-two-ends", {"ledger": text([*odd, *[run.entry()] * 2])}, [*told, counted(0, "h1", 3, 2, "gap 4 to 8")], 5
 
-    run = one(5)
-    yield "from-5", {"ledger": text(lines_of(run, 2))}, [counted(0, "h1", 5, 2, "whole")], 0
+    yield "from-5", {"ledger": text(lines_of(one(5), 2))}, [counted(0, "h1", 5, 2, "whole")], 0
 
     run = Run(2**64 - 1, [Lane(0x1234, "h1", HOME, 2**63 - 2, 0x0123456789ABCDEF), Lane(65535, "h2", OTHER, 0, 2**64 - 1)])
     lines = [run.begin(), run.entry(0), run.entry(0, status=2**32 - 1), changed(run.entry(1), port=65535), run.end()]
@@ -204,17 +202,13 @@ def runs():
         counted(0x1234, "h1", 2**63 - 2, 2, "whole", run=run.run), counted(65535, "h2", 0, 1, "whole", run=run.run)], 0
 
     run = one()
-    plain = {"user": b"", "session": b"", "status": None}
-    octets = [*range(4059, -1, -63), 0]
-    lines = [run.begin(), *(run.entry(**plain, more=vectors.classes(count)) for count in octets), run.end()]
-    yield "replies-of-many-lengths", {"ledger": text(lines)}, [counted(0, "h1", 0, len(octets), "whole")], 0
-    wrong = [changed(line, response=line["reply"]) for line in lines[1:-1]]
-    yield "responses-of-many-lengths-that-are-wrong", {"ledger": text([lines[0], *wrong])}, [
-        *(f"ledger:{place}: WrongResponse" for place in range(2, len(octets) + 2)), counted(0, "h1", 0, 0, "open")], 5
-
-    run = one()
+    first, octets = run.begin(), [*range(4059, -1, -63), 0]
     states = b"".join(attribute(vectors.PROXY_STATE, bytes([state]) * 5) for state in range(8))
-    yield "eight-proxy-states", {"ledger": text([run.begin(), run.entry(more=states), run.end()])}, [counted(0, "h1", 0, 1, "whole")], 0
+    entries = [run.entry(user=b"", session=b"", status=None, more=more) for more in [*map(vectors.classes, octets), states]]
+    yield "replies-of-many-lengths", {"ledger": text([first, *entries, run.end()])}, [counted(0, "h1", 0, len(entries), "whole")], 0
+    all_wrong = [f"ledger:{2 + count}: WrongResponse" for count in range(len(entries))]
+    yield "responses-of-many-lengths-that-are-wrong", {"ledger": text([first, *(changed(line, response=line["reply"]) for line in entries)])}, [
+        *all_wrong, counted(0, "h1", 0, 0, "open")], 5
 
     run = one()
     lines = [run.begin(), *(with_words(run.entry(), realm, session) for realm in vectors.WORDS for session in vectors.WORDS), run.end()]
@@ -297,9 +291,9 @@ def runs():
     yield "torn-and-written-again", {"ledger": text([*lines[:2], cut, *lines[2:]])}, ["ledger:3: torn", whole], 0
     yield "torn-twice", {"ledger": text([*lines[:2], cut[:50], cut, *lines[2:]])}, ["ledger:3: torn", "ledger:4: torn", whole], 0
     yield "torn-in-a-new-file", {"a": text(lines[:2]) + cut, "b": text(lines[2:])}, ["a:3: torn", whole], 0
-    fronts = [text(lines[2:3])[:count] for count in range(len(text(lines[2:3])) - 1)]
-    yield "each-front-of-an-entry", {"ledger": text([*lines[:2], *fronts, *lines[2:]])}, [
-        *(f"ledger:{3 + count}: torn" for count in range(len(fronts))), whole], 0
+    entry = text(lines[2:3])[:-1]
+    fronts, all_torn = zip(*((entry[:count], f"ledger:{3 + count}: torn") for count in range(len(entry))))
+    yield "each-front-of-an-entry", {"ledger": text([*lines[:2], *fronts, *lines[2:]])}, [*all_torn, whole], 0
     yield "cut-and-not-written-again", {"ledger": text([*lines[:2], cut, *lines[3:]])}, [
         "ledger:3: NotEntry", f"ledger:4: run {NAME:016x} lane 0 h1 gap 1 to 1", counted(0, "h1", 0, 2, "gap 1 to 1")], 5
     yield "cut-at-the-end-of-a-file", {"a": text([*lines[:2], cut]), "b": text(lines[2:])}, ["a:3: NotEntry", whole], 5
