@@ -3,8 +3,7 @@
 use crate::comparing::holds;
 use rad_advice::{AddressFault, HomeAdvice, advise_homes};
 use rad_realms::{Config, read_config};
-use std::alloc::{AllocError, Global};
-use std::test::Fail;
+use std::alloc::Global;
 
 /// The addresses of the machine.
 const LOCAL: [[u8; 4]; 2] = [[192, 0, 2, 7], [10, 1, 2, 3]];
@@ -39,20 +38,21 @@ fn is_served(advice: &HomeAdvice<'_>, name: &str) -> bool {
 }
 
 /// Whether the first two home servers are told, and no other.
-fn two_are_served(alloc: Global, config: &Config) -> Result<bool, AllocError> {
-    let advice = advise_homes(alloc, config, &LOCAL)?;
-    match advice.as_slice() {
-        [one, two] => Ok(is_served(one, "h1") && is_served(two, "h2")),
-        _ => Ok(false),
+fn two_are_served(alloc: Global, config: &Config) -> bool {
+    match advise_homes(alloc, config, &LOCAL) {
+        Ok(advice) => match advice.as_slice() {
+            [one, two] => is_served(one, "h1") && is_served(two, "h2"),
+            _ => false,
+        },
+        Err(_) => false,
     }
 }
 
 #[test]
-fn addresses_of_the_machine_are_served(rt: HostRuntime) -> Result<(), Fail> {
-    let Ok(config) = read_config(rt.alloc(), EVERY) else {
-        return Err(Fail::from("a configuration"));
+fn addresses_of_the_machine_are_served(rt: HostRuntime) {
+    let is_right = match read_config(rt.alloc(), EVERY) {
+        Ok(config) => two_are_served(rt.alloc(), &config),
+        Err(_) => false,
     };
-    let is_right = two_are_served(rt.alloc(), &config);
-    holds(&rt, is_right?);
-    Ok(())
+    holds(&rt, is_right);
 }
