@@ -1,6 +1,7 @@
 //! A response as it passes through the buffer: a head of fixed size, and behind it the three packets.
 
 ghost use Rattle.std.specs.Prelude.{◌≡◌, ◌+◌, ◌≤◌, ◌<◌, ◌^◌, ◌++◌, ℕ, List, length, OnOk};
+ghost use Rattle.std.specs.Int.{w16, w64, to_be_bytes};
 ghost use Rattle.rad_auth.specs.Mark.{mark_value};
 ghost use Rattle.rad_auth.specs.declared.mark.Mark.{Mark};
 ghost use Rattle.rad_writer.specs.Parcels.{FitsOctets, parcel_octets};
@@ -52,6 +53,26 @@ fn split_front<const N: usize>(octets: &[u8]) -> ([u8; N], &[u8])
     (array, rest)
 }
 
+/// Returns the number that the first eight octets of a list are, and the octets behind them.
+fn split_long(octets: &[u8]) -> (u64, &[u8])
+    requires { 8 ≤ length octets.now }
+    ensures number { (number : ℕ) (rest : List ℕ) → number < 2 ^ 64 → octets.now ≡ to_be_bytes w64 number ++ rest → (result.0 ≡ number) × (result.1.now ≡ rest) }
+    ensures left { length result.1.now + 8 ≡ length octets.now }
+{
+    let (front, rest) = split_front(octets);
+    (u64::from_be_bytes(front), rest)
+}
+
+/// Returns the number that the first two octets of a list are, and the octets behind them.
+fn split_short(octets: &[u8]) -> (u16, &[u8])
+    requires { 2 ≤ length octets.now }
+    ensures number { (number : ℕ) (rest : List ℕ) → number < 2 ^ 16 → octets.now ≡ to_be_bytes w16 number ++ rest → (result.0 ≡ number) × (result.1.now ≡ rest) }
+    ensures left { length result.1.now + 2 ≡ length octets.now }
+{
+    let (front, rest) = split_front(octets);
+    (u16::from_be_bytes(front), rest)
+}
+
 /// Adds octets at the end.
 ///
 /// # Errors
@@ -62,6 +83,28 @@ fn put(out: &mut Vec<u8>, octets: &[u8]) -> Result<(), AllocError>
 {
     out.extend_from_slice(octets)?;
     Ok(())
+}
+
+/// Adds the eight octets of a number at the end.
+///
+/// # Errors
+///
+/// `AllocError` if memory is needed and refused.
+fn put_long(out: &mut Vec<u8>, number: u64) -> Result<(), AllocError>
+    ensures { OnOk result (out.new.items ≡ out.old.items ++ to_be_bytes w64 number) }
+{
+    put(out, &number.to_be_bytes())
+}
+
+/// Adds the two octets of a number at the end.
+///
+/// # Errors
+///
+/// `AllocError` if memory is needed and refused.
+fn put_short(out: &mut Vec<u8>, number: u16) -> Result<(), AllocError>
+    ensures { OnOk result (out.new.items ≡ out.old.items ++ to_be_bytes w16 number) }
+{
+    put(out, &number.to_be_bytes())
 }
 
 /// Returns a packet's length. No packet has more than 4096 octets.
@@ -79,9 +122,9 @@ fn mark_of(sent: &[u8]) -> (u16, u64)
         return (0, 0);
     }
     let (_, value) = sent.split_at(sent.len() - MARKED);
-    let (lane, rest) = split_front(value);
-    let (number, _) = split_front(rest);
-    (u16::from_be_bytes(lane), u64::from_be_bytes(number))
+    let (lane, rest) = split_short(value);
+    let (number, _) = split_long(rest);
+    (lane, number)
 }
 
 impl ParcelHead {
@@ -117,29 +160,29 @@ impl ParcelHead {
     pub(crate) fn read(octets: &[u8; HEAD]) -> ParcelHead
         ensures { (head : ParcelHead) → IsHead head → octets.now ≡ head_octets head → result ≡ head }
     {
-        let (time, rest) = split_front(octets.as_slice());
-        let (serial, rest) = split_front(rest);
-        let (number, rest) = split_front(rest);
-        let (lane, rest) = split_front(rest);
+        let (time, rest) = split_long(octets.as_slice());
+        let (serial, rest) = split_long(rest);
+        let (number, rest) = split_long(rest);
+        let (lane, rest) = split_short(rest);
         let (client, rest) = split_front(rest);
-        let (port, rest) = split_front(rest);
+        let (port, rest) = split_short(rest);
         let ([identifier], rest) = split_front::<1>(rest);
         let (authenticator, rest) = split_front(rest);
-        let (sent, rest) = split_front(rest);
-        let (reply, rest) = split_front(rest);
-        let (response, _) = split_front(rest);
+        let (sent, rest) = split_short(rest);
+        let (reply, rest) = split_short(rest);
+        let (response, _) = split_short(rest);
         ParcelHead {
-            time: u64::from_be_bytes(time),
-            serial: u64::from_be_bytes(serial),
-            number: u64::from_be_bytes(number),
-            lane: u16::from_be_bytes(lane),
+            time,
+            serial,
+            number,
+            lane,
             client,
-            port: u16::from_be_bytes(port),
+            port,
             identifier,
             authenticator,
-            sent: u16::from_be_bytes(sent),
-            reply: u16::from_be_bytes(reply),
-            response: u16::from_be_bytes(response),
+            sent,
+            reply,
+            response,
         }
     }
 
@@ -151,17 +194,17 @@ impl ParcelHead {
     fn write(&self, out: &mut Vec<u8>) -> Result<(), AllocError>
         ensures { OnOk result (out.new.items ≡ out.old.items ++ head_octets self.now) }
     {
-        put(out, &self.time.to_be_bytes())?;
-        put(out, &self.serial.to_be_bytes())?;
-        put(out, &self.number.to_be_bytes())?;
-        put(out, &self.lane.to_be_bytes())?;
+        put_long(out, self.time)?;
+        put_long(out, self.serial)?;
+        put_long(out, self.number)?;
+        put_short(out, self.lane)?;
         put(out, &self.client)?;
-        put(out, &self.port.to_be_bytes())?;
+        put_short(out, self.port)?;
         put(out, &[self.identifier])?;
         put(out, &self.authenticator)?;
-        put(out, &self.sent.to_be_bytes())?;
-        put(out, &self.reply.to_be_bytes())?;
-        put(out, &self.response.to_be_bytes())?;
+        put_short(out, self.sent)?;
+        put_short(out, self.reply)?;
+        put_short(out, self.response)?;
         Ok(())
     }
 

@@ -1,6 +1,5 @@
 use Rattle.std.proofs.Common.{◌≡◌, ℕ, List, [], ◌++◌, length, refl, sym, ap, ◌∙◌, append-nil, arith, length-append}
-use Rattle.std.proofs.lemmas.Nat.{from_be_bytes-to_be_bytes_2, from_be_bytes-to_be_bytes_8}
-use Rattle.std.specs.Int.{w16, w64, to_be_bytes, from_be_bytes}
+use Rattle.std.specs.Int.{w16, w64, to_be_bytes}
 use Rattle.rad_auth.specs.Mark.{mark_value}
 use Rattle.rad_auth.specs.declared.mark.Mark.{Mark}
 use Rattle.rad_writer.proofs.Parcels.{same_parts}
@@ -19,13 +18,10 @@ returns-then-sent-lt-MARKED c = λ before mark fits is. absurd (omega (arith, ap
 
 pub returns : goal.returns
 returns c = λ before mark fits is.
-    let lane_octets : List ℕ = to_be_bytes w16 mark.lane in
     let number_octets : List ℕ = to_be_bytes w64 mark.number in
     let count : length c.split_at.result.0.now ≡ length before =
     omega (arith, ap length is, length-append before (mark_value mark), length_of_mark mark, c.split_at.ensures.front_len) in
     let value = same_parts c.split_at.result.0.now c.split_at.result.1.now before (mark_value mark) (sym c.split_at.ensures.by_index.0 ∙ is) count in
-    let p1 = same_parts c.split_front.result.0 c.split_front.result.1.now lane_octets number_octets (sym c.split_front.ensures.parts ∙ value.1 ∙ octets_of_mark mark) c.split_front.ensures.count in
-    let p2 = same_parts c.split_front-2.result.0 c.split_front-2.result.1.now number_octets [] (sym c.split_front-2.ensures.parts ∙ p1.1 ∙ sym (append-nil number_octets)) c.split_front-2.ensures.count in (
-      c.from_be_bytes.ensures ∙ ap (from_be_bytes w16) p1.0 ∙ from_be_bytes-to_be_bytes_2 mark.lane fits.lane,
-      c.from_be_bytes-2.ensures ∙ ap (from_be_bytes w64) p2.0 ∙ from_be_bytes-to_be_bytes_8 mark.number fits.number,
-    )
+    let p1 = c.split_short-lane.ensures.number mark.lane number_octets fits.lane (value.1 ∙ octets_of_mark mark) in
+    let p2 = c.split_long-number.ensures.number mark.number [] fits.number (p1.1 ∙ sym (append-nil number_octets)) in
+    (p1.0, p2.0)
