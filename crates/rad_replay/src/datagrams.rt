@@ -56,7 +56,8 @@ const MOST_ATTRIBUTES: usize = 4076;
 pub fn parse_packet<'a>(words: &mut Pieces<'a>) -> Option<Packet<'a>> {
     let word = next_word(words)?;
     if word == b"raw".as_slice() {
-        return parse_raw(words);
+        let octets = parse_hex(words, MOST_OCTETS)?;
+        return Some(Packet::Raw(octets));
     }
     parse_made(word, words)
 }
@@ -74,12 +75,6 @@ fn parse_changes<'a>(word: &'a [u8], words: &mut Pieces<'a>) -> Option<(Changes<
     let (pad, word) = parse_pad(word, words)?;
     let (cut, word) = parse_cut(word, words)?;
     Some((Changes { spoil, pad, cut }, word))
-}
-
-/// Reads the words after `raw`.
-fn parse_raw<'a>(words: &mut Pieces<'a>) -> Option<Packet<'a>> {
-    let octets = parse_hex(words, MOST_OCTETS)?;
-    Some(Packet::Raw(octets))
 }
 
 /// Reads whether a packet is spoiled, and the word after that.
@@ -112,7 +107,10 @@ fn parse_cut<'a>(word: &'a [u8], words: &mut Pieces<'a>) -> Option<(usize, &'a [
 fn parse_template<'a>(word: &[u8], words: &mut Pieces<'a>) -> Option<Template<'a>> {
     match word {
         b"make" => parse_make(words),
-        b"status" => parse_status(words),
+        b"status" => {
+            let identifier = next_u8(words)?;
+            Some(Template::Status { identifier })
+        }
         _ => None,
     }
 }
@@ -127,12 +125,6 @@ fn parse_make<'a>(words: &mut Pieces<'a>) -> Option<Template<'a>> {
         identifier,
         attributes,
     }))
-}
-
-/// Reads the word after `status`.
-fn parse_status<'a>(words: &mut Pieces<'a>) -> Option<Template<'a>> {
-    let identifier = next_u8(words)?;
-    Some(Template::Status { identifier })
 }
 
 /// Reads the next word as octets, if they are at most `most`.

@@ -63,17 +63,21 @@ fn parse_event<'a>(first: &[u8], words: &mut Pieces<'a>) -> Option<Event<'a>> {
         b"nas" => parse_nas(words),
         b"home" => parse_home(words),
         b"at" => parse_at(words),
-        _ => parse_act(first, words),
+        _ => match Command::of(first) {
+            Command::Unknown => parse_act(first, words),
+            command => Some(Event::Console(command)),
+        },
     }
 }
 
-/// Reads an event in which a lane or the console acts, from this word on.
+/// Reads an event in which a lane acts, from this word on.
 fn parse_act<'a>(first: &[u8], words: &mut Pieces<'a>) -> Option<Event<'a>> {
+    let lane = next_u16(words)?;
     match first {
-        b"take" => parse_take(words),
-        b"step" => parse_step(words),
-        b"turn" => parse_turn(words),
-        _ => parse_command(first),
+        b"take" => Some(Event::Take { lane }),
+        b"step" => Some(Event::Step { lane }),
+        b"turn" => Some(Event::Turn { lane }),
+        _ => None,
     }
 }
 
@@ -121,30 +125,4 @@ fn parse_lane_and_port(numbers: &mut Pieces<'_>) -> Option<(u16, u16)> {
 fn parse_at<'a>(words: &mut Pieces<'a>) -> Option<Event<'a>> {
     let milliseconds = next_usize(words)? as u64;
     Some(Event::At { milliseconds })
-}
-
-/// Reads the lane after `take`.
-fn parse_take<'a>(words: &mut Pieces<'a>) -> Option<Event<'a>> {
-    let lane = next_u16(words)?;
-    Some(Event::Take { lane })
-}
-
-/// Reads the lane after `step`.
-fn parse_step<'a>(words: &mut Pieces<'a>) -> Option<Event<'a>> {
-    let lane = next_u16(words)?;
-    Some(Event::Step { lane })
-}
-
-/// Reads the lane after `turn`.
-fn parse_turn<'a>(words: &mut Pieces<'a>) -> Option<Event<'a>> {
-    let lane = next_u16(words)?;
-    Some(Event::Turn { lane })
-}
-
-/// Reads a command of the console.
-fn parse_command<'a>(word: &[u8]) -> Option<Event<'a>> {
-    match Command::of(word) {
-        Command::Unknown => None,
-        command => Some(Event::Console(command)),
-    }
 }

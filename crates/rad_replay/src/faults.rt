@@ -4,7 +4,7 @@ use rad_realms::ConfigFault;
 use std::alloc::AllocError;
 
 /// Why a replay ends early.
-#[derive(Clone, Copy, Debug, PartialEq, Eq)]
+#[derive(Clone, Copy)]
 pub enum ReplayFault {
     /// The input can't be read, or is too long.
     Input,

@@ -2,7 +2,7 @@
 
 ghost use Rattle.std.specs.Prelude.{◌≡◌, ◌≤◌, length};
 
-use crate::packet_text::{PacketText, SentText};
+use crate::packet_text::{PacketText, SentHeadText, SentText};
 use crate::path::PathFault;
 use rad_auth::Reply;
 use rad_desk::laws::Handled;
@@ -167,7 +167,7 @@ impl fmt::Display for StepLine<'_> {
             Action::Sent(..) => write!(f, "step: sent {sent}"),
             Action::Resent(..) => write!(f, "step: resent {sent}"),
             Action::Probed(_) => {
-                let head = sent.head();
+                let head = SentHeadText(sent);
                 write!(f, "step: probed {head}")
             }
             Action::WentDown => f.write_str("step: down"),

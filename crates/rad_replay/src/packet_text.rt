@@ -11,27 +11,18 @@ pub struct PacketText<'a> {
     ghost whole: { 20 ≤ length octets.now },
 }
 
-/// A packet, printed as its Code, Identifier and Length.
-#[derive(Clone, Copy)]
-pub struct HeadText<'a> {
-    octets: &'a [u8],
-    ghost whole: { 20 ≤ length octets.now },
-}
-
 /// A packet that a lane gave to be sent, printed as a packet, with its source port after the Identifier if the lane has
 /// several.
 #[derive(Clone, Copy)]
 pub struct SentText<'a> {
-    packet: PacketText<'a>,
-    port: Option<u16>,
+    pub packet: PacketText<'a>,
+    /// The source port, if it is printed.
+    pub port: Option<u16>,
 }
 
 /// The same without its attributes.
 #[derive(Clone, Copy)]
-pub struct SentHeadText<'a> {
-    packet: PacketText<'a>,
-    port: Option<u16>,
-}
+pub struct SentHeadText<'a>(pub SentText<'a>);
 
 /// An Identifier, with a source port if there is one.
 #[derive(Clone, Copy)]
@@ -55,43 +46,11 @@ impl<'a> PacketText<'a> {
         PacketText { octets }
     }
 
-    /// Returns the packet without its attributes.
-    pub fn head(&self) -> HeadText<'a>
-        ensures { result.octets ≡ self.now.octets }
-    {
-        HeadText {
-            octets: self.octets,
-        }
-    }
-
     /// Returns the attributes of the packet.
     fn attributes(&self) -> AttributesText<'a>
         ensures { result.0.now ≡ drop 20 self.now.octets.now }
     {
         AttributesText(&self.octets[20..])
-    }
-}
-
-impl<'a> SentText<'a> {
-    ghost use Rattle.std.specs.Prelude.{◌≡◌};
-
-    /// Makes the text of a packet that is sent from this source port, if the port is to be printed.
-    pub fn new(packet: PacketText<'a>, port: Option<u16>) -> Self
-        ensures packet { result.packet ≡ packet.entry }
-        ensures port { result.port ≡ port }
-    {
-        SentText { packet, port }
-    }
-
-    /// Returns the packet without its attributes.
-    pub fn head(&self) -> SentHeadText<'a>
-        ensures packet { result.packet ≡ self.now.packet }
-        ensures port { result.port ≡ self.now.port }
-    {
-        SentHeadText {
-            packet: self.packet,
-            port: self.port,
-        }
     }
 }
 
@@ -102,9 +61,9 @@ impl fmt::Display for SentText<'_> {
     ghost output = { λ sent. Some (sent_text sent.port sent.packet.octets.now) };
 
     fn fmt<W: fmt::Write>(&self, f: &mut fmt::Formatter<W>) -> fmt::Result {
-        let head = self.head();
-        let rest = self.packet.attributes();
-        write!(f, "{head} {rest}")
+        let head = SentHeadText(*self);
+        let attributes = self.packet.attributes();
+        write!(f, "{head} {attributes}")
     }
 }
 
@@ -112,17 +71,15 @@ impl fmt::Display for SentHeadText<'_> {
     ghost use Rattle.std.specs.Prelude.{Some};
     ghost use Rattle.rad_replay.specs.PacketText.{sent_head_text};
 
-    ghost output = { λ head. Some (sent_head_text head.port head.packet.octets.now) };
+    ghost output = { λ head. Some (sent_head_text head.0.port head.0.packet.octets.now) };
 
     fn fmt<W: fmt::Write>(&self, f: &mut fmt::Formatter<W>) -> fmt::Result {
-        let packet = self.packet;
+        let SentText { packet, port } = self.0;
         let code = packet.octets[0];
-        let identifier = IdentifierText {
-            identifier: packet.octets[1],
-            port: self.port,
-        };
-        let count = packet.octets.len();
-        write!(f, "{code} {identifier} {count}")
+        let identifier = packet.octets[1];
+        let identifier = IdentifierText { identifier, port };
+        let length = packet.octets.len();
+        write!(f, "{code} {identifier} {length}")
     }
 }
 
@@ -148,23 +105,11 @@ impl fmt::Display for PacketText<'_> {
     ghost output = { λ packet. Some (packet_text packet.octets.now) };
 
     fn fmt<W: fmt::Write>(&self, f: &mut fmt::Formatter<W>) -> fmt::Result {
-        let head = self.head();
-        let attributes = self.attributes();
-        write!(f, "{head} {attributes}")
-    }
-}
-
-impl fmt::Display for HeadText<'_> {
-    ghost use Rattle.std.specs.Prelude.{Some};
-    ghost use Rattle.rad_replay.specs.PacketText.{head_text};
-
-    ghost output = { λ head. Some (head_text head.octets.now) };
-
-    fn fmt<W: fmt::Write>(&self, f: &mut fmt::Formatter<W>) -> fmt::Result {
-        let code = self.octets[0];
-        let identifier = self.octets[1];
-        let length = self.octets.len();
-        write!(f, "{code} {identifier} {length}")
+        let sent = SentText {
+            packet: *self,
+            port: None,
+        };
+        write!(f, "{sent}")
     }
 }
 

@@ -227,7 +227,8 @@ impl<'a> Script<'a> {
         } else {
             None
         };
-        let sent = SentText::new(PacketText::new(sent.bytes()), port);
+        let packet = PacketText::new(sent.bytes());
+        let sent = SentText { packet, port };
         print(output, &StepLine { action, sent })
     }
 
