@@ -769,7 +769,7 @@ def each_alone(text, rows):
 
 def reasons():
     """Each reason for which a datagram is dropped, and what is not dropped."""
-    status = vectors.of_desks()["STATUS"]
+    status = vectors.status(9, bytes([0xA5] * 16), b"", b"", NAS_SECRET)
     return each_alone(TEXT, [
         ("right", NAS, SEVENTH, "new 1 0"),
         ("a realm in capitals", NAS, FAULTY["LOUD"], "new 1 0"),

@@ -7,26 +7,12 @@ use rad_packet::{Datagram, read};
 
 const USER_NAME: u8 = 1;
 
-const CLASS: u8 = 25;
-
-const ACCT_STATUS_TYPE: u8 = 40;
-
 const ACCT_SESSION_ID: u8 = 44;
 
 /// Returns a request that differs from those of other counts. Its Identifier is `count` modulo 256.
 pub fn request(count: u16) -> Option<Datagram> {
     let mut datagram = begun((count % 256) as u8)?;
     push(&mut datagram, ACCT_SESSION_ID, &count.to_be_bytes())?;
-    signed(datagram)
-}
-
-/// Returns a request of this Length, which is 47, or 49 and more.
-pub fn request_of_length(length: usize) -> Option<Datagram> {
-    let mut datagram = begun(9)?;
-    push(&mut datagram, ACCT_STATUS_TYPE, &[0, 0, 0, 1])?;
-    push(&mut datagram, ACCT_SESSION_ID, b"S1")?;
-    let missing = length.saturating_sub(datagram.len());
-    push_classes(&mut datagram, missing)?;
     signed(datagram)
 }
 
@@ -44,14 +30,12 @@ fn signed(mut request: Datagram) -> Option<Datagram> {
     Some(request)
 }
 
-/// Returns the reply to a packet that was sent: it has the packet's Identifier and mark, and then Class attributes of
-/// `classes` octets in all, which is not 1.
-pub fn reply_to(sent: &[u8], classes: usize) -> Option<Datagram> {
+/// Returns the reply to a packet that was sent: it has the packet's Identifier and its mark.
+pub fn reply_to(sent: &[u8]) -> Option<Datagram> {
     let sent = read(sent).ok()?;
     let mut reply = Datagram::new();
     reply.begin(ACCOUNTING_RESPONSE, sent.identifier(), [0; 16]);
     push(&mut reply, PROXY_STATE, last_of(sent.octets()))?;
-    push_classes(&mut reply, classes)?;
     let secret = Secret::new(b"home-secret").ok()?;
     sign_response(&mut reply, &sent.authenticator(), &secret);
     Some(reply)
@@ -68,22 +52,6 @@ pub fn mark_value(lane: u16, number: u64) -> [u8; 10] {
     value[..2].copy_from_slice(&lane.to_be_bytes());
     value[2..].copy_from_slice(&number.to_be_bytes());
     value
-}
-
-/// Appends Class attributes of `octets` octets in all, which is not 1. Each has 128 octets, except the last.
-pub fn push_classes(datagram: &mut Datagram, octets: usize) -> Option<()> {
-    for _ in 1..octets / 128 {
-        push(datagram, CLASS, &[b'A'; 126])?;
-    }
-    let rest = if octets < 128 {
-        octets
-    } else {
-        octets % 128 + 128
-    };
-    if rest == 0 {
-        return Some(());
-    }
-    push(datagram, CLASS, [b'A'; 253].get(..rest.saturating_sub(2))?)
 }
 
 /// Appends an attribute, if it fits.

@@ -127,7 +127,7 @@ impl Wire for HomeWire {
 
     fn send(&mut self, _socket: u16, _address: [u8; 4], _port: u16, octets: &[u8]) -> Delivery {
         self.sent = self.sent.saturating_add(1);
-        self.reply = reply_to(octets, 0);
+        self.reply = reply_to(octets);
         Delivery::Sent
     }
 }
