@@ -1,7 +1,7 @@
 //! A test of the workers in threads of their own.
 
-use crate::desk::closing::close_and_count;
 use crate::comparing::holds_at;
+use crate::desk::closing::close_and_count;
 use crate::desk::setting::config;
 use crate::desk::wires::{HomeWire, NasWire, PlainGate, REQUESTS};
 use rad_desk::{Inlet, Proxy, front_worker, lane_worker, open};
