@@ -31,6 +31,10 @@ import tempfile
 import threading
 from concurrent.futures import ThreadPoolExecutor
 
+sys.dont_write_bytecode = True
+
+import progress
+
 TOP = pathlib.Path(__file__).resolve().parent.parent
 RT = os.environ.get("RT", "rt").split()
 LOG = TOP / "out" / "edits.txt"
@@ -54,11 +58,10 @@ def crates():
 
 
 def places():
-    """How many rounds run side by side: each takes a processor, and beyond the first one its memory too."""
+    """How many rounds run side by side: as many as JOBS says, or as there are processors and memory holds."""
     if os.environ.get("JOBS"):
         return max(1, int(os.environ["JOBS"]))
-    free = re.search(r"MemAvailable:\s+(\d+) kB", pathlib.Path("/proc/meminfo").read_text())
-    return max(1, min(len(os.sched_getaffinity(0)), int(free[1]) * 1024 // MEMORY_OF_A_ROUND))
+    return progress.places(MEMORY_OF_A_ROUND)
 
 
 def height(name, uses):

@@ -9,6 +9,9 @@ and over lines that are spoiled.
 
 usage: gate.py PROGRAM
 
+`rt ci` runs one check for each processor, as far as memory suffices, each as one process: a check that is shared by several
+processes takes a fifth to a third more processor time. It takes that from the variable RT_JOBS, which stays as it is where it is set.
+
 What `rt ci` says goes to out/gate.txt, what each script of SCRIPTS says to out/NAME.txt, and what each crate took, as a
 table in Markdown, to out/times.md. Where `rt ci` passed, out/rad_proxy.stamp says that the program is built, and of when the
 sources are that it was built from. The last line is `N passed, M failed`, of all of it together; what ends badly or
@@ -68,6 +71,8 @@ SCRIPTS = {
 }
 # Those that measure times or load the machine, so that each runs alone. The others run two at a time.
 ALONE = {"ending", "moments", "metrics", "calls", "files", "soak", "memory", "locks", "ledger-files", "spoiled-ledgers"}
+# What the largest checks take, in octets.
+MEMORY_OF_A_CHECK = 5_000_000_000
 COUNTS = re.compile(r"(\d+) passed, (\d+) failed")
 
 
@@ -121,6 +126,7 @@ def main():
         sys.exit(__doc__)
     gate, times, stamp = (TOP / "out" / name for name in ("gate.txt", "times.md", "rad_proxy.stamp"))
     stamp.unlink(missing_ok=True)
+    os.environ.setdefault("RT_JOBS", str(progress.places(MEMORY_OF_A_CHECK)))
     began = time.time()
     status, watch = progress.run([*RT, "ci"], TOP, gate, list(parts()))
     if status == 0:

@@ -24,6 +24,12 @@ NAMES = {"proof": "its proof", "tests": "its tests", "edits": "its edits", "prog
 TRYING = re.compile(r"^rt: (\w+): trying its must-fail edits \((\d+)\)")
 
 
+def places(memory):
+    """How many runs of the prover go on side by side: each takes a processor, and beyond the first one this much memory too."""
+    free = re.search(r"MemAvailable:\s+(\d+) kB", pathlib.Path("/proc/meminfo").read_text())
+    return max(1, min(len(os.sched_getaffinity(0)), int(free[1]) * 1024 // memory))
+
+
 def looked_at():
     """Each process that there is: its parent, and the processor ticks of it and of its children that ended."""
     found = {}
