@@ -6,3 +6,9 @@ returns-in-Up-clause-steps g c = search rules
 
 pub returns-in-Down-clause-steps : goal.returns-in-Down-clause-steps
 returns-in-Down-clause-steps g c = search rules
+
+pub returns-in-Up-clause-another : goal.returns-in-Up-clause-another
+returns-in-Up-clause-another g c = c.step_while_up.ensures.another
+
+pub returns-in-Down-clause-another : goal.returns-in-Down-clause-another
+returns-in-Down-clause-another g c = c.step_while_down.ensures.another
