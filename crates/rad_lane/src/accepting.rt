@@ -1,9 +1,8 @@
 //! Accepting a request.
 
 ghost use Rattle.std.specs.Prelude.{◌≡◌, ◌+◌, ◌≤◌, [], ◌∷◌, ◌++◌, length, None, IfOk, OnErr, MatchResult, IsTrue, ◌↔◌};
-ghost use Rattle.rad_lane.specs.Stamp.{IsRecord};
 ghost use Rattle.rad_lane.specs.Repeat.{repeats, fresh, found};
-ghost use Rattle.rad_lane.specs.internal.Taking.{TakesRepeat};
+ghost use Rattle.rad_lane.specs.internal.Taking.{AddsRequest, TakesRepeat};
 ghost use Rattle.rad_lane.specs.internal.Invariant.{HasRoom};
 ghost use Rattle.rad_lane.specs.Datagrams.{Datagrams};
 ghost use Rattle.rad_lane.specs.Accepts.{Accepts, IsTaken, IsRefused, request_key, stamp_of as the_stamp, record_of as the_record};
@@ -49,6 +48,25 @@ pub enum Refusal {
     WrongLane,
 }
 
+impl Refusal {
+    ghost use Rattle.std.specs.Prelude.{◌≡◌};
+    ghost use Rattle.rad_lane.specs.Printed.{refusal_text};
+
+    /// Returns the refusal as it is printed.
+    fn name(self) -> &'static str
+        ensures { result.now ≡ refusal_text self }
+    {
+        match self {
+            Refusal::Draining => "Draining",
+            Refusal::BookFull => "BookFull",
+            Refusal::QueueFull => "QueueFull",
+            Refusal::TooLong => "TooLong",
+            Refusal::OutOfMemory => "OutOfMemory",
+            Refusal::WrongLane => "WrongLane",
+        }
+    }
+}
+
 impl fmt::Display for Refusal {
     ghost use Rattle.std.specs.Prelude.{Some};
     ghost use Rattle.rad_lane.specs.Printed.{refusal_text};
@@ -56,14 +74,7 @@ impl fmt::Display for Refusal {
     ghost output = { λ refusal. Some (refusal_text refusal) };
 
     fn fmt<W: fmt::Write>(&self, f: &mut fmt::Formatter<W>) -> fmt::Result {
-        match self {
-            Refusal::Draining => f.write_str("Draining"),
-            Refusal::BookFull => f.write_str("BookFull"),
-            Refusal::QueueFull => f.write_str("QueueFull"),
-            Refusal::TooLong => f.write_str("TooLong"),
-            Refusal::OutOfMemory => f.write_str("OutOfMemory"),
-            Refusal::WrongLane => f.write_str("WrongLane"),
-        }
+        f.write_str(self.name())
     }
 }
 
@@ -162,10 +173,10 @@ impl<Q: Fifo<Record>> Lane<Q> {
         ensures { Accepts self.old request.now moment result (record { before = datagram.old; after = datagram.new }) self.new }
     {
         let now = self.moment_of(moment);
-        let number = self.next_number();
+        let next = self.next_number();
         let key = key_of(request);
         let seen = Seen::since(self.opening, &self.indices, &self.answered, &self.setup);
-        let Ok(last) = self.duplicates.replace(key, number) else {
+        let Ok(last) = self.duplicates.replace(key, next) else {
             return Err(Refusal::OutOfMemory);
         };
         if let Some(taken) = taken_as(seen.repeat_of(last, now), datagram) {
@@ -173,12 +184,11 @@ impl<Q: Fifo<Record>> Lane<Q> {
             self.set_last(now);
             return Ok(taken);
         }
-        let Ok(record) = record_of(alloc, request, number, now) else {
-            self.duplicates.restore(&key, last);
-            return Err(Refusal::OutOfMemory);
-        };
         let Ok(()) = add(
-            record,
+            alloc,
+            request,
+            next,
+            now,
             &mut self.accepted,
             &mut self.indices,
             &mut self.queued,
@@ -187,7 +197,7 @@ impl<Q: Fifo<Record>> Lane<Q> {
             return Err(Refusal::OutOfMemory);
         };
         self.last = now;
-        Ok(Taken::New(number))
+        Ok(Taken::New(next))
     }
 }
 
@@ -250,27 +260,29 @@ fn record_of(
     Ok(Record::new(stamp, text, *request.secret(), spare))
 }
 
-/// Adds a record: its stamp, a place for the index of its answer, and the record itself to the queue. It makes room
-/// in each before it adds anything. A refusal drops the record.
+/// Adds a request: its stamp, a place for the index of its answer, and its record to the queue. It allocates all that
+/// it needs before it adds anything.
 fn add<Q: Fifo<Record>>(
-    kept: Record,
+    alloc: Global,
+    request: &Checked<'_>,
+    number: u64,
+    moment: Moment,
     accepted: &mut SlidingList<Stamp>,
     indices: &mut SlidingList<Option<AnswerIndex>>,
     queued: &mut Q,
 ) -> Result<(), AllocError>
-    ensures is_record { IsRecord kept.recorded }
-    ensures accepted { IfOk result (λ _. accepted.new.items ≡ accepted.old.items ++ kept.recorded.stamp ∷ []) }
+    requires { length request.now.text ≤ 4084 }
+    ensures added { IfOk result (λ _. AddsRequest request.now number moment accepted.old.items accepted.new.items (Q.items queued.old) (Q.items queued.new)) }
     ensures indices { IfOk result (λ _. indices.new.items ≡ indices.old.items ++ None ∷ []) }
-    ensures queued { IfOk result (λ _. Q.items queued.new ≡ Q.items queued.old ++ kept ∷ []) }
     ensures same_accepted { OnErr result (accepted.new.items ≡ accepted.old.items) }
     ensures same_indices { OnErr result (indices.new.items ≡ indices.old.items) }
     ensures same_queued { OnErr result (Q.items queued.new ≡ Q.items queued.old) }
 {
-    let stamp = kept.stamp();
     make_room(accepted, indices, queued)?;
-    accepted.push(stamp);
+    let record = record_of(alloc, request, number, moment)?;
+    accepted.push(record.stamp());
     indices.push(None);
-    queued.push_back(kept);
+    queued.push_back(record);
     Ok(())
 }
 

@@ -152,7 +152,9 @@ impl Sending {
         };
         let client = self.request.client_secret();
         let reply = respond(alloc, head, &self.packet(), packet, client, &self.home)?;
-        let made = Answered::with_outgoing(alloc, stamp, now, serial, reply)?;
+        let Ok(made) = Answered::with_outgoing(alloc, stamp, now, serial, reply) else {
+            return Err(ReplyFault::OutOfMemory);
+        };
         Ok(made)
     }
 

@@ -1,4 +1,4 @@
-use Rattle.std.proofs.Common.{[], ◌≡◌, ℕ, ◌+◌, ◌<◌, ap, ◌∙◌, arith}
+use Rattle.std.proofs.Common.{[], ◌≡◌, ℕ, ◌+◌, ◌<◌, ap, ◌∙◌, arith, rules}
 use Rattle.std.specs.Prelude.{replicate}
 use Rattle.rad_packet.specs.Packet.{packet_text}
 use Rattle.rad_lane.specs.declared.running.Given.{Given}
@@ -39,3 +39,22 @@ place_left count index room events counted all below = omega (arith, counted, al
 
 pub push_reserved-requires : goal.push_reserved-requires
 push_reserved-requires g c = place_left _ _ _ _ c.loop-event.invariant.count c.loop-event.invariant.room c.loop-event-test.true
+
+-- what the search proves is written here, so that a change of a call that a run makes does not repeat it
+pub loop-event-init : goal.loop-event-init
+loop-event-init g c = search rules
+
+pub bounds-events-event-index : goal.bounds-events-event-index
+bounds-events-event-index g c = c.loop-event-test.true
+
+pub loop-event-smaller : goal.loop-event-smaller
+loop-event-smaller g c = search rules
+
+pub returns-in_default-clause-headline : goal.returns-in_default-clause-headline
+returns-in_default-clause-headline g c = search rules
+
+pub returns-in_default-clause-stays : goal.returns-in_default-clause-stays
+returns-in_default-clause-stays g c = search rules
+
+pub returns-clause-stays : goal.returns-clause-stays
+returns-clause-stays g c = search rules

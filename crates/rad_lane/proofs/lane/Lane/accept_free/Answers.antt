@@ -15,7 +15,7 @@ returns-in_default g c =
     (sym (repeats_known _ _ c.self.view_is c.self.inside.duplicates c.self.invariant.last_numbers _ _ None absent), c.requires.free, c.self.view_is, refl)
 
 pub restore-requires : goal.restore-requires
-restore-requires g c = had_inserted c.self.inside.duplicates c.replace.new.self c.key_of-key.result c.next_number-number.result c.in-Ok.ensures.ok
+restore-requires g c = had_inserted c.self.inside.duplicates c.replace.new.self c.key_of-key.result c.next_number-next.result c.in-Ok.ensures.ok
 
 pub invariant_of-self-in-Some : goal.invariant_of-self-in-Some
 invariant_of-self-in-Some g c =
@@ -28,24 +28,8 @@ returns-in-Some g c =
     _ _ _ c.in-Some.ensures
     (c.set_last.ensures ∙ ap (λ (b : Book). let later : Book = record b { last = c.moment_of-now.result } in later) c.self.view_is)
 
-pub restore-requires-in_default-record_of : goal.restore-requires-in_default-record_of
-restore-requires-in_default-record_of g c = had_inserted c.self.inside.duplicates c.replace.new.self c.key_of-key.result c.next_number-number.result c.in-Ok.ensures.ok
-
-pub invariant_of-self-in_default-record_of : goal.invariant_of-self-in_default-record_of
-invariant_of-self-in_default-record_of g c =
-    stands_still c.self.inside.setup c.self.inside.opening c.self.inside.accepted.items (g.Q.Fifo.items c.self.inside.queued) c.self.inside.answered.items c.self.inside.served c.self.inside.slots c.self.inside.drain c.self.inside.watch c.self.inside.last _ refl _ refl c.self.inside.slots.ports c.self.inside.duplicates c.self.inside.indices.items c.self.inside.outstanding c.self.invariant c.restore-in_default-record_of.new.self (as_before _ _ _ _ c.in-Ok.ensures.last _ _ c.in-Ok.ensures.ok c.restore-in_default-record_of.ensures) _ refl
-
-pub returns-in_default-record_of : goal.returns-in_default-record_of
-returns-in_default-record_of g c = (
-  repeats_told _ _ c.self.view_is c.self.inside.duplicates c.self.invariant.last_numbers (request_key c.args.request.now) c.key_of-key.result c.key_of-key.ensures _ c.moment_of-now.result c.moment_of-now.ensures.value _ _ c.in-Ok.last _ c.in-Ok.ensures.last c.since-seen.ensures.span c.since-seen.ensures.answered c.repeat_of.ensures
-      ∙ c.in_default-taken_as.ensures.0,
-  c.requires.free,
-  c.self.view_is,
-  c.in_default-taken_as.ensures.1,
-)
-
 pub restore-requires-in_default-add : goal.restore-requires-in_default-add
-restore-requires-in_default-add g c = had_inserted c.self.inside.duplicates c.replace.new.self c.key_of-key.result c.next_number-number.result c.in-Ok.ensures.ok
+restore-requires-in_default-add g c = had_inserted c.self.inside.duplicates c.replace.new.self c.key_of-key.result c.next_number-next.result c.in-Ok.ensures.ok
 
 pub invariant_of-self-in_default-add : goal.invariant_of-self-in_default-add
 invariant_of-self-in_default-add g c =
@@ -66,18 +50,18 @@ invariant_of-self-2 g c =
     repeats_told _ _ c.self.view_is c.self.inside.duplicates c.self.invariant.last_numbers (request_key c.args.request.now) c.key_of-key.result c.key_of-key.ensures c.moment_of-now.result c.moment_of-now.result refl _ _ c.in-Ok.last _ c.in-Ok.ensures.last c.since-seen.ensures.span c.since-seen.ensures.answered c.repeat_of.ensures
     ∙ c.in_default-taken_as.ensures.0
     in
-    stands_taken c.self.inside.setup c.self.inside.opening c.self.inside.accepted.items (g.Q.Fifo.items c.self.inside.queued) c.self.inside.answered.items c.self.inside.served c.self.inside.slots c.self.inside.drain c.self.inside.watch c.self.inside.last c.args.self.now c.self.view_is c.self.inside.slots.ports c.self.inside.duplicates c.self.inside.indices.items c.self.inside.outstanding c.args.request.now c.moment_of-now.result c.next_number-number.result _
-    _ c.in-Ok-add.ensures.accepted _ c.in-Ok-add.ensures.queued c.key_of-key.result c.key_of-key.ensures _ c.in-Ok.ensures.ok _ c.in-Ok-add.ensures.indices
-    c.self.invariant c.moment_of-now.ensures.later c.requires.taken new c.requires.free c.next_number-number.ensures.value c.in-Ok-record_of.ensures.record c.in-Ok-add.ensures.is_record c.in-Ok-record_of.ensures.room
+    stands_taken c.self.inside.setup c.self.inside.opening c.self.inside.accepted.items (g.Q.Fifo.items c.self.inside.queued) c.self.inside.answered.items c.self.inside.served c.self.inside.slots c.self.inside.drain c.self.inside.watch c.self.inside.last c.args.self.now c.self.view_is c.self.inside.slots.ports c.self.inside.duplicates c.self.inside.indices.items c.self.inside.outstanding c.args.request.now c.moment_of-now.result c.next_number-next.result _
+    _ c.in-Ok-add.ensures.added.accepted_are _ c.in-Ok-add.ensures.added.queue_is c.key_of-key.result c.key_of-key.ensures _ c.in-Ok.ensures.ok _ c.in-Ok-add.ensures.indices
+    c.self.invariant c.moment_of-now.ensures.later c.requires.taken new c.requires.free c.next_number-next.ensures.value c.in-Ok-add.ensures.added.record_is c.in-Ok-add.ensures.added.is_record c.in-Ok-add.ensures.added.room
 
 pub returns : goal.returns
 returns g c = (
   repeats_told _ _ c.self.view_is c.self.inside.duplicates c.self.invariant.last_numbers (request_key c.args.request.now) c.key_of-key.result c.key_of-key.ensures _ c.moment_of-now.result c.moment_of-now.ensures.value _ _ c.in-Ok.last _ c.in-Ok.ensures.last c.since-seen.ensures.span c.since-seen.ensures.answered c.repeat_of.ensures
       ∙ c.in_default-taken_as.ensures.0,
   c.requires.free,
-  c.next_number-number.ensures.value,
-  seen_taken c.self.inside.setup c.self.inside.opening c.self.inside.accepted.items (g.Q.Fifo.items c.self.inside.queued) c.self.inside.answered.items c.self.inside.served c.self.inside.slots c.self.inside.drain c.self.inside.watch c.self.inside.last c.args.self.now c.self.view_is c.self.inside.slots.ports c.self.inside.duplicates c.self.inside.indices.items c.self.inside.outstanding c.args.request.now c.moment_of-now.result c.next_number-number.result _
-      _ c.in-Ok-add.ensures.accepted _ c.in-Ok-add.ensures.queued _ c.moment_of-now.ensures.value c.self.invariant c.next_number-number.ensures.value c.in-Ok-record_of.ensures.record,
+  c.next_number-next.ensures.value,
+  seen_taken c.self.inside.setup c.self.inside.opening c.self.inside.accepted.items (g.Q.Fifo.items c.self.inside.queued) c.self.inside.answered.items c.self.inside.served c.self.inside.slots c.self.inside.drain c.self.inside.watch c.self.inside.last c.args.self.now c.self.view_is c.self.inside.slots.ports c.self.inside.duplicates c.self.inside.indices.items c.self.inside.outstanding c.args.request.now c.moment_of-now.result c.next_number-next.result _
+      _ c.in-Ok-add.ensures.added.accepted_are _ c.in-Ok-add.ensures.added.queue_is _ c.moment_of-now.ensures.value c.self.invariant c.next_number-next.ensures.value c.in-Ok-add.ensures.added.record_is,
   c.in_default-taken_as.ensures.1,
 )
 
@@ -98,5 +82,5 @@ repeat_of-requires g c =
 pub set_last-requires : goal.set_last-requires
 set_last-requires g c = subst (λ (b : Book). b.last ≤ c.moment_of-now.result) (sym c.self.view_is) c.moment_of-now.ensures.later
 
-pub record_of-requires : goal.record_of-requires
-record_of-requires g c = leaves_room c.args.request.now c.requires.free.3
+pub add-requires : goal.add-requires
+add-requires g c = leaves_room c.args.request.now c.requires.free.3

@@ -33,3 +33,24 @@ returns-then-may_send-clause-another g c = c.send_first.ensures.another
 pub returns-clause-steps : goal.returns-clause-steps
 returns-clause-steps g c =
     rw (c.earlier.ensures, c.set_last.ensures) (idle c.args.self.now c.args.now _ _ _ c.in-Later.ensures c.in-Later-next_spent.ensures c.if-may_send.ensures.not)
+
+pub resend-requires-clause-is_up : goal.resend-requires-clause-is_up
+resend-requires-clause-is_up g c = c.requires.is_up
+
+pub go_down-requires-clause-is_up : goal.go_down-requires-clause-is_up
+go_down-requires-clause-is_up g c = c.requires.is_up
+
+pub send_first-requires-clause-is_up : goal.send_first-requires-clause-is_up
+send_first-requires-clause-is_up g c = c.requires.is_up
+
+pub resend-requires-clause-later : goal.resend-requires-clause-later
+resend-requires-clause-later g c = c.requires.later
+
+pub go_down-requires-clause-later : goal.go_down-requires-clause-later
+go_down-requires-clause-later g c = c.requires.later
+
+pub send_first-requires-clause-later : goal.send_first-requires-clause-later
+send_first-requires-clause-later g c = c.requires.later
+
+pub set_last-requires : goal.set_last-requires
+set_last-requires g c = c.requires.later

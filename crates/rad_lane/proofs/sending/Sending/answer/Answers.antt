@@ -65,12 +65,13 @@ with_outgoing-requires c =
     answers_sending c.args.self.now c.stamp-stamp.result c.args.now c.args.serial c.in_ok-reply.reply forwarded_here c.in_ok-reply.ensures.answers stamp
     (ap (λ (h : RequestHead). h.identifier) made.0) (ap (λ (h : RequestHead). h.authenticator) made.0) sent client home since
 
--- a reply is refused for its sending as it is for the octets and the secret that were compared
-refused_here : (o : Outstanding) (sending packet home : List ℕ) (fault : ReplyFault) → sending ≡ o.octets → home ≡ o.home → RefusesReply sending packet home fault → RefusesReply o.octets packet o.home fault
-refused_here o sending packet home fault octets secret refused =
-    let P : List ℕ → Type 0 = λ text. RefusesReply text packet home fault in
-    let Q : List ℕ → Type 0 = λ text. RefusesReply o.octets packet text fault in
-    subst Q secret (subst P octets refused)
+-- a reply is refused for its sending as it is for what was compared
+refused_here : (o : Outstanding) (packet sending compared home : List ℕ) (fault : ReplyFault) → RefusesReply sending compared home fault → sending ≡ o.octets → compared ≡ packet → home ≡ o.home → RefusesReply o.octets packet o.home fault
+refused_here o packet sending compared home fault refused octets same secret =
+    let P : List ℕ → Type 0 = λ text. RefusesReply text compared home fault in
+    let Q : List ℕ → Type 0 = λ text. RefusesReply o.octets text home fault in
+    let R : List ℕ → Type 0 = λ text. RefusesReply o.octets packet text fault in
+    subst R secret (subst Q same (subst P octets refused))
 
 -- memory may be refused after a reply that is verified
 memory_refused : (o : Outstanding) (packet : List ℕ) (made : Replied) → IsAnswer made → made.sending ≡ o.octets → made.reply ≡ packet → made.home ≡ o.home → RefusesReply o.octets packet o.home OutOfMemory
@@ -98,15 +99,14 @@ keeps_made o packet stamp now serial made answer is answers same identifier auth
 pub returns-in_err-reply-clause-err : goal.returns-in_err-reply-clause-err
 returns-in_err-reply-clause-err c =
     let home = ap (λ (o : Outstanding). o.home) c.self.view_is in
-    let refused = refused_here c.args.self.now c.packet.result c.args.packet.now c.self.inside.home c.in_err-reply.field-0.0 c.packet.ensures home c.in_err-reply.ensures.refused in
+    let refused = refused_here c.args.self.now c.args.packet.now _ _ _ c.in_err-reply.field-0.0 c.in_err-reply.ensures.refused c.packet.ensures refl home in
     told_fault c.from_residual.result _ _ c.from_residual.ensures refused
 
-pub returns-in_err-made-clause-err : goal.returns-in_err-made-clause-err
-returns-in_err-made-clause-err c =
+pub returns-in_default-clause-err : goal.returns-in_default-clause-err
+returns-in_default-clause-err c =
     let made = c.in_ok-reply.ensures.made in
     let home = made.4 ∙ ap (λ (o : Outstanding). o.home) c.self.view_is in
-    let refused = memory_refused c.args.self.now c.args.packet.now c.in_ok-reply.reply c.in_ok-reply.ensures.answers (made.1 ∙ c.packet.ensures) made.2 home in
-    told_fault c.from_residual-in_err-made.result _ _ c.from_residual-in_err-made.ensures refused
+    memory_refused c.args.self.now c.args.packet.now c.in_ok-reply.reply c.in_ok-reply.ensures.answers (made.1 ∙ c.packet.ensures) made.2 home
 
 pub returns-clause-kept : goal.returns-clause-kept
 returns-clause-kept c =
@@ -115,7 +115,7 @@ returns-clause-kept c =
     let client : c.in_ok-reply.reply.client ≡ c.args.self.now.request.client_secret =
     made.3 ∙ c.client_secret-client.ensures ∙ ap (λ (o : Outstanding). o.request.client_secret) c.self.view_is in
     let home : c.in_ok-reply.reply.home ≡ c.args.self.now.home = made.4 ∙ ap (λ (o : Outstanding). o.home) c.self.view_is in
-    keeps_made c.args.self.now c.args.packet.now c.stamp-stamp.result c.args.now c.args.serial c.in_ok-reply.reply c.in_ok-made.made.0 c.in_ok-made.ensures.answer c.in_ok-reply.ensures.answers stamp
+    keeps_made c.args.self.now c.args.packet.now c.stamp-stamp.result c.args.now c.args.serial c.in_ok-reply.reply c.in-Ok.made.0 c.in-Ok.ensures.answer c.in_ok-reply.ensures.answers stamp
     (ap (λ (h : RequestHead). h.identifier) made.0) (ap (λ (h : RequestHead). h.authenticator) made.0) (made.1 ∙ c.packet.ensures) made.2 client home
 
 pub returns-in_err-reply-clause-kept : goal.returns-in_err-reply-clause-kept
@@ -124,11 +124,5 @@ returns-in_err-reply-clause-kept c = not_done c.from_residual.result _ c.from_re
 pub returns-in_err-reply-clause-out : goal.returns-in_err-reply-clause-out
 returns-in_err-reply-clause-out c = not_done c.from_residual.result _ c.from_residual.ensures.0
 
-pub returns-in_err-made-clause-kept : goal.returns-in_err-made-clause-kept
-returns-in_err-made-clause-kept c = not_done c.from_residual-in_err-made.result _ c.from_residual-in_err-made.ensures.0
-
-pub returns-in_err-made-clause-out : goal.returns-in_err-made-clause-out
-returns-in_err-made-clause-out c = not_done c.from_residual-in_err-made.result _ c.from_residual-in_err-made.ensures.0
-
 pub returns-clause-out : goal.returns-clause-out
-returns-clause-out c = c.in_ok-made.ensures.out
+returns-clause-out c = c.in-Ok.ensures.out
