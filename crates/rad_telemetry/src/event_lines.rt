@@ -3,6 +3,7 @@
 use crate::last_datagram::LastWords;
 use crate::packet_words::DatagramWords;
 use crate::peer_text::{ClientText, PeerText};
+use rad_desk::DeskFault;
 use rad_realms::Endpoint;
 use std::fmt::{self, Display};
 
@@ -45,10 +46,8 @@ pub struct PassedWords<'a>(pub Endpoint, pub &'a [u8]);
 pub struct StrangeWords<'a>(pub Endpoint, pub LastWords<'a>);
 
 /// The words of a home server's datagram that was dropped, and why.
-pub struct UnheardWords<'a, D> {
-    pub packet: LastWords<'a>,
-    pub reason: &'a D,
-}
+#[derive(Clone, Copy)]
+pub struct UnheardWords<'a>(pub LastWords<'a>, pub DeskFault);
 
 impl<D> Drop for WorkerLine<'_, D> {
     fn drop(self) {
@@ -66,15 +65,6 @@ impl<D> Drop for ClientLine<'_, D> {
         let ClientLine {
             event: _,
             client: _,
-            packet: _,
-            reason: _,
-        } = self;
-    }
-}
-
-impl<D> Drop for UnheardWords<'_, D> {
-    fn drop(self) {
-        let UnheardWords {
             packet: _,
             reason: _,
         } = self;
@@ -138,10 +128,9 @@ impl Display for StrangeWords<'_> {
     }
 }
 
-impl<D: Display> Display for UnheardWords<'_, D> {
+impl Display for UnheardWords<'_> {
     fn fmt<W: fmt::Write>(&self, f: &mut fmt::Formatter<W>) -> fmt::Result {
-        let packet = self.packet;
-        let reason = self.reason;
+        let UnheardWords(packet, reason) = *self;
         write!(f, "{packet} reason=\"{reason}\"")
     }
 }

@@ -199,10 +199,7 @@ impl<'a, L: Log> EventLog<'a, L> {
     }
 
     fn unheard(&self, worker: Worker, fault: DeskFault) {
-        let rest = UnheardWords {
-            packet: self.last.words(worker),
-            reason: &fault,
-        };
+        let rest = UnheardWords(self.last.words(worker), fault);
         self.tell_of(Level::Debug, "unheard", "home", worker, &rest);
     }
 }
