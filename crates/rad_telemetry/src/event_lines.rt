@@ -1,5 +1,6 @@
 //! The log lines of events: whom each is about, and what else is known of it.
 
+use crate::event_kind::{EventKind, ReasonText};
 use crate::last_datagram::LastWords;
 use crate::packet_words::DatagramWords;
 use crate::peer_text::{ClientText, PeerText};
@@ -17,12 +18,12 @@ pub struct WorkerLine<'a, D> {
     pub rest: &'a D,
 }
 
-/// The log line of a client's datagram that was not accepted, and why.
-pub struct ClientLine<'a, D> {
-    pub event: &'a str,
+/// The log line of a client's datagram that was dropped or refused, and why.
+#[derive(Clone, Copy)]
+pub struct ClientLine<'a> {
+    pub kind: EventKind,
     pub client: Endpoint,
     pub packet: LastWords<'a>,
-    pub reason: &'a D,
 }
 
 /// The number of a request, with a space before it, and the words of its packet.
@@ -60,17 +61,6 @@ impl<D> Drop for WorkerLine<'_, D> {
     }
 }
 
-impl<D> Drop for ClientLine<'_, D> {
-    fn drop(self) {
-        let ClientLine {
-            event: _,
-            client: _,
-            packet: _,
-            reason: _,
-        } = self;
-    }
-}
-
 impl<D: Display> Display for WorkerLine<'_, D> {
     fn fmt<W: fmt::Write>(&self, f: &mut fmt::Formatter<W>) -> fmt::Result {
         let event = self.event;
@@ -81,12 +71,12 @@ impl<D: Display> Display for WorkerLine<'_, D> {
     }
 }
 
-impl<D: Display> Display for ClientLine<'_, D> {
+impl Display for ClientLine<'_> {
     fn fmt<W: fmt::Write>(&self, f: &mut fmt::Formatter<W>) -> fmt::Result {
-        let event = self.event;
+        let event = self.kind.metric().event();
         let client = ClientText(self.client);
         let packet = self.packet;
-        let reason = self.reason;
+        let reason = ReasonText(self.kind);
         write!(f, "event={event} {client}{packet} reason=\"{reason}\"")
     }
 }
