@@ -27,10 +27,6 @@ pub struct DrainLine {
 #[derive(Clone, Copy)]
 struct CountsText<'a>(&'a Counts);
 
-/// Whether a lane's home server is marked up or down, whether the lane is drained, and its counts.
-#[derive(Clone, Copy)]
-struct StatusText<'a>(&'a Counts);
-
 /// The counts of a lane after those of its accepted and queued requests.
 #[derive(Clone, Copy)]
 struct SentCountsText<'a>(&'a Counts);
@@ -62,24 +58,10 @@ impl fmt::Display for StateLine<'_> {
     fn fmt<W: fmt::Write>(&self, f: &mut fmt::Formatter<W>) -> fmt::Result {
         let lane = self.lane;
         let name = self.name;
-        let status = StatusText(&self.counts);
-        write!(f, "lane {lane} {name} {status}")
-    }
-}
-
-impl fmt::Display for StatusText<'_> {
-    ghost use Rattle.std.specs.Prelude.{Some, ◌++◌, codes};
-    ghost use Rattle.rad_console.specs.Lanes.{watch_name, mode_name, counts_text};
-
-    ghost output = { λ status. Some (watch_name status.0.now.up
-        ++ codes " " ++ mode_name status.0.now.draining status.0.now.queued status.0.now.outstanding
-        ++ codes " " ++ counts_text status.0.now) };
-
-    fn fmt<W: fmt::Write>(&self, f: &mut fmt::Formatter<W>) -> fmt::Result {
-        let watch = watch_name(self.0.up);
-        let mode = mode_name(self.0);
-        let counts = CountsText(self.0);
-        write!(f, "{watch} {mode} {counts}")
+        let watch = watch_name(self.counts.up);
+        let mode = mode_name(&self.counts);
+        let counts = CountsText(&self.counts);
+        write!(f, "lane {lane} {name} {watch} {mode} {counts}")
     }
 }
 

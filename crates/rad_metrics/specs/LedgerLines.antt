@@ -2,7 +2,6 @@
 use Rattle.std.specs.Prelude.{ℕ, List, ◌++◌, codes, Option, Some, None}
 use Rattle.std.specs.Fmt.{decimal}
 use Rattle.rad_metrics.specs.LedgerFaults.{fault_text}
-use Rattle.rad_metrics.specs.declared.ledger_fault.LedgerFault.{LedgerFault}
 use Rattle.rad_metrics.specs.declared.ledger_lines.LedgerLine.{LedgerLine}
 use Rattle.rad_metrics.specs.declared.ledger_lines.LedgerLine.TheVariants as line
 

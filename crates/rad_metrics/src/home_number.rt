@@ -38,24 +38,6 @@ pub enum HomeNumber {
     LastAnswer,
 }
 
-/// The metrics, in the order in which they are written.
-pub(crate) const HOME_NUMBERS: &[HomeNumber] = &[
-    HomeNumber::Up,
-    HomeNumber::Since,
-    HomeNumber::Told,
-    HomeNumber::Draining,
-    HomeNumber::Accepted,
-    HomeNumber::Answered,
-    HomeNumber::Queued,
-    HomeNumber::Outstanding,
-    HomeNumber::Held,
-    HomeNumber::Resent,
-    HomeNumber::OldestQueued,
-    HomeNumber::OldestOutstanding,
-    HomeNumber::OldestHeld,
-    HomeNumber::LastAnswer,
-];
-
 impl HomeNumber {
     /// Returns the name, the kind and the help text of the family, which precede its samples.
     pub fn family(self) -> Family

@@ -18,15 +18,6 @@ pub enum LimitNumber {
     Span,
 }
 
-/// The limits, in the order in which they are written.
-pub(crate) const LIMIT_NUMBERS: &[LimitNumber] = &[
-    LimitNumber::Book,
-    LimitNumber::Queue,
-    LimitNumber::Window,
-    LimitNumber::Ring,
-    LimitNumber::Span,
-];
-
 impl LimitNumber {
     /// Returns the name, the kind and the help text of the family, which precede its samples.
     pub fn family(self) -> Family

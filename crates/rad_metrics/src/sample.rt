@@ -50,6 +50,25 @@ struct ClientLabel([u8; 4]);
 #[derive(Clone, Copy)]
 struct UpText(UpReason);
 
+/// What else a sample of a home server is labelled by.
+#[derive(Clone, Copy)]
+enum HomeMore {
+    /// Why it was marked up.
+    Reason(UpReason),
+    /// A bound in seconds.
+    Bound(&'static str),
+    /// The index of a socket among those of the lane.
+    Port(usize),
+}
+
+/// A lane, its home server's name, and one more label.
+#[derive(Clone, Copy)]
+struct HomeAnd<'a>(HomeLabels<'a>, HomeMore);
+
+/// The labels of a sample, without their braces.
+#[derive(Clone, Copy)]
+struct Inside<'a>(Labels<'a>);
+
 impl fmt::Display for ClientLabel {
     ghost use Rattle.std.specs.Prelude.{Some};
     ghost use Rattle.rad_metrics.specs.Samples.{client_label};
@@ -89,6 +108,67 @@ impl fmt::Display for UpText {
     }
 }
 
+impl fmt::Display for HomeMore {
+    ghost use Rattle.std.specs.Prelude.{Some};
+    ghost use Rattle.rad_metrics.specs.Samples.{more_text};
+
+    ghost output = { λ more. Some (more_text more) };
+
+    fn fmt<W: fmt::Write>(&self, f: &mut fmt::Formatter<W>) -> fmt::Result {
+        match *self {
+            HomeMore::Reason(reason) => {
+                let reason = UpText(reason);
+                write!(f, "reason=\"{reason}\"")
+            }
+            HomeMore::Bound(bound) => write!(f, "le=\"{bound}\""),
+            HomeMore::Port(place) => write!(f, "port=\"{place}\""),
+        }
+    }
+}
+
+impl fmt::Display for HomeAnd<'_> {
+    ghost use Rattle.std.specs.Prelude.{Some};
+    ghost use Rattle.rad_metrics.specs.Samples.{home_and};
+
+    ghost output = { λ labels. Some (home_and labels.0.0 labels.0.1.now labels.1) };
+
+    fn fmt<W: fmt::Write>(&self, f: &mut fmt::Formatter<W>) -> fmt::Result {
+        let HomeAnd(home, more) = *self;
+        write!(f, "{home},{more}")
+    }
+}
+
+impl fmt::Display for Inside<'_> {
+    ghost use Rattle.std.specs.Prelude.{Some};
+    ghost use Rattle.rad_metrics.specs.Samples.{inside_text};
+
+    ghost output = { λ inside. Some (inside_text inside.0) };
+
+    fn fmt<W: fmt::Write>(&self, f: &mut fmt::Formatter<W>) -> fmt::Result {
+        match self.0 {
+            Labels::None => Ok(()),
+            Labels::Version(version) => write!(f, "version=\"{version}\""),
+            Labels::Client(address) => ClientLabel(address).fmt(f),
+            Labels::ClientReason(address, event) => {
+                let client = ClientLabel(address);
+                let reason = ReasonText(event);
+                write!(f, "{client},{reason}")
+            }
+            Labels::Home(lane, home) => HomeLabels(lane, home).fmt(f),
+            Labels::HomeUp(lane, home, reason) => {
+                HomeAnd(HomeLabels(lane, home), HomeMore::Reason(reason)).fmt(f)
+            }
+            Labels::HomeBound(lane, home, bound) => {
+                HomeAnd(HomeLabels(lane, home), HomeMore::Bound(bound)).fmt(f)
+            }
+            Labels::Socket(at) => write!(f, "side=\"clients\",socket=\"{at}\""),
+            Labels::HomeSocket(lane, home, place) => {
+                HomeAnd(HomeLabels(lane, home), HomeMore::Port(place)).fmt(f)
+            }
+        }
+    }
+}
+
 impl fmt::Display for Labels<'_> {
     ghost use Rattle.std.specs.Prelude.{Some};
     ghost use Rattle.rad_metrics.specs.Samples.{labels_text};
@@ -98,33 +178,9 @@ impl fmt::Display for Labels<'_> {
     fn fmt<W: fmt::Write>(&self, f: &mut fmt::Formatter<W>) -> fmt::Result {
         match *self {
             Labels::None => Ok(()),
-            Labels::Version(version) => write!(f, "{{version=\"{version}\"}}"),
-            Labels::Client(address) => {
-                let client = ClientLabel(address);
-                write!(f, "{{{client}}}")
-            }
-            Labels::ClientReason(address, event) => {
-                let client = ClientLabel(address);
-                let reason = ReasonText(event);
-                write!(f, "{{{client},{reason}}}")
-            }
-            Labels::Home(lane, home) => {
-                let home = HomeLabels(lane, home);
-                write!(f, "{{{home}}}")
-            }
-            Labels::HomeUp(lane, home, reason) => {
-                let home = HomeLabels(lane, home);
-                let reason = UpText(reason);
-                write!(f, "{{{home},reason=\"{reason}\"}}")
-            }
-            Labels::HomeBound(lane, home, bound) => {
-                let home = HomeLabels(lane, home);
-                write!(f, "{{{home},le=\"{bound}\"}}")
-            }
-            Labels::Socket(at) => write!(f, "{{side=\"clients\",socket=\"{at}\"}}"),
-            Labels::HomeSocket(lane, home, place) => {
-                let home = HomeLabels(lane, home);
-                write!(f, "{{{home},port=\"{place}\"}}")
+            labels => {
+                let inside = Inside(labels);
+                write!(f, "{{{inside}}}")
             }
         }
     }

@@ -5,9 +5,9 @@ use crate::client_numbers::ClientNumbers;
 use crate::family::{Family, HelpLine, Kind, TypeLine};
 use crate::histogram::{BUCKETS, Histogram, bound_label};
 use crate::home_cells::HomeCell;
-use crate::home_number::{HOME_NUMBERS, HomeNumber};
+use crate::home_number::HomeNumber;
 use crate::home_times::HomeTimes;
-use crate::limit_number::{LIMIT_NUMBERS, LimitNumber};
+use crate::limit_number::LimitNumber;
 use crate::numbers::Numbers;
 use crate::program_number::ProgramNumber;
 use crate::reading::Reading;
@@ -90,6 +90,67 @@ const UPS: Family = Family {
     help: "How often the home server was marked up again.",
 };
 
+/// A family of the home servers.
+#[derive(Clone, Copy)]
+enum HomeFamily {
+    /// A limit of each lane.
+    Limit(LimitNumber),
+    /// A number of each home server of which something was read.
+    Number(HomeNumber),
+    /// How often each home server was marked up for each reason.
+    Ups,
+    /// How long each home server takes to reply, or the clients wait for their responses.
+    Times(Timed),
+}
+
+/// The families of the home servers, in the order in which they are written.
+const HOME_FAMILIES: &[HomeFamily] = &[
+    HomeFamily::Limit(LimitNumber::Book),
+    HomeFamily::Limit(LimitNumber::Queue),
+    HomeFamily::Limit(LimitNumber::Window),
+    HomeFamily::Limit(LimitNumber::Ring),
+    HomeFamily::Limit(LimitNumber::Span),
+    HomeFamily::Number(HomeNumber::Up),
+    HomeFamily::Number(HomeNumber::Since),
+    HomeFamily::Number(HomeNumber::Told),
+    HomeFamily::Number(HomeNumber::Draining),
+    HomeFamily::Number(HomeNumber::Accepted),
+    HomeFamily::Number(HomeNumber::Answered),
+    HomeFamily::Number(HomeNumber::Queued),
+    HomeFamily::Number(HomeNumber::Outstanding),
+    HomeFamily::Number(HomeNumber::Held),
+    HomeFamily::Number(HomeNumber::Resent),
+    HomeFamily::Number(HomeNumber::OldestQueued),
+    HomeFamily::Number(HomeNumber::OldestOutstanding),
+    HomeFamily::Number(HomeNumber::OldestHeld),
+    HomeFamily::Number(HomeNumber::LastAnswer),
+    HomeFamily::Ups,
+    HomeFamily::Times(Timed::Replies),
+    HomeFamily::Times(Timed::Responses),
+];
+
+impl HomeFamily {
+    /// Returns the name, the kind and the help text of the family.
+    fn family(self) -> Family {
+        match self {
+            HomeFamily::Limit(limit) => limit.family(),
+            HomeFamily::Number(number) => number.family(),
+            HomeFamily::Ups => UPS,
+            HomeFamily::Times(timed) => timed.names().family,
+        }
+    }
+}
+
+/// What is known of the home servers.
+#[derive(Clone, Copy)]
+struct Known<'a> {
+    homes: &'a [Home],
+    /// What was read of each lane.
+    readings: &'a [Reading],
+    /// What was reported of each lane.
+    cells: &'a [HomeCell],
+}
+
 /// Why a home server is marked up.
 const UP_REASONS: &[UpReason] = &[
     UpReason::Answered,
@@ -111,12 +172,13 @@ pub fn write_numbers<R: Clock>(
 ) -> io::Result<()> {
     write_program(text, numbers.started(), numbers.now())?;
     write_clients(text, config, numbers.clients())?;
-    write_limits(text, config.homes())?;
-    write_homes(text, config.homes(), readings)?;
-    write_ups(text, config.homes(), numbers.homes())?;
-    write_times(text, Timed::Replies, config.homes(), numbers.homes())?;
-    write_times(text, Timed::Responses, config.homes(), numbers.homes())?;
-    write_sockets(text, config.homes(), sockets)
+    let known = Known {
+        homes: config.homes(),
+        readings,
+        cells: numbers.homes(),
+    };
+    write_homes(text, known)?;
+    write_sockets(text, known.homes, sockets)
 }
 
 /// Writes the lines that precede the samples of a family.
@@ -225,46 +287,41 @@ fn labels_of<'a>(address: [u8; 4], event: ClientEvent) -> Labels<'a> {
     }
 }
 
-/// Writes the limits of all lanes.
-fn write_limits(text: &mut Vec<u8>, homes: &[Home]) -> io::Result<()> {
-    for limit in LIMIT_NUMBERS {
-        write_limit(text, *limit, homes)?;
+/// Writes all families of the home servers.
+fn write_homes(text: &mut Vec<u8>, known: Known<'_>) -> io::Result<()> {
+    for family in HOME_FAMILIES {
+        write_home_family(text, *family, known)?;
     }
     Ok(())
 }
 
-/// Writes a limit of each lane.
-fn write_limit(text: &mut Vec<u8>, limit: LimitNumber, homes: &[Home]) -> io::Result<()> {
-    let family = limit.family();
-    write_head(text, family)?;
-    for (lane, home) in homes.iter().enumerate() {
-        let labels = Labels::Home(lane, home.name());
-        let value = limit.value(home.limits().numbers());
-        write_sample(text, family.name, labels, value)?;
+/// Writes a family of the home servers, in the order of the configuration.
+fn write_home_family(text: &mut Vec<u8>, family: HomeFamily, known: Known<'_>) -> io::Result<()> {
+    write_head(text, family.family())?;
+    for (lane, home) in known.homes.iter().enumerate() {
+        write_home(text, family, lane, home, known)?;
     }
     Ok(())
 }
 
-/// Writes what was read of all home servers.
-fn write_homes(text: &mut Vec<u8>, homes: &[Home], readings: &[Reading]) -> io::Result<()> {
-    for number in HOME_NUMBERS {
-        write_home_number(text, *number, homes, readings)?;
-    }
-    Ok(())
-}
-
-/// Writes a number of each home server of which something was read.
-fn write_home_number(
+/// Writes the samples of a family for a home server.
+fn write_home(
     text: &mut Vec<u8>,
-    number: HomeNumber,
-    homes: &[Home],
-    readings: &[Reading],
+    family: HomeFamily,
+    lane: usize,
+    home: &Home,
+    known: Known<'_>,
 ) -> io::Result<()> {
-    write_head(text, number.family())?;
-    for (lane, home) in homes.iter().enumerate() {
-        write_reading(text, number, lane, home.name(), readings)?;
+    let name = home.name();
+    match family {
+        HomeFamily::Limit(limit) => {
+            let value = limit.value(home.limits().numbers());
+            write_sample(text, limit.family().name, Labels::Home(lane, name), value)
+        }
+        HomeFamily::Number(number) => write_reading(text, number, lane, name, known.readings),
+        HomeFamily::Ups => write_ups(text, lane, name, known.cells),
+        HomeFamily::Times(timed) => write_times(text, timed, lane, name, known.cells),
     }
-    Ok(())
 }
 
 /// Writes a number of a home server, if something was read of it.
@@ -284,17 +341,8 @@ fn write_reading(
     }
 }
 
-/// Writes how often each home server was marked up for each reason.
-fn write_ups(text: &mut Vec<u8>, homes: &[Home], cells: &[HomeCell]) -> io::Result<()> {
-    write_head(text, UPS)?;
-    for (lane, home) in homes.iter().enumerate() {
-        write_ups_of(text, lane, home.name(), cells)?;
-    }
-    Ok(())
-}
-
 /// Writes how often a home server was marked up for each reason.
-fn write_ups_of(text: &mut Vec<u8>, lane: usize, home: &str, cells: &[HomeCell]) -> io::Result<()> {
+fn write_ups(text: &mut Vec<u8>, lane: usize, home: &str, cells: &[HomeCell]) -> io::Result<()> {
     for reason in UP_REASONS {
         let labels = Labels::HomeUp(lane, home, *reason);
         let ups = Value::Count(ups_of(cells, lane, *reason));
@@ -311,22 +359,8 @@ fn ups_of(cells: &[HomeCell], lane: usize, reason: UpReason) -> u64 {
     }
 }
 
-/// Writes how long each home server takes to reply, or the clients wait for their responses.
-fn write_times(
-    text: &mut Vec<u8>,
-    timed: Timed,
-    homes: &[Home],
-    cells: &[HomeCell],
-) -> io::Result<()> {
-    write_head(text, timed.names().family)?;
-    for (lane, home) in homes.iter().enumerate() {
-        write_times_of(text, timed, lane, home.name(), cells)?;
-    }
-    Ok(())
-}
-
 /// Writes the histogram of a home server.
-fn write_times_of(
+fn write_times(
     text: &mut Vec<u8>,
     timed: Timed,
     lane: usize,

@@ -3,7 +3,6 @@ use Rattle.std.specs.Prelude.{ℕ, List, ◌++◌, codes, Option, Some, None, Re
 use Rattle.std.specs.Fmt.{decimal}
 use Rattle.rad_realms.specs.Printed.{address_text, dropped_text}
 use Rattle.rad_lane.specs.Printed.{refusal_text, turn_fault_text}
-use Rattle.rad_lane.specs.declared.accepting.Taken.{Taken as Acceptance}
 use Rattle.rad_lane.specs.declared.accepting.Taken.TheVariants.{New, Waiting, Again}
 use Rattle.rad_lane.specs.declared.stepping.Action.{Action}
 use Rattle.rad_lane.specs.declared.stepping.Action.TheVariants.{Sent, Resent, Probed, WentDown, WentUp, Idle}

@@ -60,13 +60,6 @@ pub struct TakeLine {
     pub taken: Option<Outgoing>,
 }
 
-/// The client that a response is sent to.
-#[derive(Clone, Copy)]
-struct ReceiverText {
-    client: [u8; 4],
-    port: u16,
-}
-
 /// The line of the removal of a volume from a lane's book.
 #[derive(Clone, Copy)]
 pub struct TurnLine {
@@ -225,28 +218,13 @@ impl fmt::Display for TakeLine {
     fn fmt<W: fmt::Write>(&self, f: &mut fmt::Formatter<W>) -> fmt::Result {
         match &self.taken {
             Some(response) => {
-                let receiver = ReceiverText {
-                    client: response.client,
-                    port: response.port,
-                };
+                let client = AddressText(response.client);
+                let port = response.port;
                 let packet = PacketText::new(response_of(&response.reply));
-                write!(f, "take: {receiver} {packet}")
+                write!(f, "take: {client} {port} {packet}")
             }
             None => f.write_str("take: none"),
         }
-    }
-}
-
-impl fmt::Display for ReceiverText {
-    ghost use Rattle.std.specs.Prelude.{Some};
-    ghost use Rattle.rad_replay.specs.Lines.{receiver_text};
-
-    ghost output = { λ receiver. Some (receiver_text receiver.client receiver.port) };
-
-    fn fmt<W: fmt::Write>(&self, f: &mut fmt::Formatter<W>) -> fmt::Result {
-        let client = AddressText(self.client);
-        let port = self.port;
-        write!(f, "{client} {port}")
     }
 }
 

@@ -107,12 +107,14 @@ impl<'a> Script<'a> {
         events: &[u8],
         output: &mut W,
     ) -> Result<(), ReplayFault> {
-        for (index, line) in Pieces::new(events, b'\n').enumerate() {
+        let mut number = 0_usize;
+        for line in Pieces::new(events, b'\n') {
+            number = number.saturating_add(1);
             if line.is_empty() || line[0] == b'#' {
                 continue;
             }
             if let Err(halt) = self.answer(rt, line, output) {
-                return Err(halt.at_line(index + 1));
+                return Err(halt.at_line(number));
             }
         }
         Ok(())

@@ -1,8 +1,10 @@
 //! The log lines of events: whom each is about, and what else is known of it.
 
+use crate::event_kind::{EventKind, ReasonText};
 use crate::last_datagram::LastWords;
 use crate::packet_words::DatagramWords;
 use crate::peer_text::{ClientText, PeerText};
+use rad_desk::DeskFault;
 use rad_realms::Endpoint;
 use std::fmt::{self, Display};
 
@@ -16,12 +18,12 @@ pub struct WorkerLine<'a, D> {
     pub rest: &'a D,
 }
 
-/// The log line of a client's datagram that was not accepted, and why.
-pub struct ClientLine<'a, D> {
-    pub event: &'a str,
+/// The log line of a client's datagram that was dropped or refused, and why.
+#[derive(Clone, Copy)]
+pub struct ClientLine<'a> {
+    pub kind: EventKind,
     pub client: Endpoint,
     pub packet: LastWords<'a>,
-    pub reason: &'a D,
 }
 
 /// The number of a request, with a space before it, and the words of its packet.
@@ -45,10 +47,8 @@ pub struct PassedWords<'a>(pub Endpoint, pub &'a [u8]);
 pub struct StrangeWords<'a>(pub Endpoint, pub LastWords<'a>);
 
 /// The words of a home server's datagram that was dropped, and why.
-pub struct UnheardWords<'a, D> {
-    pub packet: LastWords<'a>,
-    pub reason: &'a D,
-}
+#[derive(Clone, Copy)]
+pub struct UnheardWords<'a>(pub LastWords<'a>, pub DeskFault);
 
 impl<D> Drop for WorkerLine<'_, D> {
     fn drop(self) {
@@ -57,26 +57,6 @@ impl<D> Drop for WorkerLine<'_, D> {
             key: _,
             name: _,
             rest: _,
-        } = self;
-    }
-}
-
-impl<D> Drop for ClientLine<'_, D> {
-    fn drop(self) {
-        let ClientLine {
-            event: _,
-            client: _,
-            packet: _,
-            reason: _,
-        } = self;
-    }
-}
-
-impl<D> Drop for UnheardWords<'_, D> {
-    fn drop(self) {
-        let UnheardWords {
-            packet: _,
-            reason: _,
         } = self;
     }
 }
@@ -91,12 +71,12 @@ impl<D: Display> Display for WorkerLine<'_, D> {
     }
 }
 
-impl<D: Display> Display for ClientLine<'_, D> {
+impl Display for ClientLine<'_> {
     fn fmt<W: fmt::Write>(&self, f: &mut fmt::Formatter<W>) -> fmt::Result {
-        let event = self.event;
+        let event = self.kind.metric().event();
         let client = ClientText(self.client);
         let packet = self.packet;
-        let reason = self.reason;
+        let reason = ReasonText(self.kind);
         write!(f, "event={event} {client}{packet} reason=\"{reason}\"")
     }
 }
@@ -138,10 +118,9 @@ impl Display for StrangeWords<'_> {
     }
 }
 
-impl<D: Display> Display for UnheardWords<'_, D> {
+impl Display for UnheardWords<'_> {
     fn fmt<W: fmt::Write>(&self, f: &mut fmt::Formatter<W>) -> fmt::Result {
-        let packet = self.packet;
-        let reason = self.reason;
+        let UnheardWords(packet, reason) = *self;
         write!(f, "{packet} reason=\"{reason}\"")
     }
 }

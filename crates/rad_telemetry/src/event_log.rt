@@ -2,6 +2,7 @@
 //! `event=down home=h1`.
 
 use crate::delta_lines::CutDelta;
+use crate::event_kind::EventKind;
 use crate::event_lines::{
     ClientLine, NumberWords, PassedWords, PeerWords, SerialWord, StrangeWords, UnheardWords,
     WorkerLine,
@@ -64,19 +65,12 @@ impl<'a, L: Log> EventLog<'a, L> {
         self.tell(level, &line);
     }
 
-    /// Logs why the datagram that the front received last was not accepted.
-    fn tell_of_client<D: Display>(
-        &self,
-        event: &str,
-        worker: Worker,
-        client: Endpoint,
-        reason: &D,
-    ) {
+    /// Logs why the datagram that the front received last was dropped or refused.
+    fn tell_of_client(&self, kind: EventKind, worker: Worker, client: Endpoint) {
         let line = ClientLine {
-            event,
+            kind,
             client,
             packet: self.last.words(worker),
-            reason,
         };
         self.tell(Level::Debug, &line);
     }
@@ -113,8 +107,8 @@ impl<'a, L: Log> EventLog<'a, L> {
             ),
             Note::NotHome => self.not_home(worker, peer),
             Note::Unheard(fault) => self.unheard(worker, fault),
-            Note::Dropped(reason) => self.tell_of_client("dropped", worker, peer, &reason),
-            Note::Refused(reason) => self.tell_of_client("refused", worker, peer, &reason),
+            Note::Dropped(reason) => self.tell_of_client(EventKind::Dropped(reason), worker, peer),
+            Note::Refused(reason) => self.tell_of_client(EventKind::Refused(reason), worker, peer),
             Note::Took(lane, serial) => self.tell_serial("returned", lane, serial),
         }
     }
@@ -199,10 +193,7 @@ impl<'a, L: Log> EventLog<'a, L> {
     }
 
     fn unheard(&self, worker: Worker, fault: DeskFault) {
-        let rest = UnheardWords {
-            packet: self.last.words(worker),
-            reason: &fault,
-        };
+        let rest = UnheardWords(self.last.words(worker), fault);
         self.tell_of(Level::Debug, "unheard", "home", worker, &rest);
     }
 }

@@ -1,6 +1,6 @@
 //! The realm of the last packet that was dropped since its realm leads to no lane.
 
-use crate::packet_words::RealmWord;
+use crate::packet_words::KeyWord;
 use rad_packet::read;
 use rad_realms::realm_of_packet;
 use std::fmt::{self, Display};
@@ -78,8 +78,8 @@ impl Realm {
         self.octets.get(..self.count).unwrap_or(&[])
     }
 
-    fn word(&self) -> RealmWord<'_> {
-        RealmWord(self.is_there.then_some(self.octets()))
+    fn word(&self) -> KeyWord<'_> {
+        KeyWord("realm", self.is_there.then_some(self.octets()))
     }
 }
 

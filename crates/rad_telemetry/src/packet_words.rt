@@ -24,13 +24,9 @@ pub struct PacketWords<'a> {
 #[derive(Clone, Copy)]
 pub struct DatagramWords<'a>(pub &'a [u8]);
 
-/// An Acct-Session-Id, with a space before it, if there is one.
+/// A key and its text, with a space before them, if there is such a text.
 #[derive(Clone, Copy)]
-pub struct SessionWord<'a>(pub Option<&'a [u8]>);
-
-/// A realm, with a space before it, if there is one.
-#[derive(Clone, Copy)]
-pub struct RealmWord<'a>(pub Option<&'a [u8]>);
+pub struct KeyWord<'a>(pub &'static str, pub Option<&'a [u8]>);
 
 /// The octets of a text as a log line has them. Printable ASCII is unchanged, except for spaces, `%`, `"` and `=`.
 /// These and all other octets are written as `%` and two hexadecimal digits.
@@ -57,29 +53,19 @@ impl<'a> PacketWords<'a> {
 impl fmt::Display for PacketWords<'_> {
     fn fmt<W: fmt::Write>(&self, f: &mut fmt::Formatter<W>) -> fmt::Result {
         let identifier = self.identifier;
-        let session = SessionWord(self.session);
-        let realm = RealmWord(self.realm);
+        let session = KeyWord("session", self.session);
+        let realm = KeyWord("realm", self.realm);
         write!(f, " identifier={identifier}{session}{realm}")
     }
 }
 
-impl fmt::Display for SessionWord<'_> {
+impl fmt::Display for KeyWord<'_> {
     fn fmt<W: fmt::Write>(&self, f: &mut fmt::Formatter<W>) -> fmt::Result {
-        let Some(session) = self.0 else {
+        let KeyWord(key, Some(text)) = *self else {
             return Ok(());
         };
-        let session = Escaped(session);
-        write!(f, " session={session}")
-    }
-}
-
-impl fmt::Display for RealmWord<'_> {
-    fn fmt<W: fmt::Write>(&self, f: &mut fmt::Formatter<W>) -> fmt::Result {
-        let Some(realm) = self.0 else {
-            return Ok(());
-        };
-        let realm = Escaped(realm);
-        write!(f, " realm={realm}")
+        let text = Escaped(text);
+        write!(f, " {key}={text}")
     }
 }
 

@@ -3,7 +3,7 @@
 ghost use Rattle.std.specs.Prelude.{◌≡◌};
 ghost use Rattle.rad_telemetry.specs.WatchLines.{up_reason};
 
-use crate::packet_words::SessionWord;
+use crate::packet_words::KeyWord;
 use crate::peer_text::ClientText;
 use rad_desk::{Spent, UpReason};
 use std::fmt;
@@ -37,7 +37,7 @@ impl fmt::Display for DownLine<'_> {
         let home = self.home;
         let number = self.spent.number;
         let client = ClientText(self.spent.client);
-        let session = SessionWord(self.session());
+        let session = KeyWord("session", self.session());
         let age = self.spent.age;
         write!(
             f,
