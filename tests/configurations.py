@@ -649,7 +649,7 @@ def texts_that_are_toml():
     ])
 
 
-# The faults of home servers' addresses. Those of addresses that this machine need not have are in library_tests.
+# The faults of home servers' addresses. Those of addresses that a machine need not have are in hostile/addresses.py.
 
 SERVED = "listen serves it, so requests would come back"
 NO_HOST = "no host has this address"

@@ -171,8 +171,7 @@ def of_ledgers():
 def made():
     """What the tests of each crate expect, by the names that it has there."""
     return {
-        "library_tests": of_ledgers(),
-        "test_octets": of_lanes(),
+        "library_tests": {**of_lanes(), **of_ledgers()},
     }
 
 

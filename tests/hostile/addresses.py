@@ -212,14 +212,26 @@ def test_later_address(program, folder):
 def test_homes_at_this_machine(program, folder):
     """A home server at an address of the machine is told where `listen` is at its port of all of them, and nowhere else."""
     every, one, other = f"0.0.0.0:{PORT}", f"{SERVED[2]}:{PORT}", f"{SERVED[3]}:{PORT}"
-    file = pathlib.Path(folder, "proxy.toml")
     for listen, home, is_told in [(every, one, True), (every, other, True), (every, f"{SERVED[3]}:{PORT + 1}", False),
                                   (every, f"10.77.0.9:{PORT}", False), (one, other, False)]:
-        file.write_text(f'listen = "{listen}"\n[[client]]\naddress = "{NASES[0]}"\nsecret = "s"\n'
-                        f'[[home]]\nname = "h"\naddress = "{home}"\nsecret = "s"\n', "utf-8")
-        ran = subprocess.run([program, "check", str(file)], capture_output=True, text=True, env=environment("warn"))
-        line = f'level=warn event=home-address reason="home h at {home}: listen serves it, so requests would come back"\n'
-        hope(f"{home} with {listen}", (ran.stdout, ran.stderr), ("clients 1 homes 1 realms 0\n", line if is_told else ""))
+        check_homes(program, folder, listen, [home], [0] if is_told else [])
+
+
+def test_several_homes_at_this_machine(program, folder):
+    """Of several home servers each at an address of the machine is told, in their order, and no other."""
+    homes = [f"{SERVED[2]}:{PORT}", f"{SERVED[3]}:{PORT}", f"{SERVED[2]}:{PORT - 1}", f"10.77.0.9:{PORT}", f"{SERVED[0]}:{PORT}"]
+    check_homes(program, folder, f"0.0.0.0:{PORT}", homes, [0, 1, 4])
+
+
+def check_homes(program, folder, listen, homes, told):
+    """Has the program check a configuration with these home servers, of which it has to tell those at these places."""
+    tables = "".join(f'[[home]]\nname = "h{place}"\naddress = "{home}"\nsecret = "s"\n' for place, home in enumerate(homes))
+    file = pathlib.Path(folder, "proxy.toml")
+    file.write_text(f'listen = "{listen}"\n[[client]]\naddress = "{NASES[0]}"\nsecret = "s"\n{tables}', "utf-8")
+    ran = subprocess.run([program, "check", str(file)], capture_output=True, text=True, env=environment("warn"))
+    reasons = (f"home h{place} at {homes[place]}: listen serves it, so requests would come back" for place in told)
+    lines = "".join(f'level=warn event=home-address reason="{reason}"\n' for reason in reasons)
+    hope(f"{homes} with {listen}", (ran.stdout, ran.stderr), (f"clients 1 homes {len(homes)} realms 0\n", lines))
 
 
 def test_port_is_taken(program, folder):

@@ -4,5 +4,4 @@
 
 mod answers;
 mod example;
-mod leaving;
 mod taking;

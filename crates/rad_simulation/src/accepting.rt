@@ -53,17 +53,23 @@ impl Book {
         }
         self.last = now;
         let number = self.accepted();
-        let asked = Asked {
+        self.keep(from, packet)?;
+        Ok(Taking::New(number))
+    }
+
+    /// Keeps a request that is accepted at the last moment.
+    fn keep(&mut self, from: Endpoint, packet: &PacketRef<'_>) -> Result<(), Rule> {
+        let text = packet.octets().to_vec(self.alloc)?;
+        self.asked.push(Asked {
             from,
             identifier: packet.identifier(),
             authenticator: packet.authenticator(),
-            moment: now,
-            text: packet.octets().to_vec(self.alloc)?,
+            moment: self.last,
+            text,
             answered: None,
             response: Vec::new(self.alloc),
-        };
-        self.asked.push(asked)?;
-        Ok(Taking::New(number))
+        })?;
+        Ok(())
     }
 
     /// Returns what becomes of a repeat of a request, or `None` if that request is over.

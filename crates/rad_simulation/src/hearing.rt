@@ -1,14 +1,13 @@
 //! How a lane hears a datagram of its home server, by the rules.
 
 use crate::book::{Book, Out, place_of};
-use crate::making::{last_value, response};
+use crate::making::{last_value, mark_value, response};
 use crate::rules::Rule;
 use crate::setting::client_secret;
 use rad_auth::{ACCOUNTING_RESPONSE, MESSAGE_AUTHENTICATOR, PROXY_STATE, check_response};
 use rad_desk::DeskFault;
 use rad_lane::HearFault;
 use rad_packet::{PacketRef, read};
-use test_octets::mark_value;
 
 /// What became of a datagram of the home server.
 #[derive(Clone, Copy)]
@@ -78,19 +77,28 @@ impl Book {
     fn heard(&mut self, now: u64, place: usize, reply: &PacketRef<'_>) -> Result<Hearing, Rule> {
         self.last = now;
         let heard = match self.number_at(place) {
-            Some(number) => {
-                self.answer(now, number, reply)?;
-                let serial = self.answers.len() as u64;
-                self.answers.push(number)?;
-                self.remove_out(place);
-                Hearing::Answer(serial)
-            }
+            Some(number) => self.replied(now, place, number, reply)?,
             None => Hearing::ProbeAnswered,
         };
         if self.down.is_some() {
             self.go_up(now);
         }
         Ok(heard)
+    }
+
+    /// Keeps the reply to the outstanding request of a number, at a place.
+    fn replied(
+        &mut self,
+        now: u64,
+        place: usize,
+        number: u64,
+        reply: &PacketRef<'_>,
+    ) -> Result<Hearing, Rule> {
+        self.answer(now, number, reply)?;
+        let serial = self.answers.len() as u64;
+        self.answers.push(number)?;
+        self.remove_out(place);
+        Ok(Hearing::Answer(serial))
     }
 
     /// Returns the number of the outstanding request at a place.

@@ -78,7 +78,14 @@ fn run_all<R: AllocGlobal + Print + Wait>(rt: &R, first: u64, count: u64) -> u8 
 fn seeds<R: Env + AllocGlobal>(rt: &R) -> Option<(u64, u64)> {
     let arguments = env::args(rt).ok()?;
     let words: Vec<String> = arguments.collect(rt.alloc()).ok()?;
-    let first = words.as_slice().get(1)?.as_str().parse::<u64>().ok()?;
-    let count = words.as_slice().get(2)?.as_str().parse::<u64>().ok()?;
-    Some((first, count))
+    seeds_of(words.as_slice())
+}
+
+/// Returns the two numbers behind the name of the program.
+fn seeds_of(words: &[String]) -> Option<(u64, u64)> {
+    Some((number_at(words, 1)?, number_at(words, 2)?))
+}
+
+fn number_at(words: &[String], place: usize) -> Option<u64> {
+    words.get(place)?.as_str().parse::<u64>().ok()
 }

@@ -2,10 +2,9 @@
 
 use rad_auth::{
     ACCOUNTING_REQUEST, ACCOUNTING_RESPONSE, MESSAGE_AUTHENTICATOR, PROXY_STATE, STATUS_SERVER,
-    Secret, hmac_md5,
+    Secret, hmac_md5, request_authenticator, response_authenticator,
 };
 use rad_packet::{Datagram, PacketRef};
-use test_octets::{sign_request, sign_response};
 
 /// The Type of a User-Name (RFC 2865 section 5.1).
 pub const USER_NAME: u8 = 1;
@@ -26,6 +25,26 @@ pub fn begun(code: u8, identifier: u8, authenticator: [u8; 16]) -> Datagram {
 /// Adds an attribute, if it fits.
 pub fn push(datagram: &mut Datagram, kind: u8, value: &[u8]) {
     let _ = datagram.push(kind, value);
+}
+
+/// Returns the value of a mark: the lane's number and the request's.
+pub fn mark_value(lane: u16, number: u64) -> [u8; 10] {
+    let mut value = [0; 10];
+    value[..2].copy_from_slice(&lane.to_be_bytes());
+    value[2..].copy_from_slice(&number.to_be_bytes());
+    value
+}
+
+/// Signs a request.
+pub fn sign_request(datagram: &mut Datagram, secret: &Secret) {
+    let authenticator = request_authenticator(&datagram.packet(), secret);
+    datagram.set_authenticator(authenticator);
+}
+
+/// Signs an answer to a packet with this Authenticator.
+pub fn sign_response(datagram: &mut Datagram, asked: &[u8; 16], secret: &Secret) {
+    let authenticator = response_authenticator(&datagram.packet(), asked, secret);
+    datagram.set_authenticator(authenticator);
 }
 
 /// Returns the packet that goes to a home server for a request: the request's attributes and the mark, under an

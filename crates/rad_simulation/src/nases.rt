@@ -2,14 +2,15 @@
 
 use crate::chance::Chance;
 use crate::events::Mail;
-use crate::making::{ACCT_SESSION_ID, CLASS, USER_NAME, begun, push, status_server};
+use crate::making::{
+    ACCT_SESSION_ID, CLASS, USER_NAME, begun, mark_value, push, sign_request, status_server,
+};
 use crate::rules::Rule;
 use crate::setting::{Setting, client_address, client_secret, realm_of_home};
 use rad_auth::{ACCOUNTING_REQUEST, MESSAGE_AUTHENTICATOR, PROXY_STATE, Secret};
 use rad_packet::Datagram;
 use rad_realms::Endpoint;
 use std::alloc::Global;
-use test_octets::{mark_value, sign_request};
 
 /// How many of the last datagrams are kept, so that they may be sent again.
 const KEPT: usize = 24;

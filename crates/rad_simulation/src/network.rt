@@ -2,7 +2,7 @@
 
 use crate::chance::Chance;
 use crate::events::{Came, Gone, Mail};
-use crate::making::{CLASS, begun, push};
+use crate::making::{CLASS, begun, push, sign_response};
 use crate::nases::turn_a_bit;
 use crate::rules::Rule;
 use crate::setting::{Home, Setting};
@@ -11,7 +11,6 @@ use rad_auth::{ACCOUNTING_RESPONSE, MESSAGE_AUTHENTICATOR, PROXY_STATE, STATUS_S
 use rad_packet::{Datagram, PacketRef, read};
 use rad_realms::Endpoint;
 use std::alloc::Global;
-use test_octets::sign_response;
 
 /// A datagram on its way to the proxy.
 #[derive(Drop)]

@@ -144,12 +144,18 @@ impl Run {
         }
     }
 
-    /// Runs a proxy with the configuration that the setting's text describes.
+    /// Runs a proxy with the setting's configuration.
     fn serve_text(&mut self, rt: &impl Wait) -> Result<(), Rule> {
+        let config = self.config()?;
+        self.serve(rt, &config)
+    }
+
+    /// Returns the configuration that the setting's text describes.
+    fn config(&self) -> Result<Config, Rule> {
         let setting = &self.setting;
         let text = format!(in self.alloc; "{setting}")?;
         match read_config(self.alloc, text.as_str()) {
-            Ok(config) => self.serve(rt, &config),
+            Ok(config) => Ok(config),
             Err(_) => Err(Rule::CONFIGURATION),
         }
     }

@@ -1,10 +1,9 @@
 //! The steps of a lane, by the rules.
 
 use crate::book::{Book, Down, Out};
-use crate::making::{forwarded, status_server};
+use crate::making::{forwarded, mark_value, status_server};
 use crate::rules::Rule;
 use rad_packet::read;
-use test_octets::mark_value;
 
 /// The longest wait for an answer, in milliseconds.
 const LONGEST_WAIT: u64 = 120_000;

@@ -2,19 +2,20 @@
 
 use crate::comparing::holds_at;
 use crate::desk::setting::{CLIENT, config};
-use crate::desk::wires::start;
+use crate::homes::REPLY;
+use crate::nas::REQUEST;
 use rad_desk::{CloseFault, Inlet, LaneEnd, Proxy, Report, Rest, Told, open};
 use rad_lane::{Action, Taken};
 use rad_packet::Datagram;
 use rad_realms::{Config, Incoming, check_in};
+use rad_tables::Moment;
 use std::alloc::{AllocError, Global};
+use std::process::Abort;
 use std::sync::Wait;
 use std::test::Fail;
-use test_octets::homes::REPLY;
-use test_octets::nas::REQUEST;
 
 /// How many responses were left of each of two lanes, or `None` where they are not known.
-pub type Left = (Option<usize>, Option<usize>);
+type Left = (Option<usize>, Option<usize>);
 
 /// What becomes of a proxy's inlets before it is closed.
 #[derive(Clone, Copy)]
@@ -72,6 +73,11 @@ const ENDS: &[End] = &[
     },
 ];
 
+/// The moment at which all is done.
+fn start() -> Moment {
+    Moment::new(0).unwrap()
+}
+
 /// Has the first lane answer a request. Returns false if it does not, as where memory is refused.
 fn is_answered(rt: &impl Wait, alloc: Global, proxy: &Proxy, config: &Config) -> bool {
     let mut datagram = Datagram::new();
@@ -81,9 +87,9 @@ fn is_answered(rt: &impl Wait, alloc: Global, proxy: &Proxy, config: &Config) ->
             let taken = proxy.accept(rt, alloc, &request, start(), &mut datagram);
             let action = proxy.step(rt, 0, start(), [0; 16], &mut datagram);
             let told = proxy.hear(rt, alloc, 0, start(), 0, &REPLY);
-            taken == Ok(Taken::New(0))
+            matches!(taken, Ok(Taken::New(0)))
                 && matches!(action, Action::Sent(0, _))
-                && told == Ok(Told::Answer(0))
+                && matches!(told, Ok(Told::Answer(0)))
         }
         _ => false,
     }
@@ -136,7 +142,7 @@ fn left_of(report: &Report) -> Option<Left> {
 }
 
 /// Closes a proxy, and returns how many responses were left of each lane.
-pub fn close_and_count(alloc: Global, proxy: Proxy, inlets: Vec<Inlet>) -> Option<Left> {
+fn close_and_count(alloc: Global, proxy: Proxy, inlets: Vec<Inlet>) -> Option<Left> {
     match close(alloc, proxy, inlets) {
         Ok(report) => {
             let left = left_of(&report);
@@ -169,13 +175,23 @@ fn come_to(
     }
 }
 
+/// Has a proxy come to each end.
+fn come_to_each<R: Abort + Wait>(
+    rt: &R,
+    alloc: Global,
+    config: &Config,
+    kept: &mut Vec<Inlet>,
+) -> Result<(), Fail> {
+    for (place, wanted) in ENDS.iter().enumerate() {
+        let left = come_to(rt, alloc, config, wanted, kept)?;
+        holds_at(rt, place, left == Some(wanted.left));
+    }
+    Ok(())
+}
+
 #[test]
 fn what_is_left_is_told_again_after_a_refused_growth(rt: HostRuntime) -> Result<(), Fail> {
     let config = config(rt.alloc())?;
     let mut kept = Vec::new(rt.alloc());
-    for (place, wanted) in ENDS.iter().enumerate() {
-        let left = come_to(&rt, rt.alloc(), &config, wanted, &mut kept)?;
-        holds_at(&rt, place, left == Some(wanted.left));
-    }
-    Ok(())
+    come_to_each(&rt, rt.alloc(), &config, &mut kept)
 }

@@ -1,4 +1,4 @@
-//! The configuration of the tests, and the endpoints of those who send.
+//! The configuration of the tests, and the endpoint of its client.
 
 use rad_realms::{Config, Endpoint, read_config};
 use std::alloc::Global;
@@ -31,12 +31,6 @@ secret = "other-secret"
 pub const CLIENT: Endpoint = Endpoint {
     address: [10, 0, 0, 1],
     port: 40_000,
-};
-
-/// The endpoint of the first home server.
-pub const HOME: Endpoint = Endpoint {
-    address: [127, 0, 0, 1],
-    port: 2813,
 };
 
 /// Returns the tests' configuration.

@@ -1,13 +1,13 @@
 //! Whether a lane takes requests that were checked by another configuration than its own. No row shows that, since a
 //! script has one configuration.
 
-use super::example::{checked, lane_of, takes};
-use super::leaving::discard;
+use super::example::{checked, end, lane_of, takes};
 use crate::comparing::holds_at;
+use crate::nas::{OTHER_REQUEST, SEVENTH};
 use rad_realms::{Config, read_config};
 use std::alloc::Global;
+use std::process::Abort;
 use std::test::Fail;
-use test_octets::nas::{OTHER_REQUEST, SEVENTH};
 
 /// A configuration whose home server has one realm.
 const ONE_REALM: &str = r#"
@@ -73,23 +73,43 @@ const CHECKED_ELSEWHERE: &[(&str, &[u8], bool)] = &[
 ];
 
 /// Returns whether a new lane takes a request that is checked by another configuration.
-fn new_lane_takes(alloc: Global, text: &str, other: &Config, request: &[u8]) -> Result<bool, Fail> {
-    let config = read_config(alloc, text)?;
-    let lane = lane_of(alloc, &config)?;
+fn new_lane_takes(
+    alloc: Global,
+    config: &Config,
+    other: &Config,
+    request: &[u8],
+) -> Result<bool, Fail> {
+    let lane = lane_of(alloc, config)?;
     let is_taken = match checked(other, request) {
         Some(request) => takes(&lane, &request),
         None => false,
     };
-    discard(lane.close());
+    end(lane);
     Ok(is_taken)
+}
+
+/// Returns the same of the lane of a configuration's text.
+fn lane_of_text_takes(
+    alloc: Global,
+    text: &str,
+    other: &Config,
+    request: &[u8],
+) -> Result<bool, Fail> {
+    let config = read_config(alloc, text)?;
+    new_lane_takes(alloc, &config, other, request)
+}
+
+/// Checks each request of the table.
+fn takes_each(rt: &impl Abort, alloc: Global, turned: &Config) -> Result<(), Fail> {
+    for (place, (text, request, wanted)) in CHECKED_ELSEWHERE.iter().enumerate() {
+        let is_taken = lane_of_text_takes(alloc, text, turned, request)?;
+        holds_at(rt, place, is_taken == *wanted);
+    }
+    Ok(())
 }
 
 #[test]
 fn takes_requests_that_were_checked_elsewhere(rt: HostRuntime) -> Result<(), Fail> {
     let turned = read_config(rt.alloc(), TURNED)?;
-    for (place, (text, request, wanted)) in CHECKED_ELSEWHERE.iter().enumerate() {
-        let is_taken = new_lane_takes(rt.alloc(), text, &turned, request)?;
-        holds_at(&rt, place, is_taken == *wanted);
-    }
-    Ok(())
+    takes_each(&rt, rt.alloc(), &turned)
 }

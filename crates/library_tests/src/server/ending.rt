@@ -2,6 +2,7 @@
 //! input nor a lane is waited for. An interrupted read ends nothing.
 
 use crate::comparing::holds;
+use crate::nas::SEVENTH;
 use crate::server::gates::Ending;
 use rad_addresses::LocalAddresses;
 use rad_console::EndLine;
@@ -18,7 +19,6 @@ use std::sync::Wait;
 use std::test::Fail;
 use std::thread::{self, Threads};
 use std::time::{Clock, Duration};
-use test_octets::nas::SEVENTH;
 
 /// A client and two home servers on this machine. A lane that holds a request is waited for longer than a test may take.
 const TWO_HOMES: &str = r#"
@@ -120,10 +120,12 @@ where
     is_told(ran, worker) && is_right
 }
 
-#[test]
-fn a_worker_that_ends_ends_the_wait_for_input(rt: HostRuntime) -> Result<(), Fail> {
-    let (reader, _silent) = UnixStream::pair(&rt)?;
-    let config = read_config(rt.alloc(), TWO_HOMES)?;
+/// Serves with an input on which nothing comes, and has each worker end in turn. Returns whether the end of each is reported.
+fn each_ends<R>(rt: &R, alloc: Global, config: &Config) -> Result<bool, Fail>
+where
+    R: Clock + Net + RandomSource + Threads + Wait + Sync,
+{
+    let (reader, _silent) = UnixStream::pair(rt)?;
     let input = Descriptors {
         input: Some(reader.as_raw_fd()),
         output: None,
@@ -131,35 +133,42 @@ fn a_worker_that_ends_ends_the_wait_for_input(rt: HostRuntime) -> Result<(), Fai
     let mut is_right = true;
     for worker in WORKERS {
         let gate = Ending::new(*worker, true);
-        is_right &= ends(&rt, rt.alloc(), &config, &gate, *worker, &reader, input);
+        is_right &= ends(rt, alloc, config, &gate, *worker, &reader, input);
     }
-    drop(config);
-    holds(&rt, is_right);
-    Ok(())
+    Ok(is_right)
 }
 
 #[test]
-fn a_worker_that_ends_while_a_lane_is_waited_for_is_told(rt: HostRuntime) -> Result<(), Fail> {
-    let socket = UdpSocket::bind(&rt, SocketAddr::from((Ipv4Addr::LOCALHOST, 0)))?;
+fn a_worker_that_ends_ends_the_wait_for_input(rt: HostRuntime) -> Result<(), Fail> {
     let config = read_config(rt.alloc(), TWO_HOMES)?;
+    let is_right = each_ends(&rt, rt.alloc(), &config);
+    drop(config);
+    holds(&rt, is_right?);
+    Ok(())
+}
+
+/// Serves a client, and has the first lane end once it holds a request. Returns whether that end is reported.
+fn first_lane_ends<R>(rt: &R, alloc: Global, config: &Config) -> Result<bool, Fail>
+where
+    R: Clock + Net + RandomSource + Threads + Wait + Sync,
+{
+    let socket = UdpSocket::bind(rt, SocketAddr::from((Ipv4Addr::LOCALHOST, 0)))?;
     let gate = Ending::new(Worker::Lane(0), false);
     let client = Client {
-        clock: &rt,
+        clock: rt,
         socket: &socket,
         gate: &gate,
         looks: LOOKS,
     };
     let none = Descriptors::none();
-    let is_right = ends(
-        &rt,
-        rt.alloc(),
-        &config,
-        &gate,
-        Worker::Lane(0),
-        client,
-        none,
-    );
+    Ok(ends(rt, alloc, config, &gate, Worker::Lane(0), client, none))
+}
+
+#[test]
+fn a_worker_that_ends_while_a_lane_is_waited_for_is_told(rt: HostRuntime) -> Result<(), Fail> {
+    let config = read_config(rt.alloc(), TWO_HOMES)?;
+    let is_right = first_lane_ends(&rt, rt.alloc(), &config);
     drop(config);
-    holds(&rt, is_right);
+    holds(&rt, is_right?);
     Ok(())
 }

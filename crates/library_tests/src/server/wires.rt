@@ -5,10 +5,14 @@ ghost use Rattle.std.specs.Prelude.{Some};
 use crate::comparing::holds;
 use crate::server::gates::Ending;
 use rad_desk::{Delivery, Received, Traffic, Wire, Worker};
-use rad_realms::read_config;
+use rad_realms::{Config, read_config};
 use rad_server::{Notifiers, Wires, serve};
 use rad_tables::Moment;
+use std::alloc::Global;
+use std::sync::Wait;
 use std::test::Fail;
+use std::thread::Threads;
+use std::time::Clock;
 
 /// A configuration of one client and one home server.
 const ONE_HOME: &str = r#"
@@ -66,28 +70,47 @@ impl Quiet {
     }
 }
 
-#[test]
-fn wires_in_memory_are_served(rt: HostRuntime) -> Result<(), Fail> {
-    let alloc = rt.alloc();
+/// Serves quiet wires, and returns whether the end is clean.
+fn ends_clean<R: Clock + Threads + Wait + Sync>(
+    rt: &R,
+    alloc: Global,
+    config: &Config,
+    printed: &mut Vec<u8>,
+) -> Result<bool, Fail> {
     let lanes = Vec::from_array(alloc, [Quiet::new()])?;
     let front = Quiet::new();
-    let wires = Wires { front, lanes };
-    let config = read_config(alloc, ONE_HOME)?;
     let gate = Ending::new(Worker::Front, false);
-    let mut printed = Vec::new(alloc);
     let served = serve(
-        &rt,
+        rt,
         alloc,
-        &config,
-        wires,
+        config,
+        Wires { front, lanes },
         &Notifiers::none(alloc),
         &gate,
         b"state\nturn\n".as_slice(),
-        &mut printed,
+        printed,
     );
+    Ok(matches!(served, Ok(end) if end.is_clean()))
+}
+
+/// Serves quiet wires, and returns whether the end is clean and all is printed.
+fn is_served<R: Clock + Threads + Wait + Sync>(
+    rt: &R,
+    alloc: Global,
+    config: &Config,
+) -> Result<bool, Fail> {
+    let mut printed = Vec::new(alloc);
+    let is_clean = ends_clean(rt, alloc, config, &mut printed);
     let is_right = printed.as_slice() == PRINTED;
     drop(printed);
+    Ok(is_clean? && is_right)
+}
+
+#[test]
+fn wires_in_memory_are_served(rt: HostRuntime) -> Result<(), Fail> {
+    let config = read_config(rt.alloc(), ONE_HOME)?;
+    let is_right = is_served(&rt, rt.alloc(), &config);
     drop(config);
-    holds(&rt, is_right && matches!(served, Ok(end) if end.is_clean()));
+    holds(&rt, is_right?);
     Ok(())
 }
