@@ -113,6 +113,17 @@ def of_lanes():
     }
 
 
+def of_services():
+    """What goes to and fro between a NAS and two lanes of one service."""
+    client, home, second_home = b"nas-secret", b"home-secret", b"home2-secret"
+    net = user_name(b"bob@example.net")
+    return {
+        "NET_REQUEST": request(9, net, client),
+        "SEVENTH_REPLY": answer(request(0, SESSION + mark(0, 0), home), 0, mark(0, 0), home),
+        "NET_REPLY": answer(request(0, net + mark(1, 0), second_home), 0, mark(1, 0), second_home),
+    }
+
+
 def classes(octets):
     """Class attributes of so many octets in all: each has 128, but for the last."""
     whole = max(octets // 128 - 1, 0)
@@ -171,7 +182,7 @@ def of_ledgers():
 def made():
     """What the tests of each crate expect, by the names that it has there."""
     return {
-        "library_tests": {**of_lanes(), **of_ledgers()},
+        "library_tests": {**of_lanes(), **of_services(), **of_ledgers()},
     }
 
 
