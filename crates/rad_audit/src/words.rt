@@ -48,12 +48,21 @@ fn words_of<'a>(alloc: Global, matches: &ArgMatches<'a>) -> Result<Words<'a>, Fa
 
 /// Returns the words that the program takes.
 fn command<'a>(alloc: Global) -> Result<Command<'a>, AllocError> {
-    let config = Arg::new(alloc, "CONFIG")
+    let command = Command::new(alloc, "rad_audit").arg(config_word(alloc))?;
+    command.arg(file_words(alloc))
+}
+
+/// Returns the word CONFIG, which is required.
+fn config_word<'a>(alloc: Global) -> Arg<'a> {
+    Arg::new(alloc, "CONFIG")
         .required(true)
-        .action(ArgAction::Set);
-    let files = Arg::new(alloc, "FILE")
+        .action(ArgAction::Set)
+}
+
+/// Returns the words FILE, of which one is required.
+fn file_words<'a>(alloc: Global) -> Arg<'a> {
+    Arg::new(alloc, "FILE")
         .required(true)
         .num_args(1..)
-        .action(ArgAction::Append);
-    Command::new(alloc, "rad_audit").arg(config)?.arg(files)
+        .action(ArgAction::Append)
 }

@@ -59,10 +59,19 @@ fn read_file_word(alloc: Global, matches: &ArgMatches) -> Result<String, Fault> 
 
 /// Returns the words that the program takes.
 fn command<'a>(alloc: Global) -> Result<Command<'a>, AllocError> {
-    let program = Command::new(alloc, "rad_proxy");
-    let program = program.subcommand(Command::new(alloc, "replay"))?;
-    let program = program.subcommand(command_of_file(alloc, "check")?)?;
-    program.subcommand(command_of_file(alloc, "run")?)
+    let program = Command::new(alloc, "rad_proxy").subcommand(Command::new(alloc, "replay"))?;
+    let program = with_file(alloc, program, "check")?;
+    with_file(alloc, program, "run")
+}
+
+/// Adds a command of this name, with the word FILE after it, to a program.
+fn with_file<'a>(
+    alloc: Global,
+    program: Command<'a>,
+    name: &'a str,
+) -> Result<Command<'a>, AllocError> {
+    let command = command_of_file(alloc, name)?;
+    program.subcommand(command)
 }
 
 /// Returns a command of this name, with the word FILE after it.

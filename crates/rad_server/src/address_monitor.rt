@@ -1,5 +1,6 @@
 //! Looking for addresses that this machine gets after the start.
 
+use crate::lingering::has_passed;
 use rad_addresses::{KnownAddresses, LocalAddresses};
 use rad_desk::Gate;
 use std::alloc::Global;
@@ -64,11 +65,8 @@ impl<R: Clock, G: Gate, A: LocalAddresses> AddressMonitor<'_, R, G, A> {
 
     /// Returns whether the last read is at least [`LOOK`] seconds ago. If there was none, or the clock fails, it is.
     fn is_due(&self) -> bool {
-        match &self.looked {
-            Some(last) => match last.elapsed(self.clock) {
-                Ok(passed) => passed >= Duration::from_secs(LOOK),
-                Err(_) => true,
-            },
+        match self.looked {
+            Some(last) => has_passed(self.clock, last, Duration::from_secs(LOOK)),
             None => true,
         }
     }
