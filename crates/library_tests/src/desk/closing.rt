@@ -1,14 +1,13 @@
 //! The end of a proxy: what is known of the responses that are left, by the inlets that it is closed with.
 
 use crate::comparing::holds_at;
-use crate::desk::setting::{CLIENT, config};
+use crate::desk::setting::{CLIENT, config, start};
 use crate::homes::REPLY;
 use crate::nas::REQUEST;
 use rad_desk::{CloseFault, Inlet, LaneEnd, Proxy, Report, Rest, Told, open};
 use rad_lane::{Action, Taken};
 use rad_packet::Datagram;
 use rad_realms::{Config, Incoming, check_in};
-use rad_tables::Moment;
 use std::alloc::{AllocError, Global};
 use std::process::Abort;
 use std::sync::Wait;
@@ -73,11 +72,6 @@ const ENDS: &[End] = &[
     },
 ];
 
-/// The moment at which all is done.
-fn start() -> Moment {
-    Moment::new(0).unwrap()
-}
-
 /// Has the first lane answer a request. Returns false if it does not, as where memory is refused.
 fn is_answered(rt: &impl Wait, alloc: Global, proxy: &Proxy, config: &Config) -> bool {
     let mut datagram = Datagram::new();
@@ -118,7 +112,7 @@ fn is_changed(change: Change, inlets: &mut Vec<Inlet>, kept: &mut Vec<Inlet>) ->
 }
 
 /// Closes a proxy, again if memory was refused.
-fn close(alloc: Global, proxy: Proxy, inlets: Vec<Inlet>) -> Result<Report, CloseFault> {
+pub fn close(alloc: Global, proxy: Proxy, inlets: Vec<Inlet>) -> Result<Report, CloseFault> {
     match proxy.close(alloc, inlets) {
         Err(CloseFault::OutOfMemory(proxy, inlets)) => proxy.close(alloc, inlets.into_vec()),
         closed => closed,

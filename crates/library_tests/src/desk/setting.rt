@@ -1,6 +1,7 @@
-//! The configuration of the tests, and the endpoint of its client.
+//! The configuration of the tests, the endpoint of its client, and the moment.
 
 use rad_realms::{Config, Endpoint, read_config};
+use rad_tables::Moment;
 use std::alloc::Global;
 use std::test::Fail;
 
@@ -36,4 +37,9 @@ pub const CLIENT: Endpoint = Endpoint {
 /// Returns the tests' configuration.
 pub fn config(alloc: Global) -> Result<Config, Fail> {
     Ok(read_config(alloc, TEXT)?)
+}
+
+/// The moment at which all is done.
+pub fn start() -> Moment {
+    Moment::new(0).unwrap()
 }
