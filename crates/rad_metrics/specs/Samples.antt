@@ -48,16 +48,10 @@ inside_text (labels.HomeBound lane home bound) = home_and lane home.now (more.Bo
 inside_text (labels.Socket at) = codes "side=\"clients\",socket=\"" ++ endpoint_text at ++ codes "\""
 inside_text (labels.HomeSocket lane home place) = home_and lane home.now (more.Port place)
 
+-- The labels of a sample, in braces; nothing where it has none.
 abbrev pub labels_text : Labels → List ℕ
 labels_text labels.None = codes ""
-labels_text (labels.Version version) = codes "{version=\"" ++ version.now ++ codes "\"}"
-labels_text (labels.Client address) = codes "{" ++ client_label address ++ codes "}"
-labels_text (labels.ClientReason address event) = codes "{" ++ client_label address ++ codes "," ++ reason_label event ++ codes "}"
-labels_text (labels.Home lane home) = codes "{" ++ home_labels lane home.now ++ codes "}"
-labels_text (labels.HomeUp lane home why) = codes "{" ++ home_labels lane home.now ++ codes ",reason=\"" ++ up_text why ++ codes "\"}"
-labels_text (labels.HomeBound lane home bound) = codes "{" ++ home_labels lane home.now ++ codes ",le=\"" ++ bound.now ++ codes "\"}"
-labels_text (labels.Socket at) = codes "{side=\"clients\",socket=\"" ++ endpoint_text at ++ codes "\"}"
-labels_text (labels.HomeSocket lane home place) = codes "{" ++ home_labels lane home.now ++ codes ",port=\"" ++ decimal place ++ codes "\"}"
+labels_text labels = codes "{" ++ inside_text labels ++ codes "}"
 
 -- A sample: its name, its labels and its value.
 abbrev pub sample_line : Sample → List ℕ

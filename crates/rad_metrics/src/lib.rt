@@ -21,6 +21,7 @@ mod draft;
 mod family;
 mod histogram;
 mod home_cells;
+mod home_family;
 mod home_number;
 mod home_times;
 mod ledger_fault;

@@ -6,7 +6,7 @@ use std::io::{Error, ErrorKind};
 
 /// Why a service ends early. The workers have ended by then. By itself the service drains the lanes only at the end of
 /// the input: an earlier fault leaves them as they are.
-#[derive(Clone, Copy)]
+#[derive(Clone, Copy, Debug, PartialEq, Eq)]
 pub enum ServeFault {
     /// The socket for the clients can't be bound to this address and port, or can't be set up.
     Listen(Endpoint),

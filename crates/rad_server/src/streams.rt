@@ -20,7 +20,7 @@ const MOST_OF_TERMINAL: usize = 1;
 const NOTHING: RawFd = -1;
 
 /// The descriptors on which the reader and the writer may wait; `None` for one that never waits.
-#[derive(Clone, Copy)]
+#[derive(Clone, Copy, Debug, PartialEq, Eq)]
 pub struct Descriptors {
     /// The descriptor that the reader reads from.
     pub input: Option<RawFd>,
