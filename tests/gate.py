@@ -12,8 +12,8 @@ usage: gate.py PROGRAM
 `rt ci` runs one check for each processor, as far as memory suffices, each as one process: a check that is shared by several
 processes takes a fifth to a third more processor time. It takes that from the variable RT_JOBS, which stays as it is where it is set.
 
-What `rt ci` says goes to out/gate.txt, what each script of SCRIPTS says to out/NAME.txt, and what each crate took, as a
-table in Markdown, to out/times.md. Where `rt ci` passed, out/rad_proxy.stamp says that the program is built, and of when the
+What `rt ci` says goes to out/gate.txt, what each script of SCRIPTS says to out/NAME.txt, and what each crate and each script
+took, as tables in Markdown, to out/times.md. Where `rt ci` passed, out/rad_proxy.stamp says that the program is built, and of when the
 sources are that it was built from. The last line is `N passed, M failed`, of all of it together; what ends badly or
 without such a line of its own counts as a failure.
 """
@@ -96,29 +96,43 @@ def counted(status, log):
 
 
 def told_by(name, program):
-    """Runs one of the scripts, whose output goes to its log and is shown at its end, and gives what passed and what failed."""
+    """Runs one of the scripts, whose output goes to its log and is shown at its end. Gives what passed, what failed and the seconds."""
     log, (script, word) = TOP / "out" / f"{name}.txt", SCRIPTS[name]
     words = [sys.executable, str(TOP / "tests" / script), program if word == "PROGRAM" else word]
+    began = time.time()
     with log.open("w", encoding="utf-8") as kept:
         status = subprocess.run(words, stdout=kept).returncode
     print(f"{name}: {log.read_text('utf-8', 'replace')}", end="", flush=True)
-    return counted(status, log)
+    return *counted(status, log), time.time() - began
 
 
 def told_by_all(program):
-    """What passed and what failed of each script: first of those that run two at a time, then of those that run alone."""
+    """What `told_by` gives of each script, by its name: first of those that run two at a time, then of those that run alone."""
     with ThreadPoolExecutor(2) as pool:
-        together = [pool.submit(told_by, name, program) for name in SCRIPTS if name not in ALONE]
-    return [*(it.result() for it in together), *(told_by(name, program) for name in SCRIPTS if name in ALONE)]
+        together = {name: pool.submit(told_by, name, program) for name in SCRIPTS if name not in ALONE}
+    return {name: it.result() for name, it in together.items()} | {name: told_by(name, program) for name in SCRIPTS if name in ALONE}
+
+
+def processor_minutes():
+    """The processor time of all that ran so far."""
+    used = resource.getrusage(resource.RUSAGE_CHILDREN)
+    return (used.ru_utime + used.ru_stime) / 60
 
 
 def taken(watch):
     """What each crate took, as a table, with the processor time of all that ran so far."""
-    used = resource.getrusage(resource.RUSAGE_CHILDREN)
-    minutes = (used.ru_utime + used.ru_stime) / 60
     head = "Processor seconds, and in brackets the seconds that passed:"
-    tail = f"With the runs of tests and of the program, all of it took {minutes:.0f} processor minutes."
+    tail = f"With the runs of tests and of the program, all of it took {processor_minutes():.0f} processor minutes."
     return "\n".join([head, "", *watch.table(), "", tail, ""])
+
+
+def taken_by_scripts(told, began):
+    """How long each script took, the longest first, and what the whole gate took."""
+    rows = sorted(((seconds, name) for name, (_, _, seconds) in told.items()), reverse=True)
+    shown = [f"| {name} | {seconds:.0f} | {'alone' if name in ALONE else ''} |" for seconds, name in rows]
+    minutes = f"{processor_minutes():.0f} processor minutes, and {(time.time() - began) / 60:.0f} minutes passed"
+    tail = f"With the scripts, all of it took {minutes}."
+    return "\n".join(["", "| script | seconds that passed | |", "|---|---|---|", *shown, "", tail, ""])
 
 
 def main():
@@ -134,7 +148,10 @@ def main():
         os.utime(stamp, (began, began))
     times.write_text(taken(watch))
     print(f"what each crate took stands in {times}", flush=True)
-    counts = [counted(status, gate), *told_by_all(sys.argv[1])]
+    told = told_by_all(sys.argv[1])
+    with times.open("a") as kept:
+        kept.write(taken_by_scripts(told, began))
+    counts = [counted(status, gate), *(counts[:2] for counts in told.values())]
     passed, failed = map(sum, zip(*counts))
     print(f"{passed} passed, {failed} failed")
     sys.exit(1 if failed else 0)
