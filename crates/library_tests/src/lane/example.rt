@@ -45,7 +45,7 @@ const CLIENT_PORT: u16 = 40_000;
 const RANDOM: [u8; 16] = [0xa5; 16];
 
 /// The empty lane of the first home server of a configuration.
-pub fn lane_of(alloc: Global, config: &Config) -> Result<Lane<BlockQueue<Record>>, Fail> {
+fn lane_of(alloc: Global, config: &Config) -> Result<Lane<BlockQueue<Record>>, Fail> {
     if config.homes().is_empty() {
         return Err(Fail::from("a home server"));
     }
@@ -54,7 +54,7 @@ pub fn lane_of(alloc: Global, config: &Config) -> Result<Lane<BlockQueue<Record>
 }
 
 /// Checks a datagram of the client: its authenticator, and that it leads to a lane. `None` where it is no such request.
-pub fn checked<'a>(config: &'a Config, datagram: &'a [u8]) -> Option<Checked<'a>> {
+fn checked<'a>(config: &'a Config, datagram: &'a [u8]) -> Option<Checked<'a>> {
     match check_in(config, CLIENT, CLIENT_PORT, datagram) {
         Ok(Incoming::Request(request)) => Some(request),
         _ => None,
@@ -62,7 +62,7 @@ pub fn checked<'a>(config: &'a Config, datagram: &'a [u8]) -> Option<Checked<'a>
 }
 
 /// Returns whether a lane takes a request.
-pub fn takes(lane: &Lane<BlockQueue<Record>>, request: &Checked<'_>) -> bool
+fn takes(lane: &Lane<BlockQueue<Record>>, request: &Checked<'_>) -> bool
     ensures { IsTrue result ↔ IsTaken lane.now request.now }
 {
     lane.takes(request)
@@ -140,7 +140,7 @@ fn plays(alloc: Global, config: &Config, lane: &mut Lane<BlockQueue<Record>>) ->
 }
 
 /// Closes a lane. No other function does, since each would have to prove that it may drop what is left.
-pub fn end(lane: Lane<BlockQueue<Record>>) {
+fn end(lane: Lane<BlockQueue<Record>>) {
     discard(lane.close());
 }
 
