@@ -50,8 +50,8 @@ TIMES, LATER = 1.5, 0.05
 # How many octets may wait, and how many more of memory a ledger may take for its lines.
 BOUND, ROOM = 64 * 2**20, 4 * 2**20
 # Moments in milliseconds since 1970: its begin, and ends of days, months, years and centuries with and without leap days.
-MOMENTS = [0, 86_399_999, 86_400_000, 951_782_399_999, 951_868_800_000, 1_709_164_800_001, 1_769_903_999_999, 1_798_761_599_050,
-           4_107_542_400_000, 13_569_465_600_000]
+MOMENTS = [0, 86_399_999, 86_400_000, 951_782_399_999, 951_782_400_000, 951_868_800_000, 1_709_164_800_001, 1_769_903_999_999,
+           1_798_761_599_050, 4_107_542_400_000, 13_569_465_600_000]
 
 
 class Trial:

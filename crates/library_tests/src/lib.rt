@@ -11,6 +11,8 @@
 #[cfg(test)]
 mod comparing;
 #[cfg(test)]
+mod configured;
+#[cfg(test)]
 mod desk;
 #[cfg(test)]
 mod homes;

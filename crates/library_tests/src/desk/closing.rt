@@ -1,7 +1,8 @@
 //! The end of a proxy: what is left is told where closing it is tried again after memory was refused.
 
 use crate::comparing::holds;
-use crate::desk::setting::config;
+use crate::configured::configured;
+use crate::desk::setting::TEXT;
 use crate::desk::threads::{Share, goes_through};
 use std::test::Fail;
 
@@ -15,7 +16,7 @@ const LEFT: Share = Share {
 /// that is tried again.
 #[test]
 fn what_is_left_is_told_again_after_a_refused_growth(rt: HostRuntime) -> Result<(), Fail> {
-    let config = config(rt.alloc())?;
+    let config = configured(rt.alloc(), TEXT)?;
     let is_right = goes_through(&rt, rt.alloc(), &config, LEFT);
     drop(config);
     holds(&rt, is_right?);

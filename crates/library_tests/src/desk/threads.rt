@@ -2,8 +2,9 @@
 //! the ring is full. Another takes most of the responses. The others are in the rest at the end.
 
 use crate::comparing::holds;
+use crate::configured::configured;
 use crate::desk::making::{reply_to, request};
-use crate::desk::setting::{CLIENT, config, start};
+use crate::desk::setting::{CLIENT, TEXT, start};
 use rad_desk::laws::agrees;
 use rad_desk::{CloseFault, DeskFault, Inlet, LaneEnd, Proxy, Report, Rest, Told, open};
 use rad_lane::{Action, Answered, Outgoing, Stamp, Taken};
@@ -258,7 +259,7 @@ pub fn goes_through<R: Clock + Threads + Wait + Sync>(
 
 #[test]
 fn each_response_goes_through_once(rt: HostRuntime) -> Result<(), Fail> {
-    let config = config(rt.alloc())?;
+    let config = configured(rt.alloc(), TEXT)?;
     let is_right = goes_through(&rt, rt.alloc(), &config, MOST);
     drop(config);
     holds(&rt, is_right?);

@@ -11,11 +11,12 @@ use super::answers::Gives::{
 };
 use super::answers::{Row, gave};
 use crate::comparing::holds;
+use crate::configured::configured;
 use crate::homes::{FORWARDED, REPLY, SECOND_FORWARDED, SECOND_PROBE, SECOND_PROBE_ANSWER};
 use crate::nas::{REQUEST, RESPONSE, SECOND_REQUEST};
 use block_queue::BlockQueue;
 use rad_lane::{Event, Lane, Leftover, Record, Setup, Taken, run};
-use rad_realms::{Checked, Config, Incoming, check_in, read_config};
+use rad_realms::{Checked, Config, Incoming, check_in};
 use rad_tables::Moment;
 use std::alloc::Global;
 use std::test::Fail;
@@ -156,7 +157,7 @@ fn lives(alloc: Global, config: &Config) -> Result<bool, Fail> {
 
 #[test]
 fn a_request_is_taken_forwarded_and_answered(rt: HostRuntime) -> Result<(), Fail> {
-    let config = read_config(rt.alloc(), CONFIGURATION)?;
+    let config = configured(rt.alloc(), CONFIGURATION)?;
     let lived = lives(rt.alloc(), &config);
     drop(config);
     holds(&rt, lived?);

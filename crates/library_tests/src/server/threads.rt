@@ -5,9 +5,10 @@
 ghost use Rattle.std.specs.Prelude.{Some};
 
 use crate::comparing::holds;
+use crate::configured::configured;
 use crate::nas::SEVENTH;
 use rad_desk::{Call, Delivery, Gate, Go, Received, Traffic, Wire, Worker};
-use rad_realms::{Config, Endpoint, read_config};
+use rad_realms::{Config, Endpoint};
 use rad_server::{Notifiers, Wires, serve};
 use rad_tables::Moment;
 use std::alloc::Global;
@@ -310,7 +311,7 @@ fn are_served<R: Clock + Threads + Wait + Sync>(
 
 #[test]
 fn lanes_have_threads_of_their_own(rt: HostRuntime) -> Result<(), Fail> {
-    let config = read_config(rt.alloc(), TWO_HOMES)?;
+    let config = configured(rt.alloc(), TWO_HOMES)?;
     let (crossing, sent) = (Crossing::new(&rt), Sent::new());
     let is_right = are_served(&rt, rt.alloc(), &config, &crossing, &sent);
     drop(config);

@@ -2,11 +2,12 @@
 //! before any datagram, and of a datagram that is no packet and is sent; and of when a lane is asked for its standing.
 
 use crate::comparing::holds;
+use crate::configured::configured;
 use crate::telemetry::logs::{MemoryLog, has_logged, log_up_to};
 use rad_desk::{DeskFault, Gate, Note, Standing, Worker};
 use rad_lane::Counts;
 use rad_log::LevelFilter;
-use rad_realms::{Config, Endpoint, read_config};
+use rad_realms::{Config, Endpoint};
 use rad_tables::Moment;
 use rad_telemetry::{EventKind, Telemetry};
 use std::alloc::{AllocError, Global};
@@ -114,7 +115,7 @@ fn logs<R: Clock>(
 
 #[test]
 fn what_no_run_reports_is_logged_and_counted(rt: HostRuntime) -> Result<(), Fail> {
-    let config = read_config(rt.alloc(), TWO_HOMES)?;
+    let config = configured(rt.alloc(), TWO_HOMES)?;
     let all = logs(&rt, rt.alloc(), &config, LevelFilter::Trace, LINES);
     let errors = logs(&rt, rt.alloc(), &config, LevelFilter::Error, ERRORS);
     drop(config);
