@@ -88,12 +88,17 @@ impl<'a> Slid<'a> {
         self.first = self.first.wrapping_add(count as u64);
     }
 
-    /// Exchanges two items twice, so that the list is unchanged, if it has both.
+    /// Exchanges two items twice, so that the list is unchanged.
     fn exchange(&mut self, i: usize, j: usize) {
+        self.swap(i, j);
+        self.swap(j, i);
+    }
+
+    /// Exchanges two items, if the list has both.
+    fn swap(&mut self, i: usize, j: usize) {
         let count = self.list.as_slice().len();
         if i < count && j < count {
             self.list.swap(i, j);
-            self.list.swap(j, i);
         }
     }
 

@@ -60,6 +60,23 @@ impl LocalAddresses for NoAddresses {
     }
 }
 
+/// What the commands are read from. The tests have one type of it, so that the call that serves is proved for one.
+#[derive(Drop)]
+enum Input<'a, R> {
+    /// Nothing comes.
+    Silent(&'a UnixStream),
+    Client(Client<'a, R>),
+}
+
+impl<R: Clock> Read for Input<'_, R> {
+    fn read(&mut self, buf: &mut [u8]) -> io::Result<usize> {
+        match self {
+            Input::Silent(stream) => stream.read(buf),
+            Input::Client(client) => client.read_next(),
+        }
+    }
+}
+
 /// A client that is the input: it sends a request, and ends once that is accepted. Then the gate's worker is to end. Each
 /// read before that is interrupted.
 #[derive(Drop)]
@@ -70,8 +87,8 @@ struct Client<'a, R> {
     looks: u32,
 }
 
-impl<R: Clock> Read for Client<'_, R> {
-    fn read(&mut self, _buf: &mut [u8]) -> io::Result<usize> {
+impl<R: Clock> Client<'_, R> {
+    fn read_next(&mut self) -> io::Result<usize> {
         if self.gate.is_due_after_a_request() {
             return Ok(0);
         }
@@ -92,18 +109,17 @@ fn is_told(ran: Result<EndLine, ServeFault>, worker: Worker) -> bool {
 }
 
 /// Serves with this input, and returns whether the worker's end is reported and nothing is printed but where it listens.
-fn ends<R, I>(
+fn ends<R>(
     rt: &R,
     alloc: Global,
     config: &Config,
     gate: &Ending,
     worker: Worker,
-    reader: I,
-    input: Descriptors,
+    input: Input<'_, R>,
+    descriptors: Descriptors,
 ) -> bool
 where
     R: Clock + Net + RandomSource + Threads + Wait + Sync,
-    I: Read + Drop,
 {
     let mut printed = Vec::new(alloc);
     let ran = run(
@@ -112,9 +128,9 @@ where
         alloc,
         config,
         gate,
-        reader,
-        &mut printed,
         input,
+        &mut printed,
+        descriptors,
     );
     let is_right = printed.as_slice() == LISTENING;
     drop(printed);
@@ -127,14 +143,15 @@ where
     R: Clock + Net + RandomSource + Threads + Wait + Sync,
 {
     let (reader, _silent) = UnixStream::pair(rt)?;
-    let input = Descriptors {
+    let descriptors = Descriptors {
         input: Some(reader.as_raw_fd()),
         output: None,
     };
     let mut is_right = true;
     for worker in WORKERS {
         let gate = Ending::new(*worker, true);
-        is_right &= ends(rt, alloc, config, &gate, *worker, &reader, input);
+        let input = Input::Silent(&reader);
+        is_right &= ends(rt, alloc, config, &gate, *worker, input, descriptors);
     }
     Ok(is_right)
 }
@@ -161,8 +178,8 @@ where
         gate: &gate,
         looks: LOOKS,
     };
-    let none = Descriptors::none();
-    Ok(ends(rt, alloc, config, &gate, Worker::Lane(0), client, none))
+    let (input, none) = (Input::Client(client), Descriptors::none());
+    Ok(ends(rt, alloc, config, &gate, Worker::Lane(0), input, none))
 }
 
 #[test]
