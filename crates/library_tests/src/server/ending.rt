@@ -60,23 +60,6 @@ impl LocalAddresses for NoAddresses {
     }
 }
 
-/// What the commands are read from. The tests have one type of it, so that the call that serves is proved for one.
-#[derive(Drop)]
-enum Input<'a, R> {
-    /// Nothing comes.
-    Silent(&'a UnixStream),
-    Client(Client<'a, R>),
-}
-
-impl<R: Clock> Read for Input<'_, R> {
-    fn read(&mut self, buf: &mut [u8]) -> io::Result<usize> {
-        match self {
-            Input::Silent(stream) => stream.read(buf),
-            Input::Client(client) => client.read_next(),
-        }
-    }
-}
-
 /// A client that is the input: it sends a request, and ends once that is accepted. Then the gate's worker is to end. Each
 /// read before that is interrupted.
 #[derive(Drop)]
@@ -87,8 +70,8 @@ struct Client<'a, R> {
     looks: u32,
 }
 
-impl<R: Clock> Client<'_, R> {
-    fn read_next(&mut self) -> io::Result<usize> {
+impl<R: Clock> Read for Client<'_, R> {
+    fn read(&mut self, _buf: &mut [u8]) -> io::Result<usize> {
         if self.gate.is_due_after_a_request() {
             return Ok(0);
         }
@@ -109,17 +92,18 @@ fn is_told(ran: Result<EndLine, ServeFault>, worker: Worker) -> bool {
 }
 
 /// Serves with this input, and returns whether the worker's end is reported and nothing is printed but where it listens.
-fn ends<R>(
+fn ends<R, I>(
     rt: &R,
     alloc: Global,
     config: &Config,
     gate: &Ending,
     worker: Worker,
-    input: Input<'_, R>,
-    descriptors: Descriptors,
+    reader: I,
+    input: Descriptors,
 ) -> bool
 where
     R: Clock + Net + RandomSource + Threads + Wait + Sync,
+    I: Read + Drop,
 {
     let mut printed = Vec::new(alloc);
     let ran = run(
@@ -128,9 +112,9 @@ where
         alloc,
         config,
         gate,
-        input,
+        reader,
         &mut printed,
-        descriptors,
+        input,
     );
     let is_right = printed.as_slice() == LISTENING;
     drop(printed);
@@ -143,15 +127,14 @@ where
     R: Clock + Net + RandomSource + Threads + Wait + Sync,
 {
     let (reader, _silent) = UnixStream::pair(rt)?;
-    let descriptors = Descriptors {
+    let input = Descriptors {
         input: Some(reader.as_raw_fd()),
         output: None,
     };
     let mut is_right = true;
     for worker in WORKERS {
         let gate = Ending::new(*worker, true);
-        let input = Input::Silent(&reader);
-        is_right &= ends(rt, alloc, config, &gate, *worker, input, descriptors);
+        is_right &= ends(rt, alloc, config, &gate, *worker, &reader, input);
     }
     Ok(is_right)
 }
@@ -178,8 +161,8 @@ where
         gate: &gate,
         looks: LOOKS,
     };
-    let (input, none) = (Input::Client(client), Descriptors::none());
-    Ok(ends(rt, alloc, config, &gate, Worker::Lane(0), input, none))
+    let none = Descriptors::none();
+    Ok(ends(rt, alloc, config, &gate, Worker::Lane(0), client, none))
 }
 
 #[test]
