@@ -7,7 +7,7 @@ Most tables have texts, each with its first fault, or none, and with the lines o
 text is read by `check` without a log, by `check` with one, and by `replay`, which logs nothing. The clients, home servers and realms of
 a text without a fault are counted by Python's TOML reader. Others have datagrams, each with the line that `replay` prints for it. The
 last ones have conversations: a request, what goes to the home server, its reply, and what the NAS gets. vectors.py makes all octets, so
-a wrong Authenticator of what is sent shows in a reply that is dropped. What is not as it has to be is told with its table, its row from 0 on, and what the row is about. The
+a wrong Authenticator of what is sent shows in a reply that is dropped, and a wrong HMAC in a Status-Server that is. What is not as it has to be is told with its table, its row from 0 on, and what the row is about. The
 last line is `N passed, M failed`, of what was looked at.
 """
 import pathlib
@@ -821,7 +821,23 @@ def every_client_and_realm():
         yield what, text, [("10.0.0.0", 1, named(name, secrets[0]))], ["nas: dropped NoRealm"]
 
 
-DATAGRAMS = [reasons, with_a_default, every_client_and_realm]
+# How many octets secrets have below, at and above the length of a block of MD5, and what they are made of.
+LENGTHS, CHARACTERS = (1, 16, 63, 64, 65, 80, 128), bytes(range(0x30, 0x5B)) * 3
+
+
+def statuses_of_many_lengths():
+    """The longest Status-Server, and shorter ones, so that each length of the last block of MD5 occurs, under secrets of many lengths.
+    One with a spoiled digest and one with a spoiled attribute are dropped."""
+    for length in LENGTHS:
+        secret = CHARACTERS[:length]
+        text = TOP + CLIENT.replace(NAS_SECRET.decode(), secret.decode()) + HOME + REALM
+        packets = [vectors.status(9, bytes(range(16)), b"", vectors.classes(octets), secret) for octets in [*range(4058, -1, -63), 0]]
+        spoiled = [vectors.turned(packets[0], place) for place in (37, 4095)]
+        lines = ["nas: status 5 9 20 -"] * len(packets) + ["nas: dropped BadMessageAuthenticator"] * len(spoiled)
+        yield f"a secret of {length} octets", text, [(NAS, 40_000, octets) for octets in packets + spoiled], lines
+
+
+DATAGRAMS = [reasons, with_a_default, every_client_and_realm, statuses_of_many_lengths]
 
 
 # Conversations.

@@ -97,7 +97,6 @@ def of_lanes():
     asked = request(7, SESSION + FROM_NAS, client)
     forwarded = request(0, SESSION + FROM_NAS + mark(0, 0), home)
     second = BOB + attribute(ACCT_STATUS_TYPE, bytes([0, 0, 0, 2])) + attribute(ACCT_SESSION_ID, b"S1")
-    other = user_name(b"bob@other.org") + attribute(ACCT_STATUS_TYPE, bytes([0, 0, 0, 1])) + attribute(ACCT_SESSION_ID, b"S2")
     probe = status(2, octets, b"", b"", home)
     return {
         "SEVENTH": request(7, SESSION, client),
@@ -107,7 +106,6 @@ def of_lanes():
         "RESPONSE": answer(asked, 7, FROM_NAS + A_CLASS, client),
         "SECOND_REQUEST": request(8, second, client),
         "SECOND_FORWARDED": request(1, second + mark(0, 1), home),
-        "OTHER_REQUEST": request(9, other, client),
         "SECOND_PROBE": probe,
         "SECOND_PROBE_ANSWER": answer(probe, 2, b"", home),
     }

@@ -1,6 +1,6 @@
 /*
- * Has the clock of the program that it is loaded into (LD_PRELOAD) fail, after CLOCK_CALLS calls that do not, and has the time of
- * day be CLOCK_AHEAD seconds later.
+ * Has the clock of the program that it is loaded into (LD_PRELOAD) fail, after CLOCK_CALLS calls that do not. The time of day is
+ * CLOCK_AHEAD seconds later, or always CLOCK_AT milliseconds after 1970.
  */
 #define _GNU_SOURCE
 #include <errno.h>
@@ -12,6 +12,17 @@
 
 static atomic_long calls;
 
+static void set_day(struct timespec *moment)
+{
+    const char *ahead = getenv("CLOCK_AHEAD"), *at = getenv("CLOCK_AT");
+    moment->tv_sec += ahead ? strtol(ahead, NULL, 10) : 0;
+    if (at) {
+        long long milliseconds = strtoll(at, NULL, 10);
+        moment->tv_sec = milliseconds / 1000;
+        moment->tv_nsec = milliseconds % 1000 * 1000000;
+    }
+}
+
 int clock_gettime(clockid_t clock, struct timespec *moment)
 {
     const char *text = getenv("CLOCK_CALLS");
@@ -20,9 +31,8 @@ int clock_gettime(clockid_t clock, struct timespec *moment)
         return -1;
     }
     int status = (int)syscall(SYS_clock_gettime, clock, moment);
-    const char *ahead = getenv("CLOCK_AHEAD");
-    if (ahead && clock == CLOCK_REALTIME) {
-        moment->tv_sec += strtol(ahead, NULL, 10);
+    if (clock == CLOCK_REALTIME) {
+        set_day(moment);
     }
     return status;
 }

@@ -4,8 +4,8 @@
 usage: files.py PROGRAM [NAME ..]
 
 Each test is a function below, and its first line tells what holds. Names choose tests. It uses loopback alone; a device is
-tried where root runs this, and else told as left out. What is slow is so by slow.c, and what is full by a limit on the size of
-files. The last line is `N passed, M failed`.
+tried where root runs this, and else told as left out. What is slow is so by slow.c, what is full by a limit on the size of files,
+and what takes a part of a line by parts.c. The last line is `N passed, M failed`.
 """
 import os
 import pathlib
@@ -290,11 +290,41 @@ def starts_a_line_after_a_part_of_one(trial):
     hope("that lines were dropped is told", trial.lines_with("event=lines-dropped") != [], True)
 
 
+# What two lines become, by how many octets each write of them takes. A line that is lost is counted before the next one, and at once
+# where that may be written.
+FIRST, SECOND = (f'level=warn event=unread-key reason="top {key} at line {line}, column 1"\n' for line, key in ((2, "a"), (3, "b")))
+LOST = "level=warn event=lines-dropped count={}\n"
+PARTS = {
+    # parts of lines are in order
+    "1,2,3": FIRST + SECOND,
+    # a part of a line stands alone
+    "6,0": f"{FIRST[:6]}\n{LOST.format(1)}{SECOND}",
+    # behind a whole line comes no line end
+    f"{len(FIRST)},0": FIRST + LOST.format(1),
+    # lines are counted until that is told
+    "0,0,0": LOST.format(2),
+    # what is told of them may be cut too
+    "0,5,0": f"level\n{LOST.format(1)}{SECOND}",
+    # and so may the line end behind a part of a line be lost
+    "6,0,0": f"{FIRST[:6]}\n{LOST.format(1)}{SECOND}",
+}
+
+
+def a_line_that_is_cut_stands_alone(trial):
+    """Where a write takes a part of a line and the next one fails, the part stands alone, and lost lines are counted."""
+    trial.file.write_text(trial.file.read_text().replace("\n", "\na = 1\nb = 1\n", 1))
+    for parts, wanted in PARTS.items():
+        environment = {name: value for name, value in os.environ.items() if name not in UNSET}
+        environment |= {"RAD_PROXY_LOG": "warn", "LD_PRELOAD": built(trial.room, "parts"), "PARTS": parts}
+        ended = subprocess.run([trial.program, "check", trial.file], capture_output=True, text=True, env=environment, timeout=PATIENCE)
+        hope(f"writes of {parts}", (ended.returncode, ended.stderr), (0, wanted))
+
+
 TESTS = [
     writes_its_counters, leaves_a_device_alone, leaves_a_link_alone, leaves_a_pipe_alone, leaves_a_folder_alone,
     leaves_a_socket_alone, follows_no_link_of_a_new_file, is_not_blocked_by_what_is_left, tells_what_it_cannot_write,
     a_hung_file_system_delays_no_end, a_slow_log_holds_no_worker, a_hung_log_delays_no_end, its_last_lines_are_written,
-    each_line_is_there_or_counted, starts_a_line_after_a_part_of_one,
+    each_line_is_there_or_counted, starts_a_line_after_a_part_of_one, a_line_that_is_cut_stands_alone,
 ]
 
 

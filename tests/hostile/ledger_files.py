@@ -5,7 +5,7 @@ usage: ledger_files.py PROGRAM [--long | NAME ..]
 
 Each test is a function below, and its first line tells what holds. Names choose tests, and `--long` those that take a minute or more.
 The ledgers are audited by audit_model.py. A full disk is a small file system, where root runs this, and else told as left out. What is
-slow is so by slow.c, midnight comes by clock.c, and disks.c shows the syncs and lets steps fail. The last line is `N passed, M failed`.
+slow is so by slow.c, clock.c sets the time of day, and disks.c shows the syncs and lets steps fail. The last line is `N passed, M failed`.
 """
 import contextlib
 import json
@@ -22,7 +22,7 @@ import subprocess
 import sys
 import time
 import tomllib
-from datetime import datetime
+from datetime import datetime, timedelta
 
 sys.dont_write_bytecode = True
 
@@ -49,6 +49,9 @@ WRITTEN, SYNCED, SLACK = 0.1, 1.0, 0.4
 TIMES, LATER = 1.5, 0.05
 # How many octets may wait, and how many more of memory a ledger may take for its lines.
 BOUND, ROOM = 64 * 2**20, 4 * 2**20
+# Moments in milliseconds since 1970: its begin, and ends of days, months, years and centuries with and without leap days.
+MOMENTS = [0, 86_399_999, 86_400_000, 951_782_399_999, 951_782_400_000, 951_868_800_000, 1_709_164_800_001, 1_769_903_999_999,
+           1_798_761_599_050, 4_107_542_400_000, 13_569_465_600_000]
 
 
 class Trial:
@@ -531,6 +534,18 @@ def midnight_is_a_next_file(trial):
         hope("days of a file", len(days), 1)
 
 
+def moments_are_those_that_python_prints(trial):
+    """At ends of days, months, years and centuries the lines have the moment that Python's calendar prints."""
+    clock = built(trial.room, "clock")
+    for milliseconds in MOMENTS:
+        before = trial.files()
+        trial.start(LD_PRELOAD=clock, CLOCK_AT=str(milliseconds), RAD_PROXY_COUNTERS="")
+        trial.end()
+        (file,) = set(trial.files()) - set(before)
+        moment = (datetime(1970, 1, 1) + timedelta(milliseconds=milliseconds)).isoformat(timespec="milliseconds")
+        hope("moments", TIME.findall(file.read_text()), [moment, moment])
+
+
 def a_long_ledger_is_several_files(trial):
     """A file has at most 256 MiB, and the ledger of several is whole."""
     trial.start()
@@ -683,7 +698,8 @@ TESTS = [
     is_written_within_a_tenth_of_a_second, a_folder_that_is_not_there_is_told, a_folder_that_goes_away_and_comes_back, a_folder_that_is_made_anew,
     a_limit_of_size_is_a_next_file, a_full_disk_loses_nothing, a_slow_write_delays_no_answer, slow_writes_lose_nothing,
     drops_are_counted, a_killed_run_is_open, a_run_that_ends_by_a_fault_is_open, a_file_that_is_there_is_left, is_synced_each_second,
-    is_handed_over_before_it_is_sent, a_folder_that_is_a_file_is_told, midnight_is_a_next_file, a_long_ledger_is_several_files,
+    is_handed_over_before_it_is_sent, a_folder_that_is_a_file_is_told, midnight_is_a_next_file,
+    moments_are_those_that_python_prints, a_long_ledger_is_several_files,
     a_name_that_is_no_text_is_told, lines_are_those_that_python_makes, a_run_without_responses_has_two_lines,
     a_line_that_is_cut_short_is_gone_on_with, a_disk_that_takes_no_more_has_what_it_took, a_file_that_was_made_is_gone_on_with,
 ]

@@ -4,4 +4,3 @@
 
 mod answers;
 mod example;
-mod taking;

@@ -3,17 +3,17 @@
 //! as much as proving the tests of several of them. What the programs show is tested over the built programs, by the scripts
 //! of `tests`.
 //!
-//! `digests` and `printing` test what reads packets and configurations, `queues`, `sliding` and `tables` the collections,
-//! `lane` a lane, `desk` the end of a proxy, `server` sockets and threads, `telemetry` the log and the metrics, and `lines`
-//! and `moments` the lines of a ledger. `nas` and `homes` have the packets that tests share.
+//! `queues`, `sliding` and `tables` test the collections, `lane` a lane, `desk` the end of a proxy, `server` sockets and
+//! threads, `telemetry` the log and the metrics, and `lines` the lines of a ledger. `nas` and `homes` have the packets that
+//! tests share.
 #![tactic(auto)]
 
 #[cfg(test)]
 mod comparing;
 #[cfg(test)]
-mod desk;
+mod configured;
 #[cfg(test)]
-mod digests;
+mod desk;
 #[cfg(test)]
 mod homes;
 #[cfg(test)]
@@ -21,13 +21,9 @@ mod lane;
 #[cfg(test)]
 mod lines;
 #[cfg(test)]
-mod moments;
-#[cfg(test)]
 mod nas;
 #[cfg(test)]
 mod numbers;
-#[cfg(test)]
-mod printing;
 #[cfg(test)]
 mod queues;
 #[cfg(test)]

@@ -107,33 +107,28 @@ fn a_queue_answers_again_after_a_refused_growth(rt: HostRuntime) {
     holds(&rt, numbers.is_right());
 }
 
-/// Pushes the numbers up to `end` into a plain queue.
-fn push_plain(queue: &mut PlainQueue<u64>, end: u64) -> Result<(), AllocError> {
-    for number in 0..end {
-        queue.reserve_one()?;
-        if queue.spare() > 0 {
-            queue.push_back(number);
-        }
-    }
-    Ok(())
-}
+/// How many numbers pass through the plain queue.
+const COUNT: u64 = 70;
 
-/// Whether a plain queue has the numbers up to `end`, which are popped.
-fn has_plain(queue: &mut PlainQueue<u64>, end: u64) -> bool {
-    let is_long = queue.len() as u64 == end;
-    for number in 0..end {
-        if queue.front() != Some(&number) || queue.pop_front() != Some(number) {
-            return false;
-        }
+/// Pushes numbers into a plain queue and pops them. Returns whether they came in order.
+fn passes_plain(queue: &mut PlainQueue<u64>) -> Result<bool, AllocError> {
+    for number in 0..COUNT {
+        queue.reserve_one()?;
+        queue.push_back(number);
     }
-    is_long && queue.is_empty()
+    let mut is_right = queue.len() as u64 == COUNT;
+    for number in 0..COUNT {
+        is_right &= queue.front() == Some(&number) && queue.pop_front() == Some(number);
+    }
+    Ok(is_right && queue.is_empty())
 }
 
 #[test]
 fn first_in_is_first_out_of_a_plain_queue(rt: HostRuntime) -> Result<(), Fail> {
     let mut queue = PlainQueue::new(rt.alloc());
-    push_plain(&mut queue, 70)?;
-    holds(&rt, has_plain(&mut queue, 70));
+    let is_right = passes_plain(&mut queue);
+    drop(queue);
+    holds(&rt, is_right?);
     Ok(())
 }
 

@@ -1,9 +1,7 @@
 //! What no run of the program comes to in `rad_server` and `rad_addresses`: workers that end or that are held, a
 //! notification that interrupts a read, and lists of addresses that no machine has.
 
-mod addresses;
 mod ending;
 mod gates;
 mod interrupting;
 mod threads;
-mod wires;

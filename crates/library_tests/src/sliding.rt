@@ -51,19 +51,6 @@ impl Share for Counted<'_> {
     }
 }
 
-/// Returns whether a list has the numbers from `first` up to `end`, in order.
-fn is_from_to(list: &SlidingList<Counted<'_>>, first: u64, end: u64) -> bool {
-    let items = list.as_slice();
-    let mut number = first;
-    for item in items {
-        if item.number != number {
-            return false;
-        }
-        number = number.wrapping_add(1);
-    }
-    number == end
-}
-
 /// A list with the numbers from `first` up to `end`.
 #[derive(Drop)]
 struct Slid<'a> {
@@ -131,8 +118,16 @@ impl<'a> Slid<'a> {
         Ok(())
     }
 
+    /// Returns whether the list has its numbers, in order.
     fn is_right(&self) -> bool {
-        is_from_to(&self.list, self.first, self.end)
+        let mut number = self.first;
+        for item in self.list.as_slice() {
+            if item.number != number {
+                return false;
+            }
+            number = number.wrapping_add(1);
+        }
+        number == self.end
     }
 
     /// Pushes `pushes` items, and after each drops the first `cut` items.

@@ -4,4 +4,3 @@
 mod ledgers;
 mod logs;
 mod reporting;
-mod writing;

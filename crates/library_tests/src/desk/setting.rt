@@ -1,12 +1,10 @@
 //! The configuration of the tests, the endpoint of its client, and the moment.
 
-use rad_realms::{Config, Endpoint, read_config};
+use rad_realms::Endpoint;
 use rad_tables::Moment;
-use std::alloc::Global;
-use std::test::Fail;
 
 /// A client, and two home servers with a realm each. The ring of the first one has four places.
-const TEXT: &str = r#"
+pub const TEXT: &str = r#"
 listen = "127.0.0.1:1813"
 [[client]]
 address = "10.0.0.1"
@@ -33,11 +31,6 @@ pub const CLIENT: Endpoint = Endpoint {
     address: [10, 0, 0, 1],
     port: 40_000,
 };
-
-/// Returns the tests' configuration.
-pub fn config(alloc: Global) -> Result<Config, Fail> {
-    Ok(read_config(alloc, TEXT)?)
-}
 
 /// The moment at which all is done.
 pub fn start() -> Moment {

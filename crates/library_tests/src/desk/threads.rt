@@ -1,12 +1,12 @@
 //! A test of a lane and the front in threads of their own. One thread has requests answered, and tries a reply again while
-//! the ring is full. Another takes the responses, all but the last two, which are in the rest at the end.
+//! the ring is full. Another takes most of the responses. The others are in the rest at the end.
 
 use crate::comparing::holds;
-use crate::desk::closing::close;
+use crate::configured::configured;
 use crate::desk::making::{reply_to, request};
-use crate::desk::setting::{CLIENT, config, start};
+use crate::desk::setting::{CLIENT, TEXT, start};
 use rad_desk::laws::agrees;
-use rad_desk::{DeskFault, Inlet, LaneEnd, Proxy, Report, Rest, Told, open};
+use rad_desk::{CloseFault, DeskFault, Inlet, LaneEnd, Proxy, Report, Rest, Told, open};
 use rad_lane::{Action, Answered, Outgoing, Stamp, Taken};
 use rad_packet::Datagram;
 use rad_realms::{Config, Incoming, check_in};
@@ -16,13 +16,20 @@ use std::test::Fail;
 use std::thread::{self, Threads};
 use std::time::{Clock, Duration};
 
-/// How many requests are answered through the ring, which has four places.
-const REQUESTS: u16 = 300;
+/// What passes through the ring of the first lane, which has four places.
+#[derive(Clone, Copy)]
+pub struct Share {
+    /// How many requests are answered.
+    pub requests: u16,
+    /// How many of the responses are taken before the end. The others are left.
+    pub taken: usize,
+}
 
-/// How many of the responses are taken before the end, and how many are left.
-const TAKEN: usize = 298;
-
-const LEFT: usize = 2;
+/// All responses but two are taken.
+const MOST: Share = Share {
+    requests: 300,
+    taken: 298,
+};
 
 /// How often a thread looks again, a millisecond apart.
 const LOOKS: u32 = 10_000;
@@ -31,17 +38,23 @@ fn pause(clock: &impl Clock) {
     thread::sleep(clock, Duration::from_millis(1));
 }
 
-/// Has the requests accepted, sent and answered in order. Returns how many were, before the first that was not.
-fn answer_all<R: Wait + Clock>(rt: &R, alloc: Global, proxy: &Proxy, config: &Config) -> u16 {
-    for count in 0..REQUESTS {
+/// Has so many requests accepted, sent and answered in order. Returns whether all were.
+fn answer_all<R: Wait + Clock>(
+    rt: &R,
+    alloc: Global,
+    proxy: &Proxy,
+    config: &Config,
+    requests: u16,
+) -> bool {
+    for count in 0..requests {
         let number = u64::from(count);
         let is_next = accept(rt, alloc, proxy, config, count) == Some(number)
             && answer(rt, alloc, proxy) == Some(number);
         if !is_next {
-            return count;
+            return false;
         }
     }
-    REQUESTS
+    true
 }
 
 /// Has the request made from `count` accepted. Returns its number.
@@ -92,20 +105,25 @@ fn hear<R: Wait + Clock>(rt: &R, alloc: Global, proxy: &Proxy, reply: &[u8]) -> 
     None
 }
 
-/// Takes most of the responses from the first inlet, fewer if they don't come or if memory is refused. Returns them
-/// behind the inlets.
-fn take_most(rt: &impl Clock, alloc: Global, inlets: Vec<Inlet>) -> (Vec<Inlet>, Vec<Outgoing>) {
+/// Takes so many responses from the first inlet, fewer if they don't come or if memory is refused. Returns them behind the
+/// inlets.
+fn take_most(
+    rt: &impl Clock,
+    alloc: Global,
+    inlets: Vec<Inlet>,
+    count: usize,
+) -> (Vec<Inlet>, Vec<Outgoing>) {
     let mut inlets = inlets;
     let mut taken = Vec::new(alloc);
     if let Some(inlet) = inlets.as_mut_slice().first_mut() {
-        take_from(rt, inlet, &mut taken);
+        take_from(rt, inlet, count, &mut taken);
     }
     (inlets, taken)
 }
 
-fn take_from(rt: &impl Clock, inlet: &mut Inlet, taken: &mut Vec<Outgoing>) {
+fn take_from(rt: &impl Clock, inlet: &mut Inlet, count: usize, taken: &mut Vec<Outgoing>) {
     for _ in 0..LOOKS {
-        if taken.len() == TAKEN || !take_next(rt, inlet, taken) {
+        if taken.len() == count || !take_next(rt, inlet, taken) {
             return;
         }
     }
@@ -132,17 +150,19 @@ fn are_given(taken: &[Outgoing], rest: &[Outgoing], answered: &[Answered]) -> bo
             _ => return false,
         }
     }
-    answered.len() == usize::from(REQUESTS) && given.next().is_none()
+    given.next().is_none()
 }
 
 /// Returns whether the requests that the lane accepted are those that were made, each under its number.
 fn are_accepted(stamps: &[Stamp]) -> bool {
-    for (count, stamp) in (0..REQUESTS).zip(stamps) {
+    let mut count = 0;
+    for stamp in stamps {
         if !is_of(stamp, count) {
             return false;
         }
+        count = count.wrapping_add(1);
     }
-    stamps.len() == usize::from(REQUESTS)
+    true
 }
 
 /// Returns whether an accepted request is the one made from `count`, with `count` as its number.
@@ -156,11 +176,13 @@ fn is_of(stamp: &Stamp, count: u16) -> bool {
 }
 
 /// Compares what is left of the first lane with the responses that were taken.
-fn is_whole(end: &LaneEnd, taken: &[Outgoing]) -> bool {
+fn is_whole(end: &LaneEnd, share: Share, taken: &[Outgoing]) -> bool {
+    let requests = usize::from(share.requests);
     match &end.rest {
         Rest::Known(rest) => {
-            taken.len() == TAKEN
-                && rest.as_slice().len() == LEFT
+            taken.len() == share.taken
+                && end.answered.as_slice().len() == requests
+                && end.accepted.as_slice().len() == requests
                 && are_given(taken, rest.as_slice(), end.answered.as_slice())
                 && are_accepted(end.accepted.as_slice())
         }
@@ -168,18 +190,41 @@ fn is_whole(end: &LaneEnd, taken: &[Outgoing]) -> bool {
     }
 }
 
-fn is_first_whole(report: &Report, taken: &[Outgoing]) -> bool {
-    match report.ends.as_slice().first() {
-        Some(end) => is_whole(end, taken),
-        None => false,
+/// Returns whether it is known that nothing is left of a lane.
+fn is_empty(end: &LaneEnd) -> bool {
+    match &end.rest {
+        Rest::Known(rest) => rest.as_slice().is_empty(),
+        Rest::Unknown => false,
+    }
+}
+
+/// Returns whether the first of two lanes is whole, and nothing is left of the second one.
+fn are_whole(report: &Report, share: Share, taken: &[Outgoing]) -> bool {
+    match report.ends.as_slice() {
+        [first, second] => is_whole(first, share, taken) && is_empty(second),
+        _ => false,
+    }
+}
+
+/// Closes a proxy, again if memory was refused.
+fn close(alloc: Global, proxy: Proxy, inlets: Vec<Inlet>) -> Result<Report, CloseFault> {
+    match proxy.close(alloc, inlets) {
+        Err(CloseFault::OutOfMemory(proxy, inlets)) => proxy.close(alloc, inlets.into_vec()),
+        closed => closed,
     }
 }
 
 /// Closes a proxy, and compares what is left with the responses that were taken.
-fn ends_whole(alloc: Global, proxy: Proxy, inlets: Vec<Inlet>, taken: &[Outgoing]) -> bool {
+fn ends_whole(
+    alloc: Global,
+    proxy: Proxy,
+    inlets: Vec<Inlet>,
+    share: Share,
+    taken: &[Outgoing],
+) -> bool {
     match close(alloc, proxy, inlets) {
         Ok(report) => {
-            let is_whole = is_first_whole(&report, taken);
+            let is_whole = are_whole(&report, share, taken);
             report.discard();
             is_whole
         }
@@ -191,24 +236,31 @@ fn ends_whole(alloc: Global, proxy: Proxy, inlets: Vec<Inlet>, taken: &[Outgoing
 }
 
 /// Has all requests answered in one thread while another takes the responses. Returns whether each came once, in order.
-fn goes_through<R: Clock + Threads + Wait + Sync>(
+/// Fails if a request is not answered, as where memory is refused.
+pub fn goes_through<R: Clock + Threads + Wait + Sync>(
     rt: &R,
     alloc: Global,
     config: &Config,
+    share: Share,
 ) -> Result<bool, Fail> {
     let (proxy, inlets) = open(alloc, config)?;
-    let (answered, (inlets, taken)) = thread::join(
+    let (are_answered, (inlets, taken)) = thread::join(
         rt,
-        || answer_all(rt, alloc, &proxy, config),
-        || take_most(rt, alloc, inlets),
+        || answer_all(rt, alloc, &proxy, config, share.requests),
+        || take_most(rt, alloc, inlets, share.taken),
     );
-    Ok(answered == REQUESTS && ends_whole(alloc, proxy, inlets, taken.as_slice()))
+    let is_whole = ends_whole(alloc, proxy, inlets, share, taken.as_slice());
+    if are_answered {
+        Ok(is_whole)
+    } else {
+        Err(Fail::from("a proxy that answers each request"))
+    }
 }
 
 #[test]
 fn each_response_goes_through_once(rt: HostRuntime) -> Result<(), Fail> {
-    let config = config(rt.alloc())?;
-    let is_right = goes_through(&rt, rt.alloc(), &config);
+    let config = configured(rt.alloc(), TEXT)?;
+    let is_right = goes_through(&rt, rt.alloc(), &config, MOST);
     drop(config);
     holds(&rt, is_right?);
     Ok(())

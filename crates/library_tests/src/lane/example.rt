@@ -11,11 +11,12 @@ use super::answers::Gives::{
 };
 use super::answers::{Row, gave};
 use crate::comparing::holds;
+use crate::configured::configured;
 use crate::homes::{FORWARDED, REPLY, SECOND_FORWARDED, SECOND_PROBE, SECOND_PROBE_ANSWER};
 use crate::nas::{REQUEST, RESPONSE, SECOND_REQUEST};
 use block_queue::BlockQueue;
 use rad_lane::{Event, Lane, Leftover, Record, Setup, Taken, run};
-use rad_realms::{Checked, Config, Incoming, check_in, read_config};
+use rad_realms::{Checked, Config, Incoming, check_in};
 use rad_tables::Moment;
 use std::alloc::Global;
 use std::test::Fail;
@@ -45,7 +46,7 @@ const CLIENT_PORT: u16 = 40_000;
 const RANDOM: [u8; 16] = [0xa5; 16];
 
 /// The empty lane of the first home server of a configuration.
-pub fn lane_of(alloc: Global, config: &Config) -> Result<Lane<BlockQueue<Record>>, Fail> {
+fn lane_of(alloc: Global, config: &Config) -> Result<Lane<BlockQueue<Record>>, Fail> {
     if config.homes().is_empty() {
         return Err(Fail::from("a home server"));
     }
@@ -54,7 +55,7 @@ pub fn lane_of(alloc: Global, config: &Config) -> Result<Lane<BlockQueue<Record>
 }
 
 /// Checks a datagram of the client: its authenticator, and that it leads to a lane. `None` where it is no such request.
-pub fn checked<'a>(config: &'a Config, datagram: &'a [u8]) -> Option<Checked<'a>> {
+fn checked<'a>(config: &'a Config, datagram: &'a [u8]) -> Option<Checked<'a>> {
     match check_in(config, CLIENT, CLIENT_PORT, datagram) {
         Ok(Incoming::Request(request)) => Some(request),
         _ => None,
@@ -62,7 +63,7 @@ pub fn checked<'a>(config: &'a Config, datagram: &'a [u8]) -> Option<Checked<'a>
 }
 
 /// Returns whether a lane takes a request.
-pub fn takes(lane: &Lane<BlockQueue<Record>>, request: &Checked<'_>) -> bool
+fn takes(lane: &Lane<BlockQueue<Record>>, request: &Checked<'_>) -> bool
     ensures { IsTrue result ↔ IsTaken lane.now request.now }
 {
     lane.takes(request)
@@ -140,7 +141,7 @@ fn plays(alloc: Global, config: &Config, lane: &mut Lane<BlockQueue<Record>>) ->
 }
 
 /// Closes a lane. No other function does, since each would have to prove that it may drop what is left.
-pub fn end(lane: Lane<BlockQueue<Record>>) {
+fn end(lane: Lane<BlockQueue<Record>>) {
     discard(lane.close());
 }
 
@@ -156,7 +157,7 @@ fn lives(alloc: Global, config: &Config) -> Result<bool, Fail> {
 
 #[test]
 fn a_request_is_taken_forwarded_and_answered(rt: HostRuntime) -> Result<(), Fail> {
-    let config = read_config(rt.alloc(), CONFIGURATION)?;
+    let config = configured(rt.alloc(), CONFIGURATION)?;
     let lived = lives(rt.alloc(), &config);
     drop(config);
     holds(&rt, lived?);

@@ -2,12 +2,13 @@
 //! input nor a lane is waited for. An interrupted read ends nothing.
 
 use crate::comparing::holds;
+use crate::configured::configured;
 use crate::nas::SEVENTH;
 use crate::server::gates::Ending;
 use rad_addresses::LocalAddresses;
 use rad_console::EndLine;
 use rad_desk::Worker;
-use rad_realms::{Config, read_config};
+use rad_realms::Config;
 use rad_server::{Descriptors, ServeFault, run};
 use std::alloc::Global;
 use std::io::{self, Error, ErrorKind, Read};
@@ -140,7 +141,7 @@ where
 
 #[test]
 fn a_worker_that_ends_ends_the_wait_for_input(rt: HostRuntime) -> Result<(), Fail> {
-    let config = read_config(rt.alloc(), TWO_HOMES)?;
+    let config = configured(rt.alloc(), TWO_HOMES)?;
     let is_right = each_ends(&rt, rt.alloc(), &config);
     drop(config);
     holds(&rt, is_right?);
@@ -166,7 +167,7 @@ where
 
 #[test]
 fn a_worker_that_ends_while_a_lane_is_waited_for_is_told(rt: HostRuntime) -> Result<(), Fail> {
-    let config = read_config(rt.alloc(), TWO_HOMES)?;
+    let config = configured(rt.alloc(), TWO_HOMES)?;
     let is_right = first_lane_ends(&rt, rt.alloc(), &config);
     drop(config);
     holds(&rt, is_right?);

@@ -1,12 +1,14 @@
 //! A test that each lane has a thread of its own, and the front another one. The gate holds each lane as it hears for the
-//! first time, until the other lane is held too and the front takes after that.
+//! first time, until the other lane is held too and the front takes after that. What is printed at the end shows that wires in
+//! memory are served as sockets are.
 
 ghost use Rattle.std.specs.Prelude.{Some};
 
 use crate::comparing::holds;
+use crate::configured::configured;
 use crate::nas::SEVENTH;
 use rad_desk::{Call, Delivery, Gate, Go, Received, Traffic, Wire, Worker};
-use rad_realms::{Config, Endpoint, read_config};
+use rad_realms::{Config, Endpoint};
 use rad_server::{Notifiers, Wires, serve};
 use rad_tables::Moment;
 use std::alloc::Global;
@@ -224,18 +226,28 @@ fn wire<'a, R>(
     }
 }
 
-/// A reader that gives the command `state` until the front sent two datagrams, and then ends. If that takes too long, it fails.
+/// The last commands, and what is printed for them and at the end.
+const LAST_COMMANDS: &[u8] = b"state\nturn\n";
+
+const LAST_LINES: &[u8] =
+    b"\nlane 0 h1 up open accepted 1 queued 0 outstanding 0 answered 1 opening 0\n\
+    lane 1 h2 up open accepted 1 queued 0 outstanding 0 answered 1 opening 0\n\
+    unknown\nend: queued 0 outstanding 0 untaken 0\n";
+
+/// A reader that gives the command `state` until the front sent two datagrams, and then the last commands. If that takes too
+/// long, it fails.
 #[derive(Drop)]
 struct Asking<'a, R> {
     clock: &'a R,
     sent: &'a AtomicU64,
     looks: u32,
+    last: &'static [u8],
 }
 
 impl<R: Clock> Read for Asking<'_, R> {
     fn read(&mut self, buf: &mut [u8]) -> io::Result<usize> {
         if self.sent.load(Ordering::SeqCst) >= 2 {
-            return Ok(0);
+            return self.last.read(buf);
         }
         if self.looks == 0 {
             return Err(Error::from(ErrorKind::Other));
@@ -253,6 +265,7 @@ fn ends_clean<R: Clock + Threads + Wait + Sync>(
     config: &Config,
     crossing: &Crossing<'_, R>,
     sent: &Sent,
+    printed: &mut Vec<u8>,
 ) -> Result<bool, Fail> {
     let first = wire(rt, [127, 0, 0, 1], 2813, FIRST_REPLY, 1, &sent.first);
     let second = wire(rt, [127, 0, 0, 1], 2814, SECOND_REPLY, 1, &sent.second);
@@ -262,6 +275,7 @@ fn ends_clean<R: Clock + Threads + Wait + Sync>(
         clock: rt,
         sent: &sent.front,
         looks: LOOKS,
+        last: LAST_COMMANDS,
     };
     let served = serve(
         rt,
@@ -271,18 +285,37 @@ fn ends_clean<R: Clock + Threads + Wait + Sync>(
         &Notifiers::none(alloc),
         crossing,
         asking,
-        io::sink(),
+        printed,
     );
     Ok(matches!(served, Ok(end) if end.is_clean()))
 }
 
+fn ends_in(text: &[u8], last: &[u8]) -> bool {
+    text.get(text.len().saturating_sub(last.len())..) == Some(last)
+}
+
+/// Serves two lanes, and returns whether the end is clean and the last lines are printed.
+fn are_served<R: Clock + Threads + Wait + Sync>(
+    rt: &R,
+    alloc: Global,
+    config: &Config,
+    crossing: &Crossing<'_, R>,
+    sent: &Sent,
+) -> Result<bool, Fail> {
+    let mut printed = Vec::new(alloc);
+    let is_clean = ends_clean(rt, alloc, config, crossing, sent, &mut printed);
+    let is_right = ends_in(printed.as_slice(), LAST_LINES);
+    drop(printed);
+    Ok(is_clean? && is_right)
+}
+
 #[test]
 fn lanes_have_threads_of_their_own(rt: HostRuntime) -> Result<(), Fail> {
-    let config = read_config(rt.alloc(), TWO_HOMES)?;
+    let config = configured(rt.alloc(), TWO_HOMES)?;
     let (crossing, sent) = (Crossing::new(&rt), Sent::new());
-    let is_clean = ends_clean(&rt, rt.alloc(), &config, &crossing, &sent);
+    let is_right = are_served(&rt, rt.alloc(), &config, &crossing, &sent);
     drop(config);
-    holds(&rt, is_clean?);
+    holds(&rt, is_right?);
     holds(&rt, !crossing.has_failed.load(Ordering::SeqCst));
     holds(&rt, sent.front.load(Ordering::SeqCst) == 2);
     Ok(())

@@ -25,7 +25,7 @@ enum Step {
 }
 
 /// What happens to the ledger of the lines below.
-const STEPS: [Step; 25] = [
+const STEPS: &[Step] = &[
     Step::Tell,
     Step::Fail(LedgerFault::Create(2)),
     Step::Tell,
@@ -110,7 +110,7 @@ fn is_counted(ledger: &LedgerState) -> bool {
 fn tells(log: &MemoryLog, expected: &str) -> bool {
     let ledger = LedgerState::new();
     for next in STEPS {
-        happen(&ledger, log, next);
+        happen(&ledger, log, *next);
     }
     is_counted(&ledger) && has_logged(log, expected)
 }

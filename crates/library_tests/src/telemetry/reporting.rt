@@ -1,16 +1,15 @@
-//! Tests of what no run of the program shows of reports: of a worker that ends by itself, of a lane that is not there, of a full ring
-//! before any datagram, and of a datagram that is no packet and is sent; of when a lane is asked for its standing; and of the order of
-//! the kinds.
+//! A test of what no run of the program shows of reports: of a worker that ends by itself, of a lane that is not there, of a full ring
+//! before any datagram, and of a datagram that is no packet and is sent; and of when a lane is asked for its standing.
 
 use crate::comparing::holds;
+use crate::configured::configured;
 use crate::telemetry::logs::{MemoryLog, has_logged, log_up_to};
 use rad_desk::{DeskFault, Gate, Note, Standing, Worker};
 use rad_lane::Counts;
 use rad_log::LevelFilter;
-use rad_metrics::CLIENT_EVENTS;
-use rad_realms::{Config, Endpoint, read_config};
+use rad_realms::{Config, Endpoint};
 use rad_tables::Moment;
-use rad_telemetry::{EVENT_KINDS, EventKind, Telemetry};
+use rad_telemetry::{EventKind, Telemetry};
 use std::alloc::{AllocError, Global};
 use std::test::Fail;
 use std::time::Clock;
@@ -116,20 +115,10 @@ fn logs<R: Clock>(
 
 #[test]
 fn what_no_run_reports_is_logged_and_counted(rt: HostRuntime) -> Result<(), Fail> {
-    let config = read_config(rt.alloc(), TWO_HOMES)?;
+    let config = configured(rt.alloc(), TWO_HOMES)?;
     let all = logs(&rt, rt.alloc(), &config, LevelFilter::Trace, LINES);
     let errors = logs(&rt, rt.alloc(), &config, LevelFilter::Error, ERRORS);
     drop(config);
     holds(&rt, all? && errors?);
     Ok(())
-}
-
-#[test]
-fn each_kind_stands_in_its_place(rt: HostRuntime) {
-    for (place, kind) in EVENT_KINDS.iter().enumerate() {
-        holds(&rt, kind.place() == place);
-    }
-    for (place, event) in CLIENT_EVENTS.iter().enumerate() {
-        holds(&rt, event.place() == place);
-    }
 }
