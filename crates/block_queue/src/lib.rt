@@ -19,4 +19,4 @@ pub use block_queue::BlockQueue;
 pub use fifo::Fifo;
 pub use iter::Iter;
 pub use plain_queue::PlainQueue;
-pub use queue_blocks::{Share, SlidingList};
+pub use queue_blocks::{Numbered, Removed, Share, SlidingList, Spent};

@@ -5,6 +5,7 @@ mod Fronts
 mod JoinedFronts
 mod Lending
 mod NodeSteps
+mod Parted
 mod Places
 mod Ready
 mod Regions

@@ -1,11 +1,14 @@
 -- Which places of a block hold a value, after one of them is written or read.
 use Rattle.std.proofs.Common.{◌≡◌, ℕ, zero, suc, ◌+◌, ◌-◌, ◌<◌, ◌≤◌, ◌⊎◌, inl, inr, List, [], ◌∷◌, ◌++◌, Option, Some, None, refl, sym, ap, ◌∙◌, subst, arith, length, get_or, set, slice_get, length-append}
-use Rattle.queue_blocks.specs.Queue.{Queue}
+use Rattle.queue_blocks.specs.Queue.{Queue, Slid}
 use Rattle.queue_blocks.specs.Places.{laid, values, IsFilled, IsBlock}
 use Rattle.queue_blocks.specs.Blocks.{IsPopped}
 
 pub queue_is : {T : Type 0} {xs ys : List T} {m n : ℕ} → xs ≡ ys → m ≡ n → ◌≡◌ {A = Queue T} (record { items = xs; room = m }) (record { items = ys; room = n })
 queue_is e f = λ i. record { items = e i; room = f i }
+
+pub slid_is : {T : Type 0} {k l : ℕ} {xs ys : List T} {m n : ℕ} → k ≡ l → xs ≡ ys → m ≡ n → ◌≡◌ {A = Slid T} (record { before = k; items = xs; room = m }) (record { before = l; items = ys; room = n })
+slid_is d e f = λ i. record { before = d i; items = e i; room = f i }
 
 module _ {T : Type 0} where
   pub values-laid : (start : ℕ) (items : List T) (rest : ℕ) → values (laid start items rest) ≡ items
@@ -56,6 +59,17 @@ module _ {T : Type 0} where
   unfolding laid
   popped-laid zero item items rest = refl
   popped-laid (suc start) item items rest = ap (λ l. None ∷ l) (popped-laid start item items rest)
+
+  -- the place before the first item
+  pub ahead : (start : ℕ) (items : List T) (rest : ℕ) → get_or (laid (suc start) items rest) start None ≡ None
+  unfolding laid
+  ahead zero items rest = refl
+  ahead (suc start) items rest = ahead start items rest
+
+  pub fronted-laid : (start : ℕ) (item : T) (items : List T) (rest : ℕ) → set (laid (suc start) items rest) start (Some item) ≡ laid start (item ∷ items) rest
+  unfolding laid
+  fronted-laid zero item items rest = refl
+  fronted-laid (suc start) item items rest = ap (λ l. None ∷ l) (fronted-laid start item items rest)
 
   pub get-laid : (start : ℕ) (items : List T) (rest index at : ℕ) → at ≡ start + index → index < length items → get_or (laid start items rest) at None ≡ slice_get items index
   unfolding laid

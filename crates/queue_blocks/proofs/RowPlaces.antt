@@ -1,9 +1,8 @@
 -- What a row's places hold after one of them is written or read.
 use Rattle.std.proofs.Common.{◌≡◌, ◌≢◌, ℕ, zero, suc, ◌+◌, ◌-◌, ◌<◌, ◌≤◌, List, [], ◌∷◌, ◌++◌, Option, Some, None, refl, sym, ap, ◌∙◌, subst, arith, length, get_or, set, slice_get, length-append}
-use Rattle.std.proofs.lemmas.List.{length-set, set_comm, set-set, get_or-set_same, get_or-set_other}
-use Rattle.std.proofs.lemmas.Option.{get_or_from_slice_get}
+use Rattle.std.proofs.lemmas.List.{length-set, set-set}
 use Rattle.queue_blocks.specs.Places.{laid, values, IsFilled, IsRow}
-use Rattle.queue_blocks.proofs.Places.{values-laid, length-laid, laid-empty, behind, pushed-laid, popped-laid, get-laid}
+use Rattle.queue_blocks.proofs.Places.{values-laid, length-laid, laid-empty, behind, pushed-laid, popped-laid, ahead, fronted-laid, get-laid}
 
 module _ {T : Type 0} where
   laid-none : (start rest : ℕ) → laid {T = T} start [] rest ≡ laid 0 [] (start + rest)
@@ -78,6 +77,25 @@ module _ {T : Type 0} where
         (e ∙ ap (λ l. set l (start + count) (Some item)) here ∙ pushed-laid start (values places) (n - (start + count) - 1) (start + count) item (ap (λ k. start + k) row.run.counted))
         (omega (arith, length-append (values places) (item ∷ []))) (omega arith) (omega arith)
 
+    pub room_ahead : 1 ≤ start → (start - 1 < length places) × (get_or places (start - 1) None ≡ None)
+    room_ahead some =
+        let l = row.all in let w = inside in let one : start ≡ suc (start - 1) = omega arith in (
+          omega arith,
+          ap (λ l. get_or l (start - 1) None) laid_here
+              ∙ ap (λ k. get_or (laid k (values places) (n - (start + count))) (start - 1) None) one
+              ∙ ahead (start - 1) (values places) (n - (start + count)),
+        )
+
+    pub row_fronted : 1 ≤ start → (item : T) (new : List (Option T)) → new ≡ set places (start - 1) (Some item)
+        → IsRow n (start - 1) (count + 1) new × (values new ≡ item ∷ values places)
+    row_fronted some item new e =
+        let one : start ≡ suc (start - 1) = omega arith in
+        let here : places ≡ laid (suc (start - 1)) (values places) (n - (start + count)) = laid_here ∙ ap (λ k. laid k (values places) (n - (start + count))) one in
+        let c = row.run.counted in let w = inside in
+        is_row n (start - 1) (count + 1) (n - (start + count)) (item ∷ values places) new
+        (e ∙ ap (λ l. set l (start - 1) (Some item)) here ∙ fronted-laid (start - 1) item (values places) (n - (start + count)))
+        (omega (arith, c)) (omega arith) (omega arith)
+
     pub shown_at : (index : ℕ) → index < length (values places) → get_or places (start + index) None ≡ slice_get (values places) index
     shown_at index lt = ap (λ l. get_or l (start + index) None) laid_here ∙ get-laid start (values places) (n - (start + count)) index (start + index) refl lt
 
@@ -109,54 +127,3 @@ module _ {T : Type 0} where
         is_row n start count (n - (start + count)) (set (values places) index item) new
         (e ∙ set-set places (start + index) None (Some item) ∙ ap (λ l. set l (start + index) (Some item)) laid_here ∙ set-laid start (values places) (n - (start + count)) index (start + index) item refl lt)
         (row.run.counted ∙ sym (length-set (values places) index item)) (omega arith) (omega arith)
-
-    module _ (i j : ℕ) (i_within : i < length (values places)) (j_within : j < length (values places)) (apart : i ≢ j) where
-      pub apart_there : start + j ≢ start + i
-      apart_there same = apart (omega (arith, same))
-
-      pub other_filled : IsFilled (set places (start + i) None) (start + j)
-      other_filled =
-          let f = filled_at j j_within in
-          (f.0, get_or-set_other places (start + i) (start + j) None None apart_there ∙ f.1)
-
-      pub here_free : (once twice : List (Option T)) → once ≡ set places (start + i) None → twice ≡ set once (start + j) None
-          → (start + i < length twice) × (get_or twice (start + i) None ≡ None)
-      here_free once twice e f =
-          let l = row.all in let w = inside in let c = row.run.counted in
-          let long : length twice ≡ length places = ap length f ∙ length-set once (start + j) None ∙ ap length e ∙ length-set places (start + i) None in
-          let back : start + i ≢ start + j = λ same. apart_there (sym same) in (
-            omega arith,
-            ap (λ l. get_or l (start + i) None) f ∙ get_or-set_other once (start + j) (start + i) None None back ∙ ap (λ l. get_or l (start + i) None) e
-                ∙ get_or-set_same places (start + i) None None (omega arith),
-          )
-
-      pub there_free : (twice third : List (Option T)) (other : T) → (once : List (Option T)) → length once ≡ length places → twice ≡ set once (start + j) None → third ≡ set twice (start + i) (Some other)
-          → (start + j < length third) × (get_or third (start + j) None ≡ None)
-      there_free twice third other once same f e =
-          let l = row.all in let w = inside in let c = row.run.counted in
-          let long : length third ≡ length places = ap length e ∙ length-set twice (start + i) (Some other) ∙ ap length f ∙ length-set once (start + j) None ∙ same in (
-            omega arith,
-            ap (λ l. get_or l (start + j) None) e ∙ get_or-set_other twice (start + i) (start + j) (Some other) None apart_there ∙ ap (λ l. get_or l (start + j) None) f
-                ∙ get_or-set_same once (start + j) None None (omega arith),
-          )
-
-      pub row_swapped : (one other : T) (new : List (Option T)) → get_or places (start + i) None ≡ Some one → get_or (set places (start + i) None) (start + j) None ≡ Some other
-          → new ≡ set (set (set (set places (start + i) None) (start + j) None) (start + i) (Some other)) (start + j) (Some one)
-          → IsRow n start count new × ((d : T) → values new ≡ set (set (values places) i (get_or (values places) j d)) j (get_or (values places) i d))
-      row_swapped one other new got found e =
-          let w = inside in let c = row.run.counted in let a = start + i in let b = start + j in
-          let back : a ≢ b = λ same. apart_there (sym same) in
-          let both : set (set (set (set places a None) b None) a (Some other)) b (Some one) ≡ set (set places a (Some other)) b (Some one) =
-          ap (λ l. set l b (Some one)) (set_comm (set places a None) b a None (Some other) apart_there ∙ ap (λ l. set l b None) (set-set places a None (Some other)))
-          ∙ set-set (set places a (Some other)) b None (Some one) in
-          let made = is_row n start count (n - (start + count)) (set (set (values places) i other) j one) new
-          (e ∙ both ∙ ap (λ l. set (set l a (Some other)) b (Some one)) laid_here
-          ∙ ap (λ l. set l b (Some one)) (set-laid start (values places) (n - (start + count)) i a other refl i_within)
-          ∙ set-laid start (set (values places) i other) (n - (start + count)) j b one refl (let s = length-set (values places) i other in omega arith))
-          (row.run.counted ∙ sym (length-set (values places) i other) ∙ sym (length-set (set (values places) i other) j one)) (omega arith) (omega arith) in (
-            made.0,
-            λ d.
-                let x : get_or (values places) i d ≡ one = get_or_from_slice_get (values places) i one d (sym (shown_at i i_within) ∙ got) in
-                let y : get_or (values places) j d ≡ other = get_or_from_slice_get (values places) j other d (sym (shown_at j j_within) ∙ sym (get_or-set_other places a b None None apart_there) ∙ found) in
-                made.1 ∙ (λ k. set (set (values places) i (sym y k)) j (sym x k)),
-          )

@@ -6,6 +6,12 @@ pub record Queue (T : Type 0) : Type 0 where
   pub items : List T
   pub room : ℕ
 
+-- a row as its list sees it: how many places are free before the items, the items, and the room after them
+pub record Slid (T : Type 0) : Type 0 where
+  pub before : ℕ
+  pub items : List T
+  pub room : ℕ
+
 -- the oldest item, if there is one
 abbrev pub oldest : {T : Type 0} → List T → Option T
 oldest [] = None

@@ -1,11 +1,11 @@
 //! A row: consecutive items in a region of their own, whose first items can be moved out one by one.
-ghost use Rattle.std.specs.Prelude.{◌≡◌, ◌≢◌, ◌+◌, ◌-◌, ◌<◌, ◌≤◌, [], ◌∷◌, ◌++◌, IfOk, length, slice_set, slice_index_or};
+ghost use Rattle.std.specs.Prelude.{◌≡◌, ◌+◌, ◌-◌, ◌<◌, ◌≤◌, [], ◌∷◌, ◌++◌, IfOk, length, slice_set};
 
 use crate::region::Region;
 use std::alloc::{AllocError, Global};
 use std::marker::Model;
 
-/// Consecutive items, in the places from `start` on. Only a swap moves an item to another place.
+/// Consecutive items, in the places from `start` on. No item is moved to another place.
 pub(crate) struct Row<T> {
     start: usize,
     count: usize,
@@ -17,11 +17,12 @@ pub(crate) struct Row<T> {
 impl<T> Model for Row<T> {
     ghost use Rattle.std.specs.Prelude.{◌+◌, ◌-◌};
     ghost use Rattle.queue_blocks.specs.Places.{values, IsRow};
-    ghost use Rattle.queue_blocks.specs.Queue.{Queue};
+    ghost use Rattle.queue_blocks.specs.Queue.{Slid};
 
-    ghost Value = { Queue T };
+    ghost Value = { Slid T };
 
     ghost view = { λ r. record {
+      before = r.start;
       items = values r.region.places;
       room = r.places - (r.start + r.count);
     } };
@@ -34,7 +35,7 @@ impl<T> Row<T> {
     /// many places or too large values for a layout.
     pub(crate) fn with_places(alloc: Global, places: usize) -> Result<Row<T>, AllocError>
         requires { 1 ≤ places }
-        ensures { IfOk result (λ row. row ≡ record { items = []; room = places }) }
+        ensures { IfOk result (λ row. row ≡ record { before = 0; items = []; room = places }) }
     {
         Ok(Row {
             start: 0,
@@ -87,6 +88,7 @@ impl<T> Row<T> {
     pub(crate) fn push(&mut self, item: T)
         requires { 1 ≤ self.old.room }
         ensures { self.new ≡ record {
+          before = self.old.before;
           items = self.old.items ++ item ∷ [];
           room = self.old.room - 1;
         } }
@@ -100,12 +102,28 @@ impl<T> Row<T> {
     pub(crate) fn pop(&mut self) -> T
         requires { 0 < length self.old.items }
         ensures items { self.old.items ≡ result ∷ self.new.items }
+        ensures before { self.new.before ≡ self.old.before + 1 }
         ensures room { self.new.room ≡ self.old.room }
     {
         let first = self.start;
         self.start += 1;
         self.count -= 1;
         self.region.read(first)
+    }
+
+    /// Adds an item before the first one, into a place that is free there.
+    #[inline]
+    pub(crate) fn push_front(&mut self, item: T)
+        requires { 1 ≤ self.old.before }
+        ensures { self.new ≡ record {
+          before = self.old.before - 1;
+          items = item ∷ self.old.items;
+          room = self.old.room;
+        } }
+    {
+        self.start -= 1;
+        self.count += 1;
+        self.region.write(self.start, item);
     }
 
     /// Replaces the item at an index, and returns the old one.
@@ -119,23 +137,6 @@ impl<T> Row<T> {
         let other = self.region.read(at);
         self.region.write(at, item);
         other
-    }
-
-    /// Exchanges two items.
-    #[inline]
-    pub(crate) fn swap(&mut self, i: usize, j: usize)
-        requires i_within { i < length self.old.items }
-        requires j_within { j < length self.old.items }
-        requires apart { i ≢ j }
-        ensures items { (d : T) → self.new.items ≡ slice_set (slice_set self.old.items i (slice_index_or self.old.items j d)) j (slice_index_or self.old.items i d) }
-        ensures room { self.new.room ≡ self.old.room }
-    {
-        let here = self.start + i;
-        let there = self.start + j;
-        let one = self.region.read(here);
-        let other = self.region.read(there);
-        self.region.write(here, other);
-        self.region.write(there, one);
     }
 }
 

@@ -1,7 +1,8 @@
 //! The operations of a list on its rows, each of which may be absent.
-ghost use Rattle.std.specs.Prelude.{◌≡◌, ◌≢◌, ◌<◌, ◌≤◌, ◌↔◌, [], ◌∷◌, ◌++◌, true, List, None, length, drop as drop_list, option_copied, slice_get, slice_set, slice_index_or};
-ghost use Rattle.queue_blocks.specs.Sliding.{items_in, room_in, IsFront};
+ghost use Rattle.std.specs.Prelude.{◌≡◌, ◌+◌, ◌<◌, ◌≤◌, [], ◌∷◌, ◌++◌, true, List, None, length, take as take_list, drop as drop_list, option_copied, slice_get, slice_set, vec_len, vec_capacity};
+ghost use Rattle.queue_blocks.specs.Sliding.{items_in, room_in, below, since, IsFront};
 
+use crate::numbered::Numbered;
 use crate::row::Row;
 use crate::sharing::Share;
 use std::alloc::AllocError;
@@ -84,19 +85,6 @@ pub(crate) fn set_in<T: Drop>(row: &mut Option<Row<T>>, place: usize, item: T)
     }
 }
 
-/// Exchanges two items.
-pub(crate) fn swap_in<T>(row: &mut Option<Row<T>>, i: usize, j: usize)
-    requires i_within { i < length (items_in row.old) }
-    requires j_within { j < length (items_in row.old) }
-    requires apart { i ≢ j }
-    ensures { (d : T) → items_in row.new ≡ slice_set (slice_set (items_in row.old) i (slice_index_or (items_in row.old) j d)) j (slice_index_or (items_in row.old) i d) }
-{
-    match row {
-        Some(row) => row.swap(i, j),
-        None => unreachable!(),
-    }
-}
-
 /// Drops the first `count` items, or all if there are fewer.
 pub(crate) fn drop_first<T: Drop>(row: &mut Option<Row<T>>, count: usize)
     ensures { items_in row.new ≡ drop_list count (items_in row.old) }
@@ -111,6 +99,71 @@ fn pop_each<T: Drop>(row: &mut Row<T>, count: usize)
 {
     for _ in 0..count.min(row.len()) {
         drop(row.pop());
+    }
+}
+
+/// Moves out of a row the items whose number is below `number`, to `taken`. All of them are among the first `end`. The
+/// others stay, in order; those among the first `end` are held in `kept` meanwhile.
+pub(crate) fn take_below<T: Numbered>(
+    row: &mut Option<Row<T>>,
+    number: u64,
+    end: usize,
+    taken: &mut Vec<T>,
+    kept: &mut Vec<T>,
+)
+    requires none_behind { below T.number_of number (drop_list end (items_in row.old)) ≡ [] }
+    requires taken_room { vec_len taken.old + end ≤ vec_capacity taken.old }
+    requires kept_room { vec_len kept.old + end ≤ vec_capacity kept.old }
+    requires none_kept { kept.old.items ≡ [] }
+    ensures row { items_in row.new ≡ since T.number_of number (items_in row.old) }
+    ensures taken { taken.new.items ≡ taken.old.items ++ below T.number_of number (items_in row.old) }
+    ensures kept { kept.new.items ≡ [] }
+    ensures room { vec_capacity kept.new ≡ vec_capacity kept.old }
+{
+    if let Some(row) = row {
+        part_first(row, number, end.min(row.len()), taken, kept);
+        put_back(row, kept);
+    }
+}
+
+/// Moves the first `end` items out of a row: those whose number is below `number` to `taken`, and the others to
+/// `kept`.
+fn part_first<T: Numbered>(
+    row: &mut Row<T>,
+    number: u64,
+    end: usize,
+    taken: &mut Vec<T>,
+    kept: &mut Vec<T>,
+)
+    requires within { end ≤ length row.old.items }
+    requires taken_room { vec_len taken.old + end ≤ vec_capacity taken.old }
+    requires kept_room { vec_len kept.old + end ≤ vec_capacity kept.old }
+    ensures row { row.new.items ≡ drop_list end row.old.items }
+    ensures before { row.new.before ≡ row.old.before + end }
+    ensures taken { taken.new.items ≡ taken.old.items ++ below T.number_of number (take_list end row.old.items) }
+    ensures kept { kept.new.items ≡ kept.old.items ++ since T.number_of number (take_list end row.old.items) }
+    ensures count { vec_len kept.new ≤ vec_len kept.old + end }
+    ensures room { vec_capacity kept.new ≡ vec_capacity kept.old }
+{
+    for _ in 0..end {
+        let item = row.pop();
+        if item.number() < number {
+            taken.push_reserved(item);
+        } else {
+            kept.push_reserved(item);
+        }
+    }
+}
+
+/// Moves items back before the first one of a row, in order.
+fn put_back<T>(row: &mut Row<T>, kept: &mut Vec<T>)
+    requires { vec_len kept.old ≤ row.old.before }
+    ensures row { row.new.items ≡ kept.old.items ++ row.old.items }
+    ensures kept { kept.new.items ≡ [] }
+    ensures room { vec_capacity kept.new ≡ vec_capacity kept.old }
+{
+    for _ in 0..kept.len() {
+        row.push_front(kept.take_last());
     }
 }
 
@@ -160,21 +213,4 @@ pub(crate) fn follow_set<T: Share + Drop>(row: &mut Option<Row<T>>, place: usize
         Ok(other) => set_in(row, place, other),
         Err(AllocError) => *row = None,
     }
-}
-
-/// Updates a row that holds a prefix of some items when two of the items are exchanged.
-pub(crate) fn follow_swap<T: Share + Drop>(
-    items: &[T],
-    row: &mut Option<Row<T>>,
-    i: usize,
-    j: usize,
-)
-    requires front { IsFront (items_in row.old) items.now }
-    requires i_within { i < length items.now }
-    requires j_within { j < length items.now }
-    ensures { (d : T) → IsFront (items_in row.new)
-        (slice_set (slice_set items.now i (slice_index_or items.now j d)) j (slice_index_or items.now i d)) }
-{
-    follow_set(row, i, &items[j]);
-    follow_set(row, j, &items[i]);
 }

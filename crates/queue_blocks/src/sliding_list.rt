@@ -1,14 +1,18 @@
 //! A list in one slice that grows a few items at a time.
-ghost use Rattle.std.specs.Prelude.{◌≡◌, ◌<◌, ◌≤◌, [], ◌∷◌, ◌++◌, OnOk, length, drop as drop_list, slice_get, slice_set, slice_index_or, option_copied};
+ghost use Rattle.std.specs.Prelude.{◌≡◌, ◌<◌, ◌≤◌, [], ◌∷◌, ◌++◌, OnOk, OnErr, IfOk, length, drop as drop_list, slice_get, slice_set, option_copied};
+ghost use Rattle.queue_blocks.specs.Sliding.{below, since};
 
+use crate::numbered::Numbered;
+use crate::removed::{Removed, Spent};
 use crate::row::Row;
 use crate::rows::{
-    copy_to, drop_first, follow_set, follow_swap, has_all, places_for, push_to, room_of, set_in,
-    slice_of, swap_in, take_next,
+    copy_to, drop_first, follow_set, has_all, places_for, push_to, room_of, set_in, slice_of,
+    take_below, take_next,
 };
 use crate::sharing::Share;
 use std::alloc::{AllocError, Global};
 use std::marker::Model;
+use std::mem;
 
 /// The most items that a call that makes room copies into the next row, and the most that it drops of the spent row.
 const STEP: usize = 16;
@@ -170,19 +174,6 @@ impl<T: Share + Drop> SlidingList<T> {
         set_in(&mut self.row, place, item);
     }
 
-    /// Exchanges two items.
-    pub fn swap(&mut self, i: usize, j: usize)
-        requires i_within { i < length self.old.items }
-        requires j_within { j < length self.old.items }
-        ensures { (d : T) → self.new.items ≡ slice_set (slice_set self.old.items i (slice_index_or self.old.items j d)) j (slice_index_or self.old.items i d) }
-    {
-        if i == j {
-            return;
-        }
-        follow_swap(slice_of(&self.row), &mut self.next, i, j);
-        swap_in(&mut self.row, i, j);
-    }
-
     /// Drops the first `count` items.
     pub fn drop_front(&mut self, count: usize)
         requires { count ≤ length self.old.items }
@@ -191,5 +182,28 @@ impl<T: Share + Drop> SlidingList<T> {
         self.spend(STEP.max(count));
         drop_first(&mut self.next, count);
         drop_first(&mut self.row, count);
+    }
+}
+
+impl<T: Numbered + Drop> SlidingList<T> {
+    /// Moves out the items whose number is below `number`, all of which are among the first `end`. The others stay, in
+    /// order. It drops no item: the copies of what it moves out, and the spent row, are returned with it.
+    ///
+    /// # Errors
+    ///
+    /// If memory is refused. The items are unchanged.
+    pub fn take_below(&mut self, number: u64, end: usize) -> Result<Removed<T>, AllocError>
+        requires { below T.number_of number (drop_list end self.old.items) ≡ [] }
+        ensures items { IfOk result (λ removed. removed.items.items ≡ below T.number_of number self.old.items) }
+        ensures ok { OnOk result (self.new.items ≡ since T.number_of number self.old.items) }
+        ensures err { OnErr result (self.new.items ≡ self.old.items) }
+    {
+        let mut items = Vec::with_capacity(self.alloc, end)?;
+        let mut kept = Vec::with_capacity(self.alloc, end)?;
+        let mut copies = Vec::with_capacity(self.alloc, end)?;
+        take_below(&mut self.row, number, end, &mut items, &mut kept);
+        take_below(&mut self.next, number, end, &mut copies, &mut kept);
+        let spent = Spent::new(copies, mem::replace(&mut self.spent, None));
+        Ok(Removed { items, spent })
     }
 }

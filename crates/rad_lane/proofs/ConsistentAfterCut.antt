@@ -1,14 +1,11 @@
 -- What a lane keeps beside its book is in step with the book after a cut, and tells what is cut.
 use Rattle.std.proofs.Common.{◌≡◌, ℕ, zero, suc, ◌+◌, ◌-◌, ◌<◌, ◌≤◌, true, false, cond, List, [], ◌∷◌, ◌++◌, length, get_or, take, drop, Option, Some, None, refl, sym, ap, ◌∙◌, subst, arith, Fits, w64}
-use Rattle.std.specs.Prelude.{All, option_map, slice_get, ◌==◌}
+use Rattle.std.specs.Prelude.{All, option_map, slice_get, nat_lt}
 use Rattle.std.specs.Option.{option_flatten}
-use Rattle.std.specs.List.{list_any}
 use Rattle.std.specs.Ordering.{is_eq}
 use Rattle.std.specs.FinMap as map
-use Rattle.std.proofs.lemmas.Bool.{ne_eqb, eq-eqb}
-use Rattle.std.proofs.lemmas.List.{append-nil, length-drop, length-take-le, drop-take, take-append-drop, get_or-take, get_or-drop, get_or_append_left, get_or_default}
-use Rattle.std.proofs.lemmas.List.Elements.{All-filter, filter-append, filter_passes}
-use Rattle.std.proofs.lemmas.List.Folds.{list_any_at, list_any_none}
+use Rattle.std.proofs.lemmas.List.{append-nil, length-drop, length-take-le, drop-take, take-append-drop, get_or-take, get_or-drop}
+use Rattle.std.proofs.lemmas.List.Elements.{All-filter, filter-append}
 use Rattle.rad_tables.specs.declared.duplicates.Key.{Key}
 use Rattle.rad_tables.specs.Keys.{key_cmp}
 use Rattle.rad_tables.specs.Pairs.{Table}
@@ -20,14 +17,16 @@ use Rattle.rad_lane.specs.declared.turning.Volume.{Volume}
 use Rattle.rad_lane.specs.Stamp.{Kept, key_of}
 use Rattle.rad_lane.specs.Setup.{LaneSetup}
 use Rattle.rad_lane.specs.Outstanding.{AnswerKept}
-use Rattle.rad_lane.specs.Book.{Book}
+use Rattle.rad_lane.specs.Book.{Book, next_number}
 use Rattle.rad_lane.specs.Repeat.{of_key, last_of, answer_to}
 use Rattle.rad_lane.specs.internal.Invariant.{IsConsistent, book_of, last_number, answer_index_in, answer_index_of, answer_index_to}
 use Rattle.rad_lane.specs.Volumes.{IsOver, BeginsUnended, IsCut, answers_below, answers_since, volume_of, without_cut}
-use Rattle.rad_lane.specs.internal.Cutting.{IsOverBy, unless_of, HasUnderItsKey}
+use Rattle.rad_lane.specs.internal.Cutting.{IsOverBy}
+use Rattle.rad_lane.specs.internal.Keys.{number_since, IsBelow, merged}
+use Rattle.rad_lane.proofs.KeysByAge.{recent_below}
 use Rattle.rad_lane.proofs.ListLemmas.{All-right}
-use Rattle.rad_lane.proofs.NoRepeatOfFresh.{same_key}
-use Rattle.rad_lane.proofs.LawfulAfterCut.{numbered_at, last_behind, cut_numbered, cut_below, kept_since, cut_sent, found_still, accepted_count, next_same, answers_counted, lawful_after_cut}
+use Rattle.rad_lane.proofs.NumberLemmas.{test_since, test_below}
+use Rattle.rad_lane.proofs.LawfulAfterCut.{numbered_at, numbered_below, last_behind, cut_numbered, cut_below, kept_since, cut_sent, found_still, accepted_count, next_same, answers_counted, lawful_after_cut}
 
 get_drop : {X : Type 0} (n : ℕ) (xs : List X) (k : ℕ) → slice_get (drop n xs) k ≡ slice_get xs (n + k)
 get_drop zero xs k = let same : k ≡ 0 + k = omega arith in ap (λ i. slice_get xs i) same
@@ -45,75 +44,48 @@ last_has P [] number all h = cc
 last_has P (s ∷ []) number all h = let same : s.number ≡ number = cc in (s, all 0 s (omega arith), same)
 last_has P (s ∷ t ∷ stamps) number all h = last_has P (t ∷ stamps) number (All-right (s ∷ []) (t ∷ stamps) P all) h
 
--- the last number of a key behind the cut
-module _ (cut : List Stamp) where
+-- the last number of a key behind the cut, whose numbers are below the next opening
+module _ (next : ℕ) where
   abbrev IsCutOff : Stamp → Type 0
-  IsCutOff t = list_any (λ s. s.number == t.number) cut ≡ true
+  IsCutOff t = nat_lt t.number next ≡ true
 
   abbrev IsLeft : Stamp → Type 0
-  IsLeft t = list_any (λ s. s.number == t.number) cut ≡ false
+  IsLeft t = nat_lt t.number next ≡ false
 
-  none_left : (gone : List Stamp) → All IsCutOff gone → unless_of cut (option_map (λ (s : Stamp). s.number) (last_of gone)) ≡ None
+  none_left : (gone : List Stamp) → All IsCutOff gone → number_since next (option_map (λ (s : Stamp). s.number) (last_of gone)) ≡ None
   none_left [] h = refl
   none_left (s ∷ []) h = ap (λ b. cond b None (Some s.number)) (h 0 s (omega arith))
   none_left (s ∷ t ∷ gone) h = none_left (t ∷ gone) (All-right (s ∷ []) (t ∷ gone) IsCutOff h)
 
-  left_same : (left : List Stamp) → All IsLeft left → unless_of cut (option_map (λ (s : Stamp). s.number) (last_of left)) ≡ option_map (λ (s : Stamp). s.number) (last_of left)
+  left_same : (left : List Stamp) → All IsLeft left → number_since next (option_map (λ (s : Stamp). s.number) (last_of left)) ≡ option_map (λ (s : Stamp). s.number) (last_of left)
   left_same [] h = refl
   left_same (s ∷ []) h = ap (λ b. cond b None (Some s.number)) (h 0 s (omega arith))
   left_same (s ∷ t ∷ left) h = left_same (t ∷ left) (All-right (s ∷ []) (t ∷ left) IsLeft h)
 
-  last_left : (gone left : List Stamp) → All IsCutOff gone → All IsLeft left → unless_of cut (option_map (λ (s : Stamp). s.number) (last_of (gone ++ left))) ≡ option_map (λ (s : Stamp). s.number) (last_of left)
-  last_left gone [] off here = ap (λ (xs : List Stamp). unless_of cut (option_map (λ (s : Stamp). s.number) (last_of xs))) (append-nil gone) ∙ none_left gone off
-  last_left gone (s ∷ left) off here = ap (λ last. unless_of cut (option_map (λ (s : Stamp). s.number) last)) (last_behind gone s left) ∙ left_same (s ∷ left) here
-
-  all_cut_off : All IsCutOff cut
-  all_cut_off k d within = list_any_at (λ s. s.number == (get_or cut k d).number) cut k d within (eq-eqb (get_or cut k d).number (get_or cut k d).number refl)
+  last_left : (gone left : List Stamp) → All IsCutOff gone → All IsLeft left → number_since next (option_map (λ (s : Stamp). s.number) (last_of (gone ++ left))) ≡ option_map (λ (s : Stamp). s.number) (last_of left)
+  last_left gone [] off here = ap (λ (xs : List Stamp). number_since next (option_map (λ (s : Stamp). s.number) (last_of xs))) (append-nil gone) ∙ none_left gone off
+  last_left gone (s ∷ left) off here = ap (λ last. number_since next (option_map (λ (s : Stamp). s.number) last)) (last_behind gone s left) ∙ left_same (s ∷ left) here
 
 module _ (book : Book) (kept_records : List Kept) (ports : ℕ) (numbers : map.FinMap key_cmp ℕ) (cells : List (Option AnswerIndex)) (count : ℕ) (s : IsConsistent book kept_records ports numbers cells count) where
   module _ (now : ℕ) (later : book.last ≤ now) (cut kept : List Stamp) (is : IsCut book now cut kept) where
     abbrev after : Book
     after = without_cut book now cut kept
 
-    all_left : All (IsLeft cut) kept
-    all_left k d within =
-        list_any_none (λ t. t.number == (get_or kept k d).number) cut
-        (λ j e inside. ne_eqb (get_or cut j e).number (get_or kept k d).number
-        (λ same.
-        let below = cut_below book s.lawful now later cut kept is j e inside in
-        let since = kept_since book s.lawful now later cut kept is k d within in
-        absurd (omega (arith, below, since, same))))
+    all_gone : All (IsCutOff (book.opening + length cut)) cut
+    all_gone k d within = test_below (get_or cut k d).number (book.opening + length cut) (cut_below book s.lawful now later cut kept is k d within)
 
-    -- where the table has a number of the cut, it has it under its key
-    one_of_number : (k : ℕ) (d : Stamp) → k < length cut → All (λ t. t.number ≡ (get_or cut k d).number → t ≡ get_or cut k d) book.accepted
-    one_of_number k d within j e inside same =
-        let at = numbered_at book.accepted book.opening s.lawful.numbered j e inside in
-        let there = numbered_at cut book.opening (cut_numbered book s.lawful now later cut kept is) k d within in
-        let here : j ≡ k = omega (arith, at, there, same) in
-        ap (λ i. get_or book.accepted i e) here
-        ∙ ap (λ (xs : List Stamp). get_or xs k e) is.parts
-        ∙ get_or_append_left cut kept e k within
-        ∙ get_or_default cut k e d within
+    all_left : All (IsLeft (book.opening + length cut)) kept
+    all_left k d within = test_since (get_or kept k d).number (book.opening + length cut) (kept_since book s.lawful now later cut kept is k d within)
 
-    pub under_their_keys : All (HasUnderItsKey numbers) cut
-    under_their_keys k d within key h =
-        let found = last_has (λ t. (t.number ≡ (get_or cut k d).number → t ≡ get_or cut k d) × (is_eq (key_cmp (key_of t) key) ≡ true)) (of_key key book.accepted) (get_or cut k d).number
-        (λ j e inside. (
-          All-filter (λ t. is_eq (key_cmp (key_of t) key)) (λ t. t.number ≡ (get_or cut k d).number → t ≡ get_or cut k d) book.accepted (one_of_number k d within) j e inside,
-          filter_passes (λ t. is_eq (key_cmp (key_of t) key)) book.accepted j e inside,
-        ))
-        (sym (s.last_numbers key) ∙ h)
-        in
-        sym (same_key (key_of found.0) key found.1.1) ∙ ap (λ (t : Stamp). key_of t) (found.1.0 found.2)
-
-    module _ (forgotten : map.FinMap key_cmp ℕ) (forgets : (key : Key) → map.get forgotten key ≡ unless_of cut (map.get numbers key)) where
+    module _ (forgotten : map.FinMap key_cmp ℕ) (forgets : (key : Key) → map.get forgotten key ≡ number_since (book.opening + length cut) (map.get numbers key)) where
       last_numbers_still : (key : Key) → map.get forgotten key ≡ last_number key kept
       last_numbers_still key =
+          let next = book.opening + length cut in
           forgets key
-          ∙ ap (λ o. unless_of cut o) (s.last_numbers key)
-          ∙ ap (λ (xs : List Stamp). unless_of cut (last_number key xs)) is.parts
-          ∙ ap (λ (xs : List Stamp). unless_of cut (option_map (λ (t : Stamp). t.number) (last_of xs))) (filter-append (λ t. is_eq (key_cmp (key_of t) key)) cut kept)
-          ∙ last_left cut (of_key key cut) (of_key key kept) (All-filter (λ t. is_eq (key_cmp (key_of t) key)) (IsCutOff cut) cut (all_cut_off cut)) (All-filter (λ t. is_eq (key_cmp (key_of t) key)) (IsLeft cut) kept all_left)
+          ∙ ap (λ o. number_since next o) (s.last_numbers key)
+          ∙ ap (λ (xs : List Stamp). number_since next (last_number key xs)) is.parts
+          ∙ ap (λ (xs : List Stamp). number_since next (option_map (λ (t : Stamp). t.number) (last_of xs))) (filter-append (λ t. is_eq (key_cmp (key_of t) key)) cut kept)
+          ∙ last_left next (of_key key cut) (of_key key kept) (All-filter (λ t. is_eq (key_cmp (key_of t) key)) (IsCutOff next) cut all_gone) (All-filter (λ t. is_eq (key_cmp (key_of t) key)) (IsLeft next) kept all_left)
 
       since_still : (key : Key) (number : ℕ) → map.get forgotten key ≡ Some number → book.opening + length cut ≤ number
       since_still key number h =
@@ -142,6 +114,15 @@ module _ (book : Book) (kept_records : List Kept) (ports : ℕ) (numbers : map.F
         indices = answer_indices_still;
         numbers_fit = let next = next_same book s.lawful now later cut kept is in let before = s.numbers_fit in omega (arith, next, before);
       }
+
+  -- the last numbers are those of requests of the book
+  pub numbers_below : IsBelow (next_number book) numbers
+  numbers_below key number h =
+      let found = last_has (λ t. t.number < next_number book) (of_key key book.accepted) number
+      (All-filter (λ t. is_eq (key_cmp (key_of t) key)) (λ t. t.number < next_number book) book.accepted (numbered_below book.accepted book.opening s.lawful.numbered))
+      (sym (s.last_numbers key) ∙ h)
+      in
+      omega (arith, found.1, found.2)
 
   -- the answer indices tell what is over
   answer_index_at : (k : ℕ) (d : Stamp) → k < length book.accepted → get_or cells k None ≡ answer_index_to (get_or book.accepted k d).number book.answered
@@ -244,8 +225,12 @@ module _ (setup : LaneSetup) (opening : ℕ) (accepted : List Stamp) (kept : Lis
         ∙ answers_counted before s.lawful now later_here (take n accepted) (drop n accepted) cut_here
         ∙ counted
 
-    pub under_keys : All (HasUnderItsKey numbers) (take n accepted)
-    under_keys = under_their_keys before kept ports numbers cells count s now later_here (take n accepted) (drop n accepted) cut_here
+    -- each recent number is below that of the next request
+    pub recent_fits : (recent earlier : map.FinMap key_cmp ℕ) → numbers ≡ merged opening recent earlier → IsBelow (next_number value) recent
+    recent_fits recent earlier is =
+        subst (λ (b : Book). IsBelow (next_number b) recent) same
+        (recent_below opening (opening + length accepted) recent earlier (omega arith)
+        (subst (λ m. IsBelow (opening + length accepted) m) is (numbers_below before kept ports numbers cells count s)))
 
     abbrev cut_by : ℕ → Book
     cut_by m = record before {
@@ -276,14 +261,15 @@ module _ (setup : LaneSetup) (opening : ℕ) (accepted : List Stamp) (kept : Lis
         ap (λ (xs : List Stamp). let b : Book = record before { opening = opening + n; accepted = drop n accepted; sent = xs; answered = answers_since (opening + n) answered; last = now } in b) sent_left
         ∙ ap (λ m. cut_by m) (sym counted)
 
-    pub stands_cut : (forgotten : map.FinMap key_cmp ℕ) → ((key : Key) → map.get forgotten key ≡ unless_of (take n accepted) (map.get numbers key)) → IsConsistent cut_book kept ports forgotten (drop n cells) count
+    pub stands_cut : (forgotten : map.FinMap key_cmp ℕ) → ((key : Key) → map.get forgotten key ≡ number_since (opening + n) (map.get numbers key)) → IsConsistent cut_book kept ports forgotten (drop n cells) count
     stands_cut forgotten forgets =
         subst (λ (b : Book). IsConsistent b kept ports forgotten (drop n cells) count) (sym as_cut)
         (subst (λ m. IsConsistent (without_cut before now (take n accepted) (drop n accepted)) kept ports forgotten (drop m cells) count) counted
-        (stands_without before kept ports numbers cells count s now later_here (take n accepted) (drop n accepted) cut_here forgotten forgets))
+        (stands_without before kept ports numbers cells count s now later_here (take n accepted) (drop n accepted) cut_here forgotten
+        (λ key. forgets key ∙ ap (λ m. number_since (opening + m) (map.get numbers key)) (sym counted))))
 
     abbrev the_volume : ℕ → Volume
-    the_volume m = record { opening = opening; stamps = take n accepted; answered = answers_below (opening + m) answered }
+    the_volume m = record { opening = opening; stamps = take n accepted; answered = answers_below (opening + m) answered; cleared = tt }
 
     pub cut_seen : (volume : Volume) (new : Book) → volume ≡ the_volume n → new ≡ cut_book → (volume ≡ volume_of value (take n value.accepted)) × (new ≡ without_cut value now (take n value.accepted) (drop n value.accepted))
     cut_seen volume new is becomes =
@@ -300,16 +286,16 @@ module _ (setup : LaneSetup) (opening : ℕ) (accepted : List Stamp) (kept : Lis
           ap (λ (xs : List Stamp). book_of setup (opening + n) xs kept others served slots drain watch now) left_is
           ∙ ap (λ (xs : List AnswerKept). book_of setup (opening + n) (drop n accepted) kept xs served slots drain watch now) others_are
 
-      pub stands_left : (left_cells : List (Option AnswerIndex)) → left_cells ≡ drop n cells → (gone : List Stamp) → gone ≡ take n accepted → (forgotten : map.FinMap key_cmp ℕ) → ((key : Key) → map.get forgotten key ≡ unless_of gone (map.get numbers key)) → IsConsistent left_book kept ports forgotten left_cells count
-      stands_left left_cells cells_are gone gone_are forgotten forgets =
+      pub stands_left : (left_cells : List (Option AnswerIndex)) → left_cells ≡ drop n cells → (forgotten : map.FinMap key_cmp ℕ) → ((key : Key) → map.get forgotten key ≡ number_since (opening + n) (map.get numbers key)) → IsConsistent left_book kept ports forgotten left_cells count
+      stands_left left_cells cells_are forgotten forgets =
           subst (λ (b : Book). IsConsistent b kept ports forgotten left_cells count) (sym left_book_is)
           (subst (λ (xs : List (Option AnswerIndex)). IsConsistent cut_book kept ports forgotten xs count) (sym cells_are)
-          (stands_cut forgotten (subst (λ (xs : List Stamp). (key : Key) → map.get forgotten key ≡ unless_of xs (map.get numbers key)) gone_are forgets)))
+          (stands_cut forgotten forgets))
 
       pub left_seen : (gone : List Stamp) → gone ≡ take n accepted → (below : List AnswerKept) → below ≡ answers_below (opening + n) answered
-          → ((let volume : Volume = record { opening = opening; stamps = gone; answered = below } in volume) ≡ volume_of value (take n value.accepted)) × (left_book ≡ without_cut value now (take n value.accepted) (drop n value.accepted))
+          → ((let volume : Volume = record { opening = opening; stamps = gone; answered = below; cleared = tt } in volume) ≡ volume_of value (take n value.accepted)) × (left_book ≡ without_cut value now (take n value.accepted) (drop n value.accepted))
       left_seen gone gone_are below below_are =
           cut_seen _ _
-          (ap (λ (xs : List Stamp). let volume : Volume = record { opening = opening; stamps = xs; answered = below } in volume) gone_are
-          ∙ ap (λ (xs : List AnswerKept). let volume : Volume = record { opening = opening; stamps = take n accepted; answered = xs } in volume) below_are)
+          (ap (λ (xs : List Stamp). let volume : Volume = record { opening = opening; stamps = xs; answered = below; cleared = tt } in volume) gone_are
+          ∙ ap (λ (xs : List AnswerKept). let volume : Volume = record { opening = opening; stamps = take n accepted; answered = xs; cleared = tt } in volume) below_are)
           left_book_is

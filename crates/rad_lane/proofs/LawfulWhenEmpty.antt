@@ -1,5 +1,5 @@
 -- A lane in which nothing happened yet.
-use Rattle.std.proofs.Common.{◌≡◌, ◌≤◌, List, [], ◌∷◌, length, Some, None, refl, sym, ◌∙◌, arith, zero-le}
+use Rattle.std.proofs.Common.{◌≡◌, ◌≤◌, List, [], ◌∷◌, length, Some, None, refl, sym, ap, ◌∙◌, arith, zero-le}
 use Rattle.std.specs.FinMap as map
 use Rattle.std.proofs.lemmas.List.Sorted.{IsPermutation-refl}
 use Rattle.std.proofs.lemmas.List.Elements.{All-nil}
@@ -11,6 +11,8 @@ use Rattle.rad_lane.specs.Setup.{LaneSetup}
 use Rattle.rad_lane.specs.Empty.{empty_book}
 use Rattle.rad_lane.specs.Lawful.{IsLawful}
 use Rattle.rad_lane.specs.internal.Invariant.{IsConsistent}
+use Rattle.rad_lane.specs.internal.Keys.{merged}
+use Rattle.rad_lane.proofs.KeysByAge.{merged-empty}
 
 no_items : {X : Type 0} (xs : List X) → length xs ≡ 0 → xs ≡ []
 no_items [] e = refl
@@ -48,13 +50,13 @@ empty_lawful setup least most = record {
   drained_count = tt;
 }
 
-pub stands_empty : (setup : LaneSetup) → 1 ≤ setup.ports → setup.ports ≤ 4 → IsConsistent (empty_book setup) [] setup.ports map.empty [] 0
+pub stands_empty : (setup : LaneSetup) → 1 ≤ setup.ports → setup.ports ≤ 4 → IsConsistent (empty_book setup) [] setup.ports (merged 0 map.empty map.empty) [] 0
 stands_empty setup least most = record {
   lawful = empty_lawful setup least most;
   rooms = All-nil _;
   ports_are = refl;
   counted = rw no_entries refl;
-  last_numbers = λ key. map.get-empty key_cmp key;
+  last_numbers = λ key. ap (λ m. map.get m key) (merged-empty 0) ∙ map.get-empty key_cmp key;
   since_opening = λ key number h. zero-le;
   cells_are = refl;
   indices = λ number h. refl;

@@ -1,11 +1,10 @@
 pub mod VolumeLeaves
 pub mod RunsLoseNone
 pub mod ConsistentAfterCut
-pub mod ForgetsNumbers
+pub mod KeysByAge
 pub mod SerialFound
 pub mod LawfulAfterCut
 pub mod ListLemmas
-pub mod MovesUp
 pub mod LawfulAfterAccept
 pub mod LawfulWhenEmpty
 pub mod LawfulAfterDrain

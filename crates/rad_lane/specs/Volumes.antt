@@ -45,6 +45,7 @@ volume_of book cut = record {
   opening = book.opening;
   stamps = cut;
   answered = answers_below (opening_after book cut) book.answered;
+  cleared = tt;
 }
 
 -- The book without the cut.

@@ -3,3 +3,4 @@ pub mod KeepAnswer
 pub mod Cutting
 pub mod NextDue
 pub mod Invariant
+pub mod Keys

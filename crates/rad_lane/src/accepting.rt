@@ -159,7 +159,7 @@ impl<Q: Fifo<Record>> Lane<Q> {
         Ok(taken)
     }
 
-    /// Takes a request while new ones are not refused. One search finds the last number of the request's key and
+    /// Takes a request while new ones are not refused. One search finds the recent number of the request's key and
     /// replaces it by the new one. This is undone for a repeat, and if memory is refused.
     fn accept_free(
         &mut self,
@@ -176,11 +176,12 @@ impl<Q: Fifo<Record>> Lane<Q> {
         let next = self.next_number();
         let key = key_of(request);
         let seen = Seen::since(self.opening, &self.indices, &self.answered, &self.setup);
-        let Ok(last) = self.duplicates.replace(key, next) else {
-            return Err(Refusal::OutOfMemory);
+        let Ok(recent) = self.recent.replace(key, next) else {
+            return self.accept_repeat(Refusal::OutOfMemory, request, moment, datagram);
         };
+        let last = self.earlier.last_number(self.opening, recent, &key);
         if let Some(taken) = taken_as(seen.repeat_of(last, now), datagram) {
-            self.duplicates.restore(&key, last);
+            self.recent.restore(&key, recent);
             self.set_last(now);
             return Ok(taken);
         }
@@ -193,7 +194,7 @@ impl<Q: Fifo<Record>> Lane<Q> {
             &mut self.indices,
             &mut self.queued,
         ) else {
-            self.duplicates.restore(&key, last);
+            self.recent.restore(&key, recent);
             return Err(Refusal::OutOfMemory);
         };
         self.last = now;

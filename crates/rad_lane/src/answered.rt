@@ -1,5 +1,5 @@
 use crate::{Outgoing, Stamp};
-use block_queue::Share;
+use block_queue::{Numbered, Share};
 use rad_auth::Reply;
 use rad_tables::Moment;
 use std::alloc::{AllocError, Global};
@@ -14,8 +14,10 @@ use std::sync::Arc;
 pub struct Answered {
     /// The number of answers that the lane gave before it.
     serial: u64,
-    /// The rest of the answer. It is apart from the serial, so that a list of answers is small, and so that a volume
-    /// shares it with the list that it was removed from, until that list drops it.
+    /// The number of the request, which is in the stamp too. A cut looks at nothing else of an answer.
+    number: u64,
+    /// The rest of the answer. It is apart from the serial, so that a list of answers is small, and so that the copies
+    /// that the list makes when it grows share it.
     kept: Arc<Kept, Global>,
 }
 
@@ -41,6 +43,7 @@ pub(crate) struct AnswerIndex {
 }
 
 impl Model for Answered {
+    ghost use Rattle.std.specs.Prelude.{◌≡◌};
     ghost use Rattle.std.specs.Arc.{arc_value};
     ghost use Rattle.rad_lane.specs.Outstanding.{AnswerKept, IsAnswered};
 
@@ -53,7 +56,7 @@ impl Model for Answered {
       reply = (arc_value a.kept).reply;
     } };
 
-    ghost invariant = { λ a. IsAnswered (record {
+    ghost invariant = { λ a. (a.number ≡ (arc_value a.kept).stamp.number) × IsAnswered (record {
       stamp = (arc_value a.kept).stamp;
       moment = (arc_value a.kept).moment;
       serial = a.serial;
@@ -114,6 +117,7 @@ impl Answered {
         };
         Ok(Answered {
             serial,
+            number: stamp.number,
             kept: Arc::new(alloc, kept)?,
         })
     }
@@ -155,7 +159,17 @@ impl Share for Answered {
     fn share(&self) -> Result<Answered, AllocError> {
         Ok(Answered {
             serial: self.serial,
+            number: self.number,
             kept: Arc::try_clone(&self.kept)?,
         })
+    }
+}
+
+/// The number is that of the request.
+impl Numbered for Answered {
+    ghost number_of = { λ a. a.stamp.number };
+
+    fn number(&self) -> u64 {
+        self.number
     }
 }

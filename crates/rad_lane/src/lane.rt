@@ -4,6 +4,7 @@ ghost use Rattle.rad_lane.specs.Drains.{drained_at};
 ghost use Rattle.rad_lane.specs.Empty.{empty_book};
 
 use crate::answered::AnswerIndex;
+use crate::earlier_keys::EarlierKeys;
 use crate::{Answered, Entry, Record, Setup, Stamp, Watch};
 use block_queue::{Fifo, SlidingList};
 use rad_tables::{Duplicates, Moment, Slots};
@@ -46,8 +47,10 @@ pub struct Lane<Q: Fifo<Record>> {
     pub(crate) slots: Slots<Entry>,
     /// How many of the entries are sendings.
     pub(crate) outstanding: usize,
-    /// The number of the last request of each key.
-    pub(crate) duplicates: Duplicates,
+    /// The number of the last request of each key, if it was accepted recently.
+    pub(crate) recent: Duplicates,
+    /// The same of each key whose last request was accepted before these.
+    pub(crate) earlier: EarlierKeys,
     /// How many requests had been accepted when the lane was drained.
     pub(crate) drain: Option<u64>,
     /// Whether the home server is marked up.
@@ -68,10 +71,11 @@ impl<Q: Fifo<Record>> Model for Lane<Q> {
     ghost coded = { Prim.hlevel (codes, map.code {R = slot_cmp} coded_slot entry.the_row.coded) };
 
     ghost use Rattle.rad_lane.specs.internal.Invariant.{book_of, IsConsistent};
+    ghost use Rattle.rad_lane.specs.internal.Keys.{merged};
 
     ghost view = { λ l. book_of l.setup l.opening l.accepted.items (Q.items l.queued) l.answered.items l.served l.slots l.drain l.watch l.last };
 
-    ghost invariant = { λ l. IsConsistent (book_of l.setup l.opening l.accepted.items (Q.items l.queued) l.answered.items l.served l.slots l.drain l.watch l.last) (Q.items l.queued) l.slots.ports l.duplicates l.indices.items l.outstanding };
+    ghost invariant = { λ l. IsConsistent (book_of l.setup l.opening l.accepted.items (Q.items l.queued) l.answered.items l.served l.slots l.drain l.watch l.last) (Q.items l.queued) l.slots.ports (merged l.opening l.recent l.earlier.numbers) l.indices.items l.outstanding };
 }
 
 /// Why no lane is made.
@@ -102,7 +106,8 @@ impl<Q: Fifo<Record>> Lane<Q> {
                 served: 0,
                 slots,
                 outstanding: 0,
-                duplicates: Duplicates::new(alloc),
+                recent: Duplicates::new(alloc),
+                earlier: EarlierKeys::new(alloc),
                 drain: None,
                 watch: Watch::Up,
                 last: Moment::new(0).unwrap(),

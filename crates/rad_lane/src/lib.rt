@@ -18,6 +18,7 @@ mod answered;
 mod closing;
 mod counts;
 mod draining;
+mod earlier_keys;
 mod entry;
 mod hearing;
 mod held;

@@ -112,7 +112,8 @@ impl<Q: Fifo<Record>> Lane<Q> {
         ensures { found result ≡ repeats self.now key.now now }
     {
         let seen = Seen::since(self.opening, &self.indices, &self.answered, &self.setup);
-        seen.repeat_of(self.duplicates.find(key), now)
+        let recent = self.recent.find(key);
+        seen.repeat_of(self.earlier.last_number(self.opening, recent, key), now)
     }
 }
 

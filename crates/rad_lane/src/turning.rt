@@ -1,23 +1,25 @@
 //! Turning: the requests at the start of the book that are over are removed as a volume.
 
-ghost use Rattle.std.specs.Prelude.{◌≡◌, ◌≢◌, ◌<◌, ◌≤◌, [], ℕ, ◌++◌, All, map as each, Option, Some, length, take, drop, slice_index_or, IfOk, OnErr};
+ghost use Rattle.std.specs.Prelude.{◌≡◌, ◌<◌, ◌≤◌, [], ℕ, ◌++◌, All, map as each, Option, length, take, drop, slice_index_or, IfOk, OnErr};
 ghost use Rattle.std.specs.Bool.{OnTrue, OnFalse};
 ghost use Rattle.std.specs.List.Sorted.{IsPermutation};
-ghost use Rattle.std.specs.FinMap as map;
 ghost use Rattle.rad_tables.specs.declared.duplicates.Key.{Key as the_key};
 ghost use Rattle.rad_lane.specs.declared.answered.AnswerIndex.{AnswerIndex as the_answer_index};
-ghost use Rattle.rad_lane.specs.Stamp.{key_of as the_key_of};
 ghost use Rattle.rad_lane.specs.Book.{moment_in};
 ghost use Rattle.rad_lane.specs.Repeat.{repeats};
-ghost use Rattle.rad_lane.specs.Volumes.{IsCut, Turns, answers_below as the_answers_below, answers_since, volume_of, without_cut};
-ghost use Rattle.rad_lane.specs.internal.Cutting.{HasUnderItsKey, IsOverBy, unless_of};
+ghost use Rattle.rad_lane.specs.Volumes.{IsCut, Turns, answers_below as the_answers_below, volume_of, without_cut};
+ghost use Rattle.rad_lane.specs.internal.Cutting.{IsOverBy};
+ghost use Rattle.rad_lane.specs.internal.Keys.{IsBelow, merged};
 
 use crate::answered::AnswerIndex;
+use crate::earlier_keys::EarlierKeys;
 use crate::{Answered, Lane, Record, Series, Stamp};
-use block_queue::{Fifo, Share, SlidingList};
-use rad_tables::{Duplicates, Key, Moment};
+use block_queue::{Fifo, Numbered, Removed, Spent};
+use rad_tables::{Duplicates, Moment};
 use std::alloc::{AllocError, Global};
 use std::fmt;
+use std::marker::Model;
+use std::mem;
 
 /// The requests removed from the start of a book, which were all answered so long ago that none can be repeated any
 /// more, with their answers.
@@ -29,6 +31,25 @@ pub struct Volume {
     pub stamps: Series<Stamp>,
     /// The answers to them, in the order in which they were given.
     pub answered: Series<Answered>,
+    /// What the book holds no more besides, and is dropped with the volume.
+    cleared: Cleared,
+}
+
+/// What a cut leaves to be dropped when the lane is free again. A contract sees nothing of it.
+#[derive(Drop)]
+struct Cleared {
+    /// Copies of the answers, and places that the list of answers no longer needs.
+    spent: Spent<Answered>,
+    /// The keys all of whose numbers are below the opening.
+    keys: Option<EarlierKeys>,
+}
+
+impl Model for Cleared {
+    ghost use Rattle.std.specs.Prelude.{⊤};
+
+    ghost Value = { ⊤ };
+
+    ghost view = { λ _. tt };
 }
 
 /// Why no volume is returned. If several reasons apply, the first in this order is returned. A fault is printed as
@@ -61,9 +82,9 @@ impl<Q: Fifo<Record>> Lane<Q> {
     /// their answers. Without the removal, too, a later copy of one of them would count as a new request.
     ///
     /// It takes time linear in the size of the volume and in the number of answers before the last one removed, and
-    /// for each removed request time logarithmic in the number of keys. Nothing else of the book is moved. It
-    /// allocates before it changes anything, and only for the volume. If there is nothing to remove, it looks at one
-    /// request and allocates nothing.
+    /// looks at no packet and at no key. Nothing else of the book is moved. It allocates before it changes anything, a
+    /// fixed number of times, and only for the volume. What it removes is dropped with the volume. If there is nothing
+    /// to remove, it looks at one request and allocates nothing.
     ///
     /// # Errors
     ///
@@ -99,17 +120,19 @@ impl<Q: Fifo<Record>> Lane<Q> {
         let next = opening + count as u64;
         let stamps = Vec::from_slice(alloc, &self.accepted.as_slice()[..count])?;
         let end = end_of(self.answered.as_slice(), next, count);
-        let answered = answers_below(alloc, &self.answered.as_slice()[..end], next, count)?;
-        forget(&mut self.duplicates, stamps.as_slice());
+        let after = self.next_number();
+        let answered = self.answered.take_below(next, end)?;
+        let keys = shed(alloc, &mut self.recent, &mut self.earlier, next, after);
         self.accepted.drop_front(count);
         self.indices.drop_front(count);
-        drop_below(&mut self.answered, end, next);
         self.opening = next;
         self.last = now;
+        let Removed { items, spent } = answered;
         Ok(Volume {
             opening,
             stamps: Series::from_vec(stamps),
-            answered: Series::from_vec(answered),
+            answered: Series::from_vec(items),
+            cleared: Cleared { spent, keys },
         })
     }
 }
@@ -142,37 +165,6 @@ fn is_over(answer_index: &Option<AnswerIndex>, span: u32, now: Moment) -> bool
     }
 }
 
-/// Removes the keys whose last request has one of these stamps.
-fn forget(duplicates: &mut Duplicates, stamps: &[Stamp])
-    requires { All (HasUnderItsKey duplicates.old) stamps.now }
-    ensures { (key : the_key) → map.get duplicates.new key ≡ unless_of stamps.now (map.get duplicates.old key) }
-{
-    for stamp in stamps {
-        forget_one(duplicates, &key_of(stamp), stamp.number);
-    }
-}
-
-/// Removes a key if its last request has this number.
-fn forget_one(duplicates: &mut Duplicates, key: &Key, number: u64)
-    ensures this { map.get duplicates.old key.now ≡ Some number → duplicates.new ≡ map.remove duplicates.old key.now }
-    ensures other { map.get duplicates.old key.now ≢ Some number → duplicates.new ≡ duplicates.old }
-{
-    if duplicates.find(key) == Some(number) {
-        duplicates.remove(key);
-    }
-}
-
-fn key_of(stamp: &Stamp) -> Key
-    ensures { result ≡ the_key_of stamp.now }
-{
-    Key {
-        client: stamp.client,
-        port: stamp.port,
-        identifier: stamp.identifier,
-        authenticator: stamp.authenticator,
-    }
-}
-
 /// Returns the end of a prefix of the answers that has all `count` answers to requests below a number.
 fn end_of(answers: &[Answered], number: u64, count: usize) -> usize
     requires { length (the_answers_below number answers.now) ≡ count }
@@ -185,7 +177,7 @@ fn end_of(answers: &[Answered], number: u64, count: usize) -> usize
         if left == 0 {
             return end;
         }
-        if answer.stamp().number < number {
+        if answer.number() < number {
             left -= 1;
         }
         end += 1;
@@ -193,40 +185,20 @@ fn end_of(answers: &[Answered], number: u64, count: usize) -> usize
     end
 }
 
-/// Returns the answers to requests below a number, of which there are at most `count`. Their packets are shared with
-/// the given answers.
-fn answers_below(
+/// Makes the recent keys the earlier ones, if all numbers of the earlier ones are below the opening. Returns those.
+fn shed(
     alloc: Global,
-    answers: &[Answered],
-    number: u64,
-    count: usize,
-) -> Result<Vec<Answered>, AllocError>
-    ensures { IfOk result (λ below. below.items ≡ the_answers_below number answers.now) }
+    recent: &mut Duplicates,
+    earlier: &mut EarlierKeys,
+    opening: u64,
+    next: u64,
+) -> Option<EarlierKeys>
+    requires { IsBelow next recent.old }
+    ensures { (since : ℕ) → opening ≤ since → merged since recent.new earlier.new.numbers ≡ merged since recent.old earlier.old.numbers }
 {
-    let mut below = Vec::with_capacity(alloc, count)?;
-    for answer in answers {
-        if answer.stamp().number < number {
-            below.push(answer.share()?)?;
-        }
+    if !earlier.is_below(opening) {
+        return None;
     }
-    Ok(below)
-}
-
-/// Drops the answers to requests below a number, all of which are before `end`. The other answers before `end` are
-/// moved up to it, and the list then begins with them.
-fn drop_below(answers: &mut SlidingList<Answered>, end: usize, number: u64)
-    requires within { end ≤ length answers.old.items }
-    requires none_behind { the_answers_below number (drop end answers.old.items) ≡ [] }
-    ensures { answers.new.items ≡ answers_since number answers.old.items }
-{
-    let mut first = end;
-    let mut place = end;
-    while place > 0 {
-        place -= 1;
-        if number <= answers.as_slice()[place].stamp().number {
-            first -= 1;
-            answers.swap(first, place);
-        }
-    }
-    answers.drop_front(first);
+    let keys = EarlierKeys::over(mem::replace(recent, Duplicates::new(alloc)), next);
+    Some(mem::replace(earlier, keys))
 }

@@ -1,5 +1,5 @@
 use Rattle.std.proofs.Common.{◌≤◌, ◌-◌, ◌++◌, [], ◌∷◌, ◌∙◌, sym, ap, subst, arith}
-use Rattle.queue_blocks.proofs.Places.{queue_is}
+use Rattle.queue_blocks.proofs.Places.{slid_is}
 use Rattle.queue_blocks.proofs.RowPlaces.{room_behind, row_pushed}
 use Rattle.queue_blocks.proofs.row.Row.push.Goals as goal
 
@@ -16,6 +16,6 @@ invariant_of-self g c =
 pub returns : goal.returns
 returns g c =
     let r = c.self.inside in let room = subst (λ q. 1 ≤ q.room) (sym c.self.view_is) c.requires in
-    queue_is
+    slid_is (ap (λ q. q.before) c.self.view_is)
     ((row_pushed r.places r.start r.count r.region.places c.self.invariant room c.args.item c.write.new.self.places c.write.ensures.0).1 ∙ ap (λ q. q.items ++ c.args.item ∷ []) c.self.view_is)
     (omega arith ∙ ap (λ q. q.room - 1) c.self.view_is)

@@ -1,5 +1,5 @@
-use Rattle.std.proofs.Common.{arith}
-use Rattle.queue_blocks.proofs.Places.{queue_is}
+use Rattle.std.proofs.Common.{refl, arith}
+use Rattle.queue_blocks.proofs.Places.{slid_is}
 use Rattle.queue_blocks.proofs.RowPlaces.{row_new}
 use Rattle.queue_blocks.proofs.row.Row.with_places.Goals as goal
 
@@ -7,4 +7,4 @@ pub invariant_of-result : goal.invariant_of-result
 invariant_of-result g c = (row_new c.args.places c.in_ok-with_places.field-0.places c.requires c.in_ok-with_places.ensures.0).0
 
 pub returns : goal.returns
-returns g c = queue_is (row_new c.args.places c.in_ok-with_places.field-0.places c.requires c.in_ok-with_places.ensures.0).1 (omega arith)
+returns g c = slid_is refl (row_new c.args.places c.in_ok-with_places.field-0.places c.requires c.in_ok-with_places.ensures.0).1 (omega arith)

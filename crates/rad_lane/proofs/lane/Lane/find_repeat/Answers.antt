@@ -1,12 +1,19 @@
-use Rattle.std.proofs.Common.{sym}
+use Rattle.std.proofs.Common.{◌≡◌, Option, ℕ, ◌∙◌, sym, ap}
+use Rattle.std.specs.FinMap as map
+use Rattle.rad_lane.specs.internal.Keys.{number_since, option_or, merged}
+use Rattle.rad_lane.proofs.KeysByAge.{get-merged}
 use Rattle.rad_lane.proofs.RepeatFound.{repeats_seen, since_opening}
 use Rattle.rad_lane.proofs.lane.Lane.find_repeat.Goals as goal
 
 pub repeat_of-requires : goal.repeat_of-requires
 repeat_of-requires g c =
+    let l = c.self.inside in
+    let is = c.last_number.ensures ∙ ap (λ o. number_since l.opening (option_or o (map.get l.earlier.numbers c.args.key.now))) c.find-recent.ensures ∙ sym (get-merged l.opening l.recent l.earlier.numbers c.args.key.now) in
     rw c.since-seen.ensures.opening
-    (since_opening c.self.inside.duplicates _ c.self.invariant.since_opening _ _ c.find.ensures)
+    (since_opening (merged l.opening l.recent l.earlier.numbers) _ c.self.invariant.since_opening _ _ is)
 
 pub returns : goal.returns
 returns g c =
-    sym (repeats_seen _ _ c.self.view_is c.self.inside.duplicates c.self.invariant.last_numbers _ _ _ _ _ _ c.find.ensures c.since-seen.ensures.span c.since-seen.ensures.answered c.repeat_of.ensures)
+    let l = c.self.inside in
+    let is = c.last_number.ensures ∙ ap (λ o. number_since l.opening (option_or o (map.get l.earlier.numbers c.args.key.now))) c.find-recent.ensures ∙ sym (get-merged l.opening l.recent l.earlier.numbers c.args.key.now) in
+    sym (repeats_seen _ _ c.self.view_is (merged l.opening l.recent l.earlier.numbers) c.self.invariant.last_numbers _ _ _ _ _ _ is c.since-seen.ensures.span c.since-seen.ensures.answered c.repeat_of.ensures)
