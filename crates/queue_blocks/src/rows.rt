@@ -1,5 +1,5 @@
 //! The operations of a list on its rows, each of which may be absent.
-ghost use Rattle.std.specs.Prelude.{◌≡◌, ◌+◌, ◌<◌, ◌≤◌, [], ◌∷◌, ◌++◌, true, List, None, length, take as take_list, drop as drop_list, option_copied, slice_get, slice_set, vec_len, vec_capacity};
+ghost use Rattle.std.specs.Prelude.{◌≡◌, ◌+◌, ◌<◌, ◌≤◌, [], ◌∷◌, ◌++◌, true, List, None, length, min, take as take_list, drop as drop_list, option_copied, slice_get, slice_set, vec_len, vec_capacity};
 ghost use Rattle.queue_blocks.specs.Sliding.{items_in, room_in, below, since, IsFront};
 
 use crate::numbered::Numbered;
@@ -112,8 +112,8 @@ pub(crate) fn take_below<T: Numbered>(
     kept: &mut Vec<T>,
 )
     requires none_behind { below T.number_of number (drop_list end (items_in row.old)) ≡ [] }
-    requires taken_room { vec_len taken.old + end ≤ vec_capacity taken.old }
-    requires kept_room { vec_len kept.old + end ≤ vec_capacity kept.old }
+    requires taken_room { vec_len taken.old + min end (length (items_in row.old)) ≤ vec_capacity taken.old }
+    requires kept_room { vec_len kept.old + min end (length (items_in row.old)) ≤ vec_capacity kept.old }
     requires none_kept { kept.old.items ≡ [] }
     ensures row { items_in row.new ≡ since T.number_of number (items_in row.old) }
     ensures taken { taken.new.items ≡ taken.old.items ++ below T.number_of number (items_in row.old) }

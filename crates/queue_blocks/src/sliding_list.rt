@@ -200,7 +200,7 @@ impl<T: Numbered + Drop> SlidingList<T> {
     {
         let mut items = Vec::with_capacity(self.alloc, end)?;
         let mut kept = Vec::with_capacity(self.alloc, end)?;
-        let mut copies = Vec::with_capacity(self.alloc, end)?;
+        let mut copies = Vec::with_capacity(self.alloc, end.min(slice_of(&self.next).len()))?;
         take_below(&mut self.row, number, end, &mut items, &mut kept);
         take_below(&mut self.next, number, end, &mut copies, &mut kept);
         let spent = Spent::new(copies, mem::replace(&mut self.spent, None));

@@ -1,6 +1,6 @@
 -- What two tables of last numbers have together, as numbers are added, as the opening rises, and as the earlier table
 -- is replaced by the recent one.
-use Rattle.std.proofs.Common.{◌≡◌, ℕ, zero, suc, ◌<◌, ◌≤◌, Bool, true, false, cond, inl, inr, List, [], ◌∷◌, ◌++◌, ◌×◌, Option, Some, None, refl, sym, ap, ◌∙◌, subst, arith}
+use Rattle.std.proofs.Common.{◌≡◌, ℕ, zero, suc, ◌<◌, ◌≤◌, Bool, true, false, cond, inl, inr, List, [], ◌∷◌, ◌++◌, Option, Some, None, refl, sym, ap, ◌∙◌, subst, arith}
 use Rattle.std.specs.Prelude.{not, nat_lt}
 use Rattle.std.specs.Ordering.{eq_by_cmp}
 use Rattle.std.specs.FinMap as map
@@ -115,3 +115,10 @@ recent_below opening next recent earlier from below key number is =
           ∙ ap (λ o. number_since opening (option_or o (map.get earlier key))) is
           ∙ ap (λ t. cond t None (Some number)) (test_since number opening (omega (arith, since.1))))
     ]
+
+-- a table without keys
+pub none_below : (end : ℕ) (table : Table) → table ≡ map.empty → IsBelow end table
+none_below end table is key number h =
+    let none : map.get table key ≡ None = ap (λ m. map.get m key) is ∙ map.get-empty key_cmp key in
+    let clash : None ≡ Some number = sym none ∙ h in
+    cc

@@ -17,9 +17,8 @@ use crate::{Answered, Lane, Record, Series, Stamp};
 use block_queue::{Fifo, Numbered, Removed, Spent};
 use rad_tables::{Duplicates, Moment};
 use std::alloc::{AllocError, Global};
-use std::fmt;
 use std::marker::Model;
-use std::mem;
+use std::{fmt, mem};
 
 /// The requests removed from the start of a book, which were all answered so long ago that none can be repeated any
 /// more, with their answers.

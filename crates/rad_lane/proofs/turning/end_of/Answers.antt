@@ -4,7 +4,7 @@ use Rattle.rad_lane.specs.Volumes.{answers_below}
 use Rattle.rad_lane.proofs.ListLemmas.{no_items}
 use Rattle.rad_lane.proofs.CountedBelow.{one_left, one_less, none_less}
 use Rattle.rad_lane.proofs.turning.end_of.Goals as goal
-use Rattle.rad_lane.proofs.turning.end_of.Goals.{then-stamp-number, else-stamp-number}
+use Rattle.rad_lane.proofs.turning.end_of.Goals.{then-number, else-number}
 
 pub returns : goal.returns
 returns c =
@@ -20,16 +20,16 @@ loop-answer-init c = record { end = refl; left = sym c.requires }
 
 pub overflow_sub-left : goal.overflow_sub-left
 overflow_sub-left c =
-    one_left c.args.number c.args.answers.now c.loop-answer.answer-index c.loop-answer.left c.answer-item.result c.loop-answer-test.true c.answer-item.is c.loop-answer.invariant.left c.stamp.result c.stamp.ensures.value c.if-stamp-number.true
+    one_left c.args.number c.args.answers.now c.loop-answer.answer-index c.loop-answer.left c.answer-item.result c.loop-answer-test.true c.answer-item.is c.loop-answer.invariant.left c.number.result c.number.ensures c.if-number.true
 
 pub loop-answer-preserved : goal.loop-answer-preserved
 loop-answer-preserved c = record {
   end = ap (λ n. n + 1) c.loop-answer.invariant.end;
-  left = elim c.if-stamp-number.branch [
-    | then-stamp-number w ↦
-        one_less c.args.number c.args.answers.now c.loop-answer.answer-index c.loop-answer.left c.answer-item.result c.loop-answer-test.true c.answer-item.is c.loop-answer.invariant.left c.stamp.result c.stamp.ensures.value c.if-stamp-number.left w.left-is w.if-stamp-number.true
-    | else-stamp-number w ↦
-        none_less c.args.number c.args.answers.now c.loop-answer.answer-index c.loop-answer.left c.answer-item.result c.loop-answer-test.true c.answer-item.is c.loop-answer.invariant.left c.stamp.result c.stamp.ensures.value c.if-stamp-number.left w.left-is w.if-stamp-number.false
+  left = elim c.if-number.branch [
+    | then-number w ↦
+        one_less c.args.number c.args.answers.now c.loop-answer.answer-index c.loop-answer.left c.answer-item.result c.loop-answer-test.true c.answer-item.is c.loop-answer.invariant.left c.number.result c.number.ensures c.if-number.left w.left-is w.if-number.true
+    | else-number w ↦
+        none_less c.args.number c.args.answers.now c.loop-answer.answer-index c.loop-answer.left c.answer-item.result c.loop-answer-test.true c.answer-item.is c.loop-answer.invariant.left c.number.result c.number.ensures c.if-number.left w.left-is w.if-number.false
   ];
 }
 

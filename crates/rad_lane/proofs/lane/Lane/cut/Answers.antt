@@ -1,6 +1,7 @@
 use Rattle.std.proofs.Common.{◌+◌, take, refl, sym, ap, subst, ◌∙◌, arith}
 use Rattle.std.specs.FinMap as map
 use Rattle.rad_lane.proofs.NotDone.{not_done, stays_so}
+use Rattle.rad_lane.proofs.AnswerKeeping.{stands_unchanged, seen_unchanged}
 use Rattle.rad_lane.proofs.ConsistentAfterCut.{below_counted, recent_fits, stands_left, left_seen, within_here, counted, cells_within, opening_fits}
 use Rattle.rad_lane.specs.internal.Keys.{merged, IsBelow}
 use Rattle.rad_lane.proofs.KeysByAge.{merged-later}
@@ -11,19 +12,23 @@ end_of-end-requires g c =
     rw c.as_slice-2.ensures
     (below_counted c.self.inside.setup c.self.inside.opening c.self.inside.accepted.items (g.Q.Fifo.items c.self.inside.queued) c.self.inside.answered.items c.self.inside.served c.self.inside.slots c.self.inside.drain c.self.inside.watch c.self.inside.last c.args.self.now c.self.view_is c.args.now c.args.count c.requires.later c.requires.is_cut c.requires.within c.self.inside.slots.ports (merged c.self.inside.opening c.self.inside.recent c.self.inside.earlier.numbers) c.self.inside.indices.items c.self.inside.outstanding c.self.invariant)
 
-pub take_below-answered-requires : goal.take_below-answered-requires
-take_below-answered-requires g c = rw c.as_slice-2.ensures at c.end_of-end.ensures.none_behind
+pub take_below-requires : goal.take_below-requires
+take_below-requires g c = rw c.as_slice-2.ensures at c.end_of-end.ensures.none_behind
 
 pub shed-keys-requires : goal.shed-keys-requires
 shed-keys-requires g c =
     subst (λ n. IsBelow n c.self.inside.recent) (sym c.next_number-after.ensures.value)
     (recent_fits c.self.inside.setup c.self.inside.opening c.self.inside.accepted.items (g.Q.Fifo.items c.self.inside.queued) c.self.inside.answered.items c.self.inside.served c.self.inside.slots c.self.inside.drain c.self.inside.watch c.self.inside.last c.args.self.now c.self.view_is c.args.now c.args.count c.requires.later c.requires.is_cut c.requires.within c.self.inside.slots.ports (merged c.self.inside.opening c.self.inside.recent c.self.inside.earlier.numbers) c.self.inside.indices.items c.self.inside.outstanding c.self.invariant c.self.inside.recent c.self.inside.earlier.numbers refl)
 
+-- where memory is refused, nothing changes
 pub invariant_of-self : goal.invariant_of-self
-invariant_of-self g c =
+invariant_of-self g c = stands_unchanged c.self.inside.setup c.self.inside.opening c.self.inside.accepted.items (g.Q.Fifo.items c.self.inside.queued) c.self.inside.answered.items c.self.inside.served c.self.inside.slots c.self.inside.drain c.self.inside.watch c.self.inside.last c.args.self.now c.self.view_is c.self.inside.slots.ports (merged c.self.inside.opening c.self.inside.recent c.self.inside.earlier.numbers) c.self.inside.indices.items c.self.inside.outstanding c.self.invariant _ c.in_err-answered.ensures.err
+
+pub invariant_of-self-2 : goal.invariant_of-self-2
+invariant_of-self-2 g c =
     let next = c.self.inside.opening + c.args.count in
     stands_left c.self.inside.setup c.self.inside.opening c.self.inside.accepted.items (g.Q.Fifo.items c.self.inside.queued) c.self.inside.answered.items c.self.inside.served c.self.inside.slots c.self.inside.drain c.self.inside.watch c.self.inside.last c.args.self.now c.self.view_is c.args.now c.args.count c.requires.later c.requires.is_cut c.requires.within c.self.inside.slots.ports (merged c.self.inside.opening c.self.inside.recent c.self.inside.earlier.numbers) c.self.inside.indices.items c.self.inside.outstanding c.self.invariant
-    c.drop_front.new.self.items c.drop_front.ensures c.take_below-answered.new.self.items c.in_ok-answered.ensures.ok c.drop_front-2.new.self.items c.drop_front-2.ensures
+    c.drop_front.new.self.items c.drop_front.ensures c.take_below.new.self.items c.in_ok-answered.ensures.ok c.drop_front-2.new.self.items c.drop_front-2.ensures
     (merged next c.shed-keys.new.recent c.shed-keys.new.earlier.numbers)
     (λ key. ap (λ m. map.get m key) (c.shed-keys.ensures next (omega arith)) ∙ merged-later c.self.inside.opening next c.self.inside.recent c.self.inside.earlier.numbers (omega arith) key)
 
@@ -31,7 +36,7 @@ pub returns-clause-ok : goal.returns-clause-ok
 returns-clause-ok g c =
     let stamps = c.in_ok-stamps.ensures.items ∙ ap (λ xs. take c.args.count xs) c.as_slice.ensures in
     left_seen c.self.inside.setup c.self.inside.opening c.self.inside.accepted.items (g.Q.Fifo.items c.self.inside.queued) c.self.inside.answered.items c.self.inside.served c.self.inside.slots c.self.inside.drain c.self.inside.watch c.self.inside.last c.args.self.now c.self.view_is c.args.now c.args.count c.requires.later c.requires.is_cut c.requires.within c.self.inside.slots.ports (merged c.self.inside.opening c.self.inside.recent c.self.inside.earlier.numbers) c.self.inside.indices.items c.self.inside.outstanding c.self.invariant
-    c.drop_front.new.self.items c.drop_front.ensures c.take_below-answered.new.self.items c.in_ok-answered.ensures.ok _ (c.from_vec.ensures ∙ stamps) _ (c.from_vec-2.ensures ∙ c.in_ok-answered.ensures.items)
+    c.drop_front.new.self.items c.drop_front.ensures c.take_below.new.self.items c.in_ok-answered.ensures.ok _ (c.from_vec.ensures ∙ stamps) _ (c.from_vec-2.ensures ∙ c.in_ok-answered.ensures.items)
 
 pub overflow_add-next : goal.overflow_add-next
 overflow_add-next g c =
@@ -52,7 +57,9 @@ pub returns-in_err-answered-clause-ok : goal.returns-in_err-answered-clause-ok
 returns-in_err-answered-clause-ok g c = not_done c.from_residual-in_err-answered.result _ c.from_residual-in_err-answered.ensures.0
 
 pub returns-in_err-answered-clause-err : goal.returns-in_err-answered-clause-err
-returns-in_err-answered-clause-err g c = stays_so c.from_residual-in_err-answered.result _ refl
+returns-in_err-answered-clause-err g c =
+    stays_so c.from_residual-in_err-answered.result _
+    (seen_unchanged c.self.inside.setup c.self.inside.opening c.self.inside.accepted.items (g.Q.Fifo.items c.self.inside.queued) c.self.inside.answered.items c.self.inside.served c.self.inside.slots c.self.inside.drain c.self.inside.watch c.self.inside.last c.args.self.now c.self.view_is c.self.inside.slots.ports (merged c.self.inside.opening c.self.inside.recent c.self.inside.earlier.numbers) c.self.inside.indices.items c.self.inside.outstanding c.self.invariant _ c.in_err-answered.ensures.err)
 
 pub drop_front-requires : goal.drop_front-requires
 drop_front-requires g c =
