@@ -1,5 +1,5 @@
 -- What a row's places hold after one of them is written or read.
-use Rattle.std.proofs.Common.{◌≡◌, ◌≢◌, ℕ, zero, suc, ◌+◌, ◌-◌, ◌<◌, ◌≤◌, List, [], ◌∷◌, ◌++◌, Option, Some, None, refl, sym, ap, ◌∙◌, subst, arith, length, get_or, set, slice_get, length-append}
+use Rattle.std.proofs.Common.{◌≡◌, ℕ, zero, suc, ◌+◌, ◌-◌, ◌<◌, ◌≤◌, List, [], ◌∷◌, ◌++◌, Option, Some, None, refl, sym, ap, ◌∙◌, subst, arith, length, get_or, set, slice_get, length-append}
 use Rattle.std.proofs.lemmas.List.{length-set, set-set}
 use Rattle.queue_blocks.specs.Places.{laid, values, IsFilled, IsRow}
 use Rattle.queue_blocks.proofs.Places.{values-laid, length-laid, laid-empty, behind, pushed-laid, popped-laid, ahead, fronted-laid, get-laid}

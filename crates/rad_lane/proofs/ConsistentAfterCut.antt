@@ -26,7 +26,7 @@ use Rattle.rad_lane.specs.internal.Keys.{number_since, IsBelow, merged}
 use Rattle.rad_lane.proofs.KeysByAge.{recent_below}
 use Rattle.rad_lane.proofs.ListLemmas.{All-right}
 use Rattle.rad_lane.proofs.NumberLemmas.{test_since, test_below}
-use Rattle.rad_lane.proofs.LawfulAfterCut.{numbered_at, numbered_below, last_behind, cut_numbered, cut_below, kept_since, cut_sent, found_still, accepted_count, next_same, answers_counted, lawful_after_cut}
+use Rattle.rad_lane.proofs.LawfulAfterCut.{numbered_at, numbered_below, last_behind, cut_below, kept_since, cut_sent, found_still, accepted_count, next_same, answers_counted, lawful_after_cut}
 
 get_drop : {X : Type 0} (n : ℕ) (xs : List X) (k : ℕ) → slice_get (drop n xs) k ≡ slice_get xs (n + k)
 get_drop zero xs k = let same : k ≡ 0 + k = omega arith in ap (λ i. slice_get xs i) same

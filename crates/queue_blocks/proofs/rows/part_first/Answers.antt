@@ -1,4 +1,4 @@
-use Rattle.std.proofs.Common.{suc, ◌≡◌, ◌+◌, ◌<◌, ◌++◌, [], ◌∙◌, refl, sym, ap, subst, arith, length, take, drop}
+use Rattle.std.proofs.Common.{suc, ◌≡◌, ◌+◌, ◌<◌, ◌++◌, ◌∙◌, refl, sym, ap, subst, arith, length, take, drop}
 use Rattle.std.proofs.lemmas.List.{append-nil}
 use Rattle.queue_blocks.specs.Sliding.{below, since}
 use Rattle.queue_blocks.proofs.Fronts.{drop_popped, some_left}

@@ -1,4 +1,4 @@
-use Rattle.std.proofs.Common.{◌≡◌, min, ◌++◌, [], ◌∙◌, sym, ap, arith, length, take, drop}
+use Rattle.std.proofs.Common.{◌≡◌, min, ◌++◌, ◌∙◌, sym, ap, arith, length, take, drop}
 use Rattle.std.proofs.lemmas.List.{drop_min}
 use Rattle.queue_blocks.specs.Sliding.{items_in, below, since}
 use Rattle.queue_blocks.proofs.Parted.{front_has_all, rest_stays}

@@ -1,5 +1,4 @@
-use Rattle.std.proofs.Common.{◌≤◌, ◌<◌, ◌∙◌, ap, arith}
-use Rattle.std.specs.FinMap as map
+use Rattle.std.proofs.Common.{◌∙◌, ap, arith}
 use Rattle.rad_lane.specs.internal.Keys.{IsBelow, merged}
 use Rattle.rad_lane.proofs.KeysByAge.{merged-shed}
 use Rattle.rad_lane.proofs.turning.shed.Goals as goal

@@ -1,4 +1,4 @@
-use Rattle.std.proofs.Common.{◌≡◌, Option, ℕ, ◌∙◌, sym, ap}
+use Rattle.std.proofs.Common.{◌∙◌, sym, ap}
 use Rattle.std.specs.FinMap as map
 use Rattle.rad_lane.specs.internal.Keys.{number_since, option_or, merged}
 use Rattle.rad_lane.proofs.KeysByAge.{get-merged}
