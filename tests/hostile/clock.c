@@ -1,9 +1,10 @@
 /*
  * Has the clock of the program that it is loaded into (LD_PRELOAD) fail, after CLOCK_CALLS calls that do not. The time of day is
- * CLOCK_AHEAD seconds later, or always CLOCK_AT milliseconds after 1970.
+ * CLOCK_AHEAD seconds later, or as many as the file CLOCK_FILE says at that moment, or always CLOCK_AT milliseconds after 1970.
  */
 #define _GNU_SOURCE
 #include <errno.h>
+#include <fcntl.h>
 #include <stdatomic.h>
 #include <stdlib.h>
 #include <sys/syscall.h>
@@ -12,10 +13,22 @@
 
 static atomic_long calls;
 
+static long read_seconds(const char *path)
+{
+    char text[32] = { 0 };
+    int file = open(path, O_RDONLY | O_CLOEXEC);
+    if (file < 0 || read(file, text, sizeof text - 1) < 0) {
+        abort();
+    }
+    close(file);
+    return strtol(text, NULL, 10);
+}
+
 static void set_day(struct timespec *moment)
 {
-    const char *ahead = getenv("CLOCK_AHEAD"), *at = getenv("CLOCK_AT");
+    const char *ahead = getenv("CLOCK_AHEAD"), *path = getenv("CLOCK_FILE"), *at = getenv("CLOCK_AT");
     moment->tv_sec += ahead ? strtol(ahead, NULL, 10) : 0;
+    moment->tv_sec += path ? read_seconds(path) : 0;
     if (at) {
         long long milliseconds = strtoll(at, NULL, 10);
         moment->tv_sec = milliseconds / 1000;

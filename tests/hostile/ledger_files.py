@@ -22,7 +22,7 @@ import subprocess
 import sys
 import time
 import tomllib
-from datetime import datetime, timedelta
+from datetime import UTC, datetime, timedelta
 
 sys.dont_write_bytecode = True
 
@@ -45,6 +45,8 @@ A_RUN = 0xA0B1C2D3E4F50617
 OUTSTANDING, AGAIN, LATE = 32, 1.0, 2.0
 # A write is due within 100 ms, and a sync within a second. This much more is left to the machine.
 WRITTEN, SYNCED, SLACK = 0.1, 1.0, 0.4
+# How long a clock that went back to an earlier day has to stay there until the next midnight counts.
+STAYED = 10.0
 # The middle answer beside a ledger that fails is at most this many times that of a program without one, and this much later.
 TIMES, LATER = 1.5, 0.05
 # How many octets may wait, and how many more of memory a ledger may take for its lines.
@@ -534,6 +536,74 @@ def midnight_is_a_next_file(trial):
         hope("days of a file", len(days), 1)
 
 
+class Steered:
+    """A time of day that this test sets while the program runs. It begins at noon of a day, and days are counted from that one."""
+
+    def __init__(self, trial):
+        self.file, self.noon = trial.room / "ahead", (int(time.time()) // 86_400 + 1) * 86_400 + 43_200
+        self.set(0)
+        trial.start(LD_PRELOAD=built(trial.room, "clock"), CLOCK_FILE=str(self.file))
+        until("the first file", trial.files)
+
+    def set(self, days, seconds=0):
+        """Sets it to so many days and seconds after that noon."""
+        beside = self.file.with_suffix(".new")
+        beside.write_text(str(self.noon + 86_400 * days + seconds - int(time.time())))
+        beside.replace(self.file)
+
+    def set_before_midnight(self, days):
+        """Sets it to a second or two before the end of the day that is so many after the first."""
+        self.set(days, 43_200 - 2)
+
+    def date(self, days):
+        """The date of the day that is so many after the first, as a line has it."""
+        return datetime.fromtimestamp(self.noon + 86_400 * days, UTC).date().isoformat()
+
+
+def a_clock_that_went_back_has_midnights(trial):
+    """Where the clock jumps ahead by a day and back, the file goes on, and the next midnight begins the next one."""
+    clock = Steered(trial)
+    hope("acknowledged", trial.ask(5), 5)
+    clock.set(1)
+    until("the day ahead", lambda: len(trial.files()) == 2)
+    clock.set(0)
+    hope("acknowledged", trial.ask(5), 5)
+    time.sleep(STAYED + LATE)
+    hope("files at the step back", len(trial.files()), 2)
+    clock.set_before_midnight(0)
+    until("midnight", lambda: len(trial.files()) == 3)
+    hope("acknowledged", trial.ask(5), 5)
+    trial.end()
+    trial.is_all_there()
+    hope("the days of the files", [sorted({line["time"][:10] for line in trial.lines([file])}) for file in trial.files()],
+         [[clock.date(day) for day in days] for days in ((0,), (0, 1), (1,))])
+
+
+def a_midnight_soon_after_a_step_back_is_late(trial):
+    """Where midnight comes less than ten seconds after the clock went back by days, the next file begins when these are over."""
+    clock = Steered(trial)
+    clock.set(3)
+    until("the day ahead", lambda: len(trial.files()) == 2)
+    clock.set_before_midnight(0)
+    began = time.monotonic()
+    until("midnight", lambda: len(trial.files()) == 3)
+    hope("ten seconds", time.monotonic() - began > STAYED - LATE, True)
+    trial.end()
+    trial.is_all_there()
+
+
+def a_clock_that_flaps_begins_one_file(trial):
+    """Where the clock goes to and fro between days, one file begins for the latest of them, and none with each step."""
+    clock = Steered(trial)
+    for turn in range(30):
+        clock.set((0, 3, 0, 1, 2)[turn % 5])
+        trial.ask(1)
+        time.sleep(0.1)
+    hope("files", len(trial.files()), 2)
+    trial.end()
+    trial.is_all_there()
+
+
 def moments_are_those_that_python_prints(trial):
     """At ends of days, months, years and centuries the lines have the moment that Python's calendar prints."""
     clock = built(trial.room, "clock")
@@ -699,6 +769,7 @@ TESTS = [
     a_limit_of_size_is_a_next_file, a_full_disk_loses_nothing, a_slow_write_delays_no_answer, slow_writes_lose_nothing,
     drops_are_counted, a_killed_run_is_open, a_run_that_ends_by_a_fault_is_open, a_file_that_is_there_is_left, is_synced_each_second,
     is_handed_over_before_it_is_sent, a_folder_that_is_a_file_is_told, midnight_is_a_next_file,
+    a_clock_that_went_back_has_midnights, a_midnight_soon_after_a_step_back_is_late, a_clock_that_flaps_begins_one_file,
     moments_are_those_that_python_prints, a_long_ledger_is_several_files,
     a_name_that_is_no_text_is_told, lines_are_those_that_python_makes, a_run_without_responses_has_two_lines,
     a_line_that_is_cut_short_is_gone_on_with, a_disk_that_takes_no_more_has_what_it_took, a_file_that_was_made_is_gone_on_with,

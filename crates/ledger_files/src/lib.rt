@@ -2,7 +2,8 @@
 //!
 //! A file is named `RUN-NNNNNN.jsonl` ([`FileName`]), and its lines have moments of UTC ([`UtcTime`]). [`Pending`] and
 //! [`Batch`] are lines that are to be written to a [`LedgerDisk`], and how far they are written. [`RunFiles`] writes them to
-//! the files of a run, and `specs/Runs.antt` says what these hold then. [`is_next_due`] says when the next file is begun.
+//! the files of a run, and `specs/Runs.antt` says what these hold then. [`is_next_due`] says when the next file is begun, and
+//! [`FileDay`] how a clock that went back counts.
 #![tactic(auto)]
 
 mod batch;
@@ -17,6 +18,6 @@ pub use batch::{Batch, LineHead};
 pub use disk::{DiskFault, LedgerDisk};
 pub use file_name::FileName;
 pub use pending::{Pending, write_rest};
-pub use rotation::{MOST_OCTETS, OpenFile, is_next_due};
+pub use rotation::{FileDay, MOST_OCTETS, OpenFile, STAY, StepBack, is_next_due};
 pub use run_files::RunFiles;
 pub use utc::{Date, DayTime, UtcTime, date_of, day_of};

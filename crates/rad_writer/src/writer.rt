@@ -11,7 +11,8 @@ use crate::inlet::time_since_1970;
 use crate::lines::{begin_line, end_line};
 use crate::run_names::RunNames;
 use ledger_files::{
-    Batch, DiskFault, FileName, LedgerDisk, LineHead, OpenFile, RunFiles, day_of, is_next_due,
+    Batch, DiskFault, FileDay, FileName, LedgerDisk, LineHead, OpenFile, RunFiles, day_of,
+    is_next_due,
 };
 use rad_metrics::{LedgerFault, LedgerState};
 use std::alloc::{AllocError, Global};
@@ -58,27 +59,31 @@ struct Session<'a, R, D: Drop> {
     files: RunFiles<D>,
     /// The number of the next file.
     number: u64,
-    /// The number of the day of the entries in the file.
-    day: u64,
+    /// The day of the entries in the file.
+    file: FileDay,
     /// Whether the last round failed.
     is_failing: bool,
     /// When the file was synced.
     synced: Option<Instant>,
+    /// When the thread began, if the clock could be read.
+    began: Option<Instant>,
 }
 
 impl LedgerWriter {
     /// Writes the entries as they come, until the ledger is ended. The thread does nothing else.
     pub fn write_all<R: Clock + Wait, D: LedgerDisk + Drop>(self, rt: &R, alloc: Global, disk: D) {
         let LedgerWriter { source, batch } = self;
+        let began = Instant::now(rt).ok();
         let mut session = Session {
             rt,
             alloc,
             source,
             files: RunFiles::new(alloc, disk, batch),
             number: 0,
-            day: 0,
+            file: FileDay { day: 0, back: None },
             is_failing: false,
-            synced: Instant::now(rt).ok(),
+            synced: began,
+            began,
         };
         for _ in rt.forever() {
             let is_last = session.source.state.begin_round();
@@ -137,7 +142,8 @@ impl<R: Clock, D: LedgerDisk + Drop> Session<'_, R, D> {
         };
         self.fail(fault);
         let is_lost = fault == LedgerFault::Gone || (was_failing && self.files.disk().size() > 0);
-        if is_lost && self.begin_file().is_ok() && self.write_round(is_last).is_ok() {
+        let day = self.day_now();
+        if is_lost && self.begin_file(day).is_ok() && self.write_round(is_last).is_ok() {
             self.succeed();
         }
     }
@@ -184,7 +190,7 @@ impl<R: Clock, D: LedgerDisk + Drop> Session<'_, R, D> {
     fn fill(&mut self) -> Result<(), LedgerFault> {
         if self.files.batch().is_done() && !self.files.is_ended() {
             let alloc = self.alloc;
-            let day = self.day;
+            let day = self.file.day;
             if self.source.fill(&mut self.files, alloc, day).is_err() {
                 return Err(LedgerFault::Memory);
             }
@@ -194,20 +200,22 @@ impl<R: Clock, D: LedgerDisk + Drop> Session<'_, R, D> {
     }
 
     /// Begins the next file if there is none, if the entries are of a later day, or if the file would have too many
-    /// octets.
+    /// octets. A clock that went back begins none ([`FileDay::see`]).
     fn have_file(&mut self) -> Result<(), LedgerFault> {
+        let day = self.day_now();
+        self.file = self.file.see(day, self.passed());
         let disk = self.files.disk();
         let open = if disk.is_open() {
             Some(OpenFile {
                 size: disk.size(),
-                day: self.day,
+                day: self.file.day,
             })
         } else {
             None
         };
         let left = self.files.batch().left() as u64;
-        if is_next_due(open, self.day_now(), left) && self.files.is_begun() {
-            self.begin_file()?;
+        if is_next_due(open, day, left) && self.files.is_begun() {
+            self.begin_file(day)?;
         }
         Ok(())
     }
@@ -228,12 +236,24 @@ impl<R: Clock, D: LedgerDisk + Drop> Session<'_, R, D> {
         };
         match now {
             Some(now) => day_of(now),
-            None => self.day,
+            None => self.file.day,
         }
     }
 
-    /// Begins the next file. The line of an entry that was not written whole is written to it from its start.
-    fn begin_file(&mut self) -> Result<(), LedgerFault> {
+    /// Returns how many milliseconds have passed since the thread began, or 0 if the clock can't be read.
+    fn passed(&self) -> u64 {
+        let Some(began) = &self.began else {
+            return 0;
+        };
+        match began.elapsed(self.rt) {
+            Ok(passed) => u64::try_from(passed.as_millis()).unwrap_or(0),
+            Err(_) => 0,
+        }
+    }
+
+    /// Begins the next file, for entries of this day. The line of an entry that was not written whole is written to it from
+    /// its start.
+    fn begin_file(&mut self, day: u64) -> Result<(), LedgerFault> {
         let now = time_since_1970(self.rt).unwrap_or(0);
         let Ok(path) = self.next_path() else {
             return Err(LedgerFault::Memory);
@@ -243,7 +263,7 @@ impl<R: Clock, D: LedgerDisk + Drop> Session<'_, R, D> {
         };
         self.files.begin_file(path, line).map_err(ledger_fault)?;
         self.number = self.number.saturating_add(1);
-        self.day = self.day.max(self.day_now());
+        self.file.day = self.file.day.max(day);
         Ok(())
     }
 
