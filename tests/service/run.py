@@ -1,17 +1,18 @@
 #!/usr/bin/env python3
 """Tries the scripts of the service, `serve` and `rad_proxyctl`, over a program that is built, as an operator would misuse them.
 
-usage: run.py PROGRAM [NAME ..]
+usage: run.py PROGRAM [--moments N] [NAME ..]
 
-Each test is a function below, and its first line tells what holds. Names choose tests. It wants no right of root and no
-systemd, and uses loopback alone; what needs another user is tried where root runs this, and else told as left out. The last
-line is `N passed, M failed`.
+Each test is a function below, and its first line tells what holds. Names choose tests; N is how many moments are tried at which
+`serve` gets SIGTERM. It wants no right of root and no systemd, and uses loopback alone; what needs another user is tried where
+root runs this, and else told as left out. The last line is `N passed, M failed`.
 """
 import contextlib
 import json
 import os
 import pathlib
 import pty
+import pwd
 import re
 import resource
 import shutil
@@ -26,6 +27,7 @@ import time
 import urllib.error
 import urllib.parse
 import urllib.request
+from concurrent.futures import ThreadPoolExecutor
 
 sys.dont_write_bytecode = True
 
@@ -33,10 +35,13 @@ HERE = pathlib.Path(__file__).resolve().parent.parent.parent
 sys.path.append(str(HERE / "tests" / "hostile"))
 
 from packets import answered, request  # noqa: E402
+from starting import built  # noqa: E402
 from trying import LeftOut, hope, try_named  # noqa: E402
-from waiting import bound, until  # noqa: E402
+from waiting import bound, free_ports, until  # noqa: E402
 
 PATIENCE = 30
+# At how many moments `serve` gets SIGTERM, how many run at once, and how many seconds one has to end on a machine that is busy.
+MOMENTS, AT_ONCE, LATEST = 150, 4, 8
 STRANGER = 65534
 LINE = "lane 0 h1 up open accepted 0 queued 0 outstanding 0 answered 0 opening 0\n"
 NOTHING_LEFT = "end: queued 0 outstanding 0 untaken 0"
@@ -95,6 +100,12 @@ class Service:
         done = subprocess.run(["ps", "--ppid", str(process.pid), "-o", "pid=,comm="], capture_output=True, text=True)
         return [(int(pid), name) for pid, name in (line.split() for line in done.stdout.splitlines())]
 
+    def living(self):
+        """The processes of all that was started, but for those that ended and that nobody has waited for yet."""
+        groups = {str(process.pid) for process in self.started}
+        done = subprocess.run(["ps", "-eo", "pgid=,stat=,args="], capture_output=True, text=True)
+        return [line for line in map(str.split, done.stdout.splitlines()) if line[0] in groups and line[1][0] != "Z"]
+
     def stop(self):
         for process in self.started:
             with contextlib.suppress(ProcessLookupError):
@@ -145,6 +156,115 @@ def drains_where_its_terminal_is_closed(service):
     service.home.sendto(answered(octets), proxy)
     hope("code", service.nas.recv(4096)[0], 5)
     hope("status", process.wait(PATIENCE), 0)
+
+
+def ended_by_term(service, name, port, await_moment, **variables):
+    """How many seconds a `serve` of its own folder and port needs to end, that gets SIGTERM once `await_moment` of the folder returns."""
+    file, folder = service.room / f"{name}.toml", service.room / name
+    file.write_text(re.sub(r'(?m)^listen = .*', f'listen = "127.0.0.1:{port}"', service.file.read_text()))
+    environment = service.environment | {"RUNTIME_DIRECTORY": str(folder)} | variables
+    made = subprocess.Popen([service.serve, file], stdin=subprocess.DEVNULL, stdout=subprocess.DEVNULL, stderr=subprocess.DEVNULL,
+                            env=environment, start_new_session=True)
+    service.started.append(made)
+    await_moment(folder)
+    made.terminate()
+    began = time.monotonic()
+    with contextlib.suppress(subprocess.TimeoutExpired):
+        hope("status", made.wait(LATEST) in (0, -signal.SIGTERM), True)
+    return time.monotonic() - began
+
+
+def see_each_ended(service, ended):
+    """Each end that is given, as its seconds and its moment, came before LATEST, and nothing that was started is left."""
+    late = [pair for pair in ended if pair[0] >= LATEST]
+    hope("seconds to the end, and seconds from the start to the signal", late, [])
+    until("nothing is left", lambda: not service.living())
+
+
+def a_term_at_any_moment_ends_it(service):
+    """SIGTERM at any moment from the first line of `serve` on ends it within a second: moments spread over the time until it listens."""
+    began = time.monotonic()
+    service.start().terminate()
+    apart, ports = 1.5 * (time.monotonic() - began) / MOMENTS, free_ports(AT_ONCE)
+
+    def ended(worker):
+        moments = [apart * each for each in range(worker, MOMENTS, AT_ONCE)]
+        return [(ended_by_term(service, f"at{worker}", ports[worker], lambda _: time.sleep(each)), each) for each in moments]
+
+    with ThreadPoolExecutor(AT_ONCE) as pool:
+        ends = sorted(pair for pairs in pool.map(ended, range(AT_ONCE)) for pair in pairs)
+    see_each_ended(service, ends)
+    # On a machine that is idle all of them do.
+    hope(f"whether nine of ten took less than a second, of which the slowest were {ends[-3:]}", ends[len(ends) * 9 // 10][0] < 1, True)
+
+
+def a_term_while_it_opens_its_fifos_ends_it(service):
+    """The same where each opening of the pipe of its output takes a tenth of a second, so that the signal comes before, in and after each one."""
+    variables = {"LD_PRELOAD": built(service.room, "slow"), "SLOW_PATH": "lines", "SLOW_OPEN": "100"}
+
+    def ended(each, port):
+        def await_moment(folder):
+            until("the fifos", (folder / "lines").exists, apart=0.001)
+            time.sleep(each / 60)
+
+        return ended_by_term(service, f"in{each}", port, await_moment, **variables), each / 60
+
+    with ThreadPoolExecutor(8) as pool:
+        see_each_ended(service, list(pool.map(ended, range(24), free_ports(24))))
+
+
+def a_limit_on_the_size_of_files_ends_nothing(service):
+    """Under a limit as LimitFSIZE sets it ledger, counters and log are told as not written, and requests are answered; without it
+    all three are written again."""
+    ledger, most = service.room / "ledger", 140
+    ledger.mkdir()
+    service.environment |= {"RAD_PROXY_LEDGER": str(ledger), "RAD_PROXY_LOG": "debug"}
+    none = resource.RLIM_INFINITY
+    process = service.start(preexec_fn=lambda: resource.setrlimit(resource.RLIMIT_FSIZE, (most, none)))
+    program = until("program", lambda: [pid for pid, name in service.children(process) if name == "rad_proxy"])[0]
+
+    def is_answered():
+        service.send(request())
+        octets, proxy = service.home.recvfrom(4096)
+        service.home.sendto(answered(octets), proxy)
+        return service.nas.recv(4096)[0] == 5
+
+    for text in ('event=counters-fault reason="not written"', "event=ledger-fault reason=\"can't write: File too large (os error 27)\""):
+        until(text, lambda: text in service.log.read_text())
+    for _ in range(20):
+        service.send(b"no packet")
+    until("the log is full", lambda: service.log.stat().st_size == most)
+    hope("a request is answered", is_answered(), True)
+    done = service.ask("state")
+    hope("it answers", (done.returncode, done.stdout.split()[5]), (0, "open"))
+    resource.prlimit(program, resource.RLIMIT_FSIZE, (none, none))
+    until("the ledger has the record", lambda: any('"type":"entry"' in path.read_text() for path in ledger.iterdir()))
+    until("the counters", (service.run / "counters").exists)
+    service.send(b"no packet")
+    until("lines were lost", lambda: "event=lines-dropped" in service.log.read_text())
+    process.terminate()
+    hope("status", process.wait(PATIENCE), 0)
+    hope("the ledger's end", any('"type":"end"' in path.read_text() for path in ledger.iterdir()), True)
+
+
+def a_drain_that_failed_is_not_obeyed_later(service):
+    """A `drain` that is told as failed, since the proxy is suspended, is never obeyed; one that the proxy has read is told as such."""
+    process = service.start()
+    program, handing = (until(word, lambda: [pid for pid, name in service.children(process) if (name == "rad_proxy") == is_it])[0]
+                        for word, is_it in (("program", True), ("hand-over", False)))
+    os.kill(program, signal.SIGSTOP)
+    done = service.ask("drain")
+    hope("it is suspended", (done.returncode, done.stderr), (4, "rad_proxyctl: no answer in 5 seconds\n"))
+    os.kill(program, signal.SIGCONT)
+    time.sleep(0.5)
+    service.state_is("it goes on")
+    os.kill(handing, signal.SIGSTOP)
+    done = service.ask("drain")
+    hope("its answer is not handed on", (done.returncode, done.stderr),
+         (4, "rad_proxyctl: no answer in 5 seconds, but the proxy has read the command and may obey it yet\n"))
+    os.kill(handing, signal.SIGCONT)
+    done = service.ask("state")
+    hope("it drains", (done.returncode, done.stdout), (0, LINE.replace("open", "done", 1)))
 
 
 def a_second_leaves_the_first_alone(service):
@@ -850,7 +970,9 @@ def root_serves_nobody_elses_folder(service):
 
 
 TESTS = [
-    drains_where_its_group_gets_the_signal, drains_where_its_terminal_is_closed, a_second_leaves_the_first_alone,
+    drains_where_its_group_gets_the_signal, drains_where_its_terminal_is_closed, a_term_at_any_moment_ends_it,
+    a_term_while_it_opens_its_fifos_ends_it, a_limit_on_the_size_of_files_ends_nothing, a_drain_that_failed_is_not_obeyed_later,
+    a_second_leaves_the_first_alone,
     the_lock_outlives_a_serve_that_was_killed, refuses_a_folder_that_others_write_in, whatever_the_umask,
     a_stopped_asker_keeps_nobody_out, an_asker_without_an_answer_gives_up, many_ask_at_once,
     a_hand_over_that_dies_is_started_anew, nobody_reads_its_output, its_output_is_full, what_is_left_over_is_a_warning,
@@ -870,8 +992,18 @@ def heed_signals():
             signal.signal(number, signal.SIG_DFL)
 
 
+def take_moments():
+    """Takes how many moments are tried from the words that this was called with."""
+    global MOMENTS
+    if "--moments" in sys.argv:
+        place = sys.argv.index("--moments")
+        MOMENTS = int(sys.argv[place + 1])
+        del sys.argv[place:place + 2]
+
+
 def main():
     heed_signals()
+    take_moments()
     try_named(TESTS, Service, __doc__)
 
 
