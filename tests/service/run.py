@@ -236,7 +236,7 @@ def a_limit_on_the_size_of_files_ends_nothing(service):
     until("the log is full", lambda: service.log.stat().st_size == most)
     hope("a request is answered", is_answered(), True)
     done = service.ask("state")
-    hope("it answers", (done.returncode, done.stdout.split()[5]), (0, "open"))
+    hope("it answers", (done.returncode, done.stdout.split()[4]), (0, "open"))
     resource.prlimit(program, resource.RLIMIT_FSIZE, (none, none))
     until("the ledger has the record", lambda: any('"type":"entry"' in path.read_text() for path in ledger.iterdir()))
     until("the counters", (service.run / "counters").exists)
@@ -957,6 +957,170 @@ def root_asks_as_the_owner(service):
     process.kill()
 
 
+def the_largest_answers_are_whole(service):
+    """With as many clients and home servers as there can be, and names as long, `state` and `metrics` are had whole."""
+    names = [f"{number:02d}".ljust(64, "h") for number in range(64)]
+    clients = "".join(f'[[client]]\naddress = "192.168.255.{number}"\nsecret = "nas-secret"\n' for number in range(256))
+    homes = "".join(f'[[home]]\nname = "{name}"\naddress = "127.0.0.1:{20000 + number}"\nsecret = "home-secret"\n'
+                    f'[[realm]]\nname = "example{number}.org"\nhome = "{name}"\n' for number, name in enumerate(names))
+    service.file.write_text(f'listen = "127.0.0.1:{service.port}"\n{clients}{homes}')
+    service.start()
+    until("counters", (service.run / "counters").exists)
+    done = service.ask("state")
+    hope("state", (done.returncode, [line.split()[2] for line in done.stdout.splitlines()]), (0, names))
+    done = service.ask("metrics")
+    hope("status", (done.returncode, done.stderr), (0, ""))
+    hope("up", [line.split('"')[3] for line in done.stdout.splitlines() if line.startswith("rad_proxy_home_up{")], names)
+    hope("clients", len(re.findall("^rad_proxy_client_received_total{", done.stdout, re.M)), 256)
+
+
+def a_purge_leaves_no_link(service):
+    """postrm takes away all that `systemctl enable` made of the package's units, wherever, and nothing else."""
+    links = service.room / "etc/systemd/system"
+    made = ["multi-user.target.wants/rad_proxy.service", "multi-user.target.wants/rad_proxy@one.service",
+            "other.target.wants/rad_proxy@two.service", "sockets.target.wants/rad_proxy-metrics.socket"]
+    others = ["multi-user.target.wants/other.service", "sockets.target.wants/rad_proxy-mine.socket"]
+    for name in made + others:
+        (links / name).parent.mkdir(parents=True, exist_ok=True)
+        (links / name).symlink_to(f"/lib/systemd/system/{pathlib.Path(name).name}")
+    script = (HERE / "packaging/debian/postrm").read_text().replace(" /etc/", f" {service.room}/etc/").replace("/run/systemd", "/none")
+    subprocess.run(["sh", "-s", "purge"], input=script, text=True, check=True)
+    hope("links", sorted(str(path.relative_to(links)) for path in links.glob("*/*")), others)
+    units = {path.name for path in (service.room / "usr/lib/systemd/system").iterdir() if "[Install]" in path.read_text()}
+    hope("units", units, {"rad_proxy.service", "rad_proxy@.service", "rad_proxy-metrics.socket"})
+
+
+def node_exporter_reads_the_counters(service):
+    """Debian's node exporter, as its own user, has the metrics by a link in its folder, where they are written as the unit's lines say."""
+    if os.getuid() != 0 or shutil.which("prometheus-node-exporter") is None:
+        raise LeftOut("it wants root and Debian's prometheus-node-exporter")
+    lines = re.findall("^#(CacheDirectory.*|Environment=RAD_PROXY_COUNTERS.*)", (HERE / "packaging/rad_proxy.service.in").read_text(), re.M)
+    hope("the unit's lines", lines, ["CacheDirectory=@runtime@", "CacheDirectoryMode=0755",
+                                     "Environment=RAD_PROXY_COUNTERS=/var/cache/@runtime@/counters.prom"])
+    service.room.chmod(0o755)
+    collected, cache = service.room / "node-exporter", service.room / "cache"
+    for folder, mode in ((service.run, 0o700), (cache, 0o755), (collected, 0o755)):
+        folder.mkdir()
+        folder.chmod(mode)
+    for folder in (service.run, cache):
+        os.chown(folder, STRANGER, STRANGER)
+    service.file.chmod(0o644)
+    (collected / "rad_proxy.prom").symlink_to(cache / "counters.prom")
+    service.environment["RAD_PROXY_COUNTERS"] = str(cache / "counters.prom")
+    process = service.start(user=STRANGER, group=STRANGER, extra_groups=[], preexec_fn=lambda: os.umask(0o077))
+    until("counters", (cache / "counters.prom").exists)
+    with socket.socket() as free:
+        free.bind(("127.0.0.1", 0))
+        port = free.getsockname()[1]
+    words = ["prometheus-node-exporter", f"--web.listen-address=127.0.0.1:{port}", "--collector.disable-defaults",
+             "--collector.textfile", f"--collector.textfile.directory={collected}"]
+    own = pwd.getpwnam("prometheus")
+    with open(service.room / "exporter.log", "wb") as log:
+        service.started.append(subprocess.Popen(words, stdout=log, stderr=log, start_new_session=True, user=own.pw_uid,
+                                                group=own.pw_gid, extra_groups=[], cwd="/"))
+
+    def scraped():
+        with contextlib.suppress(urllib.error.URLError, ConnectionError):
+            return urllib.request.urlopen(f"http://127.0.0.1:{port}/metrics", timeout=PATIENCE).read().decode()
+
+    text = until("node exporter", scraped)
+    hope("faults", re.findall("^node_textfile_scrape_error .*", text, re.M), ["node_textfile_scrape_error 0"])
+    names = [set(re.findall("^rad_proxy_[a-z_]*", each, re.M)) for each in (text, (cache / "counters.prom").read_text())]
+    hope("names", len(names[0]) > 40 and names[0] == names[1], True)
+    process.terminate()
+    hope("status", process.wait(PATIENCE), 0)
+
+
+# What a hostile owner of the folder answers with: it waits for the fifo of each asker, and writes this into it, or has its counters be this.
+OWNER = """
+import fcntl, os, sys, time
+folder, kind, owner = sys.argv[1:]
+os.chdir(folder)
+if os.getuid() != int(owner):
+    os.setgroups([])
+    os.setgid(int(owner))
+    os.setuid(int(owner))
+os.umask(0o077)
+line = b"lane 0 h up open accepted 1 queued 0 outstanding 0 answered 1 opening 0\\n"
+whole = line + b"unknown\\n"
+counters = {"large counters": b"rad_proxy_x 1\\n" * 400_000, "counters in one line": b"x" * 5_000_000, "short lines": b"a\\n" * 2_000_000,
+            "many words": b"a " * 2_000_000, "statuses": b"status 0\\n" * 450_000}.get(kind)
+answer = {"endless lines": line * 1000, "lanes without end": b"lane\\n" * 10_000, "endless line": b"lane " * 10_000, "slow": b"l"}.get(kind, whole)
+
+def write(octets):
+    try:
+        with open("new", "wb") as file:
+            file.write(octets)
+        os.replace("new", "counters")
+    except OSError:
+        pass
+
+if kind == "counters are endless":
+    os.symlink("/dev/zero", "counters")
+elif kind == "counters are a fifo":
+    os.mkfifo("counters")
+elif kind == "lock is a fifo":
+    os.mkfifo("lock")
+elif kind == "lock is held":
+    lock = open("lock", "w")
+    fcntl.flock(lock, fcntl.LOCK_EX)
+os.mkfifo("commands")
+asked, count = None, 0
+while True:
+    try:
+        fifo = os.open("answer", os.O_RDWR | os.O_NONBLOCK)
+        asker = os.fstat(fifo).st_ino
+        if asker != asked or answer != whole:
+            asked = asker
+            os.write(fifo, answer)
+        os.close(fifo)
+    except OSError:
+        pass
+    if counters is not None and count % 30 == 0:
+        write(counters)
+    count += 1
+    time.sleep(0.1 if kind == "slow" else 0.01)
+"""
+KINDS = ("large counters", "counters in one line", "short lines", "many words", "statuses", "endless lines", "lanes without end",
+         "endless line", "slow", "counters are endless", "counters are a fifo", "lock is a fifo", "lock is held")
+# The bounds of the script, and what a busy machine takes beyond them; the processor's seconds, and the octets that are printed and kept.
+LONGEST_CALL, MOST_PROCESSOR, MOST_PRINTED, MOST_KEPT = 45, 20, 6_000_000, 300_000_000
+
+
+def costs_of(service, kind, word):
+    """What a call costs whose answer comes from such an owner: seconds, seconds of the processor, octets printed and octets kept."""
+    folder = service.room / f"{word} {kind}"
+    folder.mkdir(0o700)
+    if os.getuid() == 0:
+        os.chown(folder, STRANGER, STRANGER)
+    owner = subprocess.Popen([sys.executable, "-c", OWNER, folder, kind, str(folder.stat().st_uid)], start_new_session=True)
+    service.started.append(owner)
+    until("commands", (folder / "commands").exists)
+    out = open(service.room / f"{word} {kind}.out", "wb")
+    began = time.monotonic()
+    asker = subprocess.Popen([service.ctl, "-d", folder, word], stdout=out, stderr=subprocess.STDOUT, stdin=subprocess.DEVNULL,
+                             env=service.environment, start_new_session=True)
+    service.started.append(asker)
+    until(f"{word}, {kind}", lambda: os.waitid(os.P_PID, asker.pid, os.WEXITED | os.WNOHANG | os.WNOWAIT), LONGEST_CALL, 0.1)
+    _, _, used = os.wait4(asker.pid, 0)
+    asker.returncode = 0
+    seconds = time.monotonic() - began
+    owner.kill()
+    out.close()
+    return seconds, used.ru_utime + used.ru_stime, os.path.getsize(out.name), used.ru_maxrss * 1024
+
+
+def no_answer_costs_more_than_the_bounds(service):
+    """Whatever the folder's owner puts there and answers, a call ends in time, and takes, prints and keeps no more than its bounds."""
+    service.room.chmod(0o755)
+    calls = [*((kind, "metrics") for kind in KINDS), ("endless lines", "state"), ("short lines", "top"), ("large counters", "top")]
+    with ThreadPoolExecutor(AT_ONCE) as pool:
+        costs = list(pool.map(lambda call: costs_of(service, *call), calls))
+    for call, (seconds, processor, printed, kept) in zip(calls, costs):
+        hope(f"{call}: {seconds:.0f} s, {processor:.1f} s of the processor, {printed} octets printed, {kept} kept",
+             processor < MOST_PROCESSOR and printed < MOST_PRINTED and kept < MOST_KEPT, True)
+
+
 def root_serves_nobody_elses_folder(service):
     """Root does not serve in a folder of another user."""
     if os.getuid() != 0:
@@ -981,7 +1145,8 @@ TESTS = [
     top_draws_what_is_there, top_draws_a_table_as_soon_as_its_numbers_are_there, top_of_no_proxy_ends, metrics_of_no_proxy_are_removed, metrics_go_to_no_other_file, metrics_are_had_by_http, http_waits_for_no_client, each_panel_of_the_dashboard_draws, sent_again_is_never_less_than_nothing, counters_that_are_written_late_are_waited_for,
     memory_is_refused_and_nothing_ends, relative_paths_hold, an_answer_that_cannot_be_written_is_told,
     whoever_keeps_the_pipe_is_not_waited_for, the_unit_takes_no_core_dump, root_asks_as_the_owner,
-    the_owner_gets_nothing_of_roots, root_serves_nobody_elses_folder,
+    the_owner_gets_nothing_of_roots, no_answer_costs_more_than_the_bounds, the_largest_answers_are_whole, a_purge_leaves_no_link,
+    node_exporter_reads_the_counters, root_serves_nobody_elses_folder,
 ]
 
 
