@@ -983,7 +983,8 @@ def a_purge_leaves_no_link(service):
     for name in made + others:
         (links / name).parent.mkdir(parents=True, exist_ok=True)
         (links / name).symlink_to(f"/lib/systemd/system/{pathlib.Path(name).name}")
-    script = (HERE / "packaging/debian/postrm").read_text().replace(" /etc/", f" {service.room}/etc/").replace("/run/systemd", "/none")
+    script = (HERE / "packaging/debian/postrm").read_text()
+    script = re.sub("(?<= )/(?=etc/|var/|run/)", f"{service.room}/", script)
     subprocess.run(["sh", "-s", "purge"], input=script, text=True, check=True)
     hope("links", sorted(str(path.relative_to(links)) for path in links.glob("*/*")), others)
     units = {path.name for path in (service.room / "usr/lib/systemd/system").iterdir() if "[Install]" in path.read_text()}
