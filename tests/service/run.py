@@ -170,8 +170,10 @@ def ended_by_term(service, name, port, await_moment, **variables):
     made.terminate()
     began = time.monotonic()
     with contextlib.suppress(subprocess.TimeoutExpired):
-        hope("status", made.wait(LATEST) in (0, -signal.SIGTERM), True)
-    return time.monotonic() - began
+        made.wait(LATEST)
+    seconds = time.monotonic() - began
+    hope("status", made.returncode if made.returncode not in (None, -signal.SIGTERM) else 0, 0)
+    return seconds
 
 
 def see_each_ended(service, ended):
@@ -189,7 +191,7 @@ def a_term_at_any_moment_ends_it(service):
 
     def ended(worker):
         moments = [apart * each for each in range(worker, MOMENTS, AT_ONCE)]
-        return [(ended_by_term(service, f"at{worker}", ports[worker], lambda _: time.sleep(each)), each) for each in moments]
+        return [(ended_by_term(service, f"at{each}", ports[worker], lambda _: time.sleep(each)), each) for each in moments]
 
     with ThreadPoolExecutor(AT_ONCE) as pool:
         ends = sorted(pair for pairs in pool.map(ended, range(AT_ONCE)) for pair in pairs)
@@ -968,8 +970,7 @@ def the_largest_answers_are_whole(service):
     until("counters", (service.run / "counters").exists)
     done = service.ask("state")
     hope("state", (done.returncode, [line.split()[2] for line in done.stdout.splitlines()]), (0, names))
-    done = service.ask("metrics")
-    hope("status", (done.returncode, done.stderr), (0, ""))
+    done = until("metrics", lambda: (found := service.ask("metrics")).returncode == 0 and found)
     hope("up", [line.split('"')[3] for line in done.stdout.splitlines() if line.startswith("rad_proxy_home_up{")], names)
     hope("clients", len(re.findall("^rad_proxy_client_received_total{", done.stdout, re.M)), 256)
 
