@@ -1086,7 +1086,7 @@ while True:
 KINDS = ("large counters", "counters in one line", "short lines", "many words", "statuses", "endless lines", "lanes without end",
          "endless line", "slow", "counters are endless", "counters are a fifo", "lock is a fifo", "lock is held")
 # The bounds of the script, and what a busy machine takes beyond them; the processor's seconds, and the octets that are printed and kept.
-LONGEST_CALL, MOST_PROCESSOR, MOST_PRINTED, MOST_KEPT = 45, 20, 6_000_000, 300_000_000
+LONGEST_CALL, MOST_PROCESSOR, MOST_PRINTED, MOST_KEPT = 45, 10, 5_000, 100_000_000
 
 
 def costs_of(service, kind, word):
@@ -1116,7 +1116,7 @@ def no_answer_costs_more_than_the_bounds(service):
     """Whatever the folder's owner puts there and answers, a call ends in time, and takes, prints and keeps no more than its bounds."""
     service.room.chmod(0o755)
     calls = [*((kind, "metrics") for kind in KINDS), ("endless lines", "state"), ("short lines", "top"), ("large counters", "top")]
-    with ThreadPoolExecutor(AT_ONCE) as pool:
+    with ThreadPoolExecutor(len(calls)) as pool:
         costs = list(pool.map(lambda call: costs_of(service, *call), calls))
     for call, (seconds, processor, printed, kept) in zip(calls, costs):
         hope(f"{call}: {seconds:.0f} s, {processor:.1f} s of the processor, {printed} octets printed, {kept} kept",
