@@ -321,7 +321,7 @@ def whatever_the_umask(service):
         done = service.ask("state", preexec_fn=lambda: os.umask(mask))
         hope(f"umask {mask:o}", (done.returncode, done.stdout), (0, LINE))
         hope("folder", stat.S_IMODE(service.run.stat().st_mode), 0o700)
-        for name in ("commands", "lines", "answer"):
+        for name in ("commands", "lines"):
             hope(name, oct(stat.S_IMODE((service.run / name).stat().st_mode)), oct(0o600))
         process.terminate()
         hope("status", process.wait(PATIENCE), 0)
@@ -365,6 +365,17 @@ def many_ask_at_once(service):
     asking = [subprocess.Popen([service.ctl, "state"], **given) for _ in range(10)]
     for one in asking:
         hope("answer", (one.communicate(timeout=PATIENCE)[0], one.returncode), (LINE, 0))
+
+
+def what_nobody_asked_goes_to_standard_output(service):
+    """What the program prints for a command that came by no asker goes to standard output, also once somebody has asked."""
+    process = service.start()
+    for count in range(1, 3):
+        subprocess.run(["sh", "-c", "echo nonsense 1<>commands"], cwd=service.run, check=True)
+        until("it is printed", lambda: service.printed.read_text().splitlines()[1:] == count * ["unknown"])
+        service.state_is()
+    process.terminate()
+    hope("status", process.wait(PATIENCE), 0)
 
 
 def a_hand_over_that_dies_is_started_anew(service):
@@ -1140,7 +1151,7 @@ TESTS = [
     a_term_while_it_opens_its_fifos_ends_it, a_limit_on_the_size_of_files_ends_nothing, a_drain_that_failed_is_not_obeyed_later,
     a_second_leaves_the_first_alone,
     the_lock_outlives_a_serve_that_was_killed, refuses_a_folder_that_others_write_in, whatever_the_umask,
-    a_stopped_asker_keeps_nobody_out, an_asker_without_an_answer_gives_up, many_ask_at_once,
+    a_stopped_asker_keeps_nobody_out, an_asker_without_an_answer_gives_up, many_ask_at_once, what_nobody_asked_goes_to_standard_output,
     a_hand_over_that_dies_is_started_anew, nobody_reads_its_output, its_output_is_full, what_is_left_over_is_a_warning,
     counters_elsewhere_are_told, the_ledger_is_where_the_variable_says, counters_that_cannot_be_written_are_told, counters_that_are_not_written_are_told,
     metrics_are_as_prometheus_reads_them, alerts_fire_where_they_should, metrics_go_to_a_file,
