@@ -175,6 +175,51 @@ def leaves_a_socket_alone(trial):
     hope("it is a socket", stat.S_ISSOCK(os.lstat(trial.counters).st_mode), True)
 
 
+def leaves_other_files_alone(trial):
+    """A file that is not one of counters stays: the configuration, also by another name, a file of a ledger, and any text."""
+    other = trial.room / "other.toml"
+    os.link(trial.file, other)
+    ledger, text = trial.folder / "0123456789abcdef-000000.jsonl", trial.folder / "text"
+    ledger.write_text('{"type":"begin"}\n')
+    text.write_text("# HELP rad_prox")
+    for path in (trial.file, other, ledger, text):
+        before = path.read_bytes()
+        trial.start(RAD_PROXY_COUNTERS=str(path))
+        trial.told("no file of counters")
+        hope(f"{path.name}", path.read_bytes(), before)
+        trial.log.unlink()
+    hope("the folder", sorted(path.name for path in trial.folder.iterdir()), [ledger.name, text.name])
+
+
+def an_empty_file_becomes_one_of_counters(trial):
+    """An empty file is replaced, and so is one of counters that another run wrote."""
+    trial.counters.touch()
+    for _ in range(2):
+        before = trial.counters.stat().st_ino
+        trial.count()
+        until("the counters", lambda: trial.counters.stat().st_ino != before)
+        trial.end()
+    hope("what it tells", trial.lines(), [])
+
+
+def an_empty_name_is_none(trial):
+    """Where the variable is empty there is no file of counters, and nothing is told."""
+    trial.start(RAD_PROXY_COUNTERS="")
+    time.sleep(1.5)
+    trial.end()
+    hope("what it tells", trial.lines(), [])
+
+
+def everybody_may_read_its_counters(trial):
+    """The file has mode 0644, whatever the umask."""
+    for mask in (0o000, 0o077, 0o777):
+        trial.start(before=lambda: os.umask(mask), RAD_PROXY_COUNTERS=str(trial.counters))
+        until("the counters", trial.counters.exists)
+        trial.end()
+        hope(f"mode by umask {mask:o}", oct(stat.S_IMODE(trial.counters.stat().st_mode)), oct(0o644))
+        trial.counters.unlink()
+
+
 def follows_no_link_of_a_new_file(trial):
     """A link that was planted where the new file might be made overwrites nothing."""
     other, planted = trial.room / "other", trial.folder / "counters.new"
@@ -322,7 +367,8 @@ def a_line_that_is_cut_stands_alone(trial):
 
 TESTS = [
     writes_its_counters, leaves_a_device_alone, leaves_a_link_alone, leaves_a_pipe_alone, leaves_a_folder_alone,
-    leaves_a_socket_alone, follows_no_link_of_a_new_file, is_not_blocked_by_what_is_left, tells_what_it_cannot_write,
+    leaves_a_socket_alone, leaves_other_files_alone, an_empty_file_becomes_one_of_counters, an_empty_name_is_none,
+    everybody_may_read_its_counters, follows_no_link_of_a_new_file, is_not_blocked_by_what_is_left, tells_what_it_cannot_write,
     a_hung_file_system_delays_no_end, a_slow_log_holds_no_worker, a_hung_log_delays_no_end, its_last_lines_are_written,
     each_line_is_there_or_counted, starts_a_line_after_a_part_of_one, a_line_that_is_cut_stands_alone,
 ]

@@ -1,17 +1,18 @@
 #!/usr/bin/env python3
 """Tries the scripts of the service, `serve` and `rad_proxyctl`, over a program that is built, as an operator would misuse them.
 
-usage: run.py PROGRAM [NAME ..]
+usage: run.py PROGRAM [--moments N] [NAME ..]
 
-Each test is a function below, and its first line tells what holds. Names choose tests. It wants no right of root and no
-systemd, and uses loopback alone; what needs another user is tried where root runs this, and else told as left out. The last
-line is `N passed, M failed`.
+Each test is a function below, and its first line tells what holds. Names choose tests; N is how many moments are tried at which
+`serve` gets SIGTERM. It wants no right of root and no systemd, and uses loopback alone; what needs another user is tried where
+root runs this, and else told as left out. The last line is `N passed, M failed`.
 """
 import contextlib
 import json
 import os
 import pathlib
 import pty
+import pwd
 import re
 import resource
 import shutil
@@ -26,6 +27,7 @@ import time
 import urllib.error
 import urllib.parse
 import urllib.request
+from concurrent.futures import ThreadPoolExecutor
 
 sys.dont_write_bytecode = True
 
@@ -33,10 +35,13 @@ HERE = pathlib.Path(__file__).resolve().parent.parent.parent
 sys.path.append(str(HERE / "tests" / "hostile"))
 
 from packets import answered, request  # noqa: E402
+from starting import built  # noqa: E402
 from trying import LeftOut, hope, try_named  # noqa: E402
-from waiting import bound, until  # noqa: E402
+from waiting import bound, free_ports, until  # noqa: E402
 
 PATIENCE = 30
+# At how many moments `serve` gets SIGTERM, how many run at once, and how many seconds one has to end on a machine that is busy.
+MOMENTS, AT_ONCE, LATEST = 150, 4, 8
 STRANGER = 65534
 LINE = "lane 0 h1 up open accepted 0 queued 0 outstanding 0 answered 0 opening 0\n"
 NOTHING_LEFT = "end: queued 0 outstanding 0 untaken 0"
@@ -95,6 +100,12 @@ class Service:
         done = subprocess.run(["ps", "--ppid", str(process.pid), "-o", "pid=,comm="], capture_output=True, text=True)
         return [(int(pid), name) for pid, name in (line.split() for line in done.stdout.splitlines())]
 
+    def living(self):
+        """The processes of all that was started, but for those that ended and that nobody has waited for yet."""
+        groups = {str(process.pid) for process in self.started}
+        done = subprocess.run(["ps", "-eo", "pgid=,stat=,args="], capture_output=True, text=True)
+        return [line for line in map(str.split, done.stdout.splitlines()) if line[0] in groups and line[1][0] != "Z"]
+
     def stop(self):
         for process in self.started:
             with contextlib.suppress(ProcessLookupError):
@@ -145,6 +156,117 @@ def drains_where_its_terminal_is_closed(service):
     service.home.sendto(answered(octets), proxy)
     hope("code", service.nas.recv(4096)[0], 5)
     hope("status", process.wait(PATIENCE), 0)
+
+
+def ended_by_term(service, name, port, await_moment, **variables):
+    """How many seconds a `serve` of its own folder and port needs to end, that gets SIGTERM once `await_moment` of the folder returns."""
+    file, folder = service.room / f"{name}.toml", service.room / name
+    file.write_text(re.sub(r'(?m)^listen = .*', f'listen = "127.0.0.1:{port}"', service.file.read_text()))
+    environment = service.environment | {"RUNTIME_DIRECTORY": str(folder)} | variables
+    made = subprocess.Popen([service.serve, file], stdin=subprocess.DEVNULL, stdout=subprocess.DEVNULL, stderr=subprocess.DEVNULL,
+                            env=environment, start_new_session=True)
+    service.started.append(made)
+    await_moment(folder)
+    made.terminate()
+    began = time.monotonic()
+    with contextlib.suppress(subprocess.TimeoutExpired):
+        made.wait(LATEST)
+    seconds = time.monotonic() - began
+    hope("status", made.returncode if made.returncode not in (None, -signal.SIGTERM) else 0, 0)
+    return seconds
+
+
+def see_each_ended(service, ended):
+    """Each end that is given, as its seconds and its moment, came before LATEST, and nothing that was started is left."""
+    late = [pair for pair in ended if pair[0] >= LATEST]
+    hope("seconds to the end, and seconds from the start to the signal", late, [])
+    until("nothing is left", lambda: not service.living())
+
+
+def a_term_at_any_moment_ends_it(service):
+    """SIGTERM at any moment from the first line of `serve` on ends it within a second: moments spread over the time until it listens."""
+    began = time.monotonic()
+    service.start().terminate()
+    apart, ports = 1.5 * (time.monotonic() - began) / MOMENTS, free_ports(AT_ONCE)
+
+    def ended(worker):
+        moments = [apart * each for each in range(worker, MOMENTS, AT_ONCE)]
+        return [(ended_by_term(service, f"at{each}", ports[worker], lambda _: time.sleep(each)), each) for each in moments]
+
+    with ThreadPoolExecutor(AT_ONCE) as pool:
+        ends = sorted(pair for pairs in pool.map(ended, range(AT_ONCE)) for pair in pairs)
+    see_each_ended(service, ends)
+    # On a machine that is idle all of them do.
+    hope(f"whether nine of ten took less than a second, of which the slowest were {ends[-3:]}", ends[len(ends) * 9 // 10][0] < 1, True)
+
+
+def a_term_while_it_opens_its_fifos_ends_it(service):
+    """The same where each opening of the pipe of its output takes a tenth of a second, so that the signal comes before, in and after each one."""
+    variables = {"LD_PRELOAD": built(service.room, "slow"), "SLOW_PATH": "lines", "SLOW_OPEN": "100"}
+
+    def ended(each, port):
+        def await_moment(folder):
+            until("the fifos", (folder / "lines").exists, apart=0.001)
+            time.sleep(each / 60)
+
+        return ended_by_term(service, f"in{each}", port, await_moment, **variables), each / 60
+
+    with ThreadPoolExecutor(8) as pool:
+        see_each_ended(service, list(pool.map(ended, range(24), free_ports(24))))
+
+
+def a_limit_on_the_size_of_files_ends_nothing(service):
+    """Under a limit as LimitFSIZE sets it ledger, counters and log are told as not written, and requests are answered; without it
+    all three are written again."""
+    ledger, most = service.room / "ledger", 140
+    ledger.mkdir()
+    service.environment |= {"RAD_PROXY_LEDGER": str(ledger), "RAD_PROXY_LOG": "debug"}
+    none = resource.RLIM_INFINITY
+    process = service.start(preexec_fn=lambda: resource.setrlimit(resource.RLIMIT_FSIZE, (most, none)))
+    program = until("program", lambda: [pid for pid, name in service.children(process) if name == "rad_proxy"])[0]
+
+    def is_answered():
+        service.send(request())
+        octets, proxy = service.home.recvfrom(4096)
+        service.home.sendto(answered(octets), proxy)
+        return service.nas.recv(4096)[0] == 5
+
+    for text in ('event=counters-fault reason="not written"', "event=ledger-fault reason=\"can't write: File too large (os error 27)\""):
+        until(text, lambda: text in service.log.read_text())
+    for _ in range(20):
+        service.send(b"no packet")
+    until("the log is full", lambda: service.log.stat().st_size == most)
+    hope("a request is answered", is_answered(), True)
+    done = service.ask("state")
+    hope("it answers", (done.returncode, done.stdout.split()[4]), (0, "open"))
+    resource.prlimit(program, resource.RLIMIT_FSIZE, (none, none))
+    until("the ledger has the record", lambda: any('"type":"entry"' in path.read_text() for path in ledger.iterdir()))
+    until("the counters", (service.run / "counters").exists)
+    service.send(b"no packet")
+    until("lines were lost", lambda: "event=lines-dropped" in service.log.read_text())
+    process.terminate()
+    hope("status", process.wait(PATIENCE), 0)
+    hope("the ledger's end", any('"type":"end"' in path.read_text() for path in ledger.iterdir()), True)
+
+
+def a_drain_that_failed_is_not_obeyed_later(service):
+    """A `drain` that is told as failed, since the proxy is suspended, is never obeyed; one that the proxy has read is told as such."""
+    process = service.start()
+    program, handing = (until(word, lambda: [pid for pid, name in service.children(process) if (name == "rad_proxy") == is_it])[0]
+                        for word, is_it in (("program", True), ("hand-over", False)))
+    os.kill(program, signal.SIGSTOP)
+    done = service.ask("drain")
+    hope("it is suspended", (done.returncode, done.stderr), (4, "rad_proxyctl: no answer in 5 seconds\n"))
+    os.kill(program, signal.SIGCONT)
+    time.sleep(0.5)
+    service.state_is("it goes on")
+    os.kill(handing, signal.SIGSTOP)
+    done = service.ask("drain")
+    hope("its answer is not handed on", (done.returncode, done.stderr),
+         (4, "rad_proxyctl: no answer in 5 seconds, but the proxy has read the command and may obey it yet\n"))
+    os.kill(handing, signal.SIGCONT)
+    done = service.ask("state")
+    hope("it drains", (done.returncode, done.stdout), (0, LINE.replace("open", "done", 1)))
 
 
 def a_second_leaves_the_first_alone(service):
@@ -199,7 +321,7 @@ def whatever_the_umask(service):
         done = service.ask("state", preexec_fn=lambda: os.umask(mask))
         hope(f"umask {mask:o}", (done.returncode, done.stdout), (0, LINE))
         hope("folder", stat.S_IMODE(service.run.stat().st_mode), 0o700)
-        for name in ("commands", "lines", "answer"):
+        for name in ("commands", "lines"):
             hope(name, oct(stat.S_IMODE((service.run / name).stat().st_mode)), oct(0o600))
         process.terminate()
         hope("status", process.wait(PATIENCE), 0)
@@ -243,6 +365,17 @@ def many_ask_at_once(service):
     asking = [subprocess.Popen([service.ctl, "state"], **given) for _ in range(10)]
     for one in asking:
         hope("answer", (one.communicate(timeout=PATIENCE)[0], one.returncode), (LINE, 0))
+
+
+def what_nobody_asked_goes_to_standard_output(service):
+    """What the program prints for a command that came by no asker goes to standard output, also once somebody has asked."""
+    process = service.start()
+    for count in range(1, 3):
+        subprocess.run(["sh", "-c", "echo nonsense 1<>commands"], cwd=service.run, check=True)
+        until("it is printed", lambda: service.printed.read_text().splitlines()[1:] == count * ["unknown"])
+        service.state_is()
+    process.terminate()
+    hope("status", process.wait(PATIENCE), 0)
 
 
 def a_hand_over_that_dies_is_started_anew(service):
@@ -837,6 +970,170 @@ def root_asks_as_the_owner(service):
     process.kill()
 
 
+def the_largest_answers_are_whole(service):
+    """With as many clients and home servers as there can be, and names as long, `state` and `metrics` are had whole."""
+    names = [f"{number:02d}".ljust(64, "h") for number in range(64)]
+    clients = "".join(f'[[client]]\naddress = "192.168.255.{number}"\nsecret = "nas-secret"\n' for number in range(256))
+    homes = "".join(f'[[home]]\nname = "{name}"\naddress = "127.0.0.1:{20000 + number}"\nsecret = "home-secret"\n'
+                    f'[[realm]]\nname = "example{number}.org"\nhome = "{name}"\n' for number, name in enumerate(names))
+    service.file.write_text(f'listen = "127.0.0.1:{service.port}"\n{clients}{homes}')
+    service.start()
+    until("counters", (service.run / "counters").exists)
+    done = service.ask("state")
+    hope("state", (done.returncode, [line.split()[2] for line in done.stdout.splitlines()]), (0, names))
+    done = until("metrics", lambda: (found := service.ask("metrics")).returncode == 0 and found)
+    hope("up", [line.split('"')[3] for line in done.stdout.splitlines() if line.startswith("rad_proxy_home_up{")], names)
+    hope("clients", len(re.findall("^rad_proxy_client_received_total{", done.stdout, re.M)), 256)
+
+
+def a_purge_leaves_no_link(service):
+    """postrm takes away all that `systemctl enable` made of the package's units, wherever, and nothing else."""
+    links = service.room / "etc/systemd/system"
+    made = ["multi-user.target.wants/rad_proxy.service", "multi-user.target.wants/rad_proxy@one.service",
+            "other.target.wants/rad_proxy@two.service", "sockets.target.wants/rad_proxy-metrics.socket"]
+    others = ["multi-user.target.wants/other.service", "sockets.target.wants/rad_proxy-mine.socket"]
+    for name in made + others:
+        (links / name).parent.mkdir(parents=True, exist_ok=True)
+        (links / name).symlink_to(f"/lib/systemd/system/{pathlib.Path(name).name}")
+    script = (HERE / "packaging/debian/postrm").read_text()
+    script = re.sub("(?<= )/(?=etc/|var/|run/)", f"{service.room}/", script)
+    subprocess.run(["sh", "-s", "purge"], input=script, text=True, check=True)
+    hope("links", sorted(str(path.relative_to(links)) for path in links.glob("*/*")), others)
+    units = {path.name for path in (service.room / "usr/lib/systemd/system").iterdir() if "[Install]" in path.read_text()}
+    hope("units", units, {"rad_proxy.service", "rad_proxy@.service", "rad_proxy-metrics.socket"})
+
+
+def node_exporter_reads_the_counters(service):
+    """Debian's node exporter, as its own user, has the metrics by a link in its folder, where they are written as the unit's lines say."""
+    if os.getuid() != 0 or shutil.which("prometheus-node-exporter") is None:
+        raise LeftOut("it wants root and Debian's prometheus-node-exporter")
+    lines = re.findall("^#(CacheDirectory.*|Environment=RAD_PROXY_COUNTERS.*)", (HERE / "packaging/rad_proxy.service.in").read_text(), re.M)
+    hope("the unit's lines", lines, ["CacheDirectory=@runtime@", "CacheDirectoryMode=0755",
+                                     "Environment=RAD_PROXY_COUNTERS=/var/cache/@runtime@/counters.prom"])
+    service.room.chmod(0o755)
+    collected, cache = service.room / "node-exporter", service.room / "cache"
+    for folder, mode in ((service.run, 0o700), (cache, 0o755), (collected, 0o755)):
+        folder.mkdir()
+        folder.chmod(mode)
+    for folder in (service.run, cache):
+        os.chown(folder, STRANGER, STRANGER)
+    service.file.chmod(0o644)
+    (collected / "rad_proxy.prom").symlink_to(cache / "counters.prom")
+    service.environment["RAD_PROXY_COUNTERS"] = str(cache / "counters.prom")
+    process = service.start(user=STRANGER, group=STRANGER, extra_groups=[], preexec_fn=lambda: os.umask(0o077))
+    until("counters", (cache / "counters.prom").exists)
+    with socket.socket() as free:
+        free.bind(("127.0.0.1", 0))
+        port = free.getsockname()[1]
+    words = ["prometheus-node-exporter", f"--web.listen-address=127.0.0.1:{port}", "--collector.disable-defaults",
+             "--collector.textfile", f"--collector.textfile.directory={collected}"]
+    own = pwd.getpwnam("prometheus")
+    with open(service.room / "exporter.log", "wb") as log:
+        service.started.append(subprocess.Popen(words, stdout=log, stderr=log, start_new_session=True, user=own.pw_uid,
+                                                group=own.pw_gid, extra_groups=[], cwd="/"))
+
+    def scraped():
+        with contextlib.suppress(urllib.error.URLError, ConnectionError):
+            return urllib.request.urlopen(f"http://127.0.0.1:{port}/metrics", timeout=PATIENCE).read().decode()
+
+    text = until("node exporter", scraped)
+    hope("faults", re.findall("^node_textfile_scrape_error .*", text, re.M), ["node_textfile_scrape_error 0"])
+    names = [set(re.findall("^rad_proxy_[a-z_]*", each, re.M)) for each in (text, (cache / "counters.prom").read_text())]
+    hope("names", len(names[0]) > 40 and names[0] == names[1], True)
+    process.terminate()
+    hope("status", process.wait(PATIENCE), 0)
+
+
+# What a hostile owner of the folder answers with: it waits for the fifo of each asker, and writes this into it, or has its counters be this.
+OWNER = """
+import fcntl, os, sys, time
+folder, kind, owner = sys.argv[1:]
+os.chdir(folder)
+if os.getuid() != int(owner):
+    os.setgroups([])
+    os.setgid(int(owner))
+    os.setuid(int(owner))
+os.umask(0o077)
+line = b"lane 0 h up open accepted 1 queued 0 outstanding 0 answered 1 opening 0\\n"
+whole = line + b"unknown\\n"
+counters = {"large counters": b"rad_proxy_x 1\\n" * 400_000, "counters in one line": b"x" * 5_000_000, "short lines": b"a\\n" * 2_000_000,
+            "many words": b"a " * 2_000_000, "statuses": b"status 0\\n" * 450_000}.get(kind)
+answer = {"endless lines": line * 1000, "lanes without end": b"lane\\n" * 10_000, "endless line": b"lane " * 10_000, "slow": b"l"}.get(kind, whole)
+
+def write(octets):
+    try:
+        with open("new", "wb") as file:
+            file.write(octets)
+        os.replace("new", "counters")
+    except OSError:
+        pass
+
+if kind == "counters are endless":
+    os.symlink("/dev/zero", "counters")
+elif kind == "counters are a fifo":
+    os.mkfifo("counters")
+elif kind == "lock is a fifo":
+    os.mkfifo("lock")
+elif kind == "lock is held":
+    lock = open("lock", "w")
+    fcntl.flock(lock, fcntl.LOCK_EX)
+os.mkfifo("commands")
+asked, count = None, 0
+while True:
+    try:
+        fifo = os.open("answer", os.O_RDWR | os.O_NONBLOCK)
+        asker = os.fstat(fifo).st_ino
+        if asker != asked or answer != whole:
+            asked = asker
+            os.write(fifo, answer)
+        os.close(fifo)
+    except OSError:
+        pass
+    if counters is not None and count % 30 == 0:
+        write(counters)
+    count += 1
+    time.sleep(0.1 if kind == "slow" else 0.01)
+"""
+KINDS = ("large counters", "counters in one line", "short lines", "many words", "statuses", "endless lines", "lanes without end",
+         "endless line", "slow", "counters are endless", "counters are a fifo", "lock is a fifo", "lock is held")
+# The bounds of the script, and what a busy machine takes beyond them; the processor's seconds, and the octets that are printed and kept.
+LONGEST_CALL, MOST_PROCESSOR, MOST_PRINTED, MOST_KEPT = 45, 10, 5_000, 100_000_000
+
+
+def costs_of(service, kind, word):
+    """What a call costs whose answer comes from such an owner: seconds, seconds of the processor, octets printed and octets kept."""
+    folder = service.room / f"{word} {kind}"
+    folder.mkdir(0o700)
+    if os.getuid() == 0:
+        os.chown(folder, STRANGER, STRANGER)
+    owner = subprocess.Popen([sys.executable, "-c", OWNER, folder, kind, str(folder.stat().st_uid)], start_new_session=True)
+    service.started.append(owner)
+    until("commands", (folder / "commands").exists)
+    out = open(service.room / f"{word} {kind}.out", "wb")
+    began = time.monotonic()
+    asker = subprocess.Popen([service.ctl, "-d", folder, word], stdout=out, stderr=subprocess.STDOUT, stdin=subprocess.DEVNULL,
+                             env=service.environment, start_new_session=True)
+    service.started.append(asker)
+    until(f"{word}, {kind}", lambda: os.waitid(os.P_PID, asker.pid, os.WEXITED | os.WNOHANG | os.WNOWAIT), LONGEST_CALL, 0.1)
+    _, _, used = os.wait4(asker.pid, 0)
+    asker.returncode = 0
+    seconds = time.monotonic() - began
+    owner.kill()
+    out.close()
+    return seconds, used.ru_utime + used.ru_stime, os.path.getsize(out.name), used.ru_maxrss * 1024
+
+
+def no_answer_costs_more_than_the_bounds(service):
+    """Whatever the folder's owner puts there and answers, a call ends in time, and takes, prints and keeps no more than its bounds."""
+    service.room.chmod(0o755)
+    calls = [*((kind, "metrics") for kind in KINDS), ("endless lines", "state"), ("short lines", "top"), ("large counters", "top")]
+    with ThreadPoolExecutor(len(calls)) as pool:
+        costs = list(pool.map(lambda call: costs_of(service, *call), calls))
+    for call, (seconds, processor, printed, kept) in zip(calls, costs):
+        hope(f"{call}: {seconds:.0f} s, {processor:.1f} s of the processor, {printed} octets printed, {kept} kept",
+             processor < MOST_PROCESSOR and printed < MOST_PRINTED and kept < MOST_KEPT, True)
+
+
 def root_serves_nobody_elses_folder(service):
     """Root does not serve in a folder of another user."""
     if os.getuid() != 0:
@@ -850,16 +1147,19 @@ def root_serves_nobody_elses_folder(service):
 
 
 TESTS = [
-    drains_where_its_group_gets_the_signal, drains_where_its_terminal_is_closed, a_second_leaves_the_first_alone,
+    drains_where_its_group_gets_the_signal, drains_where_its_terminal_is_closed, a_term_at_any_moment_ends_it,
+    a_term_while_it_opens_its_fifos_ends_it, a_limit_on_the_size_of_files_ends_nothing, a_drain_that_failed_is_not_obeyed_later,
+    a_second_leaves_the_first_alone,
     the_lock_outlives_a_serve_that_was_killed, refuses_a_folder_that_others_write_in, whatever_the_umask,
-    a_stopped_asker_keeps_nobody_out, an_asker_without_an_answer_gives_up, many_ask_at_once,
+    a_stopped_asker_keeps_nobody_out, an_asker_without_an_answer_gives_up, many_ask_at_once, what_nobody_asked_goes_to_standard_output,
     a_hand_over_that_dies_is_started_anew, nobody_reads_its_output, its_output_is_full, what_is_left_over_is_a_warning,
     counters_elsewhere_are_told, the_ledger_is_where_the_variable_says, counters_that_cannot_be_written_are_told, counters_that_are_not_written_are_told,
     metrics_are_as_prometheus_reads_them, alerts_fire_where_they_should, metrics_go_to_a_file,
     top_draws_what_is_there, top_draws_a_table_as_soon_as_its_numbers_are_there, top_of_no_proxy_ends, metrics_of_no_proxy_are_removed, metrics_go_to_no_other_file, metrics_are_had_by_http, http_waits_for_no_client, each_panel_of_the_dashboard_draws, sent_again_is_never_less_than_nothing, counters_that_are_written_late_are_waited_for,
     memory_is_refused_and_nothing_ends, relative_paths_hold, an_answer_that_cannot_be_written_is_told,
     whoever_keeps_the_pipe_is_not_waited_for, the_unit_takes_no_core_dump, root_asks_as_the_owner,
-    the_owner_gets_nothing_of_roots, root_serves_nobody_elses_folder,
+    the_owner_gets_nothing_of_roots, no_answer_costs_more_than_the_bounds, the_largest_answers_are_whole, a_purge_leaves_no_link,
+    node_exporter_reads_the_counters, root_serves_nobody_elses_folder,
 ]
 
 
@@ -870,8 +1170,18 @@ def heed_signals():
             signal.signal(number, signal.SIG_DFL)
 
 
+def take_moments():
+    """Takes how many moments are tried from the words that this was called with."""
+    global MOMENTS
+    if "--moments" in sys.argv:
+        place = sys.argv.index("--moments")
+        MOMENTS = int(sys.argv[place + 1])
+        del sys.argv[place:place + 2]
+
+
 def main():
     heed_signals()
+    take_moments()
     try_named(TESTS, Service, __doc__)
 
 

@@ -4,12 +4,22 @@ use rad_log::{Log, warn_of_reason};
 use std::alloc::{AllocError, AllocGlobal, Global};
 use std::env::{self, Env, VarError};
 use std::fmt::{self, Display};
-use std::fs::{self, Files, OpenOptions};
-use std::io::{ErrorKind, Write};
+use std::fs::{self, Files, OpenFile, OpenOptions, Permissions};
+use std::io::{self, ErrorKind, Read, Write};
+use std::os::unix::fs::{OpenOptionsExt, PermissionsExt};
 use std::random::RandomSource;
 
 /// The environment variable that names the file of the counters.
 const COUNTERS: &str = "RAD_PROXY_COUNTERS";
+
+/// How each text of counters begins, whichever program of this kind wrote it. A file of counters is known by it.
+const HEAD: &[u8] = b"# HELP rad_proxy_";
+
+/// How many octets that are.
+const HEAD_OCTETS: usize = 17;
+
+/// Who may read and write the file: its owner may do both, and everybody may read it.
+const MODE: u32 = 0o644;
 
 /// Why the file of the counters is not replaced.
 #[derive(Clone, Copy, PartialEq, Eq)]
@@ -17,6 +27,9 @@ pub enum FileFault {
     /// At the path is a directory, a link, a pipe, a device or something else that is not a regular file. It is left
     /// alone.
     NotRegular,
+    /// At the path is a file that is neither empty nor one of counters, such as the configuration or a file of a ledger.
+    /// It is left alone.
+    NotCounters,
     /// The system refused a step of the replacement, or memory was refused.
     NotWritten,
     /// The file system takes longer for a text than the time until the next one.
@@ -27,12 +40,12 @@ pub enum FileFault {
 
 /// Replaces files.
 pub trait ReplaceFile {
-    /// Writes a text to a new file, which then replaces the file at this path.
+    /// Writes a text to a new file that everybody may read, which then replaces the file at this path.
     ///
     /// # Errors
     ///
-    /// `NotRegular` if something other than a regular file is at the path; `NotWritten` if the system refuses
-    /// something, or memory is refused.
+    /// `NotRegular` if something other than a regular file is at the path; `NotCounters` if it is a file that is neither
+    /// empty nor one of counters; `NotWritten` if the system refuses something, or memory is refused.
     fn replace(&self, path: &str, text: &[u8]) -> Result<(), FileFault>;
 }
 
@@ -59,7 +72,7 @@ where
     R::File: Drop,
 {
     fn replace(&self, path: &str, text: &[u8]) -> Result<(), FileFault> {
-        check_regular(&self.rt, path)?;
+        check_place(&self.rt, path)?;
         let name = new_name(&self.rt, path)?;
         let new = name.as_str();
         if create(&self.rt, new, text)? && fs::rename(&self.rt, new, path).is_ok() {
@@ -70,12 +83,33 @@ where
     }
 }
 
-/// Fails if something other than a regular file is at a path. A link is not a regular file, wherever it leads.
-fn check_regular<R: Files>(files: &R, path: &str) -> Result<(), FileFault> {
+/// Fails if something other than a file of counters is at a path. A link is not a regular file, wherever it leads.
+fn check_place<R: Files>(files: &R, path: &str) -> Result<(), FileFault>
+where
+    R::File: Drop,
+{
     match fs::symlink_metadata(files, path) {
-        Ok(found) if found.is_file() => Ok(()),
-        Ok(_) => Err(FileFault::NotRegular),
+        Ok(found) if !found.is_file() => Err(FileFault::NotRegular),
+        Ok(found) if found.len() == 0 => Ok(()),
+        Ok(_) => check_head(files, path),
         Err(error) if error.kind() == ErrorKind::NotFound => Ok(()),
+        Err(_) => Err(FileFault::NotWritten),
+    }
+}
+
+/// Fails if the file at a path does not begin as one of counters.
+fn check_head<R: Files>(files: &R, path: &str) -> Result<(), FileFault>
+where
+    R::File: Drop,
+{
+    let Ok(mut file) = fs::open(files, path) else {
+        return Err(FileFault::NotWritten);
+    };
+    let mut head = [0; HEAD_OCTETS];
+    match file.read_exact(&mut head) {
+        Ok(()) if head.as_slice() == HEAD => Ok(()),
+        Ok(()) => Err(FileFault::NotCounters),
+        Err(error) if error.kind() == ErrorKind::UnexpectedEof => Err(FileFault::NotCounters),
         Err(_) => Err(FileFault::NotWritten),
     }
 }
@@ -109,7 +143,8 @@ fn push_number(name: &mut String, number: u64) -> Result<(), AllocError> {
     name.push_str(".new")
 }
 
-/// Creates a file of this name, which must not exist yet, and returns whether it then has the text.
+/// Creates a file of this name, which must not exist yet, and returns whether it then has its mode, whatever the umask,
+/// and the text.
 fn create<R: Files>(files: &R, name: &str, text: &[u8]) -> Result<bool, FileFault>
 where
     R::File: Drop,
@@ -117,11 +152,18 @@ where
     let opened = OpenOptions::new()
         .write(true)
         .create_new(true)
+        .mode(MODE)
         .open(files, name);
     match opened {
-        Ok(mut file) => Ok(file.write_all(text).is_ok()),
+        Ok(mut file) => Ok(write(&mut file, text).is_ok()),
         Err(_) => Err(FileFault::NotWritten),
     }
+}
+
+/// Sets a new file's mode, and writes the text to it.
+fn write<F: OpenFile + Write>(file: &mut F, text: &[u8]) -> io::Result<()> {
+    file.set_permissions(Permissions::from_mode(MODE))?;
+    file.write_all(text)
 }
 
 impl CounterFile {
@@ -149,6 +191,7 @@ impl Display for FileFault {
     fn fmt<W: fmt::Write>(&self, f: &mut fmt::Formatter<W>) -> fmt::Result {
         match *self {
             FileFault::NotRegular => f.write_str("no regular file"),
+            FileFault::NotCounters => f.write_str("no file of counters"),
             FileFault::NotWritten => f.write_str("not written"),
             FileFault::Late => f.write_str("takes longer than a second"),
             FileFault::NoText => f.write_str("RAD_PROXY_COUNTERS is no text"),
@@ -156,8 +199,8 @@ impl Display for FileFault {
     }
 }
 
-/// Returns the file that `RAD_PROXY_COUNTERS` names in the environment, if any. If the value is not UTF-8, it logs
-/// `event=counters-fault` and returns none.
+/// Returns the file that `RAD_PROXY_COUNTERS` names in the environment, if any; an empty value names none. If the value
+/// is not UTF-8, it logs `event=counters-fault` and returns none.
 ///
 /// # Errors
 ///
@@ -168,6 +211,7 @@ where
     L: Log,
 {
     match env::var(rt, COUNTERS) {
+        Ok(path) if path.is_empty() => Ok(None),
         Ok(path) => Ok(Some(CounterFile::new(path))),
         Err(VarError::NotPresent) => Ok(None),
         Err(VarError::OutOfMemory) => Err(AllocError),
