@@ -29,7 +29,7 @@ from packets import HOME_SECRET, NAS_SECRET, reply
 from starting import built, environment
 from trying import conclude, hope
 from vectors import answer, request, user_name
-from waiting import bound, until
+from waiting import BUFFERS, bound, buffers_of, until
 
 PORT, HOME_PORT = 1813, 2813
 SERVED = ["127.0.0.1", "127.0.0.5", "10.77.0.1", "10.77.0.2"]
@@ -365,8 +365,10 @@ def check_thefts(program, folder, addresses, before, starts):
 
 def as_user(program, folder):
     """Words before the program that run it as a user without rights, and a copy of it that this user may run."""
-    os.chmod(folder, 0o755)
-    return ("setpriv", "--reuid", str(USER), "--regid", str(USER), "--clear-groups"), shutil.copy(program, folder)
+    copy = shutil.copy(program, folder)
+    for path in (folder, copy):
+        os.chmod(path, 0o755)
+    return ("setpriv", "--reuid", str(USER), "--regid", str(USER), "--clear-groups"), copy
 
 
 def check_kinds_of_thefts(program, folder, addresses):
@@ -414,6 +416,12 @@ def test_descriptors(program, folder):
         for info in opened:
             (flags,) = re.findall(r"^flags:\s+(\d+)", info.read_text(), re.MULTILINE)
             hope(f"descriptor {info.name}", int(flags, 8) & CLOSE_ON_EXEC, CLOSE_ON_EXEC)
+
+
+def test_buffers(program, folder):
+    """Each socket has the receive buffer and the send buffer that Linux gives for a mebibyte."""
+    with Service(program, folder) as service:
+        hope("each pair", set(buffers_of(service.ran.pid)), {BUFFERS})
 
 
 def test_addresses_unread(program, folder):
@@ -502,7 +510,8 @@ def try_one(name, program):
 
 
 def inside(program, names):
-    """The tests, in the namespace."""
+    """The tests, in the namespace. The files are such that the users of the program and of the thief may read them."""
+    os.umask(0o022)
     ip("link", "set", "lo", "up")
     add(*SERVED[1:], *NASES)
     passed = [try_one(name, program) for name in names or TESTS]

@@ -1,10 +1,11 @@
 /*
  * Has each thread of the program that it is loaded into (LD_PRELOAD) begin late: by DELAY_MILLISECONDS. And each call that binds
- * a socket or sets an option of one takes DELAY_OF_SOCKETS milliseconds.
+ * a socket or sets an option of one takes DELAY_OF_SOCKETS milliseconds more, and each poll DELAY_OF_POLLS.
  */
 #define _GNU_SOURCE
 #include <dlfcn.h>
 #include <errno.h>
+#include <poll.h>
 #include <pthread.h>
 #include <stdlib.h>
 #include <sys/socket.h>
@@ -21,7 +22,9 @@ static void wait_for(const char *name)
     const char *text = getenv(name);
     long milliseconds = text ? strtol(text, NULL, 10) : 0;
     struct timespec delay = {milliseconds / 1000, milliseconds % 1000 * 1000000};
-    nanosleep(&delay, NULL);
+    if (milliseconds) {
+        nanosleep(&delay, NULL);
+    }
 }
 
 static void *begin_late(void *made)
@@ -46,6 +49,15 @@ int setsockopt(int socket, int level, int name, const void *value, socklen_t len
     int (*call)(int, int, int, const void *, socklen_t) = dlsym(RTLD_NEXT, "setsockopt");
     int answer = call(socket, level, name, value, length), number = errno;
     wait_for("DELAY_OF_SOCKETS");
+    errno = number;
+    return answer;
+}
+
+int poll(struct pollfd *ends, nfds_t count, int most)
+{
+    int (*call)(struct pollfd *, nfds_t, int) = dlsym(RTLD_NEXT, "poll");
+    int answer = call(ends, count, most), number = errno;
+    wait_for("DELAY_OF_POLLS");
     errno = number;
     return answer;
 }

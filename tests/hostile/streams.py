@@ -23,7 +23,7 @@ import tty
 sys.dont_write_bytecode = True
 
 import trying
-from starting import configuration, environment
+from starting import built, configuration, environment
 from trying import hope
 from waiting import HERE, free_port
 
@@ -36,6 +36,9 @@ END = "end: queued 0 outstanding 0 untaken 0\n"
 ATTRIBUTES = "0111626f62406578616d706c652e6f72672806000000012c045331"
 EVENTS = f"nas {{}} 40000 make 4 7 {ATTRIBUTES}\nstep 0\n"
 ANSWERS = f"nas: new 0 0\nstep: sent 4 0 59 {ATTRIBUTES}210c00000000000000000000\nend: queued 0 outstanding 1 untaken 0\n"
+
+# How many commands two programs share.
+COMMANDS = 50
 
 # The result of each of these steps is `step: idle`, and all of them are more than the program collects before it writes.
 STEPS = 2000
@@ -153,6 +156,26 @@ def test_a_write_that_fails_ends_a_command(stage):
             path, first = stage.file()
             found = stage.with_room(len(first) + room, f"{command}\n".encode(), "run", path)
             hope(f"{command}, room for {room}", found, (4, first + answer[:room], fault))
+
+
+def test_two_readers_of_an_input_that_does_not_block(stage):
+    """What one program reads is gone when the other one reads it: that waits for more, and both end once the input does."""
+    ours, theirs = os.pipe()
+    os.set_blocking(ours, False)
+    slow = environment() | {"LD_PRELOAD": built(stage.folder, "delay"), "DELAY_OF_POLLS": "3"}
+    processes = []
+    for _ in range(2):
+        path, first = stage.file()
+        processes.append(stage.begun("run", path, stdin=ours, env=slow))
+        hope("the first line", processes[-1].stdout.readline().decode(), first)
+    for _ in range(COMMANDS):
+        os.write(theirs, b"state\n")
+        until_read(ours, processes[0])
+    os.close(theirs)
+    os.close(ours)
+    found = [ended(process) for process in processes]
+    hope("how they end", [(status, errors) for status, _, errors in found], 2 * [(0, "")])
+    hope("what they answer", "".join(output for _, output, _ in found).count(STATE.format("open")), COMMANDS)
 
 
 TESTS = [test for name, test in sorted(globals().items()) if name.startswith("test_")]
