@@ -41,7 +41,7 @@ WITHOUT_PROC = "mount -t tmpfs none /proc && exec \"$@\""
 WITHOUT_LIST = "mount --bind /dev/null /proc/$$/net/udp && exec \"$@\""
 # The users of the program, where that is not root, and of a thief.
 USER, THIEF = 65533, 65534
-STARTS = int(os.environ.get("STARTS", "10"))
+STARTS = int(os.environ.get("STARTS", "5"))
 SHARINGS = [(), (socket.SO_REUSEADDR,), (socket.SO_REUSEPORT,), (socket.SO_REUSEADDR, socket.SO_REUSEPORT)]
 
 

@@ -9,6 +9,7 @@ command of `run` there. That memory may be refused while the input is read is tr
 them run. The last line is `N passed, M failed`.
 """
 import array
+import contextlib
 import fcntl
 import os
 import pty
@@ -27,7 +28,7 @@ from starting import built, configuration, environment
 from trying import hope
 from waiting import HERE, free_port
 
-PATIENCE = 60
+PATIENCE, PAGE = 60, 4096
 PARTS = (1, 7, 64, 4096)
 STATE = "lane 0 h1 up {} accepted 0 queued 0 outstanding 0 answered 0 opening 0\n"
 END = "end: queued 0 outstanding 0 untaken 0\n"
@@ -162,11 +163,10 @@ def test_two_readers_of_an_input_that_does_not_block(stage):
     """What one program reads is gone when the other one reads it: that waits for more, and both end once the input does."""
     ours, theirs = os.pipe()
     os.set_blocking(ours, False)
-    slow = environment() | {"LD_PRELOAD": built(stage.folder, "delay"), "DELAY_OF_POLLS": "3"}
     processes = []
     for _ in range(2):
         path, first = stage.file()
-        processes.append(stage.begun("run", path, stdin=ours, env=slow))
+        processes.append(stage.begun("run", path, stdin=ours, env=slow_polls(stage)))
         hope("the first line", processes[-1].stdout.readline().decode(), first)
     for _ in range(COMMANDS):
         os.write(theirs, b"state\n")
@@ -176,6 +176,42 @@ def test_two_readers_of_an_input_that_does_not_block(stage):
     found = [ended(process) for process in processes]
     hope("how they end", [(status, errors) for status, _, errors in found], 2 * [(0, "")])
     hope("what they answer", "".join(output for _, output, _ in found).count(STATE.format("open")), COMMANDS)
+
+
+def test_another_writer_of_an_output_that_does_not_block(stage):
+    """Another writer takes the room that the program saw: it waits for room, and writes all once the other one is gone."""
+    path, first = stage.file()
+    reading, taken = os.pipe()
+    fcntl.fcntl(taken, fcntl.F_SETPIPE_SZ, PAGE)
+    os.set_blocking(taken, False)
+    process = stage.begun("run", path, stdin=subprocess.PIPE, stdout=taken, env=slow_polls(stage))
+    hope("the first line", os.read(reading, PAGE).decode(), first)
+    fill(taken)
+    process.stdin.write(b"state\n")
+    process.stdin.flush()
+    end = time.monotonic() + 0.3
+    while time.monotonic() < end:
+        os.read(reading, PAGE)
+        fill(taken)
+        time.sleep(0.01)
+    os.close(taken)
+    process.stdin.close()
+    with os.fdopen(reading, "rb") as left:
+        text = left.read().replace(b"\0", b"").decode()
+    hope("what it writes", text, STATE.format("open") + END)
+    hope("how it ends", (process.wait(PATIENCE), process.stderr.read()), (0, b""))
+
+
+def fill(pipe):
+    """Fills a pipe."""
+    with contextlib.suppress(BlockingIOError):
+        while True:
+            os.write(pipe, bytes(PAGE))
+
+
+def slow_polls(stage):
+    """An environment in which each poll of the program takes some milliseconds longer, in which others come first."""
+    return environment() | {"LD_PRELOAD": built(stage.folder, "delay"), "DELAY_OF_POLLS": "3"}
 
 
 TESTS = [test for name, test in sorted(globals().items()) if name.startswith("test_")]

@@ -11,6 +11,7 @@ mod loading;
 mod machine;
 mod reasons;
 mod run_command;
+mod small_stack;
 mod words;
 
 use check_command::check_file;
