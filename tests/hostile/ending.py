@@ -32,7 +32,7 @@ COUNT = 5000
 STATE = "lane {} h{} up {} accepted {} queued 0 outstanding {} answered {} opening 0"
 NOTHING_LEFT = "end: queued 0 outstanding 0 untaken 0"
 # The least stack with which the program serves, in kibibytes.
-STACK = 256
+STACK = 1024
 
 
 class Proxy:
@@ -367,7 +367,7 @@ def a_reader_that_goes_ends_it_undrained(proxy):
 
 def tells_that_a_stack_is_too_small(proxy):
     """A smaller limit on stacks than the program needs is told before anything is begun, and is the end, with status 4."""
-    for stack in (64, 96, 128, STACK - 1):
+    for stack in (64, 96, 128, 256, STACK - 1):
         ran = subprocess.run(proxy.words(stack), input=b"", capture_output=True, env=proxy.environment)
         hope(f"{stack}: status", ran.returncode, 4)
         reason = f"the limit on a stack is {stack * 1024} octets, and has to be {STACK * 1024} at least"

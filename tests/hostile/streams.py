@@ -68,9 +68,10 @@ class Stage:
         given = {"stdout": subprocess.PIPE, "stderr": subprocess.PIPE, "env": environment()} | options
         return subprocess.Popen([self.program, *words], **given)
 
-    def in_parts(self, octets, most, *words):
+    def in_parts(self, octets, most, *words, blocks=True):
         """How a run ends, and what it wrote, where its input comes in parts of so many octets, each once the one before was read."""
         ours, theirs = os.pipe()
+        os.set_blocking(ours, blocks)
         with self.begun(*words, stdin=ours) as process:
             for start in range(0, len(octets), most):
                 os.write(theirs, octets[start : start + most])
@@ -120,6 +121,11 @@ def ended(process, octets=None):
 def test_an_input_in_parts_is_replayed(stage):
     for most in PARTS:
         hope(f"parts of {most}", stage.in_parts(one_request(), most, "replay"), (3, ANSWERS, ""))
+
+
+def test_an_input_that_does_not_block_is_replayed(stage):
+    """Each read that comes before the next part finds nothing."""
+    hope("the end", stage.in_parts(one_request(), 64, "replay", blocks=False), (3, ANSWERS, ""))
 
 
 def test_commands_in_parts_are_answered(stage):

@@ -5,8 +5,9 @@ use libc::types::rlimit;
 use libc::{RLIMIT_STACK, getrlimit};
 use std::fmt::{self, Display};
 
-/// The least limit with which the program serves, in octets: at least twice of what a thread was seen to take.
-const LEAST: u64 = 262_144;
+/// The least limit with which the program serves, in octets: several times what its first thread takes, which is what
+/// takes most.
+const LEAST: u64 = 1 << 20;
 
 /// A limit on a stack that is too small, in octets.
 #[derive(Clone, Copy)]
