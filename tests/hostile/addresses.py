@@ -329,7 +329,8 @@ class Thief:
         os.setuid(THIEF)
         left = {address: shared(SHARINGS[-1]) for address in addresses}
         tries, got = 0, []
-        while not self.is_over[0] and f":{PORT:04X} " not in pathlib.Path("/proc/net/udp").read_text():
+        sockets = os.open("/proc/net/udp", os.O_RDONLY)
+        while not self.is_over[0] and f":{PORT:04X} ".encode() not in os.pread(sockets, 1 << 16, 0):
             pass
         while not self.is_over[0]:
             tries += 1
