@@ -374,6 +374,9 @@ def tells_that_a_stack_is_too_small(proxy):
         wanted = f'level=error event=thread-fault reason="{reason}"\nthreads: failed\n'
         hope(f"{stack}: what it tells", (ran.stdout.decode(), ran.stderr.decode()), ("", wanted))
         hope(f"{stack}: the counters", (proxy.room / "counters").exists(), False)
+    proxy.file.unlink()
+    ran = subprocess.run(proxy.words(STACK - 1), input=b"", capture_output=True)
+    hope("a fault of the file comes first", ran.stderr.decode().splitlines()[-1], f"file: {proxy.file}")
 
 
 def serves_with_the_least_stack(proxy):

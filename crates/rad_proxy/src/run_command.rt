@@ -65,10 +65,6 @@ where
     let Ok(log) = open_log(rt, alloc) else {
         return Err(Fault::Memory);
     };
-    if let Some(stack) = SmallStack::find() {
-        tell_reason(&log, "thread-fault", &stack);
-        return Err(Fault::Threads);
-    }
     serve_logged(rt, files, disk, machine, alloc, path, &log)
 }
 
@@ -90,6 +86,10 @@ where
     A: LocalAddresses + UdpSockets + Sync,
 {
     let config = load(rt, alloc, log, path)?;
+    if let Some(stack) = SmallStack::find() {
+        tell_reason(log, "thread-fault", &stack);
+        return Err(Fault::Threads);
+    }
     serve_config(rt, files, disk, machine, alloc, &config, log)
 }
 
