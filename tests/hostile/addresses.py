@@ -3,10 +3,13 @@
 
 usage: addresses.py PROGRAM [NAME ..]
 
-Each test is a function below, and its first line tells what holds. Names choose tests. It wants root, `unshare` and `ip`, and
-tells where it leaves a test out for want of them. The last line is `N passed, M failed`.
+Each test is a function below, and its first line tells what holds. Names choose tests. It wants root, `unshare`, `setpriv` and `ip`,
+and tells where it leaves a test out for want of them. The variable STARTS says how many starts of each kind a thief of addresses has;
+a hundred take half a minute. The last line is `N passed, M failed`.
 """
 import contextlib
+import json
+import mmap
 import os
 import pathlib
 import re
@@ -23,10 +26,10 @@ sys.dont_write_bytecode = True
 
 from model import read
 from packets import HOME_SECRET, NAS_SECRET, reply
-from starting import environment
+from starting import built, environment
 from trying import conclude, hope
 from vectors import answer, request, user_name
-from waiting import bound, until
+from waiting import BUFFERS, bound, buffers_of, until
 
 PORT, HOME_PORT = 1813, 2813
 SERVED = ["127.0.0.1", "127.0.0.5", "10.77.0.1", "10.77.0.2"]
@@ -35,6 +38,11 @@ BURST = 400
 SOCKETS, KNOWN = 256, 512
 CLOSE_ON_EXEC = 0o2000000
 WITHOUT_PROC = "mount -t tmpfs none /proc && exec \"$@\""
+WITHOUT_LIST = "mount --bind /dev/null /proc/$$/net/udp && exec \"$@\""
+# The users of the program, where that is not root, and of a thief.
+USER, THIEF = 65533, 65534
+STARTS = int(os.environ.get("STARTS", "5"))
+SHARINGS = [(), (socket.SO_REUSEADDR,), (socket.SO_REUSEPORT,), (socket.SO_REUSEADDR, socket.SO_REUSEPORT)]
 
 
 def ip(*words):
@@ -234,8 +242,41 @@ def check_homes(program, folder, listen, homes, told):
     hope(f"{homes} with {listen}", (ran.stdout, ran.stderr), (f"clients 1 homes {len(homes)} realms 0\n", lines))
 
 
+def shared(options, family=socket.AF_INET):
+    """A socket that may be bound beside others that have these options. One of IPv6 takes datagrams of IPv4 too."""
+    made = socket.socket(family, socket.SOCK_DGRAM)
+    for option in options:
+        made.setsockopt(socket.SOL_SOCKET, option, 1)
+    if family == socket.AF_INET6:
+        made.setsockopt(socket.IPPROTO_IPV6, socket.IPV6_V6ONLY, 0)
+    return made
+
+
+def takes(made, address):
+    """Whether this socket gets the port at an address."""
+    try:
+        made.bind((address, PORT))
+    except OSError:
+        return False
+    return True
+
+
+def tried_from_outside(options):
+    """The addresses at which a socket of this user with these options gets the port."""
+    mapped = [f"::ffff:{address}" for address in SERVED]
+    places = [(socket.AF_INET, place) for place in [*SERVED, *NASES, "0.0.0.0", "127.0.0.77"]]
+    if socket.has_ipv6:
+        places += [(socket.AF_INET6, place) for place in ["::", "::ffff:0.0.0.0", *mapped]]
+    found = []
+    for family, place in places:
+        with shared(options, family) as made:
+            if takes(made, place):
+                found.append(place)
+    return found
+
+
 def test_port_is_taken(program, folder):
-    """A second program finds the port taken, and so does one that would share a single address. The line names `listen`."""
+    """A second program finds the port taken, and so does one of the same user that would share an address. The line names `listen`."""
     with Service(program, folder) as service:
         ran = subprocess.run([program, "run", str(service.file)], input=b"", capture_output=True)
         hope("the status", ran.returncode, 4)
@@ -243,28 +284,128 @@ def test_port_is_taken(program, folder):
         hope("the last line", last, f"socket: 0.0.0.0:{PORT}")
         if not any(f"event=unbound socket=0.0.0.0:{PORT} reason=" in line for line in before):
             raise AssertionError(before)
-        for address in SERVED:
-            with socket.socket(socket.AF_INET, socket.SOCK_DGRAM) as other:
-                other.setsockopt(socket.SOL_SOCKET, socket.SO_REUSEADDR, 1)
-                try:
-                    other.bind((address, PORT))
-                except OSError:
-                    continue
-                raise AssertionError(f"{address} can be shared")
+        for options in SHARINGS:
+            hope(f"what can be shared by {options}", tried_from_outside(options), [])
 
 
 def test_address_is_taken(program, folder):
-    """Where another program has the port at one of the addresses, the program does not start."""
-    with bound(SERVED[1], PORT) as other, contextlib.suppress(subprocess.TimeoutExpired):
-        other.setsockopt(socket.SOL_SOCKET, socket.SO_REUSEADDR, 1)
+    """Where another program has the port at one of the addresses, however it would share that, the program does not start."""
+    for options in SHARINGS:
+        with shared(options) as other:
+            hope("the other program has it", takes(other, SERVED[1]), True)
+            hope("it serves", serves(program, folder), False)
+        log = pathlib.Path(folder, "log").read_text("utf-8").splitlines()
+        hope("the last line", log[-1], f"socket: 0.0.0.0:{PORT}")
+
+
+def serves(program, folder):
+    """Whether the program comes to serve."""
+    try:
+        with Service(program, folder):
+            return True
+    except AssertionError as error:
+        if "the first line" not in str(error):
+            raise
+    return False
+
+
+class Thief:
+    """A process of another user that waits until the port is taken, and from then on tries to bind beside the service."""
+
+    def __init__(self, addresses):
+        self.is_over = mmap.mmap(-1, 1)
+        self.told, ours = os.pipe()
+        self.child = os.fork()
+        if not self.child:
+            with contextlib.suppress(BaseException):
+                os.write(ours, json.dumps(self.steal([*addresses, "0.0.0.0"])).encode())
+            os._exit(0)
+        os.close(ours)
+
+    def steal(self, addresses):
+        """How many times it tried each address, and those that it got."""
+        os.setgroups([])
+        os.setgid(THIEF)
+        os.setuid(THIEF)
+        left = {address: shared(SHARINGS[-1]) for address in addresses}
+        tries, got = 0, []
+        sockets = os.open("/proc/net/udp", os.O_RDONLY)
+        while not self.is_over[0] and f":{PORT:04X} ".encode() not in os.pread(sockets, 1 << 16, 0):
+            pass
+        while not self.is_over[0]:
+            tries += 1
+            for address in [address for address, made in left.items() if takes(made, address)]:
+                got.append((address, left.pop(address)))
+        return tries, [address for address, _ in got]
+
+    def stop(self):
+        """What `steal` answers."""
+        self.is_over[0] = 1
+        with os.fdopen(self.told, "rb") as told:
+            answer = told.read()
+        os.waitpid(self.child, 0)
+        return json.loads(answer)
+
+
+def check_thefts(program, folder, addresses, before, starts):
+    """Starts the program so many times beside a thief, who has to get none of these addresses. Answers how many times it tried."""
+    tries = 0
+    for _ in range(starts):
+        thief = Thief(addresses)
         try:
-            with Service(program, folder):
-                raise AssertionError("it serves")
-        except AssertionError as error:
-            if "the first line" not in str(error):
-                raise
-    log = pathlib.Path(folder, "log").read_text("utf-8").splitlines()
-    hope("the last line", log[-1], f"socket: 0.0.0.0:{PORT}")
+            with Service(program, folder, before):
+                time.sleep(0.002)
+                tried, got = thief.stop()
+        finally:
+            thief.is_over[0] = 1
+        hope("what the thief got", got, [])
+        tries += tried
+    hope("the thief tried", tries > 0, True)
+    return tries
+
+
+def as_user(program, folder):
+    """Words before the program that run it as a user without rights, and a copy of it that this user may run."""
+    copy = shutil.copy(program, folder)
+    for path in (folder, copy):
+        os.chmod(path, 0o755)
+    return ("setpriv", "--reuid", str(USER), "--regid", str(USER), "--clear-groups"), copy
+
+
+def check_kinds_of_thefts(program, folder, addresses):
+    """No theft at these addresses, by root and by another user: in starts as they are, and in two whose calls on sockets take long."""
+    user, copy = as_user(program, folder)
+    slow = ("env", f"LD_PRELOAD={built(folder, 'delay')}", "DELAY_OF_SOCKETS=2")
+    for before in ((), user):
+        check_thefts(copy, folder, addresses, before, STARTS)
+        check_thefts(copy, folder, addresses, (*before, *slow), 2)
+
+
+def test_thief_of_eight_addresses(program, folder):
+    """No other user gets an address that is served, in no moment of a start, whoever runs the program."""
+    check_kinds_of_thefts(program, folder, SERVED + NASES)
+    with Service(program, folder) as service, bound(NASES[0]) as nas:
+        for address in SERVED:
+            hope(f"asked {address}", service.ask(nas, address), address)
+
+
+def test_thief_of_one_address(program, folder):
+    """The same where the machine has one address."""
+    others = SERVED[1:] + NASES
+    for address in others:
+        ip("address", "del", f"{address}/32", "dev", "lo")
+    try:
+        check_kinds_of_thefts(program, folder, SERVED[:1])
+    finally:
+        add(*others)
+
+
+def test_sockets_unlisted(program, folder):
+    """Where Linux's list of the sockets can't be read, each address is served all the same."""
+    before = ("unshare", "--mount", "sh", "-c", WITHOUT_LIST, "sh")
+    with Service(program, folder, before) as service, bound(NASES[0]) as nas:
+        for address in SERVED:
+            hope(f"asked {address}", service.ask(nas, address), address)
 
 
 def test_descriptors(program, folder):
@@ -276,6 +417,12 @@ def test_descriptors(program, folder):
         for info in opened:
             (flags,) = re.findall(r"^flags:\s+(\d+)", info.read_text(), re.MULTILINE)
             hope(f"descriptor {info.name}", int(flags, 8) & CLOSE_ON_EXEC, CLOSE_ON_EXEC)
+
+
+def test_buffers(program, folder):
+    """Each socket has the receive buffer and the send buffer that Linux gives for a mebibyte."""
+    with Service(program, folder) as service:
+        hope("each pair", set(buffers_of(service.ran.pid)), {BUFFERS})
 
 
 def test_addresses_unread(program, folder):
@@ -364,7 +511,8 @@ def try_one(name, program):
 
 
 def inside(program, names):
-    """The tests, in the namespace."""
+    """The tests, in the namespace. The files are such that the users of the program and of the thief may read them."""
+    os.umask(0o022)
     ip("link", "set", "lo", "up")
     add(*SERVED[1:], *NASES)
     passed = [try_one(name, program) for name in names or TESTS]

@@ -19,7 +19,7 @@ sys.dont_write_bytecode = True
 
 import trying
 from starting import configuration, environment
-from waiting import HERE, bound, free_port
+from waiting import BUFFERS, HERE, bound, buffers_of, free_port
 
 PATIENCE, APART = 60, 0.005
 SUBSETS = [chosen for count in (1, 2, 3) for chosen in itertools.combinations((0, 1, 2), count)]
@@ -88,6 +88,7 @@ class Trial(trying.Trial):
             self.see_replay(closed)
             self.see_null_device(closed)
         self.see_close_on_exec()
+        self.see_buffers()
 
     def see_run(self, closed):
         """A stranger sends commands to the clients' port all the while; nothing but the one line is ever printed."""
@@ -174,6 +175,13 @@ class Trial(trying.Trial):
             time.sleep(APART)
         self.see("the sockets are among them", len(found) > 5, found)
         self.see("each descriptor is close-on-exec", not left, left)
+        self.see("it ends as it should", Ended(process).status == 0)
+
+    def see_buffers(self):
+        """Each socket, that of `listen` and the lane's, has the receive buffer and the send buffer that Linux gives for a mebibyte."""
+        process = self.start((), "run", self.file)
+        process.stdout.readline()
+        self.compare("the buffers of both sockets", buffers_of(process.pid), 2 * [BUFFERS])
         self.see("it ends as it should", Ended(process).status == 0)
 
 

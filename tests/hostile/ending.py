@@ -1,6 +1,6 @@
 #!/usr/bin/env python3
-"""Tries how `run` begins and ends: that it says `listening` once all its threads run, and that it ends in time where nobody
-reads what it prints.
+"""Tries how `run` begins and ends: that it says `listening` once all its threads run, that it ends in time where nobody reads
+what it prints, and what it says where its stacks may be small.
 
 usage: ending.py PROGRAM [NAME ..]
 
@@ -31,6 +31,8 @@ LINGER = 2000
 COUNT = 5000
 STATE = "lane {} h{} up {} accepted {} queued 0 outstanding {} answered {} opening 0"
 NOTHING_LEFT = "end: queued 0 outstanding 0 untaken 0"
+# The least stack with which the program serves, in kibibytes.
+STACK = 1024
 
 
 class Proxy:
@@ -52,12 +54,16 @@ class Proxy:
             text += f'[[home]]\nname = "{name}"\naddress = "127.0.0.1:{port}"\nsecret = "home-secret"\n'
         self.file.write_text(text + '[[realm]]\nname = "example.org"\nhome = "h1"\n')
 
-    def start(self, given, taken, **more):
+    def words(self, stack=None):
+        """Those that start the program, with stacks of at most so many kibibytes."""
+        limit = ["sh", "-c", f"ulimit -s {stack}; exec \"$@\"", "sh"] if stack else []
+        return [*limit, self.program, "run", self.file]
+
+    def start(self, given, taken, stack=None, **more):
         """Starts the program over these ends of its standard input and output, which are closed here then."""
         with open(self.log, "wb") as log:
             environment = self.environment | more
-            self.process = subprocess.Popen([self.program, "run", self.file], stdin=given, stdout=taken, stderr=log,
-                                            env=environment)
+            self.process = subprocess.Popen(self.words(stack), stdin=given, stdout=taken, stderr=log, env=environment)
         for descriptor in {given, taken}:
             os.close(descriptor)
         return self.process
@@ -359,11 +365,48 @@ def a_reader_that_goes_ends_it_undrained(proxy):
     hope("status", process.wait(PATIENCE), 4)
 
 
+def tells_that_a_stack_is_too_small(proxy):
+    """A smaller limit on stacks than the program needs is told before anything is begun, and is the end, with status 4."""
+    for stack in (64, 96, 128, 256, STACK - 1):
+        ran = subprocess.run(proxy.words(stack), input=b"", capture_output=True, env=proxy.environment)
+        hope(f"{stack}: status", ran.returncode, 4)
+        reason = f"the limit on a stack is {stack * 1024} octets, and has to be {STACK * 1024} at least"
+        wanted = f'level=error event=thread-fault reason="{reason}"\nthreads: failed\n'
+        hope(f"{stack}: what it tells", (ran.stdout.decode(), ran.stderr.decode()), ("", wanted))
+        hope(f"{stack}: the counters", (proxy.room / "counters").exists(), False)
+    proxy.file.unlink()
+    ran = subprocess.run(proxy.words(STACK - 1), input=b"", capture_output=True)
+    hope("a fault of the file comes first", ran.stderr.decode().splitlines()[-1], f"file: {proxy.file}")
+
+
+def serves_with_the_least_stack(proxy):
+    """With that limit it serves all addresses, with eight home servers, counters and a ledger, and ends as it should."""
+    homes = "".join(f'[[home]]\nname = "h{number}"\naddress = "127.0.0.1:9"\nsecret = "s"\n' for number in range(3, 9))
+    text = proxy.file.read_text().replace("127.0.0.1", "0.0.0.0", 1)
+    proxy.file.write_text(text.replace("[[realm]]", f"{homes}[[realm]]"))
+    ledger = proxy.room / "ledger"
+    ledger.mkdir()
+    given, ours = os.pipe()
+    reading, taken = os.pipe()
+    proxy.kept([ours, reading])
+    process = proxy.start(given, taken, STACK, RAD_PROXY_LEDGER=str(ledger))
+    octets, home = proxy.take_request()
+    proxy.home.sendto(answered(octets), home)
+    hope("code", proxy.nas.recv(4096)[0], 5)
+    until("the counters are written", (proxy.room / "counters").exists, PATIENCE)
+    give(ours, b"state\n")
+    close(proxy, ours)
+    hope("what it prints", read_all(reading).splitlines()[1], STATE.format(0, 1, "open", 1, 0, 1))
+    hope("status", process.wait(PATIENCE), 0)
+    hope("lines of the ledger", len("".join(file.read_text() for file in ledger.iterdir()).splitlines()) >= 2, True)
+
+
 TESTS = [
     says_nothing_without_a_thread, listens_once_all_threads_run, ends_unread_by_pipes, ends_unread_by_sockets,
     ends_unread_by_half_a_socket, ends_unread_by_a_file, ends_unread_by_a_terminal, ends_before_it_listens,
     serves_while_its_output_waits, ends_without_room_for_its_last_line, a_slow_reader_gets_all,
-    a_closed_output_ends_it_undrained, a_reader_that_goes_ends_it_undrained,
+    a_closed_output_ends_it_undrained, a_reader_that_goes_ends_it_undrained, tells_that_a_stack_is_too_small,
+    serves_with_the_least_stack,
 ]
 
 

@@ -9,6 +9,7 @@ command of `run` there. That memory may be refused while the input is read is tr
 them run. The last line is `N passed, M failed`.
 """
 import array
+import contextlib
 import fcntl
 import os
 import pty
@@ -23,11 +24,11 @@ import tty
 sys.dont_write_bytecode = True
 
 import trying
-from starting import configuration, environment
+from starting import built, configuration, environment
 from trying import hope
 from waiting import HERE, free_port
 
-PATIENCE = 60
+PATIENCE, PAGE = 60, 4096
 PARTS = (1, 7, 64, 4096)
 STATE = "lane 0 h1 up {} accepted 0 queued 0 outstanding 0 answered 0 opening 0\n"
 END = "end: queued 0 outstanding 0 untaken 0\n"
@@ -36,6 +37,9 @@ END = "end: queued 0 outstanding 0 untaken 0\n"
 ATTRIBUTES = "0111626f62406578616d706c652e6f72672806000000012c045331"
 EVENTS = f"nas {{}} 40000 make 4 7 {ATTRIBUTES}\nstep 0\n"
 ANSWERS = f"nas: new 0 0\nstep: sent 4 0 59 {ATTRIBUTES}210c00000000000000000000\nend: queued 0 outstanding 1 untaken 0\n"
+
+# How many commands two programs share.
+COMMANDS = 50
 
 # The result of each of these steps is `step: idle`, and all of them are more than the program collects before it writes.
 STEPS = 2000
@@ -64,9 +68,10 @@ class Stage:
         given = {"stdout": subprocess.PIPE, "stderr": subprocess.PIPE, "env": environment()} | options
         return subprocess.Popen([self.program, *words], **given)
 
-    def in_parts(self, octets, most, *words):
+    def in_parts(self, octets, most, *words, blocks=True):
         """How a run ends, and what it wrote, where its input comes in parts of so many octets, each once the one before was read."""
         ours, theirs = os.pipe()
+        os.set_blocking(ours, blocks)
         with self.begun(*words, stdin=ours) as process:
             for start in range(0, len(octets), most):
                 os.write(theirs, octets[start : start + most])
@@ -118,6 +123,11 @@ def test_an_input_in_parts_is_replayed(stage):
         hope(f"parts of {most}", stage.in_parts(one_request(), most, "replay"), (3, ANSWERS, ""))
 
 
+def test_an_input_that_does_not_block_is_replayed(stage):
+    """Each read that comes before the next part finds nothing."""
+    hope("the end", stage.in_parts(one_request(), 64, "replay", blocks=False), (3, ANSWERS, ""))
+
+
 def test_commands_in_parts_are_answered(stage):
     """Eight lines, of which the first one and the last two are commands, and the last has no line end."""
     octets = b"drain\nstate\r\n\n\xff\nstate state\n" + 64 * b" " + b"state\nstate\nstate"
@@ -153,6 +163,61 @@ def test_a_write_that_fails_ends_a_command(stage):
             path, first = stage.file()
             found = stage.with_room(len(first) + room, f"{command}\n".encode(), "run", path)
             hope(f"{command}, room for {room}", found, (4, first + answer[:room], fault))
+
+
+def test_two_readers_of_an_input_that_does_not_block(stage):
+    """What one program reads is gone when the other one reads it: that waits for more, and both end once the input does."""
+    ours, theirs = os.pipe()
+    os.set_blocking(ours, False)
+    processes = []
+    for _ in range(2):
+        path, first = stage.file()
+        processes.append(stage.begun("run", path, stdin=ours, env=slow_polls(stage)))
+        hope("the first line", processes[-1].stdout.readline().decode(), first)
+    for _ in range(COMMANDS):
+        os.write(theirs, b"state\n")
+        until_read(ours, processes[0])
+    os.close(theirs)
+    os.close(ours)
+    found = [ended(process) for process in processes]
+    hope("how they end", [(status, errors) for status, _, errors in found], 2 * [(0, "")])
+    hope("what they answer", "".join(output for _, output, _ in found).count(STATE.format("open")), COMMANDS)
+
+
+def test_another_writer_of_an_output_that_does_not_block(stage):
+    """Another writer takes the room that the program saw: it waits for room, and writes all once the other one is gone."""
+    path, first = stage.file()
+    reading, taken = os.pipe()
+    fcntl.fcntl(taken, fcntl.F_SETPIPE_SZ, PAGE)
+    os.set_blocking(taken, False)
+    process = stage.begun("run", path, stdin=subprocess.PIPE, stdout=taken, env=slow_polls(stage))
+    hope("the first line", os.read(reading, PAGE).decode(), first)
+    fill(taken)
+    process.stdin.write(b"state\n")
+    process.stdin.flush()
+    end = time.monotonic() + 0.3
+    while time.monotonic() < end:
+        os.read(reading, PAGE)
+        fill(taken)
+        time.sleep(0.01)
+    os.close(taken)
+    process.stdin.close()
+    with os.fdopen(reading, "rb") as left:
+        text = left.read().replace(b"\0", b"").decode()
+    hope("what it writes", text, STATE.format("open") + END)
+    hope("how it ends", (process.wait(PATIENCE), process.stderr.read()), (0, b""))
+
+
+def fill(pipe):
+    """Fills a pipe."""
+    with contextlib.suppress(BlockingIOError):
+        while True:
+            os.write(pipe, bytes(PAGE))
+
+
+def slow_polls(stage):
+    """An environment in which each poll of the program takes some milliseconds longer, in which others come first."""
+    return environment() | {"LD_PRELOAD": built(stage.folder, "delay"), "DELAY_OF_POLLS": "3"}
 
 
 TESTS = [test for name, test in sorted(globals().items()) if name.startswith("test_")]

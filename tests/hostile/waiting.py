@@ -1,10 +1,17 @@
 """UDP sockets, and waits for what has to come."""
+import ctypes
+import os
+import pathlib
 import socket
 import time
 
 HERE = "127.0.0.1"
 # How many seconds are waited for what has to come, since a slow machine is no fault of the program, and how many from look to look.
 PATIENCE, APART = 40, 0.02
+
+# The number of a system call; and what Linux says of the receive buffer and the send buffer of a socket of which a mebibyte was asked.
+PIDFD_GETFD = 438
+BUFFERS = tuple(2 * min(1 << 20, int(pathlib.Path("/proc/sys/net/core", name).read_text())) for name in ("rmem_max", "wmem_max"))
 
 
 def bound(address=HERE, port=0, patience=PATIENCE):
@@ -48,4 +55,17 @@ def until(text, test, patience=PATIENCE, apart=APART):
     found = awaited(test, patience, apart)
     if not found:
         raise AssertionError(f"never: {text}")
+    return found
+
+
+def buffers_of(process):
+    """What Linux says of the receive buffer and the send buffer of each socket of a process."""
+    numbers = [int(entry.name) for entry in pathlib.Path(f"/proc/{process}/fd").iterdir() if os.readlink(entry).startswith("socket:")]
+    held = os.pidfd_open(process)
+    copies = [ctypes.CDLL(None).syscall(PIDFD_GETFD, held, number, 0) for number in numbers]
+    os.close(held)
+    sockets = [socket.socket(fileno=copy) for copy in copies]
+    found = [tuple(made.getsockopt(socket.SOL_SOCKET, name) for name in (socket.SO_RCVBUF, socket.SO_SNDBUF)) for made in sockets]
+    for made in sockets:
+        made.close()
     return found

@@ -4,7 +4,7 @@ use crate::telling::tell_reason;
 use log::Log;
 use std::io::{self, ErrorKind, Read, Write};
 
-/// A reader or a writer. Its first failed read or write is logged when it happens, unless it was only interrupted.
+/// A reader or a writer. Its first failed read or write is logged when it happens, unless it only has to be tried again.
 #[derive(Drop)]
 pub struct ToldStream<'a, S: Drop, L> {
     stream: S,
@@ -26,9 +26,10 @@ impl<'a, S: Drop, L: Log> ToldStream<'a, S, L> {
     }
 }
 
-/// Logs a failure, if it is the first and not an interrupt.
+/// Logs a failure, if it is the first and not an interrupt, nor an answer that a read or a write would wait.
 fn tell<L: Log>(is_told: &mut bool, event: &str, log: &L, error: &io::Error) {
-    if !*is_told && error.kind() != ErrorKind::Interrupted {
+    let is_passing = matches!(error.kind(), ErrorKind::Interrupted | ErrorKind::WouldBlock);
+    if !*is_told && !is_passing {
         *is_told = true;
         tell_reason(log, event, error);
     }

@@ -2,12 +2,15 @@
 //! get its number, and what arrives there would be read as commands.
 
 use crate::faults::Fault;
-use libc::net::{POLLNVAL, poll};
+use libc::net::{POLLIN, POLLNVAL, poll};
 use libc::types::pollfd;
 use libc::{STDERR_FILENO, STDIN_FILENO, STDOUT_FILENO};
 use std::fs::{Files, OpenOptions};
-use std::io;
+use std::io::{self, Error, ErrorKind, Read};
 use std::os::fd::{IntoRawFd, RawFd};
+
+/// The timeout of a poll that waits without a limit.
+const FOR_EVER: i32 = -1;
 
 /// The file that is opened for a closed descriptor.
 const NULL_DEVICE: &str = "/dev/null";
@@ -65,4 +68,44 @@ fn is_closed(descriptor: RawFd) -> bool {
         revents: 0,
     }];
     poll(&mut ends, 0) == 1 && ends[0].revents & POLLNVAL != 0
+}
+
+/// Standard input, of which a read waits for something also if the descriptor does not block.
+#[derive(Drop)]
+pub struct WaitingInput<I: Drop>(I);
+
+impl<I: Drop> WaitingInput<I> {
+    /// Reads with this reader, which reads from standard input.
+    pub fn new(reader: I) -> WaitingInput<I> {
+        WaitingInput(reader)
+    }
+}
+
+impl<I: Read + Drop> Read for WaitingInput<I> {
+    ghost remaining = { λ input. I.remaining input.0 };
+
+    /// Reads what is there.
+    ///
+    /// # Errors
+    ///
+    /// `Interrupted` if nothing was there: the next read finds something, or the end. Otherwise the reader's own error.
+    fn read(&mut self, buf: &mut [u8]) -> io::Result<usize> {
+        match self.0.read(buf) {
+            Err(error) if error.kind() == ErrorKind::WouldBlock => {
+                wait_for_input();
+                Err(Error::from(ErrorKind::Interrupted))
+            }
+            got => got,
+        }
+    }
+}
+
+/// Waits until standard input has something to read, or has ended.
+fn wait_for_input() {
+    let mut ends = [pollfd {
+        fd: STDIN_FILENO,
+        events: POLLIN,
+        revents: 0,
+    }];
+    poll(&mut ends, FOR_EVER);
 }

@@ -11,10 +11,11 @@ mod loading;
 mod machine;
 mod reasons;
 mod run_command;
+mod small_stack;
 mod words;
 
 use check_command::check_file;
-use descriptors::open_standard;
+use descriptors::{WaitingInput, open_standard};
 use faults::Fault;
 use machine::Machine;
 use rad_addresses::LocalAddresses;
@@ -68,7 +69,10 @@ where
     open_standard(rt)?;
     let alloc = rt.alloc();
     match read_task(rt, alloc)? {
-        Task::Replay => status_of_replay(rt, alloc, rt.reader(), io::writer(rt)),
+        Task::Replay => {
+            let input = WaitingInput::new(rt.reader());
+            status_of_replay(rt, alloc, input, io::writer(rt))
+        }
         Task::Check(file) => {
             let Ok(log) = open_log_if_asked(rt, alloc) else {
                 return Err(Fault::Memory);

@@ -4,6 +4,7 @@ ghost use denote.Param.Send.{IsSync};
 
 use crate::faults::Fault;
 use crate::loading::load;
+use crate::small_stack::SmallStack;
 use libc::{STDIN_FILENO, STDOUT_FILENO};
 use rad_addresses::LocalAddresses;
 use rad_console::EndLine;
@@ -44,7 +45,8 @@ const NO_WAIT: &str = "the system can't wait for it";
 ///
 /// # Errors
 ///
-/// Those of [`load`] and of [`run_with`]; `Threads` if a thread that reports or writes can't be started.
+/// Those of [`load`] and of [`run_with`]; `Threads` if a thread that reports or writes can't be started, or if the system
+/// allows too small a stack.
 pub fn serve_file<R, F, D, A>(
     rt: &R,
     files: F,
@@ -84,6 +86,10 @@ where
     A: LocalAddresses + UdpSockets + Sync,
 {
     let config = load(rt, alloc, log, path)?;
+    if let Some(stack) = SmallStack::find() {
+        tell_reason(log, "thread-fault", &stack);
+        return Err(Fault::Threads);
+    }
     serve_config(rt, files, disk, machine, alloc, &config, log)
 }
 

@@ -3,7 +3,7 @@
 
 use crate::faults::ServeFault;
 use crate::raw_sockets::{bind_beside, set_shared, widen};
-use crate::sockets::{RECEIVE_BUFFER, bind};
+use crate::sockets::{BUFFER, bind};
 use rad_addresses::{KnownAddresses, LocalAddresses};
 use rad_desk::Gate;
 use rad_realms::Endpoint;
@@ -67,7 +67,8 @@ impl ClientSockets {
     }
 }
 
-/// Adds to these sockets, of which the first is at `listen`, one for each of these addresses.
+/// Adds to these sockets, of which the first is at `listen`, one for each of these addresses. Sockets of the same user
+/// may be bound beside them while it does so, and none afterwards.
 fn bind_each<G: Gate>(
     alloc: Global,
     mut sockets: Vec<UdpSocket>,
@@ -115,14 +116,14 @@ fn bind_next<G: Gate>(
 
 /// Adds a socket.
 fn add(sockets: &mut Vec<UdpSocket>, socket: UdpSocket) -> Result<(), ServeFault> {
-    widen(&socket, RECEIVE_BUFFER);
+    widen(&socket, BUFFER);
     match sockets.push(socket) {
         Ok(()) => Ok(()),
         Err(_) => Err(ServeFault::Memory),
     }
 }
 
-/// Sets whether other sockets may be bound beside these from now on.
+/// Sets whether other sockets of the same user may be bound beside these from now on.
 fn share_each<G: Gate>(
     sockets: &[UdpSocket],
     is_shared: bool,

@@ -83,7 +83,8 @@ impl<I: Read + Drop> Read for Interruptible<I> {
     ///
     /// # Errors
     ///
-    /// `Interrupted` if a notification came first, and otherwise the reader's own error.
+    /// `Interrupted` if a notification came first, or if another reader took what was there from a descriptor that does
+    /// not block; otherwise the reader's own error.
     fn read(&mut self, buf: &mut [u8]) -> io::Result<usize> {
         let Some(descriptor) = self.descriptor else {
             return self.reader.read(buf);
@@ -91,7 +92,12 @@ impl<I: Read + Drop> Read for Interruptible<I> {
         if !self.interrupts.wait(descriptor) {
             return Err(Error::from(ErrorKind::Interrupted));
         }
-        self.reader.read(buf)
+        match self.reader.read(buf) {
+            Err(error) if error.kind() == ErrorKind::WouldBlock => {
+                Err(Error::from(ErrorKind::Interrupted))
+            }
+            got => got,
+        }
     }
 }
 

@@ -149,8 +149,7 @@ impl<O: Write + Drop> Output<O> {
         if self.gone >= self.text.len() {
             return self.clear();
         }
-        if self.streams.look() {
-            self.write()?;
+        if self.streams.look() && self.write()? {
             return Ok(Progress::Went);
         }
         if self.streams.has_ended() && self.patience.is_over(clock) {
@@ -169,8 +168,9 @@ impl<O: Write + Drop> Output<O> {
         }
     }
 
-    /// Writes the next line, or as much of it as the output accepts.
-    fn write(&mut self) -> Result<(), ServeFault> {
+    /// Writes the next line, or as much of it as the output accepts. Returns whether to go on at once: not if the output
+    /// does not block and another writer took its room.
+    fn write(&mut self) -> Result<bool, ServeFault> {
         let at = self.gone.min(self.text.len());
         let part = first_line(&self.text.as_slice()[at..], self.streams.most());
         match self.writer.write(part) {
@@ -178,10 +178,13 @@ impl<O: Write + Drop> Output<O> {
             Ok(count) => {
                 self.gone = self.gone.saturating_add(count);
                 self.patience.renew();
-                Ok(())
+                Ok(true)
             }
-            Err(error) if error.kind() == ErrorKind::Interrupted => Ok(()),
-            Err(_) => Err(ServeFault::Output),
+            Err(error) => match error.kind() {
+                ErrorKind::Interrupted => Ok(true),
+                ErrorKind::WouldBlock => Ok(false),
+                _ => Err(ServeFault::Output),
+            },
         }
     }
 }

@@ -1,7 +1,7 @@
 //! Calls that `std` lacks: options of a socket, and a socket that is bound beside another.
 
 use libc::net::{
-    _SS_SIZE, AF_INET, SO_RCVBUF, SO_REUSEADDR, SOCK_CLOEXEC, SOCK_DGRAM, SOCK_NONBLOCK,
+    _SS_SIZE, AF_INET, SO_RCVBUF, SO_REUSEPORT, SO_SNDBUF, SOCK_CLOEXEC, SOCK_DGRAM, SOCK_NONBLOCK,
     SOL_SOCKET, bind, getsockopt, setsockopt, socket,
 };
 use os::FromRawFd;
@@ -13,12 +13,13 @@ use std::os::fd::{AsRawFd, RawFd};
 /// The octets of an address that C reads.
 const ADDRESS_OCTETS: u32 = 16;
 
-/// Asks for a receive buffer of `octets` octets. The system may grant less. If it refuses, the socket still works, and
-/// loses datagrams earlier.
+/// Asks for a receive buffer and a send buffer of `octets` octets each. The system may grant less. If it refuses, the
+/// socket still works, and loses datagrams earlier.
 pub(crate) fn widen(socket: &UdpSocket, octets: i32) {
     let value = option_value(octets);
     let descriptor = socket.as_raw_fd();
     let _ = unsafe { setsockopt(descriptor, SOL_SOCKET, SO_RCVBUF, &value, 4) };
+    let _ = unsafe { setsockopt(descriptor, SOL_SOCKET, SO_SNDBUF, &value, 4) };
 }
 
 /// Returns how many octets of receive buffer were granted, counted as `widen` asks for them; 0 if the system does not
@@ -35,7 +36,8 @@ pub(crate) fn granted(socket: &UdpSocket) -> u32 {
     u32::from_ne_bytes([value[0], value[1], value[2], value[3]]) / 2
 }
 
-/// Sets whether other sockets that are shared too may be bound to the same address and port from now on.
+/// Sets whether other sockets of the same user that are shared too may be bound to the same address and port from now
+/// on. No other user's may: Linux compares the users for this option, `SO_REUSEPORT`, and not for `SO_REUSEADDR`.
 ///
 /// # Errors
 ///
@@ -70,7 +72,7 @@ fn new_socket() -> Result<UdpSocket> {
 
 fn share(descriptor: RawFd, is_shared: i32) -> Result<()> {
     let value = option_value(is_shared);
-    check(unsafe { setsockopt(descriptor, SOL_SOCKET, SO_REUSEADDR, &value, 4) })
+    check(unsafe { setsockopt(descriptor, SOL_SOCKET, SO_REUSEPORT, &value, 4) })
 }
 
 /// Returns an address and a port as C reads them.

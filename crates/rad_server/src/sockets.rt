@@ -10,8 +10,8 @@ use std::alloc::Global;
 use std::io::{self, Error};
 use std::net::{Ipv4Addr, Net, SocketAddr, SocketAddrV4, UdpSocket};
 
-/// The octets of datagrams not yet received that a socket may hold. The system may grant less.
-pub(crate) const RECEIVE_BUFFER: i32 = 1 << 20;
+/// The octets of datagrams not yet received that a socket may hold, and of those not yet sent. The system may grant less.
+pub(crate) const BUFFER: i32 = 1 << 20;
 
 /// The address and port to which a lane's sockets are bound: the system chooses their ports.
 const ANY: Endpoint = Endpoint {
@@ -125,6 +125,6 @@ pub(crate) fn bind<R: Net>(rt: &R, endpoint: Endpoint) -> io::Result<UdpSocket> 
     ));
     let socket = UdpSocket::bind(rt, address)?;
     socket.set_nonblocking(true)?;
-    widen(&socket, RECEIVE_BUFFER);
+    widen(&socket, BUFFER);
     Ok(socket)
 }
