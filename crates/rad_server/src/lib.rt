@@ -23,6 +23,7 @@ mod polling;
 mod printing;
 mod raw_sockets;
 mod ready_socket;
+mod ring_level;
 mod serving;
 mod sockets;
 mod streams;

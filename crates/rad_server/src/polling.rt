@@ -6,6 +6,7 @@ use crate::neighbours::Neighbours;
 use crate::notifying::Notifier;
 use crate::outbox::Outbox;
 use crate::ready_socket::ReadySocket;
+use crate::ring_level::RingLevel;
 use mio::{Events, Poll, Token};
 use rad_desk::{Delivery, Gate, Note, Received, Worker};
 use rad_realms::Endpoint;
@@ -62,6 +63,10 @@ impl Sleeper {
 /// A sleep returns which sockets have datagrams. A worker does not sleep while one socket always has datagrams, or
 /// while there is always something to send. It then tries every socket again after some receives.
 ///
+/// A lane's worker receives nothing while its ring is full: what comes waits at the sockets. It sleeps until the front took
+/// a response. While a ring that the front takes from is more than half full, every second receive of the front finds
+/// nothing, so that it takes two responses for each datagram.
+///
 /// What the worker sends is handed to the system at the next receive that finds nothing, at the latest after some
 /// receives, and at the end of the worker.
 pub(crate) struct PolledSockets<'a, G: Gate> {
@@ -79,6 +84,10 @@ pub(crate) struct PolledSockets<'a, G: Gate> {
     /// Whether a datagram was sent since the last receive.
     has_sent: bool,
     outbox: Outbox,
+    /// The ring that the worker adds responses to, if it is a lane's.
+    ring: Option<RingLevel>,
+    /// Whether the last receive was left out, since the worker was behind.
+    has_skipped: bool,
     reports: Reports<'a, G>,
 }
 
@@ -108,6 +117,8 @@ impl<G: Gate> Drop for PolledSockets<'_, G> {
             receives: _,
             has_sent: _,
             outbox: _,
+            ring: _,
+            has_skipped: _,
             reports: _,
         } = self;
     }
@@ -137,6 +148,8 @@ impl<'a, G: Gate> PolledSockets<'a, G> {
             receives: 0,
             has_sent: false,
             outbox: Outbox::new(alloc),
+            ring: None,
+            has_skipped: false,
             reports,
         })
     }
@@ -155,16 +168,44 @@ impl<'a, G: Gate> PolledSockets<'a, G> {
         self.neighbours.set(others);
     }
 
+    /// Sets the ring that the worker adds responses to.
+    pub(crate) fn set_ring(&mut self, ring: RingLevel) {
+        self.ring = Some(ring);
+    }
+
+    /// Returns the ring that the worker adds responses to, if there is one.
+    pub(crate) fn ring(&self) -> Option<&RingLevel> {
+        self.ring.as_ref()
+    }
+
     /// Receives a datagram, and waits for one if there is nothing else to do, for at most so many milliseconds. The
     /// worker looks for work afterwards.
     pub(crate) fn receive(&mut self, milliseconds: u64, room: &mut [u8; 4096]) -> Received
         ensures { FitsRoom result }
     {
+        if self.skips() {
+            return Received::Nothing;
+        }
         self.count_receive();
         let received = self.wait(milliseconds, room);
         self.sleeper.notifier.set_awake();
         self.has_sent = false;
         received
+    }
+
+    /// Returns whether this receive is left out: the worker is behind, and the last receive was not left out.
+    fn skips(&mut self) -> bool {
+        let is_behind = self.sleeper.notifier.was_behind();
+        self.has_skipped = is_behind && !self.has_skipped;
+        self.has_skipped
+    }
+
+    /// Returns whether the worker adds responses to a ring that is full.
+    fn is_held_back(&self) -> bool {
+        match &self.ring {
+            Some(ring) => ring.is_full(),
+            None => false,
+        }
     }
 
     /// Counts a receive, and marks every socket for another try if there were too many receives without a sleep.
@@ -203,10 +244,13 @@ impl<'a, G: Gate> PolledSockets<'a, G> {
         self.try_each(room)
     }
 
-    /// Receives a datagram from the first socket, in turn, that has one.
+    /// Receives a datagram from the first socket, in turn, that has one, unless the worker is held back.
     fn try_each(&mut self, room: &mut [u8; 4096]) -> Received
         ensures { FitsRoom result }
     {
+        if self.is_held_back() {
+            return Received::Nothing;
+        }
         for _ in 0..self.sockets.len() {
             let received = self.try_next(room);
             if received != Received::Nothing {

@@ -5,6 +5,7 @@ ghost use Rattle.std.specs.Prelude.{Some};
 use crate::heap_room::HeapRoom;
 use crate::notifying::Notifier;
 use crate::polling::SLEEP;
+use crate::ring_level::RingLevel;
 use crate::worker_sockets::WorkerSockets;
 use rad_addresses::LocalAddresses;
 use rad_desk::{Delivery, Gate, Received, Traffic, Wire};
@@ -20,6 +21,9 @@ use std::time::{Clock, Instant};
 /// A receive waits for at most 20 milliseconds. In the turn after a send it does not wait at all, since there may be
 /// more to send. Whoever has work for the worker ends the wait by a notification. Otherwise the waits of idle workers
 /// end together, once in 20 milliseconds since their common start.
+///
+/// The wire of a lane receives nothing while the lane's ring is full, and that of the front does not receive at every second
+/// time while a ring is more than half full.
 ///
 /// The clock is read once in a turn: the moment stays the same from one receive to the next.
 ///
@@ -72,6 +76,16 @@ impl<'a, R, G: Gate, A> UdpWire<'a, R, G, A> {
     /// Sets the notifiers of the other workers that the worker has work for.
     pub(crate) fn set_neighbours(&mut self, others: Vec<Notifier>) {
         self.sockets.set_neighbours(others);
+    }
+
+    /// Sets the ring that the worker adds responses to.
+    pub(crate) fn set_ring(&mut self, ring: RingLevel) {
+        self.sockets.set_ring(ring);
+    }
+
+    /// Returns the ring that the worker adds responses to, if there is one.
+    pub(crate) fn ring(&self) -> Option<&RingLevel> {
+        self.sockets.ring()
     }
 
     /// Returns how many milliseconds the next wait may take: until the next multiple of [`SLEEP`] since the start, if

@@ -5,6 +5,7 @@ ghost use Rattle.rad_server.specs.internal.Wires.{FitsRoom};
 use crate::answering::Answering;
 use crate::notifying::Notifier;
 use crate::polling::PolledSockets;
+use crate::ring_level::RingLevel;
 use rad_addresses::LocalAddresses;
 use rad_desk::{Delivery, Gate, Received};
 use rad_realms::Endpoint;
@@ -41,6 +42,16 @@ impl<'a, R, G: Gate, A> WorkerSockets<'a, R, G, A> {
     /// Sets the notifiers of the other workers that the worker has work for.
     pub(crate) fn set_neighbours(&mut self, others: Vec<Notifier>) {
         self.polled.set_neighbours(others);
+    }
+
+    /// Sets the ring that the worker adds responses to.
+    pub(crate) fn set_ring(&mut self, ring: RingLevel) {
+        self.polled.set_ring(ring);
+    }
+
+    /// Returns the ring that the worker adds responses to, if there is one.
+    pub(crate) fn ring(&self) -> Option<&RingLevel> {
+        self.polled.ring()
     }
 
     /// Sends a datagram.
