@@ -98,6 +98,19 @@ impl<'a, R, G: Gate, A> UdpWire<'a, R, G, A> {
         }
     }
 
+    /// Reads the clock, unless it was read since the last receive.
+    fn refresh(&mut self)
+    where
+        R: Clock,
+    {
+        if !self.is_fresh {
+            if let Some(moment) = self.read_clock() {
+                self.moment = moment;
+                self.is_fresh = true;
+            }
+        }
+    }
+
     /// Reads the clock. Returns `None` if that fails.
     fn read_clock(&self) -> Option<Moment>
     where
@@ -113,12 +126,7 @@ impl<R: Clock, G: Gate, A: LocalAddresses> Wire for UdpWire<'_, R, G, A> {
     ghost log = { λ w. Some w.traffic.passed };
 
     fn now(&mut self) -> Moment {
-        if !self.is_fresh {
-            if let Some(moment) = self.read_clock() {
-                self.moment = moment;
-                self.is_fresh = true;
-            }
-        }
+        self.refresh();
         self.traffic.told(self.moment);
         self.moment
     }
@@ -134,6 +142,11 @@ impl<R: Clock, G: Gate, A: LocalAddresses> Wire for UdpWire<'_, R, G, A> {
     fn receive(&mut self, datagram: &mut [u8; 4096]) -> Received {
         let longest = self.longest_wait();
         self.is_fresh = false;
+        if self.sockets.has_kept() {
+            self.refresh();
+            self.sockets.set_moment(self.moment.get());
+            self.is_fresh = false;
+        }
         match self.sockets.receive(longest, datagram) {
             Received::Got {
                 address,
@@ -157,6 +170,8 @@ impl<R: Clock, G: Gate, A: LocalAddresses> Wire for UdpWire<'_, R, G, A> {
     }
 
     fn send(&mut self, socket: u16, address: [u8; 4], port: u16, octets: &[u8]) -> Delivery {
+        self.refresh();
+        self.sockets.set_moment(self.moment.get());
         let delivery = self
             .sockets
             .send(socket, Endpoint { address, port }, octets);

@@ -3,10 +3,11 @@
 use crate::address_monitor::AddressMonitor;
 use crate::answering::Answering;
 use crate::client_sockets::{ClientSockets, fault_at};
+use crate::departing::Reports;
 use crate::faults::ServeFault;
 use crate::interrupting::Interruptible;
 use crate::notifying::{Notifier, Notifiers};
-use crate::polling::{PolledSockets, Reports};
+use crate::polling::PolledSockets;
 use crate::ring_level::RingLevel;
 use crate::sockets::{BoundSockets, lane_fault};
 use crate::wires::UdpWire;

@@ -44,6 +44,16 @@ impl<'a, R, G: Gate, A> WorkerSockets<'a, R, G, A> {
         self.polled.set_neighbours(others);
     }
 
+    /// Returns whether datagrams wait that the system did not accept.
+    pub(crate) fn has_kept(&self) -> bool {
+        self.polled.has_kept()
+    }
+
+    /// Sets the moment of the worker's turn, in milliseconds.
+    pub(crate) fn set_moment(&mut self, moment: u64) {
+        self.polled.set_moment(moment);
+    }
+
     /// Sets the ring that the worker adds responses to.
     pub(crate) fn set_ring(&mut self, ring: RingLevel) {
         self.polled.set_ring(ring);
