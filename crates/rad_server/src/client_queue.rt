@@ -1,6 +1,6 @@
 //! The datagrams that are kept for one client, in order.
 
-ghost use Rattle.std.specs.Prelude.{◌≡◌, [], IfOk, IfNone, length};
+ghost use Rattle.std.specs.Prelude.{◌≡◌, [], IfOk, IfNone, IfSome, length, slice_index_or};
 ghost use Rattle.rad_server.specs.internal.Queues.{PutsBehind, TakesFirst};
 
 use crate::outbox::Waiting;
@@ -58,6 +58,7 @@ impl ClientQueue {
     /// Returns the oldest datagram, if there is one.
     pub(crate) fn first(&self) -> Option<&Waiting>
         ensures none { IfNone result (self.now.datagrams.items ≡ []) }
+        ensures some { IfSome result (λ first. first.now ≡ slice_index_or self.now.datagrams.items 0 first.now) }
     {
         self.datagrams.first()
     }

@@ -40,11 +40,7 @@ impl LaneStates {
     /// # Errors
     ///
     /// `AllocError` if memory is refused.
-    fn new(
-        alloc: Global,
-        homes: &[Home],
-        notifiers: &Notifiers,
-    ) -> Result<LaneStates, AllocError> {
+    fn new(alloc: Global, homes: &[Home], notifiers: &Notifiers) -> Result<LaneStates, AllocError> {
         let mut lanes = Vec::with_capacity(alloc, homes.len())?;
         for (lane, home) in homes.iter().enumerate() {
             let ring = notifiers.ring_of(alloc, lane, home.limits().numbers().ring)?;

@@ -1,5 +1,5 @@
 -- What a client's queue of kept datagrams does, as lists (own). No public clause cites this module.
-use Rattle.std.specs.Prelude.{◌≡◌, ◌<◌, ◌≤◌, ◌×◌, ℕ, List, [], ◌∷◌, ◌++◌, length, Option, Some, None}
+use Rattle.std.specs.Prelude.{◌≡◌, ◌<◌, ◌≤◌, ℕ, List, [], ◌∷◌, ◌++◌, length, Option, Some, None}
 
 -- An item is put behind the others. Of a list that is as long as it may be, the first item is lost by that.
 abbrev pub PutsBehind : {A : Type 0} → ℕ → List A → A → Option A → List A → Type 0
