@@ -24,6 +24,7 @@ import itertools
 import json
 import pathlib
 import re
+import signal
 import subprocess
 import sys
 import tempfile
@@ -59,8 +60,11 @@ SLOW, CROWD = 0.004, 200
 SOON = 0.2
 # A slow interface: how many datagrams its send buffer holds, how many are kept for a client, for how many seconds, and another client.
 ROOM, KEPT, OLD, OTHER = 20, 64, 2, "127.0.0.2"
-# A burst, and the least and the largest ring for it.
-BURST, SMALL, LARGEST = 2000, 16, 4096
+# How many responses are kept in all, and clients that have to get more than that.
+ALL, MANY = 2048, 40
+# A burst that a receive buffer has room for, of which a datagram takes less than 1,000 octets, and the least and the largest ring for it.
+BUFFER = min(1 << 20, int(pathlib.Path("/proc/sys/net/core/rmem_max").read_text()))
+BURST, SMALL, LARGEST = min(2000, 2 * BUFFER // 1000), 16, 4096
 STATE = re.compile(r"lane (\d) h\1 up open accepted (\d+) queued 0 outstanding 0 answered \2 opening \d+")
 
 
@@ -280,6 +284,19 @@ def end_at_a_full_ring(program, work):
             ringed.are_sent_once(CROWD)
 
 
+def go_on_after_a_stop(program, work):
+    """What comes while the program is stopped passes a ring that is too small for it, once the program goes on."""
+    with Ringed(program, work, "ring = 4\nwindow = 254\n") as ringed, bound() as nas:
+        ringed.homes[0].later, requests = [], ringed.requests(CROWD)
+        ringed.ask(nas, requests)
+        hope("all is at the home server", is_so(lambda: len(ringed.homes[0].later) == CROWD), True)
+        ringed.proxy.ran.send_signal(signal.SIGSTOP)
+        ringed.homes[0].reply_to_all(CROWD)
+        ringed.proxy.ran.send_signal(signal.SIGCONT)
+        told_in_order(nas, requests)
+        ringed.are_sent_once(CROWD)
+
+
 def numbers_left(printed):
     """How many requests and responses are left by the last line: queued, outstanding, untaken."""
     found = re.fullmatch(r"end: queued (\d+) outstanding (\d+) untaken (\d+)", printed.splitlines()[-1])
@@ -415,6 +432,46 @@ def keep_no_longer(program, work):
         hope("what is lost", narrow.lost(), ROOM + 2 * KEPT - len(told))
 
 
+class Crowded(Ringed):
+    """The program, with many NASes behind an interface that takes nothing at first, and everything after some milliseconds."""
+
+    def __init__(self, program, work):
+        self.nases = [bound(f"127.0.1.{number}", 0, 0) for number in range(1, MANY + 1)]
+        clients = "".join(f'[[client]]\naddress = "{nas.getsockname()[0]}"\nsecret = "{SECRET.decode()}"\n' for nas in self.nases)
+        variables = {"NARROW_FIRST": "1", "NARROW_LAST": "65535", "NARROW_ROOM": "1", "NARROW_MILLISECONDS": "60000", "WIDE_AFTER": "1500"}
+        super().__init__(program, work, f"window = 254\nqueue = 5000\n{clients}", linger=20_000, variables=variables)
+
+    def __exit__(self, *words):
+        super().__exit__(*words)
+        for nas in self.nases:
+            nas.close()
+
+
+def keep_so_many_in_all(program, work):
+    """Of what many NASes have to get, 2,048 responses are kept in all: as many for each, its last ones, which it gets in order."""
+
+    def shares():
+        with Crowded(program, work) as crowded:
+            asked = [crowded.requests(KEPT) for _ in crowded.nases]
+            for together in zip(*asked):
+                for nas, octets in zip(crowded.nases, together):
+                    nas.sendto(octets, crowded.proxy.listen)
+            told = []
+            time.sleep(2.5)
+            for nas, requests in zip(crowded.nases, asked):
+                told.append([])
+                while octets := rest_of(nas):
+                    told[-1].append(octets)
+                responses = [answer(octets, octets[1], b"", SECRET) for octets in requests]
+                hope("what a NAS gets, in order", told[-1], [each for each in responses if each in set(told[-1])])
+            crowded.proxy.end()
+            counts = sorted(map(len, told))
+            return sum(counts), counts[-1] - counts[0], crowded.proxy.counter("send_faults_total")
+
+    kept = ALL + 1
+    best(shares, lambda seen: seen[0] == kept and seen[1] <= 2 and seen[2] == MANY * KEPT - kept)
+
+
 def rest_of(socket):
     """What still waits at a socket, if anything does."""
     try:
@@ -423,7 +480,8 @@ def rest_of(socket):
         return None
 
 
-TESTS = (load_both, keep_order, pass_one_place, serve_beside_a_full_ring, end_at_a_full_ring, take_no_longer, pass_a_slow_interface, keep_no_longer)
+TESTS = (load_both, keep_order, pass_one_place, serve_beside_a_full_ring, end_at_a_full_ring, go_on_after_a_stop, take_no_longer, pass_a_slow_interface, keep_no_longer,
+         keep_so_many_in_all)
 
 
 def main():

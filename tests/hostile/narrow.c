@@ -2,7 +2,7 @@
  * Has the sends from one port (FROM_PORT) of the program that it is loaded into (LD_PRELOAD) meet a network as it may be. Each takes
  * SEND_MICROSECONDS. And what goes to one of the ports from NARROW_FIRST to NARROW_LAST leaves through a slow interface, which takes
  * NARROW_MILLISECONDS for each datagram: until then it is in the send buffer, which has room for NARROW_ROOM of them. A send that finds
- * no room fails with EAGAIN, wherever it goes.
+ * no room fails with EAGAIN, wherever it goes. With WIDE_AFTER the interface is quick so many milliseconds after its first datagram.
  */
 #define _GNU_SOURCE
 #include <arpa/inet.h>
@@ -16,7 +16,7 @@
 #include <unistd.h>
 
 static pthread_mutex_t lock = PTHREAD_MUTEX_INITIALIZER;
-static int64_t in_buffer, last_left;
+static int64_t in_buffer, last_left, first;
 
 static long number_of(const char *name)
 {
@@ -49,9 +49,13 @@ static int has_room(int port)
 {
     pthread_mutex_lock(&lock);
     leave(1000 * number_of("NARROW_MILLISECONDS"));
+    if (number_of("WIDE_AFTER") && first && microseconds() - first > 1000 * number_of("WIDE_AFTER")) {
+        in_buffer = 0;
+    }
     int fits = in_buffer < number_of("NARROW_ROOM");
     if (fits && port >= number_of("NARROW_FIRST") && port <= number_of("NARROW_LAST")) {
         in_buffer++;
+        first = first ? first : microseconds();
     }
     pthread_mutex_unlock(&lock);
     return fits;
