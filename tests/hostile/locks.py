@@ -339,7 +339,8 @@ def burst(program, work, ring):
     """How long a burst takes with such a ring, and the median of its requests, in milliseconds."""
     load = Bursting("a burst", 8 * BURST, 0, [BURST], ring)
     with memory.serving(program, work, load, None, BurstProxy) as (proxy, _):
-        words = {"port": proxy.port, "secret": memory.CLIENT_SECRET, "window": BURST, "count": BURST, "seconds": 30, "sockets": 64, "timeout": 20_000}
+        words = {"port": proxy.port, "secret": memory.CLIENT_SECRET, "window": BURST, "count": BURST, "seconds": 30, "sockets": 64}
+        words["timeout"] = 20_000
         options = [word for name, value in words.items() for word in (f"--{name}", str(value))]
         told = json.loads(subprocess.run([work / "generator", *options], check=True, capture_output=True).stdout)
         lost, _ = proxy.dropped()
@@ -480,8 +481,8 @@ def rest_of(socket):
         return None
 
 
-TESTS = (load_both, keep_order, pass_one_place, serve_beside_a_full_ring, end_at_a_full_ring, go_on_after_a_stop, take_no_longer, pass_a_slow_interface, keep_no_longer,
-         keep_so_many_in_all)
+TESTS = (load_both, keep_order, pass_one_place, serve_beside_a_full_ring, end_at_a_full_ring, go_on_after_a_stop, take_no_longer,
+         pass_a_slow_interface, keep_no_longer, keep_so_many_in_all)
 
 
 def main():

@@ -157,26 +157,37 @@ impl<'a, G: Gate> Departures<'a, G> {
     pub(crate) fn end(&mut self, sockets: &mut [ReadySocket]) {
         self.hand_over(sockets);
         if let Some(kept) = &mut self.kept {
-            for _ in 0..kept.tries() {
-                if let Some(to) = kept.lose_any() {
-                    self.reports.lost(to);
-                }
-            }
+            lose_each(kept, self.reports);
         }
     }
 
     /// Begins a hand-over: what is kept for too long is lost, and each socket may have room again.
     fn begin_round(&mut self, sockets: &mut [ReadySocket]) {
         if let Some(kept) = &mut self.kept {
-            if kept.is_empty() {
-                return;
+            if !kept.is_empty() {
+                lose_old(kept, self.moment, self.reports);
+                try_anew(sockets);
             }
-            for _ in 0..kept.tries() {
-                if let Some(to) = kept.lose_old(self.moment) {
-                    self.reports.lost(to);
-                }
-            }
-            try_anew(sockets);
+        }
+    }
+}
+
+/// Loses what is kept for too long at this moment, and reports it.
+fn lose_old<G: Gate>(kept: &mut Kept, moment: u64, reports: Reports<'_, G>) {
+    for _ in 0..kept.tries() {
+        match kept.lose_old(moment) {
+            Some(to) => reports.lost(to),
+            None => return,
+        }
+    }
+}
+
+/// Loses everything that is kept, and reports it.
+fn lose_each<G: Gate>(kept: &mut Kept, reports: Reports<'_, G>) {
+    for _ in 0..kept.tries() {
+        match kept.lose_any() {
+            Some(to) => reports.lost(to),
+            None => return,
         }
     }
 }

@@ -1,5 +1,6 @@
 //! The sockets of a worker, and its sleep while none of them has a datagram.
 
+ghost use Rattle.std.specs.Prelude.{◌≡◌, false, IsTrue};
 ghost use Rattle.rad_server.specs.internal.Wires.{FitsRoom};
 
 use crate::departing::{Departures, Reports};
@@ -187,7 +188,10 @@ impl<'a, G: Gate> PolledSockets<'a, G> {
     }
 
     /// Returns whether this receive is left out: the worker is behind, and the last receive was not left out.
-    fn skips(&mut self) -> bool {
+    fn skips(&mut self) -> bool
+        ensures never_twice { IsTrue self.old.has_skipped → result ≡ false }
+        ensures noted { self.new.has_skipped ≡ result }
+    {
         let is_behind = self.sleeper.notifier.was_behind();
         self.has_skipped = is_behind && !self.has_skipped;
         self.has_skipped

@@ -1,5 +1,7 @@
 //! How full the ring of a lane is, by the reports of the two workers that share it.
 
+ghost use Rattle.std.specs.Prelude.{◌<◌, ◌≤◌, ◌+◌, ◌*◌, ◌↔◌, IsTrue};
+
 use std::alloc::{AllocError, Global};
 use std::sync::Arc;
 use std::sync::atomic::{AtomicU64, Ordering};
@@ -34,6 +36,19 @@ pub(crate) struct Taken {
     pub(crate) is_crowded: bool,
 }
 
+impl Taken {
+    /// Returns what it means that one was taken of the `places` places of a ring, of which `before` were in use.
+    fn from(before: u64, places: u64) -> Taken
+        ensures full { IsTrue result.was_full ↔ (places ≤ before) }
+        ensures crowded { IsTrue result.is_crowded ↔ (places + 2 < 2 * before) }
+    {
+        Taken {
+            was_full: before >= places,
+            is_crowded: before > 0 && before - 1 > places / 2,
+        }
+    }
+}
+
 impl RingLevel {
     /// Makes the level of an empty ring.
     ///
@@ -66,11 +81,7 @@ impl RingLevel {
     /// Counts a response that the front took and sent.
     pub(crate) fn count_taken(&self) -> Taken {
         let taken = self.0.taken.fetch_add(1, Ordering::SeqCst);
-        let before = self.in_use_after(taken);
-        Taken {
-            was_full: before >= self.0.places,
-            is_crowded: before.saturating_sub(1) > self.0.places / 2,
-        }
+        Taken::from(self.in_use_after(taken), self.0.places)
     }
 
     /// Returns how many responses the front took and sent.
