@@ -1,5 +1,6 @@
 //! Notifying a worker that sleeps that there is work for it.
 
+use crate::ring_level::RingLevel;
 use mio::{Poll, Token, Waker};
 use rad_desk::Worker;
 use std::alloc::{AllocError, Global};
@@ -29,6 +30,8 @@ struct Shared {
     is_due: AtomicBool,
     /// Whether the worker is busy, so that those that it has work for become due. It alone writes and reads this.
     is_busy: AtomicBool,
+    /// Whether the worker is behind: a ring that it takes from is more than half full. It alone writes and reads this.
+    is_behind: AtomicBool,
 }
 
 /// Notifies a worker that there is work for it. The waker of its poll is called only if the worker sleeps.
@@ -50,6 +53,7 @@ impl Notifier {
             waker: Waker::new(poll.registry(), TOKEN)?,
             is_due: AtomicBool::new(false),
             is_busy: AtomicBool::new(false),
+            is_behind: AtomicBool::new(false),
         };
         Ok(Notifier(Arc::new(alloc, shared)?))
     }
@@ -100,6 +104,16 @@ impl Notifier {
         self.0.is_busy.store(is_busy, Ordering::SeqCst);
     }
 
+    /// Records that the worker is behind.
+    fn set_behind(&self) {
+        self.0.is_behind.store(true, Ordering::SeqCst);
+    }
+
+    /// Returns whether the worker was behind since the last call.
+    pub(crate) fn was_behind(&self) -> bool {
+        self.0.is_behind.load(Ordering::SeqCst) && self.0.is_behind.swap(false, Ordering::SeqCst)
+    }
+
     /// Marks the worker as asleep and returns `true`, unless it was notified since it was awake.
     pub(crate) fn try_sleep(&self) -> bool {
         self.0
@@ -121,6 +135,8 @@ pub struct Notifiers {
     /// Those of the lanes, in order.
     pub lanes: Vec<Notifier>,
     pub reader: Option<Notifier>,
+    /// How full the lanes' rings are, in the order of the lanes, if the workers heed it.
+    pub(crate) rings: Vec<RingLevel>,
 }
 
 impl Notifiers {
@@ -130,6 +146,7 @@ impl Notifiers {
             front: None,
             lanes: Vec::new(alloc),
             reader: None,
+            rings: Vec::new(alloc),
         }
     }
 
@@ -149,6 +166,30 @@ impl Notifiers {
         match self.of(by) {
             Some(own) if own.is_busy() => notifier.notify_later(),
             _ => notifier.notify(),
+        }
+    }
+
+    /// Records that a worker is behind, if it has a notifier.
+    pub(crate) fn set_behind(&self, worker: Worker) {
+        if let Some(notifier) = self.of(worker) {
+            notifier.set_behind();
+        }
+    }
+
+    /// Returns the level of a lane's ring that has so many places: the one that the workers heed, if they heed one.
+    ///
+    /// # Errors
+    ///
+    /// `AllocError` if memory is refused.
+    pub(crate) fn ring_of(
+        &self,
+        alloc: Global,
+        lane: usize,
+        places: u32,
+    ) -> Result<RingLevel, AllocError> {
+        match self.rings.get(lane) {
+            Some(ring) => ring.share(),
+            None => RingLevel::new(alloc, places),
         }
     }
 

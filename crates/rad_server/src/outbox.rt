@@ -3,17 +3,56 @@
 use rad_realms::Endpoint;
 use std::alloc::{AllocError, Global};
 
-/// The most datagrams that an outbox holds, and the most receives of its worker for which it holds one.
-const MOST: u32 = 8;
+/// The most datagrams that an outbox holds.
+const MOST: usize = 8;
 
-/// A datagram that waits to be handed to the system.
-#[derive(Drop)]
-pub(crate) struct Waiting {
+/// A datagram that a worker sends.
+#[derive(Clone, Copy)]
+pub(crate) struct Sent<'a> {
+    /// When it was sent, in milliseconds since the start.
+    pub(crate) moment: u64,
     /// The index of the socket that it is sent from.
     pub(crate) socket: u16,
     /// Where it goes.
     pub(crate) to: Endpoint,
-    pub(crate) octets: Vec<u8>,
+    pub(crate) octets: &'a [u8],
+}
+
+/// A datagram that waits to be handed to the system.
+#[derive(Drop)]
+pub(crate) struct Waiting {
+    moment: u64,
+    socket: u16,
+    to: Endpoint,
+    octets: Vec<u8>,
+}
+
+impl Waiting {
+    /// Copies a datagram.
+    ///
+    /// # Errors
+    ///
+    /// `AllocError` if memory is refused.
+    pub(crate) fn copy_of(alloc: Global, sent: Sent<'_>) -> Result<Waiting, AllocError> {
+        let mut octets = Vec::new(alloc);
+        octets.extend_from_slice(sent.octets)?;
+        Ok(Waiting {
+            moment: sent.moment,
+            socket: sent.socket,
+            to: sent.to,
+            octets,
+        })
+    }
+
+    /// Returns the datagram.
+    pub(crate) fn sent(&self) -> Sent<'_> {
+        Sent {
+            moment: self.moment,
+            socket: self.socket,
+            to: self.to,
+            octets: self.octets.as_slice(),
+        }
+    }
 }
 
 /// The datagrams that a worker sent and that the system was not handed yet, in order.
@@ -27,8 +66,6 @@ pub(crate) struct Outbox {
     datagrams: Vec<Waiting>,
     /// How many of them wait.
     count: usize,
-    /// How many receives there were since the first of them was added.
-    receives: u32,
 }
 
 impl Outbox {
@@ -38,25 +75,17 @@ impl Outbox {
             alloc,
             datagrams: Vec::new(alloc),
             count: 0,
-            receives: 0,
         }
     }
 
-    /// Returns whether it holds a datagram.
+    /// Returns whether it holds no datagram.
     pub(crate) fn is_empty(&self) -> bool {
         self.count == 0
     }
 
-    /// Returns whether its datagrams are to be handed over now: it is full, or it has held one for [`MOST`] receives.
-    pub(crate) fn is_due(&self) -> bool {
-        self.count >= MOST as usize || self.receives >= MOST
-    }
-
-    /// Counts a receive of the worker.
-    pub(crate) fn count_receive(&mut self) {
-        if self.count > 0 {
-            self.receives = self.receives.saturating_add(1);
-        }
+    /// Returns whether its datagrams have to be handed over before another one is added.
+    pub(crate) fn is_full(&self) -> bool {
+        self.count >= MOST
     }
 
     /// Adds a datagram behind the others.
@@ -64,25 +93,15 @@ impl Outbox {
     /// # Errors
     ///
     /// `AllocError` if memory is refused. The datagram is not added.
-    pub(crate) fn add(
-        &mut self,
-        socket: u16,
-        to: Endpoint,
-        octets: &[u8],
-    ) -> Result<(), AllocError> {
+    pub(crate) fn add(&mut self, sent: Sent<'_>) -> Result<(), AllocError> {
         if let Some(room) = self.datagrams.get_mut(self.count) {
-            room.socket = socket;
-            room.to = to;
+            room.moment = sent.moment;
+            room.socket = sent.socket;
+            room.to = sent.to;
             room.octets.clear();
-            room.octets.extend_from_slice(octets)?;
+            room.octets.extend_from_slice(sent.octets)?;
         } else {
-            let mut kept = Vec::new(self.alloc);
-            kept.extend_from_slice(octets)?;
-            self.datagrams.push(Waiting {
-                socket,
-                to,
-                octets: kept,
-            })?;
+            self.datagrams.push(Waiting::copy_of(self.alloc, sent)?)?;
         }
         self.count = self.count.saturating_add(1);
         Ok(())
@@ -97,6 +116,5 @@ impl Outbox {
     /// Removes the datagrams that wait, and keeps their room for others.
     pub(crate) fn clear(&mut self) {
         self.count = 0;
-        self.receives = 0;
     }
 }

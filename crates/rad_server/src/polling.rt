@@ -1,13 +1,15 @@
 //! The sockets of a worker, and its sleep while none of them has a datagram.
 
+ghost use Rattle.std.specs.Prelude.{◌≡◌, false, IsTrue};
 ghost use Rattle.rad_server.specs.internal.Wires.{FitsRoom};
 
+use crate::departing::{Departures, Reports};
 use crate::neighbours::Neighbours;
 use crate::notifying::Notifier;
-use crate::outbox::Outbox;
 use crate::ready_socket::ReadySocket;
+use crate::ring_level::RingLevel;
 use mio::{Events, Poll, Token};
-use rad_desk::{Delivery, Gate, Note, Received, Worker};
+use rad_desk::{Delivery, Gate, Received};
 use rad_realms::Endpoint;
 use std::alloc::{AllocError, Global};
 use std::io;
@@ -62,6 +64,10 @@ impl Sleeper {
 /// A sleep returns which sockets have datagrams. A worker does not sleep while one socket always has datagrams, or
 /// while there is always something to send. It then tries every socket again after some receives.
 ///
+/// A lane's worker receives nothing while its ring is full: what comes waits at the sockets. It sleeps until the front took
+/// a response. While a ring that the front takes from is more than half full, every second receive of the front finds
+/// nothing, so that it takes two responses for each datagram.
+///
 /// What the worker sends is handed to the system at the next receive that finds nothing, at the latest after some
 /// receives, and at the end of the worker.
 pub(crate) struct PolledSockets<'a, G: Gate> {
@@ -78,27 +84,16 @@ pub(crate) struct PolledSockets<'a, G: Gate> {
     receives: usize,
     /// Whether a datagram was sent since the last receive.
     has_sent: bool,
-    outbox: Outbox,
-    reports: Reports<'a, G>,
+    departures: Departures<'a, G>,
+    /// The ring that the worker adds responses to, if it is a lane's.
+    ring: Option<RingLevel>,
+    /// Whether the last receive was left out, since the worker was behind.
+    has_skipped: bool,
 }
-
-/// A worker, and the gate to which a send of it that fails is reported.
-pub(crate) struct Reports<'a, G> {
-    pub(crate) worker: Worker,
-    pub(crate) gate: &'a G,
-}
-
-impl<G> Clone for Reports<'_, G> {
-    fn clone(&self) -> Result<Self, AllocError> {
-        Ok(*self)
-    }
-}
-
-impl<G> Copy for Reports<'_, G> {}
 
 impl<G: Gate> Drop for PolledSockets<'_, G> {
     fn drop(mut self) {
-        self.hand_over();
+        self.departures.end(self.sockets.as_mut_slice());
         let Self {
             sockets: _,
             turn: _,
@@ -107,8 +102,9 @@ impl<G: Gate> Drop for PolledSockets<'_, G> {
             has_failed: _,
             receives: _,
             has_sent: _,
-            outbox: _,
-            reports: _,
+            departures: _,
+            ring: _,
+            has_skipped: _,
         } = self;
     }
 }
@@ -136,8 +132,9 @@ impl<'a, G: Gate> PolledSockets<'a, G> {
             has_failed: false,
             receives: 0,
             has_sent: false,
-            outbox: Outbox::new(alloc),
-            reports,
+            departures: Departures::new(alloc, reports),
+            ring: None,
+            has_skipped: false,
         })
     }
 
@@ -155,16 +152,57 @@ impl<'a, G: Gate> PolledSockets<'a, G> {
         self.neighbours.set(others);
     }
 
+    /// Returns whether datagrams wait that the system did not accept.
+    pub(crate) fn has_kept(&self) -> bool {
+        self.departures.has_kept()
+    }
+
+    /// Sets the moment of the worker's turn, in milliseconds.
+    pub(crate) fn set_moment(&mut self, moment: u64) {
+        self.departures.set_moment(moment);
+    }
+
+    /// Sets the ring that the worker adds responses to.
+    pub(crate) fn set_ring(&mut self, ring: RingLevel) {
+        self.ring = Some(ring);
+    }
+
+    /// Returns the ring that the worker adds responses to, if there is one.
+    pub(crate) fn ring(&self) -> Option<&RingLevel> {
+        self.ring.as_ref()
+    }
+
     /// Receives a datagram, and waits for one if there is nothing else to do, for at most so many milliseconds. The
     /// worker looks for work afterwards.
     pub(crate) fn receive(&mut self, milliseconds: u64, room: &mut [u8; 4096]) -> Received
         ensures { FitsRoom result }
     {
+        if self.skips() {
+            return Received::Nothing;
+        }
         self.count_receive();
         let received = self.wait(milliseconds, room);
         self.sleeper.notifier.set_awake();
         self.has_sent = false;
         received
+    }
+
+    /// Returns whether this receive is left out: the worker is behind, and the last receive was not left out.
+    fn skips(&mut self) -> bool
+        ensures never_twice { IsTrue self.old.has_skipped → result ≡ false }
+        ensures noted { self.new.has_skipped ≡ result }
+    {
+        let is_behind = self.sleeper.notifier.was_behind();
+        self.has_skipped = is_behind && !self.has_skipped;
+        self.has_skipped
+    }
+
+    /// Returns whether the worker adds responses to a ring that is full.
+    fn is_held_back(&self) -> bool {
+        match &self.ring {
+            Some(ring) => ring.is_full(),
+            None => false,
+        }
     }
 
     /// Counts a receive, and marks every socket for another try if there were too many receives without a sleep.
@@ -194,19 +232,22 @@ impl<'a, G: Gate> PolledSockets<'a, G> {
             self.went_on();
             return received;
         }
-        self.hand_over();
+        self.departures.hand_over(self.sockets.as_mut_slice());
         self.neighbours.paused();
         if self.has_sent || !self.sleeper.notifier.try_sleep() {
             return received;
         }
-        self.sleep(milliseconds);
+        self.sleep(self.departures.longest_sleep(milliseconds));
         self.try_each(room)
     }
 
-    /// Receives a datagram from the first socket, in turn, that has one.
+    /// Receives a datagram from the first socket, in turn, that has one, unless the worker is held back.
     fn try_each(&mut self, room: &mut [u8; 4096]) -> Received
         ensures { FitsRoom result }
     {
+        if self.is_held_back() {
+            return Received::Nothing;
+        }
         for _ in 0..self.sockets.len() {
             let received = self.try_next(room);
             if received != Received::Nothing {
@@ -255,62 +296,17 @@ impl<'a, G: Gate> PolledSockets<'a, G> {
     /// Records that a datagram was received without a sleep before it. What was sent some receives ago is handed over.
     fn went_on(&mut self) {
         self.neighbours.went_on();
-        self.outbox.count_receive();
-        if self.outbox.is_due() {
-            self.hand_over();
-        }
+        self.departures.count_receive(self.sockets.as_mut_slice());
     }
 
-    /// Sends a datagram from a socket. It is handed to the system with those sent before and after it, in order. If
-    /// memory is refused, they are all handed over at once.
+    /// Sends a datagram from a socket.
     pub(crate) fn send(&mut self, socket: u16, to: Endpoint, octets: &[u8]) -> Delivery {
         self.has_sent = true;
         if usize::from(socket) >= self.sockets.len() {
             return Delivery::Fault;
         }
-        if self.outbox.is_due() {
-            self.hand_over();
-        }
-        if self.outbox.add(socket, to, octets).is_ok() {
-            return Delivery::Sent;
-        }
-        self.hand_over();
-        send_from(self.sockets.as_slice(), socket, to, octets)
-    }
-
-    /// Hands what was sent to the system, in order. A datagram that the system refuses is lost, and is reported.
-    fn hand_over(&mut self) {
-        if self.outbox.is_empty() {
-            return;
-        }
-        for waiting in self.outbox.waiting() {
-            let delivery = send_from(
-                self.sockets.as_slice(),
-                waiting.socket,
-                waiting.to,
-                waiting.octets.as_slice(),
-            );
-            if delivery == Delivery::Fault {
-                self.reports.lost(waiting.to);
-            }
-        }
-        self.outbox.clear();
-    }
-}
-
-impl<G: Gate> Reports<'_, G> {
-    /// Reports that a datagram to this address and port is lost.
-    fn lost(&self, to: Endpoint) {
-        self.gate.unsent(self.worker, to);
-        self.gate.note(self.worker, Note::SendFault);
-    }
-}
-
-/// Hands a datagram to the system, from the socket of this index.
-fn send_from(sockets: &[ReadySocket], socket: u16, to: Endpoint, octets: &[u8]) -> Delivery {
-    match sockets.get(usize::from(socket)) {
-        Some(socket) => socket.send(to, octets),
-        None => Delivery::Fault,
+        self.departures
+            .send(self.sockets.as_mut_slice(), socket, to, octets)
     }
 }
 

@@ -2,12 +2,22 @@
 
 ghost use Rattle.rad_server.specs.internal.Wires.{FitsRoom};
 
+use crate::outbox::Sent;
 use mio::net::UdpSocket;
 use mio::{Interest, Registry, Token};
-use rad_desk::{Delivery, Received};
+use rad_desk::Received;
 use rad_realms::Endpoint;
 use std::io::{self, ErrorKind};
 use std::net::{self, Ipv4Addr, SocketAddr, SocketAddrV4};
+
+/// What became of a datagram that was handed to the system.
+#[derive(Clone, Copy, PartialEq, Eq)]
+pub(crate) enum Handed {
+    Accepted,
+    /// The send buffer of the socket has no room now.
+    Full,
+    Refused,
+}
 
 /// A socket, and whether datagrams may wait there. The system reports a socket only once, when datagrams arrive at one
 /// that was empty. So it is received from until it has no more.
@@ -15,6 +25,8 @@ use std::net::{self, Ipv4Addr, SocketAddr, SocketAddrV4};
 pub(crate) struct ReadySocket {
     socket: UdpSocket,
     waiting: bool,
+    /// Whether the last send found no room.
+    is_full: bool,
 }
 
 impl ReadySocket {
@@ -33,6 +45,7 @@ impl ReadySocket {
         Ok(ReadySocket {
             socket,
             waiting: true,
+            is_full: false,
         })
     }
 
@@ -66,13 +79,41 @@ impl ReadySocket {
         }
     }
 
-    /// Sends a datagram.
-    pub(crate) fn send(&self, to: Endpoint, octets: &[u8]) -> Delivery {
+    /// Hands a datagram to the system.
+    fn send(&mut self, to: Endpoint, octets: &[u8]) -> Handed {
         let Endpoint { address, port } = to;
         let to = SocketAddr::V4(SocketAddrV4::new(Ipv4Addr::from(address), port));
-        match self.socket.send_to(octets, to) {
-            Ok(_) => Delivery::Sent,
-            Err(_) => Delivery::Fault,
-        }
+        let handed = match self.socket.send_to(octets, to) {
+            Ok(_) => Handed::Accepted,
+            Err(error) => match error.kind() {
+                ErrorKind::WouldBlock => Handed::Full,
+                _ => Handed::Refused,
+            },
+        };
+        self.is_full = handed == Handed::Full;
+        handed
+    }
+}
+
+/// Hands a datagram to the system, from its socket of these.
+pub(crate) fn send_from(sockets: &mut [ReadySocket], sent: Sent<'_>) -> Handed {
+    match sockets.get_mut(usize::from(sent.socket)) {
+        Some(socket) => socket.send(sent.to, sent.octets),
+        None => Handed::Refused,
+    }
+}
+
+/// Returns whether the last send from the socket of this index found no room, and it was not given a new try.
+pub(crate) fn is_full(sockets: &[ReadySocket], socket: u16) -> bool {
+    match sockets.get(usize::from(socket)) {
+        Some(socket) => socket.is_full,
+        None => false,
+    }
+}
+
+/// Gives each of these sockets a new try: it may have room.
+pub(crate) fn try_anew(sockets: &mut [ReadySocket]) {
+    for socket in sockets {
+        socket.is_full = false;
     }
 }

@@ -220,7 +220,7 @@ where
         Ok(opened) => opened,
         Err(OpenFault::OutOfMemory) => return Err(ServeFault::Memory),
     };
-    let Ok(supervisor) = Supervisor::new(alloc, config.homes().len(), gate, notifiers) else {
+    let Ok(supervisor) = Supervisor::new(alloc, config.homes(), gate, notifiers) else {
         return Err(ServeFault::Memory);
     };
     let service = Service {

@@ -1,28 +1,30 @@
-//! The gate of the workers: it stops them, notifies them of work, and counts the responses that the front took.
+//! The gate of the workers: it stops them, notifies them of work, and counts the responses that lanes add to their rings
+//! and that the front takes.
 
 use crate::beginning::Beginnings;
 use crate::notifying::Notifiers;
+use crate::ring_level::RingLevel;
 use rad_desk::{Call, Gate, Go, Note, Repeat, Spent, Standing, UpReason, Worker};
-use rad_realms::Endpoint;
+use rad_realms::{Endpoint, Home};
 use rad_tables::{Moment, Slot};
 use std::alloc::{AllocError, Global};
-use std::sync::atomic::{AtomicBool, AtomicU64, Ordering};
+use std::sync::atomic::{AtomicBool, Ordering};
 use std::sync::{OnceLock, Wait};
 
 /// What is known of a lane from the workers' reports.
 #[derive(Drop)]
 struct LaneState {
-    /// The number of responses that the front took from the lane and sent.
-    taken: AtomicU64,
+    /// The responses that the lane's worker added to the ring, and that the front took from it and sent.
+    ring: RingLevel,
     /// Whether the home server was last reported as marked down.
     is_down: AtomicBool,
 }
 
 impl LaneState {
-    /// Makes the state of a lane from which nothing was taken and whose home server is up.
-    fn new() -> LaneState {
+    /// Makes the state of a lane with this ring, whose home server is up.
+    fn new(ring: RingLevel) -> LaneState {
         LaneState {
-            taken: AtomicU64::new(0),
+            ring,
             is_down: AtomicBool::new(false),
         }
     }
@@ -33,15 +35,16 @@ impl LaneState {
 struct LaneStates(Vec<LaneState>);
 
 impl LaneStates {
-    /// Makes the states of `count` lanes from which nothing was taken and whose home servers are up.
+    /// Makes the states of the lanes of these home servers, all of which are up.
     ///
     /// # Errors
     ///
     /// `AllocError` if memory is refused.
-    fn new(alloc: Global, count: usize) -> Result<LaneStates, AllocError> {
-        let mut lanes = Vec::with_capacity(alloc, count)?;
-        for _ in 0..count {
-            lanes.push(LaneState::new())?;
+    fn new(alloc: Global, homes: &[Home], notifiers: &Notifiers) -> Result<LaneStates, AllocError> {
+        let mut lanes = Vec::with_capacity(alloc, homes.len())?;
+        for (lane, home) in homes.iter().enumerate() {
+            let ring = notifiers.ring_of(alloc, lane, home.limits().numbers().ring)?;
+            lanes.push(LaneState::new(ring))?;
         }
         Ok(LaneStates(lanes))
     }
@@ -53,15 +56,15 @@ impl LaneStates {
     /// Returns how many responses the front took from a lane and sent.
     fn taken(&self, lane: u16) -> u64 {
         match self.of(lane) {
-            Some(state) => state.taken.load(Ordering::SeqCst),
+            Some(state) => state.ring.taken(),
             None => 0,
         }
     }
 
-    /// Counts a response that the front took from a lane and sent.
-    fn count_taken(&self, lane: u16) {
+    /// Counts a response that a lane's worker added to the ring.
+    fn count_answered(&self, lane: u16) {
         if let Some(state) = self.of(lane) {
-            state.taken.fetch_add(1, Ordering::SeqCst);
+            state.ring.count_answered();
         }
     }
 
@@ -99,21 +102,21 @@ pub(crate) struct Supervisor<'a, G> {
 }
 
 impl<'a, G> Supervisor<'a, G> {
-    /// Supervises the workers of the front and of `lanes` lanes.
+    /// Supervises the workers of the front and of the lanes of these home servers.
     ///
     /// # Errors
     ///
     /// `AllocError` if memory is refused.
     pub(crate) fn new(
         alloc: Global,
-        lanes: usize,
+        homes: &[Home],
         outer: &'a G,
         notifiers: &'a Notifiers,
     ) -> Result<Supervisor<'a, G>, AllocError> {
         Ok(Supervisor {
             outer,
             notifiers,
-            lanes: LaneStates::new(alloc, lanes)?,
+            lanes: LaneStates::new(alloc, homes, notifiers)?,
             beginnings: Beginnings::new(),
             stopping: Stopping {
                 is_stopped: AtomicBool::new(false),
@@ -164,6 +167,21 @@ impl<'a, G> Supervisor<'a, G> {
     pub(crate) fn taken(&self, lane: u16) -> u64 {
         self.lanes.taken(lane)
     }
+
+    /// Counts a response that the front took from a lane and sent. If the ring was full, it notifies the lane's worker,
+    /// which may wait for a place. If the ring still is more than half full, the front is behind.
+    fn took(&self, lane: u16) {
+        let Some(state) = self.lanes.of(lane) else {
+            return;
+        };
+        let taken = state.ring.count_taken();
+        if taken.was_full {
+            self.notifiers.notify_for(Worker::Front, Worker::Lane(lane));
+        }
+        if taken.is_crowded {
+            self.notifiers.set_behind(Worker::Front);
+        }
+    }
 }
 
 impl<G: Gate> Supervisor<'_, G> {
@@ -210,7 +228,7 @@ impl<G: Gate> Gate for Supervisor<'_, G> {
             Note::WentDown => self.home_changed(worker, true),
             Note::WentUp => self.home_changed(worker, false),
             Note::Took(lane, _) => {
-                self.lanes.count_taken(lane);
+                self.took(lane);
                 self.outer.note(worker, note);
             }
             _ => self.outer.note(worker, note),
@@ -263,6 +281,7 @@ impl<G: Gate> Gate for Supervisor<'_, G> {
         if self.set_down(Worker::Lane(lane), false) {
             self.outer.went_up(lane, UpReason::Answered);
         }
+        self.lanes.count_answered(lane);
         self.notifiers.notify_for(Worker::Lane(lane), Worker::Front);
         self.outer.answered(lane, serial);
     }

@@ -5,6 +5,7 @@ ghost use Rattle.std.specs.Prelude.{Some};
 use crate::heap_room::HeapRoom;
 use crate::notifying::Notifier;
 use crate::polling::SLEEP;
+use crate::ring_level::RingLevel;
 use crate::worker_sockets::WorkerSockets;
 use rad_addresses::LocalAddresses;
 use rad_desk::{Delivery, Gate, Received, Traffic, Wire};
@@ -20,6 +21,9 @@ use std::time::{Clock, Instant};
 /// A receive waits for at most 20 milliseconds. In the turn after a send it does not wait at all, since there may be
 /// more to send. Whoever has work for the worker ends the wait by a notification. Otherwise the waits of idle workers
 /// end together, once in 20 milliseconds since their common start.
+///
+/// The wire of a lane receives nothing while the lane's ring is full, and that of the front does not receive at every second
+/// time while a ring is more than half full.
 ///
 /// The clock is read once in a turn: the moment stays the same from one receive to the next.
 ///
@@ -74,6 +78,16 @@ impl<'a, R, G: Gate, A> UdpWire<'a, R, G, A> {
         self.sockets.set_neighbours(others);
     }
 
+    /// Sets the ring that the worker adds responses to.
+    pub(crate) fn set_ring(&mut self, ring: RingLevel) {
+        self.sockets.set_ring(ring);
+    }
+
+    /// Returns the ring that the worker adds responses to, if there is one.
+    pub(crate) fn ring(&self) -> Option<&RingLevel> {
+        self.sockets.ring()
+    }
+
     /// Returns how many milliseconds the next wait may take: until the next multiple of [`SLEEP`] since the start, if
     /// the clock was read in this turn, and otherwise [`SLEEP`].
     fn longest_wait(&self) -> u64 {
@@ -81,6 +95,19 @@ impl<'a, R, G: Gate, A> UdpWire<'a, R, G, A> {
             SLEEP - self.moment.get() % SLEEP
         } else {
             SLEEP
+        }
+    }
+
+    /// Reads the clock, unless it was read since the last receive.
+    fn refresh(&mut self)
+    where
+        R: Clock,
+    {
+        if !self.is_fresh {
+            if let Some(moment) = self.read_clock() {
+                self.moment = moment;
+                self.is_fresh = true;
+            }
         }
     }
 
@@ -99,12 +126,7 @@ impl<R: Clock, G: Gate, A: LocalAddresses> Wire for UdpWire<'_, R, G, A> {
     ghost log = { λ w. Some w.traffic.passed };
 
     fn now(&mut self) -> Moment {
-        if !self.is_fresh {
-            if let Some(moment) = self.read_clock() {
-                self.moment = moment;
-                self.is_fresh = true;
-            }
-        }
+        self.refresh();
         self.traffic.told(self.moment);
         self.moment
     }
@@ -120,6 +142,11 @@ impl<R: Clock, G: Gate, A: LocalAddresses> Wire for UdpWire<'_, R, G, A> {
     fn receive(&mut self, datagram: &mut [u8; 4096]) -> Received {
         let longest = self.longest_wait();
         self.is_fresh = false;
+        if self.sockets.has_kept() {
+            self.refresh();
+            self.sockets.set_moment(self.moment.get());
+            self.is_fresh = false;
+        }
         match self.sockets.receive(longest, datagram) {
             Received::Got {
                 address,
@@ -143,6 +170,8 @@ impl<R: Clock, G: Gate, A: LocalAddresses> Wire for UdpWire<'_, R, G, A> {
     }
 
     fn send(&mut self, socket: u16, address: [u8; 4], port: u16, octets: &[u8]) -> Delivery {
+        self.refresh();
+        self.sockets.set_moment(self.moment.get());
         let delivery = self
             .sockets
             .send(socket, Endpoint { address, port }, octets);

@@ -3,16 +3,18 @@
 use crate::address_monitor::AddressMonitor;
 use crate::answering::Answering;
 use crate::client_sockets::{ClientSockets, fault_at};
+use crate::departing::Reports;
 use crate::faults::ServeFault;
 use crate::interrupting::Interruptible;
 use crate::notifying::{Notifier, Notifiers};
-use crate::polling::{PolledSockets, Reports};
+use crate::polling::PolledSockets;
+use crate::ring_level::RingLevel;
 use crate::sockets::{BoundSockets, lane_fault};
 use crate::wires::UdpWire;
 use crate::worker_sockets::WorkerSockets;
 use rad_addresses::{KnownAddresses, Origins};
 use rad_desk::{Gate, Worker};
-use rad_realms::{Client, Config};
+use rad_realms::{Client, Config, Home};
 use rand::rngs::StdRng;
 use rand::{Rng, make_rng};
 use std::alloc::{AllocError, Global};
@@ -182,7 +184,9 @@ pub(crate) fn make_wires<'a, R: Clock + Net + RandomSource, G: Gate, A>(
         Err(error) => return Err(fault_at(config.listen(), config.listen(), &error, gate)),
     };
     let mut lanes = maker.make_lanes(lanes)?;
-    if set_neighbours(alloc, &mut front, lanes.as_mut_slice()).is_err() {
+    if set_neighbours(alloc, &mut front, lanes.as_mut_slice()).is_err()
+        || set_rings(alloc, config.homes(), lanes.as_mut_slice()).is_err()
+    {
         return Err(ServeFault::Memory);
     }
     Ok(Wires { front, lanes })
@@ -206,7 +210,25 @@ fn set_neighbours<R, G: Gate, A>(
     Ok(())
 }
 
-/// Returns the notifiers of the workers of these wires and of the reader.
+/// Gives the worker of each lane the level of the lane's ring.
+///
+/// # Errors
+///
+/// `AllocError` if memory is refused.
+fn set_rings<R, G: Gate, A>(
+    alloc: Global,
+    homes: &[Home],
+    lanes: &mut [UdpWire<'_, R, G, A>],
+) -> Result<(), AllocError> {
+    for (lane, wire) in lanes.iter_mut().enumerate() {
+        if let Some(home) = homes.get(lane) {
+            wire.set_ring(RingLevel::new(alloc, home.limits().numbers().ring)?);
+        }
+    }
+    Ok(())
+}
+
+/// Returns the notifiers of the workers of these wires and of the reader, and the levels of the lanes' rings.
 ///
 /// # Errors
 ///
@@ -219,11 +241,31 @@ pub(crate) fn notifiers_of<R, G: Gate, A, I: Read + Drop>(
     let lanes = notifiers_of_wires(alloc, wires.lanes.as_slice())?;
     let front = wires.front.notifier()?;
     let reader = reader.notifier()?;
+    let rings = rings_of_wires(alloc, wires.lanes.as_slice())?;
     Ok(Notifiers {
         front: Some(front),
         lanes,
         reader: Some(reader),
+        rings,
     })
+}
+
+/// Returns the levels of the rings of the lanes of these wires, in order.
+///
+/// # Errors
+///
+/// `AllocError` if memory is refused.
+fn rings_of_wires<R, G: Gate, A>(
+    alloc: Global,
+    wires: &[UdpWire<'_, R, G, A>],
+) -> Result<Vec<RingLevel>, AllocError> {
+    let mut rings = Vec::with_capacity(alloc, wires.len())?;
+    for wire in wires {
+        if let Some(ring) = wire.ring() {
+            rings.push(ring.share()?)?;
+        }
+    }
+    Ok(rings)
 }
 
 /// Returns the notifiers of the workers of these wires.

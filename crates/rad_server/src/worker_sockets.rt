@@ -5,6 +5,7 @@ ghost use Rattle.rad_server.specs.internal.Wires.{FitsRoom};
 use crate::answering::Answering;
 use crate::notifying::Notifier;
 use crate::polling::PolledSockets;
+use crate::ring_level::RingLevel;
 use rad_addresses::LocalAddresses;
 use rad_desk::{Delivery, Gate, Received};
 use rad_realms::Endpoint;
@@ -41,6 +42,26 @@ impl<'a, R, G: Gate, A> WorkerSockets<'a, R, G, A> {
     /// Sets the notifiers of the other workers that the worker has work for.
     pub(crate) fn set_neighbours(&mut self, others: Vec<Notifier>) {
         self.polled.set_neighbours(others);
+    }
+
+    /// Returns whether datagrams wait that the system did not accept.
+    pub(crate) fn has_kept(&self) -> bool {
+        self.polled.has_kept()
+    }
+
+    /// Sets the moment of the worker's turn, in milliseconds.
+    pub(crate) fn set_moment(&mut self, moment: u64) {
+        self.polled.set_moment(moment);
+    }
+
+    /// Sets the ring that the worker adds responses to.
+    pub(crate) fn set_ring(&mut self, ring: RingLevel) {
+        self.polled.set_ring(ring);
+    }
+
+    /// Returns the ring that the worker adds responses to, if there is one.
+    pub(crate) fn ring(&self) -> Option<&RingLevel> {
+        self.polled.ring()
     }
 
     /// Sends a datagram.
