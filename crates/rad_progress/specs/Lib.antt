@@ -1,0 +1,5 @@
+pub mod StepsLeft
+pub mod Idling
+pub mod Downs
+pub mod Replies
+pub mod Rounds

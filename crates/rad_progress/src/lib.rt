@@ -1,0 +1,6 @@
+//! What a lane does when its home server answers (own): laws about the definitions of `rad_lane`.
+#![tactic(auto)]
+
+mod settling;
+
+pub use settling::a_step_leaves_one_less;
