@@ -1,3 +1,4 @@
 pub mod Held
 pub mod OneLess
 pub mod NextMoment
+pub mod WatchAfter

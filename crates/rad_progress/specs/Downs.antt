@@ -27,6 +27,11 @@ IsNoProbe (stepped WentDown) = ⊥
 IsNoProbe (stepped (Probed slot)) = ⊥
 IsNoProbe answer = ⊤
 
+-- The call did not mark the home server up.
+abbrev pub IsNotUp : GivenAnswer → Type 0
+IsNotUp (stepped WentUp) = ⊥
+IsNotUp answer = ⊤
+
 -- A step that probes the home server, or marks it up.
 abbrev pub ProbesOrGoesUp : Action → Type 0
 ProbesOrGoesUp (Probed slot) = ⊤

@@ -6,35 +6,15 @@ use Rattle.rad_lane.specs.declared.stamp.Stamp.{Stamp}
 use Rattle.rad_lane.specs.declared.stepping.Action.TheVariants.{Idle}
 use Rattle.rad_lane.specs.declared.hearing.HearFault.TheVariants.{OutOfMemory}
 use Rattle.rad_lane.specs.declared.running.Event.{Event}
-use Rattle.rad_lane.specs.declared.running.Event.TheVariants.{Accept as accept, Step as step, Hear as hear}
+use Rattle.rad_lane.specs.declared.running.Event.TheVariants.{Hear as hear}
 use Rattle.rad_lane.specs.declared.running.GivenAnswer.{GivenAnswer}
 use Rattle.rad_lane.specs.declared.running.GivenAnswer.TheVariants.{Step as stepped, Hear as heard}
 use Rattle.rad_lane.specs.declared.running.Given.{Given}
 use Rattle.rad_lane.specs.Outstanding.{Outstanding, AnswerKept}
 use Rattle.rad_lane.specs.Book.{Book, outstanding_at, outstanding_count}
 use Rattle.rad_lane.specs.Watch.{is_up}
-use Rattle.rad_lane.specs.Runs.{Runs}
+use Rattle.rad_progress.specs.Calls.{Calls, IsRequest, IsStepAt, IsDatagram}
 use Rattle.rad_progress.specs.Replies.{IsRightReply}
-
--- Calls of a lane, made in order, with their results.
-pub record Calls (old new : Book) : Type 0 where
-  pub before : List ℕ
-  pub events : List Event
-  pub gives : List Given
-  pub runs : Runs old before events gives new
-
--- The call is a request's; or a step's, at this moment; or that of a datagram from the home server.
-abbrev pub IsRequest : Event → Type 0
-IsRequest (accept request moment) = ⊤
-IsRequest event = ⊥
-
-abbrev pub IsStepAt : ℕ → Event → Type 0
-IsStepAt now (step moment random) = moment ≡ now
-IsStepAt now event = ⊥
-
-abbrev pub IsDatagram : Event → Type 0
-IsDatagram (hear moment port datagram) = ⊤
-IsDatagram event = ⊥
 
 -- The last of the results is that of an idle step.
 abbrev pub IsIdle : GivenAnswer → Type 0

@@ -1,8 +1,10 @@
 //! What a lane does when its home server answers (own): laws about the definitions of `rad_lane`.
 #![tactic(auto)]
 
+mod coming_up;
 mod idling;
 mod settling;
 
+pub use coming_up::{down_no_longer_than_its_wait, probed_in_time};
 pub use idling::idle_until_the_next_step;
 pub use settling::a_step_leaves_one_less;
