@@ -2,3 +2,4 @@ pub mod Held
 pub mod OneLess
 pub mod NextMoment
 pub mod WatchAfter
+pub mod RightReply

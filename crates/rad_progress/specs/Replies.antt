@@ -1,5 +1,5 @@
 -- A right reply to an outstanding request, and how it is heard (RFC 2866 section 3, RFC 2865 section 5.33, own).
-use Rattle.std.specs.Prelude.{◌≡◌, ◌⊎◌, ℕ, List, [], Result, Ok, Err}
+use Rattle.std.specs.Prelude.{◌≡◌, ◌⊎◌, ℕ, List, [], ◌∷◌, Result, Ok, Err}
 use Rattle.rad_packet.specs.Attribute.{of_kind}
 use Rattle.rad_packet.specs.Packet.{code_of, authenticator_of, packet_attributes}
 use Rattle.rad_packet.specs.Reading.{ReadsAs}
@@ -13,6 +13,7 @@ use Rattle.rad_lane.specs.declared.hearing.HearFault.{HearFault}
 use Rattle.rad_lane.specs.declared.hearing.HearFault.TheVariants.{OutOfMemory}
 use Rattle.rad_lane.specs.declared.running.GivenAnswer.{GivenAnswer}
 use Rattle.rad_lane.specs.declared.running.GivenAnswer.TheVariants.{Hear as heard}
+use Rattle.rad_lane.specs.declared.running.Given.{Given}
 use Rattle.rad_lane.specs.Outstanding.{Outstanding}
 use Rattle.rad_lane.specs.Book.{Book, outstanding_at}
 use Rattle.rad_lane.specs.Hears.{pair}
@@ -51,8 +52,12 @@ pub record IsStillOutstanding (book : Book) (slot : Slot) (entry : Outstanding) 
   pub request : kept.request ≡ entry.request
   pub octets : kept.octets ≡ entry.octets
 
--- The call answered the request.
+-- The call answered the request; and one of these calls did.
 pub record AnswersIt (entry : Outstanding) (answer : GivenAnswer) : Type 0 where
   pub outgoing : Outgoing
   pub is : answer ≡ heard (Ok (Answer outgoing))
   pub its : IsItsAnswer entry outgoing
+
+abbrev pub IsAnsweredAmong : Outstanding → List Given → Type 0
+IsAnsweredAmong entry [] = ⊥
+IsAnsweredAmong entry (given ∷ gives) = AnswersIt entry given.answer ⊎ IsAnsweredAmong entry gives
