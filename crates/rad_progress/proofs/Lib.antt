@@ -3,3 +3,4 @@ pub mod OneLess
 pub mod NextMoment
 pub mod WatchAfter
 pub mod RightReply
+pub mod StaysOutstanding
