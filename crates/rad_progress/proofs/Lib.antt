@@ -4,3 +4,5 @@ pub mod NextMoment
 pub mod WatchAfter
 pub mod RightReply
 pub mod StaysOutstanding
+pub mod AfterCalls
+pub mod ServedInRounds
