@@ -5,4 +5,5 @@ pub mod WatchAfter
 pub mod RightReply
 pub mod StaysOutstanding
 pub mod AfterCalls
+pub mod AnsweredOnce
 pub mod ServedInRounds

@@ -1,11 +1,13 @@
 -- A lane whose home server answers: what a round leaves, and how many rounds a queue takes.
-use Rattle.std.proofs.Common.{◌≡◌, ℕ, zero, suc, ◌+◌, ◌-◌, ◌*◌, ◌/◌, ◌<◌, ◌≤◌, Bool, true, false, cond, List, [], ◌∷◌, ◌++◌, length, Option, Some, None, Result, Ok, Err, refl, sym, ap, ◌∙◌, subst, inl, inr, arith}
-use Rattle.std.specs.Prelude.{◌⊎◌, IsSome, min, max, option_map}
+use Rattle.std.proofs.Common.{◌≡◌, ℕ, zero, suc, ◌+◌, ◌-◌, ◌*◌, ◌/◌, ◌<◌, ◌≤◌, Bool, true, false, cond, List, [], ◌∷◌, ◌++◌, length, Option, Some, None, Result, Ok, Err, refl, sym, ap, ◌∙◌, subst, inl, inr, arith, append_assoc, length-append}
+use Rattle.std.specs.Prelude.{◌⊎◌, IsSome, min, option_map, map as each}
 use Rattle.std.specs.List.{AllByRecursion}
 use Rattle.std.specs.Ordering.{eq_by_cmp}
 use Rattle.std.specs.FinMap as map
 use Rattle.std.proofs.Math.Nat.{div-lt_iff_lt-mul}
 use Rattle.std.proofs.lemmas.Bool.{cases_lt}
+use Rattle.std.proofs.lemmas.List.{append-nil, length-map, map-append}
+use Rattle.rad_lane.specs.declared.stamp.Stamp.{Stamp}
 use Rattle.rad_config.specs.Limits.{AreInRange}
 use Rattle.rad_tables.specs.declared.slots.Slot.{Slot}
 use Rattle.rad_tables.specs.Pairs.{slot_cmp}
@@ -32,17 +34,21 @@ use Rattle.rad_lane.specs.Datagrams.{Datagrams}
 use Rattle.rad_lane.specs.Dues.{NoneOutstanding}
 use Rattle.rad_lane.specs.Book.{Book, moment_in, outstanding_at, outstanding_count}
 use Rattle.rad_lane.specs.Watch.{is_up, GoesUp, GoesUpIfDown}
+use Rattle.rad_lane.specs.Stamp.{Recorded}
+use Rattle.rad_lane.specs.Counting.{IsDone}
+use Rattle.rad_lane.specs.Lawful.{IsLawful}
 use Rattle.rad_lane.specs.Steps.{StepsBy, NothingToSend}
 use Rattle.rad_lane.specs.Hears.{Hears, pair, with_answer}
 use Rattle.rad_lane.specs.Runs.{Gives, Runs}
 use Rattle.rad_progress.specs.Calls.{Calls, IsStepAt, IsDatagram}
 use Rattle.rad_progress.specs.Replies.{IsRightReply, IsAnsweredBy}
-use Rattle.rad_progress.specs.Rounds.{IsIdle, EndsIdle, IsGranted, IsReply, HasReply, IsRound, IsRoundWithRequests, Rounds, RoundsWithRequests, CanGoOn, IsServed, rounds_for, rounds_after}
+use Rattle.rad_progress.specs.Rounds.{IsIdle, EndsIdle, IsGranted, IsReply, HasReply, IsRound, IsRoundWithRequests, Rounds, RoundsWithRequests, CanGoOn, IsServed, IsAnsweredOnce, rounds_for, rounds_after}
 use Rattle.rad_progress.proofs.Held.{Held, part, none_outstanding, counted}
 use Rattle.rad_progress.proofs.OneLess.{waits, nothing_to_send}
 use Rattle.rad_progress.proofs.WatchAfter.{heard_up}
 use Rattle.rad_progress.proofs.RightReply.{heard_by, its_pair}
 use Rattle.rad_progress.proofs.StaysOutstanding.{Apart, apart_same, apart_in_run, call_keeps}
+use Rattle.rad_progress.proofs.AnsweredOnce.{answered_once}
 use Rattle.rad_progress.proofs.AfterCalls.{Passes, StepPasses, Grows, out_of, passes_on, hears_pass, steps_pass, requests_grow}
 
 -- a lane that is up, with nothing outstanding
@@ -220,7 +226,7 @@ none_of_count book is slot entry there =
     omega (arith, one, all, is)
 
 module _ (old new : Book) (p : Apart old) (range : AreInRange old.setup.limits) (round : IsRound old new) where
-  abbrev steps : (sends : ℕ) × StepPasses old round.idle sends
+  abbrev pub steps : (sends : ℕ) × StepPasses old round.idle sends
   steps = steps_pass round.moment old round.steps.before round.steps.events round.steps.gives round.idle p round.steps.runs round.at_once
 
   idle_apart : Apart round.idle
@@ -274,3 +280,195 @@ module _ (old new : Book) (p : Apart old) (range : AreInRange old.setup.limits) 
         ]
       ] in
       (first.0, subst (λ n. Passes old new n) sent first.1)
+
+-- rounds of a lane with nothing outstanding
+module _ (window : ℕ) (wide : 1 ≤ window) where
+  -- the limits stay
+  pub record IsReady (book : Book) : Type 0 where
+    pub clear : IsClear book
+    pub range : AreInRange book.setup.limits
+    pub width : book.setup.limits.window ≡ window
+
+  ready_next : (old new : Book) (sends : ℕ) → IsReady old → IsClear new → Passes old new sends → IsReady new
+  ready_next old new sends r clear passes = record {
+    clear = clear;
+    range = subst (λ s. AreInRange s.limits) (sym passes.setup) r.range;
+    width = ap (λ s. s.limits.window) passes.setup ∙ r.width;
+  }
+
+  ready_opened : (old new : Book) → IsReady old → Grows old new → IsReady new
+  ready_opened old new r grows = record {
+    clear = record {
+      apart = apart_same old new grows.held grows.watch r.clear.apart;
+      is_up = grows.watch ∙ r.clear.is_up;
+      none = λ slot entry there. r.clear.none slot entry (ap (λ (m : Held). map.get m slot) (sym grows.held) ∙ there);
+    };
+    range = subst (λ s. AreInRange s.limits) (sym grows.setup) r.range;
+    width = ap (λ s. s.limits.window) grows.setup ∙ r.width;
+  }
+
+  one_round : (old new : Book) → IsReady old → IsRound old new → IsReady new × Passes old new (min (length old.queued) window)
+  one_round old new r round =
+      let h = clear_round old new r.clear.apart r.range round r.clear.is_up r.clear.none in
+      (ready_next old new _ r h.0 h.1, subst (λ w. Passes old new (min (length old.queued) w)) r.width h.1)
+
+  more_sent : (n : ℕ) → suc n * window ≡ n * window + window
+  more_sent n = omega arith
+
+  pub queue_after : (n : ℕ) (old new : Book) → IsReady old → Rounds n old new → IsReady new × (length new.queued ≡ length old.queued - n * window)
+  queue_after zero old new r h =
+      subst (λ (b : Book). IsReady b × (length b.queued ≡ length old.queued - 0 * window)) (sym h) (r, omega arith)
+  queue_after (suc n) old new r h =
+      let first = one_round old h.0 r h.1 in
+      let rest = queue_after n h.0 new first.0 h.2 in
+      let queue = first.1.queue in
+      let count = more_sent n in
+      let left = rest.1 in
+      (rest.0, omega (arith, queue, left, count))
+
+  -- the same of a drained lane, whatever requests come
+  pub drained_after : (n : ℕ) (old new : Book) → IsReady old → IsSome old.drain → RoundsWithRequests n old new → IsReady new × (length new.queued ≡ length old.queued - n * window) × IsSome new.drain
+  drained_after zero old new r some h =
+      subst (λ (b : Book). IsReady b × (length b.queued ≡ length old.queued - 0 * window) × IsSome b.drain) (sym h) (r, omega arith, some)
+  drained_after (suc n) old new r some h =
+      let grows = requests_grow old h.1.requests.before h.1.requests.events h.1.requests.gives h.1.opened h.1.requests.runs h.1.each in
+      let first = one_round h.1.opened h.0 (ready_opened old h.1.opened r grows) h.1.round in
+      let still : IsSome h.0.drain = subst (λ (o : Option ℕ). IsSome o) (sym (first.1.drain ∙ grows.drain)) some in
+      let rest = drained_after n h.0 new first.0 still h.2 in
+      let queue = first.1.queue in
+      let none = grows.none_drained some in
+      let opened = grows.queue in
+      let count = more_sent n in
+      let left = rest.1 in
+      (rest.0, omega (arith, queue, left, count, none, opened), rest.2)
+
+  -- how many were sent after rounds before which requests come, up to a place among those accepted
+  pub sent_after : (n : ℕ) (old new : Book) (target : ℕ) → IsReady old → target ≤ length old.sent + length old.queued → RoundsWithRequests n old new → IsReady new × (min target (length old.sent + n * window) ≤ length new.sent) × ((more : List Stamp) × (new.accepted ≡ old.accepted ++ more))
+  sent_after zero old new target r within h =
+      subst (λ (b : Book). IsReady b × (min target (length old.sent + 0 * window) ≤ length b.sent) × ((more : List Stamp) × (b.accepted ≡ old.accepted ++ more))) (sym h)
+      (r, omega arith, ([], sym (append-nil old.accepted)))
+  sent_after (suc n) old new target r within h =
+      let grows = requests_grow old h.1.requests.before h.1.requests.events h.1.requests.gives h.1.opened h.1.requests.runs h.1.each in
+      let first = one_round h.1.opened h.0 (ready_opened old h.1.opened r grows) h.1.round in
+      let queue = first.1.queue in
+      let sent = first.1.sent in
+      let opened = grows.queue in
+      let sent_before = ap length grows.sent in
+      let within_next : target ≤ length h.0.sent + length h.0.queued = omega (arith, within, queue, sent, opened, sent_before) in
+      let rest = sent_after n h.0 new target first.0 within_next h.2 in
+      let count = more_sent n in
+      let reached = rest.1 in
+      (
+        rest.0,
+        omega (arith, reached, count, queue, sent, opened, sent_before, within, within_next),
+        (grows.more ++ rest.2.0, rest.2.1 ∙ ap (λ (xs : List Stamp). xs ++ rest.2.0) (first.1.accepted ∙ grows.accepted) ∙ append_assoc old.accepted grows.more rest.2.0),
+      )
+
+-- so many rounds take a queue
+up_is : (w : Watch) → is_up w ≡ true → w ≡ up
+up_is up is = refl
+up_is (down until next out) is = cc
+
+pub goes_on : (book : Book) → CanGoOn book → (book.watch ≡ up) ⊎ (1 ≤ outstanding_count book)
+goes_on book h = elim h [ inl is ↦ inl (up_is book.watch is) | inr some ↦ inr some ]
+
+rounded_up : (queued window n : ℕ) → 1 ≤ window → rounds_for queued window ≤ suc n → queued ≤ n * window
+rounded_up queued window n wide h =
+    let fewer : (queued + window - 1) / window < suc n = omega (arith, h) in
+    let product = (div-lt_iff_lt-mul wide).0 fewer in
+    let more : suc n * window ≡ n * window + window = omega arith in
+    omega (arith, product, more)
+
+rounded_down : (before window n : ℕ) → 1 ≤ window → rounds_after before window ≤ n → before < n * window
+rounded_down before window n wide h =
+    let fewer : before / window < n = omega (arith, h) in
+    (div-lt_iff_lt-mul wide).0 fewer
+
+empty_queue : {X : Type 0} (xs : List X) → length xs ≡ 0 → xs ≡ []
+empty_queue [] is = refl
+empty_queue (x ∷ xs) is = absurd (omega (arith, is))
+
+module _ (old : Book) (p : Apart old) (range : AreInRange old.setup.limits) where
+  abbrev width : ℕ
+  width = old.setup.limits.window
+
+  ready_after : (next : Book) (sends : ℕ) → IsClear next → Passes old next sends → IsReady width range.window.0 next
+  ready_after next sends clear passes = record {
+    clear = clear;
+    range = subst (λ s. AreInRange s.limits) (sym passes.setup) range;
+    width = ap (λ s. s.limits.window) passes.setup;
+  }
+
+  pub served : (n : ℕ) (new : Book) → CanGoOn old → Rounds n old new → rounds_for (length old.queued) width ≤ n → IsServed new
+  served zero new h rounds enough = absurd (omega (arith, enough))
+  served (suc n) new h rounds enough =
+      let first = first_round old rounds.0 p range rounds.1 (goes_on old h) in
+      let last = queue_after width range.window.0 n rounds.0 new (ready_after rounds.0 _ first.0 first.1) rounds.2 in
+      let few = rounded_up (length old.queued) width n range.window.0 enough in
+      let queue = first.1.queue in
+      let left = last.1 in
+      record { sent = empty_queue new.queued (omega (arith, left, queue, few)); answered = none_counted new last.0.clear.none }
+
+  -- where the window is full, the first round sends nothing
+  pub full : (n : ℕ) (new : Book) → width ≤ outstanding_count old → Rounds (suc n) old new → length new.queued ≡ length old.queued - n * width
+  full n new wide rounds =
+      let some : 1 ≤ outstanding_count old = omega (arith, wide, range.window.0) in
+      let first = first_round old rounds.0 p range rounds.1 (inr some) in
+      let last = queue_after width range.window.0 n rounds.0 new (ready_after rounds.0 _ first.0 first.1) rounds.2 in
+      let queue = first.1.queue in
+      let left = last.1 in
+      let sends = (steps old rounds.0 p range rounds.1).1 in
+      let out = sends.out in
+      let none : (steps old rounds.0 p range rounds.1).0 ≡ 0 = elim sends.room [ inl no_sends ↦ no_sends | inr within ↦ omega (arith, within, out, wide) ] in
+      omega (arith, left, queue, none)
+
+  pub drained_done : (n : ℕ) (new : Book) → CanGoOn old → IsSome old.drain → RoundsWithRequests n old new → rounds_for (length old.queued) width ≤ n → IsDone new
+  drained_done zero new h some rounds enough = absurd (omega (arith, enough))
+  drained_done (suc n) new h some rounds enough =
+      let opened = rounds.1.opened in
+      let grows = requests_grow old rounds.1.requests.before rounds.1.requests.events rounds.1.requests.gives opened rounds.1.requests.runs rounds.1.each in
+      let can : (opened.watch ≡ up) ⊎ (1 ≤ outstanding_count opened) = elim (goes_on old h) [
+        | inl is ↦ inl (grows.watch ∙ is)
+        | inr out ↦ inr (let same = ap (λ (m : Held). length (sendings_in m)) grows.held in omega (arith, same, out))
+      ] in
+      let range_there = subst (λ s. AreInRange s.limits) (sym grows.setup) range in
+      let first = first_round opened rounds.0 (apart_same old opened grows.held grows.watch p) range_there rounds.1.round can in
+      let ready : IsReady width range.window.0 rounds.0 = record {
+        clear = first.0;
+        range = subst (λ s. AreInRange s.limits) (sym first.1.setup) range_there;
+        width = ap (λ s. s.limits.window) (first.1.setup ∙ grows.setup);
+      } in
+      let still : IsSome rounds.0.drain = subst (λ (o : Option ℕ). IsSome o) (sym (first.1.drain ∙ grows.drain)) some in
+      let last = drained_after width range.window.0 n rounds.0 new ready still rounds.2 in
+      let few = rounded_up (length old.queued) width n range.window.0 enough in
+      let queue = first.1.queue in
+      let left = last.1 in
+      let none = grows.none_drained some in
+      let queued = grows.queue in
+      record { drained = last.2; sent = empty_queue new.queued (omega (arith, left, queue, few, none, queued)); answered = none_counted new last.0.clear.none }
+
+  pub each_once : (n : ℕ) (first new : Book) (before : List Recorded) (r : Recorded) (after : List Recorded) → IsLawful old → CanGoOn old → old.queued ≡ before ++ r ∷ after → IsRound old first → RoundsWithRequests n first new → rounds_after (length before) width ≤ n → IsLawful new → IsAnsweredOnce new r.stamp
+  each_once n first new before r after lawful h queued round rounds enough lawful_new =
+      let own = first_round old first p range round (goes_on old h) in
+      let ready = ready_after first _ own.0 own.1 in
+      let longer = ap length queued ∙ length-append before (r ∷ after) in
+      let queue = own.1.queue in
+      let sent = own.1.sent in
+      let target = length old.sent + length before + 1 in
+      let within : target ≤ length first.sent + length first.queued = omega (arith, longer, queue, sent) in
+      let last = sent_after width range.window.0 n first new target ready within rounds in
+      let many = rounded_down (length before) width n range.window.0 enough in
+      let reached = last.1 in
+      let front : List Stamp = old.sent ++ each (λ q. q.stamp) before in
+      let front_long : length front ≡ length old.sent + length before = length-append old.sent (each (λ q. q.stamp) before) ∙ ap (λ m. length old.sent + m) (length-map before (λ q. q.stamp)) in
+      let rest : List Stamp = each (λ q. q.stamp) after ++ last.2.0 in
+      let accepted_old : old.accepted ≡ front ++ r.stamp ∷ each (λ q. q.stamp) after =
+      lawful.in_order
+      ∙ ap (λ (qs : List Recorded). old.sent ++ each (λ q. q.stamp) qs) queued
+      ∙ ap (λ (ss : List Stamp). old.sent ++ ss) (map-append (λ (q : Recorded). q.stamp) before (r ∷ after))
+      ∙ sym (append_assoc old.sent (each (λ q. q.stamp) before) (r.stamp ∷ each (λ q. q.stamp) after)) in
+      let accepted_new : new.accepted ≡ front ++ r.stamp ∷ rest =
+      last.2.1
+      ∙ ap (λ (xs : List Stamp). xs ++ last.2.0) (own.1.accepted ∙ accepted_old)
+      ∙ append_assoc front (r.stamp ∷ each (λ q. q.stamp) after) last.2.0 in
+      answered_once new lawful_new (none_counted new last.0.clear.none) front r.stamp rest accepted_new (omega (arith, reached, many, sent, front_long))

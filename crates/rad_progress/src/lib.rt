@@ -4,9 +4,11 @@
 mod coming_up;
 mod hearing;
 mod idling;
+mod serving;
 mod settling;
 
 pub use coming_up::{down_no_longer_than_its_wait, probed_in_time};
 pub use hearing::{a_right_reply_is_heard, it_can_be_heard_until_it_is_answered};
 pub use idling::idle_until_the_next_step;
+pub use serving::{a_drained_lane_is_done, a_full_window_takes_all_the_rounds, served_in_rounds};
 pub use settling::a_step_leaves_one_less;
