@@ -303,7 +303,7 @@ step_setup old now random d new (down until next out) WentUp h = ap (λ (b : Boo
 step_setup old now random d new (down until next out) (Idle None) h = absurd h
 step_setup old now random d new (down until next out) (Idle (Some moment)) h = ap (λ (b : Book). b.setup) h.4
 
-call_setup : (old : Book) (event : Event) (answer : GivenAnswer) (d : Datagrams) (new : Book) → Gives old event answer d new → new.setup ≡ old.setup
+pub call_setup : (old : Book) (event : Event) (answer : GivenAnswer) (d : Datagrams) (new : Book) → Gives old event answer d new → new.setup ≡ old.setup
 call_setup old (accept request moment) (accepted result) d new h = (accept_grows old request.now moment result d new h).setup
 call_setup old (step moment random) (stepped action) d new h = step_setup old (moment_in old moment) random d new old.watch action h.0
 call_setup old (hear moment port datagram) (heard result) d new h = (hears_pass old moment port datagram.now result new h.0).setup

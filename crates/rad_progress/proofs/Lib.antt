@@ -5,5 +5,6 @@ pub mod WatchAfter
 pub mod RightReply
 pub mod StaysOutstanding
 pub mod AfterCalls
+pub mod TakenAtOnce
 pub mod AnsweredOnce
 pub mod ServedInRounds

@@ -20,10 +20,14 @@ use Rattle.rad_lane.specs.Entries.{sendings_in}
 use Rattle.rad_lane.specs.Datagrams.{Datagrams}
 use Rattle.rad_lane.specs.Dues.{NoneDue, NoneOutstanding}
 use Rattle.rad_lane.specs.Book.{Book, moment_in, outstanding_at, outstanding_of, outstanding_count}
-use Rattle.rad_lane.specs.Lawful.{IsLawful}
+use Rattle.rad_lane.specs.Lawful.{IsLawful, ProbeStands}
 use Rattle.rad_lane.specs.Steps.{Steps, StepsBy, StepsWhileUp, StepsWhileDown, NothingToSend, with_sending, without_probe}
 use Rattle.rad_progress.specs.StepsLeft.{is_due_again, is_spent_due, due_again, spent_due, to_be_sent, steps_left_up, steps_left_down, steps_left_by, steps_left, most_steps, Settles}
 use Rattle.rad_progress.proofs.Held.{Held, total, weight, comes, changes, part, none_outstanding, counted, two_counts, sums_add, gone_up}
+
+-- each outstanding request has the lane's number of sendings in a round
+abbrev pub HaveItsTries : Book → Type 0
+HaveItsTries book = (slot : Slot) (entry : Outstanding) → outstanding_at book slot entry → entry.tries ≡ book.setup.limits.tries
 
 -- a wait is never 0
 pub waits : (first k : ℕ) → 100 ≤ first → 1 ≤ wait_of first k
@@ -208,13 +212,13 @@ module _ (old : Book) (now : ℕ) (range : AreInRange old.setup.limits) where
     idle_up a s nothing new is =
         (idle old is_up a s nothing, subst (λ (b : Book). steps_left b now ≡ 0) (sym is) (idle (record old { last = now }) is_up a s nothing))
 
-  module _ (lawful : IsLawful old) (until next : ℕ) (out : Option Slot) (is_down : old.watch ≡ down until next out) where
+  module _ (apart : ProbeStands old old.watch) (its : HaveItsTries old) (until next : ℕ) (out : Option Slot) (is_down : old.watch ≡ down until next out) where
     went_up : (random : List ℕ) (d : Datagrams) (new : Book) → StepsWhileDown old now random until next out WentUp d new → steps_left old now ≡ steps_left new now + 1
     went_up random d new h =
         let held : Held = h.2.held in
-        let a = gone_up (again now) now old old.watch lawful.probe_apart held h.2.renews in
-        let s = gone_up (spent now) now old old.watch lawful.probe_apart held h.2.renews in
-        let o = gone_up (λ _. 1) now old old.watch lawful.probe_apart held h.2.renews in
+        let a = gone_up (again now) now old old.watch apart held h.2.renews in
+        let s = gone_up (spent now) now old old.watch apart held h.2.renews in
+        let o = gone_up (λ _. 1) now old old.watch apart held h.2.renews in
         let each = sums_add (λ e. again now (renewed now e)) (λ e. spent now (renewed now e)) (λ _. 1) each_once (outstanding_of old) in
         let none : total (λ e. spent now (renewed now e)) old.held ≡ 0 = none_outstanding (λ e. spent now (renewed now e)) old.held (λ slot e there. fresh slot e there) in
         let none_spent : total (spent now) held ≡ 0 = s ∙ none in
@@ -242,7 +246,7 @@ module _ (old : Book) (now : ℕ) (range : AreInRange old.setup.limits) where
 
         fresh : (slot : Slot) (e : Outstanding) → outstanding_at old slot e → spent now (renewed now e) ≡ 0
         fresh slot e there =
-            let tries = (lawful.holds_its_own slot (sending e) there).1.1 in
+            let tries = its slot e there in
             due_now_spent now (renewed now e) false (omega arith) (lt-leb e.tries 0 (omega (arith, tries, range.tries.0)))
 
     probed : (random : List ℕ) (slot : Slot) (d : Datagrams) (new : Book) → StepsWhileDown old now random until next out (Probed slot) d new → steps_left old now ≡ steps_left new now + 1
@@ -265,7 +269,7 @@ module _ (old : Book) (now : ℕ) (range : AreInRange old.setup.limits) where
           subst (λ (b : Book). steps_left b now ≡ 0) (sym h.4) (while_down (record old { last = now }) now until next out is_down ∙ none),
         )
 
-  module _ (lawful : IsLawful old) (random : List ℕ) (d : Datagrams) (new : Book) where
+  module _ (apart : ProbeStands old old.watch) (its : HaveItsTries old) (random : List ℕ) (d : Datagrams) (new : Book) where
     settles_by : (w : Watch) → old.watch ≡ w → (action : Action) → StepsBy w old now random action d new → Settles old now action new
     settles_by up is (Sent number slot) h = sent is number slot d new h
     settles_by up is (Resent number slot) h = resent is number slot d new h
@@ -276,14 +280,20 @@ module _ (old : Book) (now : ℕ) (range : AreInRange old.setup.limits) where
     settles_by up is (Idle (Some moment)) h = idle_up is (none_due_again old now h.0) (none_due_spent old now h.1) h.2 new h.7
     settles_by (down until next out) is (Sent number slot) h = absurd h
     settles_by (down until next out) is (Resent number slot) h = absurd h
-    settles_by (down until next out) is (Probed slot) h = probed lawful until next out is random slot d new h
+    settles_by (down until next out) is (Probed slot) h = probed apart its until next out is random slot d new h
     settles_by (down until next out) is WentDown h = absurd h
-    settles_by (down until next out) is WentUp h = went_up lawful until next out is random d new h
+    settles_by (down until next out) is WentUp h = went_up apart its until next out is random d new h
     settles_by (down until next out) is (Idle None) h = absurd h
-    settles_by (down until next out) is (Idle (Some moment)) h = idle_down lawful until next out is random moment d new h
+    settles_by (down until next out) is (Idle (Some moment)) h = idle_down apart its until next out is random moment d new h
+
+pub settles_so : (old : Book) (moment : ℕ) (random : List ℕ) (action : Action) (d : Datagrams) (new : Book) → ProbeStands old old.watch → HaveItsTries old → AreInRange old.setup.limits → Steps old moment random action d new → Settles old (moment_in old moment) action new
+settles_so old moment random action d new apart its range h = settles_by old (moment_in old moment) range apart its random d new old.watch refl action h
+
+pub lawful_tries : (book : Book) → IsLawful book → HaveItsTries book
+lawful_tries book lawful slot entry there = (lawful.holds_its_own slot (sending entry) there).1.1
 
 pub settles : (old : Book) (moment : ℕ) (random : List ℕ) (action : Action) (d : Datagrams) (new : Book) → IsLawful old → AreInRange old.setup.limits → Steps old moment random action d new → Settles old (moment_in old moment) action new
-settles old moment random action d new lawful range h = settles_by old (moment_in old moment) range lawful random d new old.watch refl action h
+settles old moment random action d new lawful range h = settles_so old moment random action d new lawful.probe_apart (lawful_tries old lawful) range h
 
 -- at most one step for each request of the window, and one more
 module _ (book : Book) (now : ℕ) (lawful : IsLawful book) where

@@ -40,9 +40,9 @@ use Rattle.rad_lane.specs.Lawful.{IsLawful}
 use Rattle.rad_lane.specs.Steps.{StepsBy, NothingToSend}
 use Rattle.rad_lane.specs.Hears.{Hears, pair, with_answer}
 use Rattle.rad_lane.specs.Runs.{Gives, Runs}
-use Rattle.rad_progress.specs.Calls.{Calls, IsStepAt, IsDatagram}
+use Rattle.rad_progress.specs.Calls.{IsStepAt, IsDatagram, IsIdle, EndsIdle}
 use Rattle.rad_progress.specs.Replies.{IsRightReply, IsAnsweredBy}
-use Rattle.rad_progress.specs.Rounds.{IsIdle, EndsIdle, IsGranted, IsReply, HasReply, IsRound, IsRoundWithRequests, Rounds, RoundsWithRequests, CanGoOn, IsServed, IsAnsweredOnce, rounds_for, rounds_after}
+use Rattle.rad_progress.specs.Rounds.{IsGranted, IsReply, HasReply, IsRound, IsRoundWithRequests, Rounds, RoundsWithRequests, CanGoOn, IsServed, IsAnsweredOnce, rounds_for, rounds_after}
 use Rattle.rad_progress.proofs.Held.{Held, part, none_outstanding, counted}
 use Rattle.rad_progress.proofs.OneLess.{waits, nothing_to_send}
 use Rattle.rad_progress.proofs.WatchAfter.{heard_up}

@@ -3,28 +3,17 @@ use Rattle.std.specs.Prelude.{◌≡◌, ⊤, ℕ, zero, suc, ◌+◌, ◌-◌, 
 use Rattle.std.specs.List.{AllByRecursion, Contains, count_by}
 use Rattle.rad_tables.specs.declared.slots.Slot.{Slot}
 use Rattle.rad_lane.specs.declared.stamp.Stamp.{Stamp}
-use Rattle.rad_lane.specs.declared.stepping.Action.TheVariants.{Idle}
 use Rattle.rad_lane.specs.declared.hearing.HearFault.TheVariants.{OutOfMemory}
 use Rattle.rad_lane.specs.declared.running.Event.{Event}
 use Rattle.rad_lane.specs.declared.running.Event.TheVariants.{Hear as hear}
 use Rattle.rad_lane.specs.declared.running.GivenAnswer.{GivenAnswer}
-use Rattle.rad_lane.specs.declared.running.GivenAnswer.TheVariants.{Step as stepped, Hear as heard}
+use Rattle.rad_lane.specs.declared.running.GivenAnswer.TheVariants.{Hear as heard}
 use Rattle.rad_lane.specs.declared.running.Given.{Given}
 use Rattle.rad_lane.specs.Outstanding.{Outstanding, AnswerKept}
 use Rattle.rad_lane.specs.Book.{Book, outstanding_at, outstanding_count}
 use Rattle.rad_lane.specs.Watch.{is_up}
-use Rattle.rad_progress.specs.Calls.{Calls, IsRequest, IsStepAt, IsDatagram}
+use Rattle.rad_progress.specs.Calls.{Calls, IsRequest, IsStepAt, IsDatagram, EndsIdle}
 use Rattle.rad_progress.specs.Replies.{IsRightReply}
-
--- The last of the results is that of an idle step.
-abbrev pub IsIdle : GivenAnswer → Type 0
-IsIdle (stepped (Idle moment)) = ⊤
-IsIdle answer = ⊥
-
-abbrev pub EndsIdle : List Given → Type 0
-EndsIdle [] = ⊥
-EndsIdle (given ∷ []) = IsIdle given.answer
-EndsIdle (given ∷ next ∷ later) = EndsIdle (next ∷ later)
 
 -- Memory was not refused.
 abbrev pub IsGranted : GivenAnswer → Type 0
