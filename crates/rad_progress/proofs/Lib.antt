@@ -8,3 +8,4 @@ pub mod AfterCalls
 pub mod TakenAtOnce
 pub mod AnsweredOnce
 pub mod ServedInRounds
+pub mod WrittenOut

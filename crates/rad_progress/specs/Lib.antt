@@ -4,3 +4,4 @@ pub mod Calls
 pub mod Downs
 pub mod Replies
 pub mod Rounds
+pub mod Examples
