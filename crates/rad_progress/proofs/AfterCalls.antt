@@ -1,13 +1,11 @@
 -- What calls leave of a lane's setup, queue and sent requests.
-use Rattle.std.proofs.Common.{◌≡◌, ℕ, ◌+◌, ◌-◌, ◌<◌, ◌≤◌, List, [], ◌∷◌, ◌++◌, length, Option, Some, None, Result, Ok, Err, refl, sym, ap, ◌∙◌, subst, inl, inr, arith, append_assoc, length-append}
+use Rattle.std.proofs.Common.{◌≡◌, ℕ, ◌+◌, ◌≤◌, List, [], ◌∷◌, ◌++◌, length, Option, Some, None, Result, Ok, Err, refl, sym, ap, ◌∙◌, subst, inl, inr, arith, append_assoc, length-append}
 use Rattle.std.specs.Prelude.{◌⊎◌, IsSome, IsNone}
 use Rattle.std.specs.List.{AllByRecursion}
 use Rattle.std.specs.FinMap as map
 use Rattle.std.proofs.lemmas.List.{append-nil}
 use Rattle.rad_realms.specs.Checking.{Request}
-use Rattle.rad_tables.specs.declared.slots.Slot.{Slot}
 use Rattle.rad_lane.specs.declared.stamp.Stamp.{Stamp}
-use Rattle.rad_lane.specs.declared.entry.Entry.{Entry}
 use Rattle.rad_lane.specs.declared.entry.Entry.TheVariants.{Sending as sending, Probe as probe}
 use Rattle.rad_lane.specs.declared.watch.Watch.{Watch}
 use Rattle.rad_lane.specs.declared.watch.Watch.TheVariants.{Up as up, Down as down}
@@ -31,15 +29,15 @@ use Rattle.rad_lane.specs.Outstanding.{Outstanding, first_sending, sent_again}
 use Rattle.rad_lane.specs.Datagrams.{Datagrams}
 use Rattle.rad_lane.specs.Entries.{sendings_in}
 use Rattle.rad_lane.specs.Book.{Book, moment_in, next_number}
-use Rattle.rad_lane.specs.Watch.{probe_of, GoesUpIfDown}
+use Rattle.rad_lane.specs.Watch.{GoesUpIfDown}
 use Rattle.rad_lane.specs.Lawful.{ProbeStands}
 use Rattle.rad_lane.specs.Accepts.{Accepts, stamp_of, record_of}
 use Rattle.rad_lane.specs.Steps.{StepsBy, freed}
 use Rattle.rad_lane.specs.Hears.{Hears}
 use Rattle.rad_lane.specs.Volumes.{Turns}
 use Rattle.rad_lane.specs.Runs.{Gives, Runs}
-use Rattle.rad_progress.specs.Calls.{IsRequest, IsStepAt, IsDatagram}
-use Rattle.rad_progress.proofs.Held.{Held, total, comes, changes, counted, gone_up, freed_same}
+use Rattle.rad_progress.specs.Calls.{IsRequest, IsStepAt}
+use Rattle.rad_progress.proofs.Held.{Held, comes, changes, counted, gone_up, freed_same}
 use Rattle.rad_progress.proofs.StaysOutstanding.{Apart, call_keeps}
 
 -- so many requests were sent for the first time, and no others came
@@ -122,18 +120,20 @@ module _ (old : Book) (p : Apart old) where
       let held = ap (λ (b : Book). b.held) h.9 in
       let before = counted old.held in
       let after = counted (map.insert old.held slot (sending entry)) in
-      let out : out_of new ≡ out_of old + 1 = ap (λ (m : Held). length (sendings_in m)) held ∙ omega (arith, one, before, after) in
-      (1, record {
-        passes = record {
-          setup = ap (λ (b : Book). b.setup) h.9;
-          accepted = ap (λ (b : Book). b.accepted) h.9;
-          queue = let after_it = ap (λ (b : Book). length b.queued) h.9 in let before_it = ap length h.5 in omega (arith, after_it, before_it);
-          sent = ap (λ (b : Book). length b.sent) h.9 ∙ length-append old.sent (h.3.stamp ∷ []);
-          drain = ap (λ (b : Book). b.drain) h.9;
-        };
-        out = out;
-        room = inr (omega (arith, out, h.2));
-      })
+      let out : out_of new ≡ out_of old + 1 = ap (λ (m : Held). length (sendings_in m)) held ∙ omega (arith, one, before, after) in (
+        1,
+        record {
+          passes = record {
+            setup = ap (λ (b : Book). b.setup) h.9;
+            accepted = ap (λ (b : Book). b.accepted) h.9;
+            queue = let after_it = ap (λ (b : Book). length b.queued) h.9 in let before_it = ap length h.5 in omega (arith, after_it, before_it);
+            sent = ap (λ (b : Book). length b.sent) h.9 ∙ length-append old.sent (h.3.stamp ∷ []);
+            drain = ap (λ (b : Book). b.drain) h.9;
+          };
+          out = out;
+          room = inr (omega (arith, out, h.2));
+        },
+      )
   step_passes now random d new up is (Resent number slot) h =
       let more : Outstanding = sent_again old.setup.limits.first_wait now h.0 in
       let one = changes (λ _. 1) old.held slot (sending h.0) (sending more) h.1.there in

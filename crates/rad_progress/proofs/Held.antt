@@ -1,5 +1,5 @@
 -- Sums over what is outstanding, as entries come, go and change.
-use Rattle.std.proofs.Common.{◌≡◌, ℕ, ◌+◌, ◌≤◌, Bool, true, false, cond, eqb, List, [], ◌∷◌, length, Option, Some, None, refl, sym, ap, ◌∙◌, subst, inl, inr, arith}
+use Rattle.std.proofs.Common.{◌≡◌, ℕ, ◌+◌, ◌≤◌, Bool, true, false, cond, eqb, List, [], ◌∷◌, length, Option, Some, None, refl, sym, ap, ◌∙◌, inl, inr, arith}
 use Rattle.std.specs.Prelude.{map as values, option_map}
 use Rattle.std.specs.List.{filter_map, cons_option, sum_by, count_by}
 use Rattle.std.specs.Ordering.{eq_by_cmp}

@@ -1,20 +1,20 @@
 -- The moment that an idle step names is the first one at which a step is left.
-use Rattle.std.proofs.Common.{◌≡◌, ℕ, ◌+◌, ◌-◌, ◌^◌, ◌<◌, ◌≤◌, Bool, true, false, List, length, Option, Some, None, refl, sym, ap, ◌∙◌, subst, inl, inr, arith}
+use Rattle.std.proofs.Common.{◌≡◌, ℕ, ◌-◌, ◌^◌, ◌<◌, ◌≤◌, true, false, List, length, Option, Some, None, refl, sym, ◌∙◌, subst, inl, inr, arith}
 use Rattle.std.specs.Prelude.{min}
-use Rattle.std.proofs.lemmas.Bool.{cases_Bool, cases_lt, cases_eq}
+use Rattle.std.proofs.lemmas.Bool.{cases_Bool, cases_lt}
 use Rattle.rad_tables.specs.declared.slots.Slot.{Slot}
 use Rattle.rad_lane.specs.Outstanding.{Outstanding, is_spent}
 use Rattle.rad_lane.specs.declared.watch.Watch.{Watch}
 use Rattle.rad_lane.specs.declared.watch.Watch.TheVariants.{Up as up, Down as down}
 use Rattle.rad_lane.specs.declared.stepping.Action.TheVariants.{Idle}
 use Rattle.rad_lane.specs.Datagrams.{Datagrams}
-use Rattle.rad_lane.specs.Dues.{NoneDue, NoneOutstanding, IsLeastOfAll, as_moment}
+use Rattle.rad_lane.specs.Dues.{IsLeastOfAll}
 use Rattle.rad_lane.specs.Book.{Book, moment_in, outstanding_at, outstanding_count}
 use Rattle.rad_lane.specs.Steps.{Steps, StepsBy, NothingToSend}
-use Rattle.rad_progress.specs.StepsLeft.{due_again, spent_due, steps_left_by, steps_left}
+use Rattle.rad_progress.specs.StepsLeft.{due_again, spent_due, steps_left}
 use Rattle.rad_progress.specs.Idling.{IsNextMoment, Names}
 use Rattle.rad_progress.proofs.Held.{part}
-use Rattle.rad_progress.proofs.OneLess.{again, spent, left, left_unspent, left_spent, due_now_again, due_now_spent, none_due_again, none_due_spent, none_out, nothing_to_send, while_up, while_down, over, to_probe, to_wait}
+use Rattle.rad_progress.proofs.OneLess.{again, spent, left_unspent, left_spent, due_now_again, due_now_spent, none_due_again, none_due_spent, none_out, nothing_to_send, while_up, while_down, over, to_probe, to_wait}
 
 not_cut : (due most moment : ℕ) → moment ≡ min due most → moment < most → due ≡ moment
 not_cut due most moment is h = omega arith

@@ -1,16 +1,14 @@
 -- Each step that is not idle leaves one step less, and an idle one finds none.
-use Rattle.std.proofs.Common.{◌≡◌, ℕ, ◌+◌, ◌-◌, ◌*◌, ◌^◌, ◌<◌, ◌≤◌, Bool, true, false, cond, eqb, List, [], ◌∷◌, length, Option, Some, None, refl, sym, ap, ◌∙◌, subst, inl, inr, arith}
-use Rattle.std.specs.Prelude.{min, not, nat_le, ◌&&◌, option_map}
-use Rattle.std.specs.List.{count_by}
+use Rattle.std.proofs.Common.{◌≡◌, ℕ, ◌+◌, ◌-◌, ◌*◌, ◌^◌, ◌<◌, ◌≤◌, Bool, true, false, cond, eqb, List, length, Option, Some, None, refl, sym, ap, ◌∙◌, subst, inl, inr, arith}
+use Rattle.std.specs.Prelude.{min, not, nat_le, ◌&&◌}
 use Rattle.std.specs.FinMap as map
-use Rattle.std.proofs.lemmas.Bool.{lt-leb, le-leb, leb-true, eqb-true, eq-eqb, ne_eqb, cases_Bool, cases_eq, cases_lt}
+use Rattle.std.proofs.lemmas.Bool.{lt-leb, le-leb, eq-eqb, ne_eqb, cases_Bool, cases_eq, cases_lt}
 use Rattle.std.proofs.lemmas.Nat.{pow_pos}
 use Rattle.rad_config.specs.Limits.{AreInRange}
 use Rattle.rad_tables.specs.declared.slots.Slot.{Slot}
 use Rattle.rad_tables.specs.Waiting.{wait_of}
 use Rattle.rad_lane.specs.Outstanding.{Outstanding, is_spent, first_sending, sent_again, renewed}
 use Rattle.rad_lane.specs.Stamp.{Recorded}
-use Rattle.rad_lane.specs.declared.entry.Entry.{Entry}
 use Rattle.rad_lane.specs.declared.entry.Entry.TheVariants.{Sending as sending, Probe as probe}
 use Rattle.rad_lane.specs.declared.watch.Watch.{Watch}
 use Rattle.rad_lane.specs.declared.watch.Watch.TheVariants.{Up as up, Down as down}
@@ -23,7 +21,7 @@ use Rattle.rad_lane.specs.Book.{Book, moment_in, outstanding_at, outstanding_of,
 use Rattle.rad_lane.specs.Lawful.{IsLawful, ProbeStands}
 use Rattle.rad_lane.specs.Steps.{Steps, StepsBy, StepsWhileUp, StepsWhileDown, NothingToSend, with_sending, without_probe}
 use Rattle.rad_progress.specs.StepsLeft.{is_due_again, is_spent_due, due_again, spent_due, to_be_sent, steps_left_up, steps_left_down, steps_left_by, steps_left, most_steps, Settles}
-use Rattle.rad_progress.proofs.Held.{Held, total, weight, comes, changes, part, none_outstanding, counted, two_counts, sums_add, gone_up}
+use Rattle.rad_progress.proofs.Held.{Held, total, comes, changes, part, none_outstanding, counted, two_counts, sums_add, gone_up}
 
 -- each outstanding request has the lane's number of sendings in a round
 abbrev pub HaveItsTries : Book → Type 0

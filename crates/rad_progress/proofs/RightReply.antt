@@ -1,5 +1,5 @@
 -- How a right reply is heard.
-use Rattle.std.proofs.Common.{◌≡◌, ℕ, List, Option, Some, None, Result, Ok, Err, refl, sym, ap, ◌∙◌, subst}
+use Rattle.std.proofs.Common.{◌≡◌, ℕ, List, Some, None, Result, Ok, Err, refl, sym, ap, ◌∙◌, subst}
 use Rattle.std.specs.FinMap as map
 use Rattle.rad_packet.specs.Packet.{code_of, authenticator_of, packet_attributes}
 use Rattle.rad_packet.specs.Reading.{ReadsAs}
@@ -18,7 +18,7 @@ use Rattle.rad_lane.specs.declared.entry.Entry.{Entry}
 use Rattle.rad_lane.specs.declared.entry.Entry.TheVariants.{Sending as sending, Probe as probe}
 use Rattle.rad_lane.specs.Outstanding.{Outstanding, AnswerKept}
 use Rattle.rad_lane.specs.Book.{Book, moment_in, outstanding_at}
-use Rattle.rad_lane.specs.Hears.{Hears, HearsReply, KeepsAnswer, GoesOut, IsRightAnswer, pair, octets_in}
+use Rattle.rad_lane.specs.Hears.{Hears, KeepsAnswer, GoesOut, IsRightAnswer, pair}
 use Rattle.rad_progress.specs.Replies.{IsRightReply, IsItsAnswer, IsAnsweredBy}
 
 one_sending : (a b : Outstanding) → Some (sending a) ≡ Some (sending b) → a ≡ b

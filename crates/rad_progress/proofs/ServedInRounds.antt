@@ -11,7 +11,7 @@ use Rattle.rad_lane.specs.declared.stamp.Stamp.{Stamp}
 use Rattle.rad_config.specs.Limits.{AreInRange}
 use Rattle.rad_tables.specs.declared.slots.Slot.{Slot}
 use Rattle.rad_tables.specs.Pairs.{slot_cmp}
-use Rattle.rad_tables.proofs.SlotLemmas.{slots_total, tied}
+use Rattle.rad_tables.proofs.SlotLemmas.{slots_total}
 use Rattle.rad_tables.proofs.MapLemmas.{removed_absent}
 use Rattle.rad_lane.specs.declared.entry.Entry.{Entry}
 use Rattle.rad_lane.specs.declared.entry.Entry.TheVariants.{Sending as sending, Probe as probe}
@@ -20,11 +20,10 @@ use Rattle.rad_lane.specs.declared.watch.Watch.TheVariants.{Up as up, Down as do
 use Rattle.rad_lane.specs.declared.hearing.Heard.{Heard}
 use Rattle.rad_lane.specs.declared.hearing.Heard.TheVariants.{Answer, ProbeAnswered}
 use Rattle.rad_lane.specs.declared.hearing.HearFault.{HearFault}
-use Rattle.rad_lane.specs.declared.hearing.HearFault.TheVariants.{OutOfMemory}
 use Rattle.rad_lane.specs.declared.stepping.Action.{Action}
 use Rattle.rad_lane.specs.declared.stepping.Action.TheVariants.{Sent, Resent, Probed, WentDown, WentUp, Idle}
 use Rattle.rad_lane.specs.declared.running.Event.{Event}
-use Rattle.rad_lane.specs.declared.running.Event.TheVariants.{Accept as accept, Step as step, Hear as hear, Drain as drain, Turn as turn}
+use Rattle.rad_lane.specs.declared.running.Event.TheVariants.{Step as step, Hear as hear}
 use Rattle.rad_lane.specs.declared.running.GivenAnswer.{GivenAnswer}
 use Rattle.rad_lane.specs.declared.running.GivenAnswer.TheVariants.{Accept as accepted, Step as stepped, Hear as heard, Drain as drained, Turn as turned}
 use Rattle.rad_lane.specs.declared.running.Given.{Given}
@@ -33,23 +32,23 @@ use Rattle.rad_lane.specs.Entries.{sendings_in, but_a_probe, renewed_in}
 use Rattle.rad_lane.specs.Datagrams.{Datagrams}
 use Rattle.rad_lane.specs.Dues.{NoneOutstanding}
 use Rattle.rad_lane.specs.Book.{Book, moment_in, outstanding_at, outstanding_count}
-use Rattle.rad_lane.specs.Watch.{is_up, GoesUp, GoesUpIfDown}
+use Rattle.rad_lane.specs.Watch.{is_up, GoesUpIfDown}
 use Rattle.rad_lane.specs.Stamp.{Recorded}
 use Rattle.rad_lane.specs.Counting.{IsDone}
 use Rattle.rad_lane.specs.Lawful.{IsLawful}
 use Rattle.rad_lane.specs.Steps.{StepsBy, NothingToSend}
-use Rattle.rad_lane.specs.Hears.{Hears, pair, with_answer}
+use Rattle.rad_lane.specs.Hears.{Hears, pair}
 use Rattle.rad_lane.specs.Runs.{Gives, Runs}
 use Rattle.rad_progress.specs.Calls.{IsStepAt, IsDatagram, IsIdle, EndsIdle}
-use Rattle.rad_progress.specs.Replies.{IsRightReply, IsAnsweredBy}
-use Rattle.rad_progress.specs.Rounds.{IsGranted, IsReply, HasReply, IsRound, IsRoundWithRequests, Rounds, RoundsWithRequests, CanGoOn, IsServed, IsAnsweredOnce, rounds_for, rounds_after}
+use Rattle.rad_progress.specs.Replies.{IsRightReply}
+use Rattle.rad_progress.specs.Rounds.{IsGranted, HasReply, IsRound, Rounds, RoundsWithRequests, CanGoOn, IsServed, IsAnsweredOnce, rounds_for, rounds_after}
 use Rattle.rad_progress.proofs.Held.{Held, part, none_outstanding, counted}
-use Rattle.rad_progress.proofs.OneLess.{waits, nothing_to_send}
+use Rattle.rad_progress.proofs.OneLess.{waits}
 use Rattle.rad_progress.proofs.WatchAfter.{heard_up}
 use Rattle.rad_progress.proofs.RightReply.{heard_by, its_pair}
 use Rattle.rad_progress.proofs.StaysOutstanding.{Apart, apart_same, apart_in_run, call_keeps}
 use Rattle.rad_progress.proofs.AnsweredOnce.{answered_once}
-use Rattle.rad_progress.proofs.AfterCalls.{Passes, StepPasses, Grows, out_of, passes_on, hears_pass, steps_pass, requests_grow}
+use Rattle.rad_progress.proofs.AfterCalls.{Passes, StepPasses, Grows, passes_on, hears_pass, steps_pass, requests_grow}
 
 -- a lane that is up, with nothing outstanding
 pub record IsClear (book : Book) : Type 0 where
@@ -357,8 +356,7 @@ module _ (window : ℕ) (wide : 1 ≤ window) where
       let within_next : target ≤ length h.0.sent + length h.0.queued = omega (arith, within, queue, sent, opened, sent_before) in
       let rest = sent_after n h.0 new target first.0 within_next h.2 in
       let count = more_sent n in
-      let reached = rest.1 in
-      (
+      let reached = rest.1 in (
         rest.0,
         omega (arith, reached, count, queue, sent, opened, sent_before, within, within_next),
         (grows.more ++ rest.2.0, rest.2.1 ∙ ap (λ (xs : List Stamp). xs ++ rest.2.0) (first.1.accepted ∙ grows.accepted) ∙ append_assoc old.accepted grows.more rest.2.0),

@@ -1,12 +1,12 @@
 -- What is outstanding stays so until it is answered, and the probe stands under its own pair.
-use Rattle.std.proofs.Common.{◌≡◌, ℕ, ◌+◌, ◌<◌, ◌≤◌, Bool, true, false, cond, List, [], ◌∷◌, Option, Some, None, Result, Ok, Err, refl, sym, ap, ◌∙◌, subst, inl, inr}
+use Rattle.std.proofs.Common.{◌≡◌, ℕ, ◌+◌, Bool, true, false, cond, List, [], ◌∷◌, Option, Some, None, Result, Ok, Err, refl, sym, ap, ◌∙◌, subst, inl, inr}
 use Rattle.std.specs.Prelude.{◌⊎◌, option_map}
 use Rattle.std.specs.Ordering.{eq_by_cmp}
 use Rattle.std.specs.Cmp.{eq_by_cmp_equiv}
 use Rattle.std.specs.FinMap as map
 use Rattle.rad_realms.specs.Checking.{Request}
 use Rattle.rad_tables.specs.declared.slots.Slot.{Slot}
-use Rattle.rad_tables.specs.Pairs.{slot_cmp, IsFirstFree}
+use Rattle.rad_tables.specs.Pairs.{slot_cmp}
 use Rattle.rad_tables.proofs.SlotLemmas.{slots_total, tied}
 use Rattle.rad_lane.specs.declared.entry.Entry.{Entry}
 use Rattle.rad_lane.specs.declared.entry.Entry.TheVariants.{Sending as sending, Probe as probe}
@@ -36,10 +36,10 @@ use Rattle.rad_lane.specs.Watch.{probe_of, GoesUp, GoesUpIfDown}
 use Rattle.rad_lane.specs.Lawful.{ProbeStands}
 use Rattle.rad_lane.specs.Accepts.{Accepts}
 use Rattle.rad_lane.specs.Steps.{StepsBy, freed}
-use Rattle.rad_lane.specs.Hears.{Hears, HearsReply, with_answer, pair}
+use Rattle.rad_lane.specs.Hears.{Hears, pair}
 use Rattle.rad_lane.specs.Volumes.{Turns}
 use Rattle.rad_lane.specs.Runs.{Gives, Runs}
-use Rattle.rad_progress.specs.Replies.{IsStillOutstanding, IsItsAnswer, AnswersIt, IsAnsweredAmong}
+use Rattle.rad_progress.specs.Replies.{IsStillOutstanding, AnswersIt, IsAnsweredAmong}
 use Rattle.rad_progress.proofs.Held.{Held, left_freed}
 use Rattle.rad_progress.proofs.RightReply.{its_answer}
 
@@ -194,8 +194,7 @@ module _ (old : Book) (p : Apart old) where
   step_keeps now random d new (down until next out) is (Probed slot) h =
       let stands : ProbeStands old (down until next out) = subst (λ w. ProbeStands old w) is p in
       let held : new.held ≡ map.insert (freed old.held out) slot (probe d.after) = ap (λ (b : Book). b.held) h.2.2 in
-      let watch : new.watch ≡ down until (now + old.setup.limits.probe_every) (Some slot) = ap (λ (b : Book). b.watch) h.2.2 in
-      (
+      let watch : new.watch ≡ down until (now + old.setup.limits.probe_every) (Some slot) = ap (λ (b : Book). b.watch) h.2.2 in (
         subst (λ w. ProbeStands new w) (sym watch) (
           (d.after, ap (λ (m : Held). map.get m slot) held ∙ its_place (freed old.held out) slot (probe d.after)),
           λ at octets there. alone (freed old.held out) (none_freed old (down until next out) stands) slot at d.after octets (ap (λ (m : Held). map.get m at) (sym held) ∙ there),

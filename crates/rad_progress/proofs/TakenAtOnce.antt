@@ -1,6 +1,6 @@
 -- The steps that a lane takes at one moment are those that were left to it.
-use Rattle.std.proofs.Common.{◌≡◌, ℕ, ◌+◌, ◌<◌, ◌≤◌, Bool, true, false, cond, List, [], ◌∷◌, Option, Some, None, refl, sym, ap, ◌∙◌, subst, arith}
-use Rattle.std.specs.Prelude.{max, option_map}
+use Rattle.std.proofs.Common.{◌≡◌, ℕ, ◌+◌, Bool, true, false, cond, List, [], ◌∷◌, Option, Some, None, refl, sym, ap, ◌∙◌, subst, arith}
+use Rattle.std.specs.Prelude.{option_map}
 use Rattle.std.specs.List.{AllByRecursion}
 use Rattle.std.specs.Ordering.{eq_by_cmp}
 use Rattle.std.specs.FinMap as map
@@ -131,8 +131,7 @@ module _ (moment now : ℕ) where
         let after = after_by old s.apart s.its now random d new old.watch refl action (subst (λ n. StepsBy old.watch old n random action d new) at g.0) in
         let setup = call_setup old (step its_moment random) (stepped action) d new g in
         let settled : Settles old now action new = subst (λ n. Settles old n action new) at (settles_so old its_moment random action d new s.apart s.its s.range g.0) in
-        let last = after.1 in
-        (
+        let last = after.1 in (
           record {
             apart = (call_keeps old s.apart (step its_moment random) (stepped action) d new g).0;
             its = λ slot entry there. after.0 slot entry there ∙ ap (λ x. x.limits.tries) (sym setup);

@@ -1,6 +1,6 @@
 -- The watch after a call.
 use Rattle.std.proofs.Common.{◌≡◌, ℕ, ◌+◌, ◌-◌, ◌^◌, ◌<◌, ◌≤◌, List, [], ◌∷◌, Option, Some, None, Result, Ok, Err, refl, sym, ap, ◌∙◌, subst, inl, inr, arith}
-use Rattle.std.specs.Prelude.{◌⊎◌, min, max, ⊤}
+use Rattle.std.specs.Prelude.{◌⊎◌, min}
 use Rattle.std.specs.List.{AllByRecursion}
 use Rattle.rad_config.specs.Limits.{AreInRange}
 use Rattle.rad_realms.specs.Checking.{Request}

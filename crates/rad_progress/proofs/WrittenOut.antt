@@ -1,6 +1,6 @@
 -- Books, written out, at which the bounds are reached.
-use Rattle.std.proofs.Common.{◌≡◌, ◌≢◌, ℕ, suc, ◌+◌, ◌<◌, ◌≤◌, Bool, true, false, cond, List, [], ◌∷◌, ◌++◌, length, get_or, zero, Option, Some, None, refl, sym, ap, ◌∙◌, subst, arith, zero-le}
-use Rattle.std.specs.Prelude.{map as each, All, AllPairs, min}
+use Rattle.std.proofs.Common.{◌≡◌, ◌≢◌, ℕ, suc, ◌<◌, ◌≤◌, Bool, true, false, cond, List, [], ◌∷◌, ◌++◌, length, get_or, zero, Option, Some, None, refl, sym, ap, ◌∙◌, subst, arith}
+use Rattle.std.specs.Prelude.{map as each, All, AllPairs}
 use Rattle.std.specs.Ordering.{eq_by_cmp}
 use Rattle.std.specs.FinMap as map
 use Rattle.std.specs.List.{filter_map}
@@ -16,17 +16,17 @@ use Rattle.rad_tables.proofs.MapLemmas.{given-insert_absent}
 use Rattle.rad_lane.specs.declared.stamp.Stamp.{Stamp}
 use Rattle.rad_lane.specs.declared.entry.Entry.{Entry}
 use Rattle.rad_lane.specs.declared.entry.Entry.TheVariants.{Sending as sending, Probe as probe}
-use Rattle.rad_lane.specs.declared.watch.Watch.TheVariants.{Up as up, Down as down}
+use Rattle.rad_lane.specs.declared.watch.Watch.TheVariants.{Down as down}
 use Rattle.rad_lane.specs.Setup.{LaneSetup, IsOfItsRealms}
 use Rattle.rad_lane.specs.Stamp.{Recorded, IsRecord, key_of}
 use Rattle.rad_lane.specs.Outstanding.{Outstanding, first_sending}
 use Rattle.rad_lane.specs.Entries.{request_in, sendings_in}
-use Rattle.rad_lane.specs.Book.{Book, outstanding_at, outstanding_of, outstanding_count}
+use Rattle.rad_lane.specs.Book.{Book, outstanding_count}
 use Rattle.rad_lane.specs.Lawful.{IsLawful, NoRepeatWithinSpan, ForwardsItsRecord, IsTheLanes}
 use Rattle.rad_progress.specs.StepsLeft.{steps_left, most_steps}
-use Rattle.rad_progress.specs.Rounds.{Rounds, rounds_for}
+use Rattle.rad_progress.specs.Rounds.{Rounds}
 use Rattle.rad_progress.specs.Examples.{Fits, IsInRange, waiting, behind}
-use Rattle.rad_progress.proofs.Held.{Held, counted}
+use Rattle.rad_progress.proofs.Held.{Held}
 use Rattle.rad_progress.proofs.OneLess.{while_down, over}
 use Rattle.rad_progress.proofs.ServedInRounds.{full}
 

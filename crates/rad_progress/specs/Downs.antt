@@ -1,5 +1,5 @@
 -- How long a home server is marked down, and when the next probe is (own).
-use Rattle.std.specs.Prelude.{◌≡◌, ⊤, ℕ, Option}
+use Rattle.std.specs.Prelude.{◌≡◌, ⊤, ℕ}
 use Rattle.rad_lane.specs.declared.watch.Watch.{Watch}
 use Rattle.rad_lane.specs.declared.watch.Watch.TheVariants.{Up as up, Down as down}
 use Rattle.rad_lane.specs.declared.stepping.Action.{Action}

@@ -1,14 +1,13 @@
 -- Books, written out, at which the bounds are reached (own).
-use Rattle.std.specs.Prelude.{◌≡◌, ℕ, [], ◌∷◌, ◌≤◌, Some, None}
+use Rattle.std.specs.Prelude.{◌≡◌, ℕ, [], ◌∷◌, Some, None}
 use Rattle.std.specs.FinMap as map
 use Rattle.rad_config.specs.Limits.{AreInRange}
-use Rattle.rad_tables.specs.declared.slots.Slot.{Slot}
 use Rattle.rad_tables.specs.Pairs.{first_slot}
 use Rattle.rad_lane.specs.declared.entry.Entry.TheVariants.{Sending as sending}
 use Rattle.rad_lane.specs.declared.watch.Watch.TheVariants.{Up as up, Down as down}
 use Rattle.rad_lane.specs.Setup.{LaneSetup, IsOfItsRealms}
 use Rattle.rad_lane.specs.Stamp.{Recorded, IsRecord}
-use Rattle.rad_lane.specs.Outstanding.{Outstanding, first_sending, octets_of}
+use Rattle.rad_lane.specs.Outstanding.{first_sending, octets_of}
 use Rattle.rad_lane.specs.Book.{Book}
 
 -- A request may stand in the book of a lane that is set up so, as its first one: it is a record of the lane's realms,

@@ -1,5 +1,5 @@
 -- Rounds of a lane whose home server answers (own).
-use Rattle.std.specs.Prelude.{◌≡◌, ⊤, ℕ, zero, suc, ◌+◌, ◌-◌, ◌/◌, ◌≤◌, ◌⊎◌, ◌==◌, true, List, [], ◌∷◌, Result, Err}
+use Rattle.std.specs.Prelude.{◌≡◌, ⊤, ℕ, zero, suc, ◌+◌, ◌-◌, ◌/◌, ◌≤◌, ◌⊎◌, ◌==◌, true, List, [], ◌∷◌, Err}
 use Rattle.std.specs.List.{AllByRecursion, Contains, count_by}
 use Rattle.rad_tables.specs.declared.slots.Slot.{Slot}
 use Rattle.rad_lane.specs.declared.stamp.Stamp.{Stamp}
@@ -8,7 +8,6 @@ use Rattle.rad_lane.specs.declared.running.Event.{Event}
 use Rattle.rad_lane.specs.declared.running.Event.TheVariants.{Hear as hear}
 use Rattle.rad_lane.specs.declared.running.GivenAnswer.{GivenAnswer}
 use Rattle.rad_lane.specs.declared.running.GivenAnswer.TheVariants.{Hear as heard}
-use Rattle.rad_lane.specs.declared.running.Given.{Given}
 use Rattle.rad_lane.specs.Outstanding.{Outstanding, AnswerKept}
 use Rattle.rad_lane.specs.Book.{Book, outstanding_at, outstanding_count}
 use Rattle.rad_lane.specs.Watch.{is_up}

@@ -1,4 +1,4 @@
-use Rattle.std.proofs.Common.{refl, sym, ◌∙◌, ◌≤◌, arith}
+use Rattle.std.proofs.Common.{refl, sym, ◌∙◌, arith}
 use Rattle.std.specs.Prelude.{None}
 use Rattle.rad_progress.proofs.WrittenOut.{wait_over, waiting_lawful, waiting_steps}
 use Rattle.rad_progress.specs.Examples.{waiting}
