@@ -4,3 +4,4 @@
 
 mod answers;
 mod example;
+mod rounds;

@@ -1,8 +1,8 @@
 //! A simulation of the whole proxy, in one thread. A scheduler with a given seed calls `front_worker` and every
 //! `lane_worker` of rad_desk, for one turn or for several. They work over wires in memory, with one virtual clock. The
 //! network loses, duplicates, delays and reorders datagrams. NASes repeat requests. Home servers die, come back, and
-//! reply late, twice, wrongly or never. Receives and sends fail, gates stop workers, lanes are drained, and the proxy
-//! is closed at the end.
+//! reply late, twice, wrongly or never. Receives and sends fail, gates stop workers, and lanes are drained. At the end the
+//! network loses nothing and the home servers answer, until each lane is served, and the proxy is closed.
 //!
 //! After each call, everything that the worker did is compared with the rules. The comparison uses a flat model of
 //! them (`book.rt` and the files that it names, `front_turn.rt`, `lane_turn.rt`), which calls no code of the lanes.
@@ -26,6 +26,7 @@ mod planning;
 mod rules;
 mod run;
 mod setting;
+mod settling;
 mod stepping;
 mod trace;
 mod walk;

@@ -7,7 +7,9 @@ use crate::nases::turn_a_bit;
 use crate::rules::Rule;
 use crate::setting::{Home, Setting};
 use crate::trace::Arrival;
-use rad_auth::{ACCOUNTING_RESPONSE, MESSAGE_AUTHENTICATOR, PROXY_STATE, STATUS_SERVER};
+use rad_auth::{
+    ACCOUNTING_RESPONSE, MESSAGE_AUTHENTICATOR, PROXY_STATE, STATUS_SERVER, Secret,
+};
 use rad_packet::{Datagram, PacketRef, read};
 use rad_realms::Endpoint;
 use std::alloc::Global;
@@ -143,6 +145,14 @@ impl Network {
         }
         self.carry(chance, setting, now, Some(lane), mail)
     }
+}
+
+/// Returns the right reply to a packet, without other attributes than its Proxy-States.
+pub fn right_reply(sent: &PacketRef<'_>, secret: &Secret) -> Datagram {
+    let mut reply = begun(ACCOUNTING_RESPONSE, sent.identifier(), [0; 16]);
+    push_states(&mut reply, sent);
+    sign_response(&mut reply, &sent.authenticator(), secret);
+    reply
 }
 
 /// Returns the reply to a packet, in most cases with each Proxy-State in its order.

@@ -108,6 +108,14 @@ impl Rule {
 
     pub const DRAIN: Rule = Rule("a drain tells how many requests were accepted until then");
 
+    pub const SETTLES: Rule = Rule("at one moment a lane takes no more steps than its window, and one");
+
+    pub const COMES_UP: Rule = Rule("a lane that is down goes up at the first step after its wait");
+
+    pub const SERVES: Rule = Rule(
+        "a lane whose home server answers is served in a round, and one for each window of its queue",
+    );
+
     pub const CLOSE: Rule = Rule("the proxy is closed, and each lane has an end");
 
     pub const CLOSE_COUNTS: Rule = Rule("the end tells the counts of the book");

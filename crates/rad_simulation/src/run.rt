@@ -30,7 +30,7 @@ pub struct Outcome {
 
 /// The proxy of a run, with its configuration.
 #[derive(Clone, Copy)]
-struct Served<'a> {
+pub struct Served<'a> {
     config: &'a Config,
     proxy: &'a Proxy,
 }
@@ -191,7 +191,7 @@ impl Run {
         for _ in 0..self.setting.calls {
             self.step(rt, served, inlets)?;
         }
-        Ok(())
+        self.settle(rt, served, inlets)
     }
 
     /// Has something happen outside the workers, by chance, and then calls one worker.
@@ -205,8 +205,8 @@ impl Run {
         if self.chance.strikes(self.setting.drains) {
             self.drain(rt, served.proxy)?;
         }
-        self.call(rt, served, inlets)?;
-        compare_counts(rt, served.proxy, self.books.books.as_slice())
+        let plan = self.plan();
+        self.play(rt, served, inlets, plan)
     }
 
     /// Has a NAS send something, and a home server die or come back, by chance.
@@ -239,14 +239,25 @@ impl Run {
         }
     }
 
-    /// Calls a worker, and compares what it did.
+    /// Calls a worker, and compares what it did, and the counts of all lanes.
+    pub fn play(
+        &mut self,
+        rt: &impl Wait,
+        served: Served<'_>,
+        inlets: &mut [Inlet],
+        plan: Plan,
+    ) -> Result<(), Rule> {
+        self.call(rt, served, inlets, plan)?;
+        compare_counts(rt, served.proxy, self.books.books.as_slice())
+    }
+
     fn call(
         &mut self,
         rt: &impl Wait,
         served: Served<'_>,
         inlets: &mut [Inlet],
+        plan: Plan,
     ) -> Result<(), Rule> {
-        let plan = self.plan();
         let (lane, turns) = (plan.lane, plan.turns);
         let (tally, arrivals) = self.work(rt, served, inlets, plan);
         self.network.give_back(arrivals, self.clock, lane)?;

@@ -40,13 +40,13 @@ tries = 1
 const CLIENT: [u8; 4] = [10, 0, 0, 1];
 
 /// The UDP port that it sends from.
-const CLIENT_PORT: u16 = 40_000;
+pub(super) const CLIENT_PORT: u16 = 40_000;
 
 /// The Authenticator of each probe.
 const RANDOM: [u8; 16] = [0xa5; 16];
 
 /// The empty lane of the first home server of a configuration.
-fn lane_of(alloc: Global, config: &Config) -> Result<Lane<BlockQueue<Record>>, Fail> {
+pub(super) fn lane_of(alloc: Global, config: &Config) -> Result<Lane<BlockQueue<Record>>, Fail> {
     if config.homes().is_empty() {
         return Err(Fail::from("a home server"));
     }
@@ -55,7 +55,7 @@ fn lane_of(alloc: Global, config: &Config) -> Result<Lane<BlockQueue<Record>>, F
 }
 
 /// Checks a datagram of the client: its authenticator, and that it leads to a lane. `None` where it is no such request.
-fn checked<'a>(config: &'a Config, datagram: &'a [u8]) -> Option<Checked<'a>> {
+pub(super) fn checked<'a>(config: &'a Config, datagram: &'a [u8]) -> Option<Checked<'a>> {
     match check_in(config, CLIENT, CLIENT_PORT, datagram) {
         Ok(Incoming::Request(request)) => Some(request),
         _ => None,
@@ -63,13 +63,13 @@ fn checked<'a>(config: &'a Config, datagram: &'a [u8]) -> Option<Checked<'a>> {
 }
 
 /// Returns whether a lane takes a request.
-fn takes(lane: &Lane<BlockQueue<Record>>, request: &Checked<'_>) -> bool
+pub(super) fn takes(lane: &Lane<BlockQueue<Record>>, request: &Checked<'_>) -> bool
     ensures { IsTrue result ↔ IsTaken lane.now request.now }
 {
     lane.takes(request)
 }
 
-fn moment(milliseconds: u32) -> Moment {
+pub(super) fn moment(milliseconds: u32) -> Moment {
     Moment::new(u64::from(milliseconds)).unwrap()
 }
 
@@ -141,7 +141,7 @@ fn plays(alloc: Global, config: &Config, lane: &mut Lane<BlockQueue<Record>>) ->
 }
 
 /// Closes a lane. No other function does, since each would have to prove that it may drop what is left.
-fn end(lane: Lane<BlockQueue<Record>>) {
+pub(super) fn end(lane: Lane<BlockQueue<Record>>) {
     discard(lane.close());
 }
 

@@ -1,0 +1,11 @@
+pub mod Held
+pub mod OneLess
+pub mod NextMoment
+pub mod WatchAfter
+pub mod RightReply
+pub mod StaysOutstanding
+pub mod AfterCalls
+pub mod TakenAtOnce
+pub mod AnsweredOnce
+pub mod ServedInRounds
+pub mod WrittenOut
