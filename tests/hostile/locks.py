@@ -8,6 +8,8 @@ Requests for two home servers come as fast as may be, and both books are short, 
 would soon stand still if either wanted the other one's lock beside its own. In the end both lanes tell how they stand, and have
 answered all.
 
+Then a large part of one lane's book is cut off at once, while a NAS asks the other lane: it waits hardly longer than without a cut.
+
 Then a NAS asks one lane with a ring of four places, with four requests out at most, and its home server replies to each at once. It
 gets each response once, signed for its request, in the order of the requests; the home server gets each request once; and nothing is
 left.
@@ -30,6 +32,7 @@ import sys
 import tempfile
 import threading
 import time
+from concurrent.futures import ThreadPoolExecutor
 from dataclasses import dataclass
 
 sys.dont_write_bytecode = True
@@ -65,6 +68,9 @@ ALL, MANY = 2048, 40
 # A burst that a receive buffer has room for, of which a datagram takes less than 1,000 octets, and the least and the largest ring for it.
 BUFFER = min(1 << 20, int(pathlib.Path("/proc/sys/net/core/rmem_max").read_text()))
 BURST, SMALL, LARGEST = min(2000, 2 * BUFFER // 1000), 16, 4096
+# How many requests a cut removes, after which span, and how much longer than else a client of another lane may wait beside it, in
+# seconds.
+CUT, SPAN, LONGER = 130_000, 2000, 0.06
 STATE = re.compile(r"lane (\d) h\1 up open accepted (\d+) queued 0 outstanding 0 answered \2 opening \d+")
 
 
@@ -91,6 +97,60 @@ def load_both(program, work):
         nas.ask(OUT, REQUESTS, PATIENCE)
         print(f"accepted and answered: {proxy.lanes()}", flush=True)
         proxy.end()
+
+
+class CutProxy(memory.Proxy):
+    """The program with two lanes."""
+
+    def opening(self):
+        """How many requests of the first lane are cut off."""
+        self.ran.stdin.write(b"state\n")
+        first, _ = self.line(), self.line()
+        return int(first.rpartition(" ")[2])
+
+    def accepted(self):
+        return 0
+
+
+def longest_wait(proxy, nas, seconds, numbers):
+    """The longest time that a NAS of the second lane waits for an answer, of those that it asks for one after the other."""
+    longest, end = 0, time.monotonic() + seconds
+    while time.monotonic() < end:
+        number = next(numbers)
+        octets = signed(number % 256, user_name(f"user{number}@r01.bench".encode()), memory.CLIENT_SECRET.encode())
+        begun = time.monotonic()
+        nas.sendto(octets, (HERE, proxy.port))
+        hope("the answer's identifier", nas.recv(4096)[1], number % 256)
+        longest = max(longest, time.monotonic() - begun)
+        time.sleep(0.001)
+    return longest
+
+
+def ask_steadily(proxy, work, rate, seconds):
+    """Asks the first lane for so much a second, whatever it answers."""
+    words = {"port": proxy.port, "secret": memory.CLIENT_SECRET, "rate": rate, "count": rate * seconds, "seconds": seconds, "sockets": 16}
+    options = [word for name, value in words.items() for word in (f"--{name}", str(value))]
+    subprocess.run([work / "generator", *options], check=True, stdout=subprocess.DEVNULL)
+
+
+def cut_beside_another_lane(program, work):
+    """Beside a cut of many requests a client of the other lane waits hardly longer than without it."""
+    memory.compile_all(work, ["generator", "home"])
+    load, numbers = memory.Load("one large cut", 2 * CUT, SPAN, [OUT]), itertools.count()
+    with memory.serving(program, work, load, Refuser(work).library, CutProxy, 2) as (proxy, _), bound() as other:
+        nas = memory.Nas(work, proxy)
+
+        def waits():
+            """How many requests a cut removes, and the longest waits without it and beside it."""
+            nas.ask(OUT, CUT - 10, PATIENCE)
+            apart, before = longest_wait(proxy, other, 1.5 * SPAN / 1000, numbers), proxy.opening()
+            with ThreadPoolExecutor(1) as pool:
+                waiting = pool.submit(longest_wait, proxy, other, 2, numbers)
+                ask_steadily(proxy, work, 2000, 1)
+                beside = waiting.result()
+            return proxy.opening() - before, apart, beside
+
+        best(waits, lambda seen: seen[0] >= CUT - 2000 and seen[2] <= seen[1] + LONGER)
 
 
 def serve(home, seen):
@@ -481,7 +541,7 @@ def rest_of(socket):
         return None
 
 
-TESTS = (load_both, keep_order, pass_one_place, serve_beside_a_full_ring, end_at_a_full_ring, go_on_after_a_stop, take_no_longer,
+TESTS = (load_both, cut_beside_another_lane, keep_order, pass_one_place, serve_beside_a_full_ring, end_at_a_full_ring, go_on_after_a_stop, take_no_longer,
          pass_a_slow_interface, keep_no_longer, keep_so_many_in_all)
 
 
