@@ -4,9 +4,9 @@ use rad_log::{Log, warn_of_reason};
 use std::alloc::{AllocError, AllocGlobal, Global};
 use std::env::{self, Env, VarError};
 use std::fmt::{self, Display};
-use std::fs::{self, Files, OpenFile, OpenOptions, Permissions};
+use std::fs::{self, Files, Metadata, OpenFile, OpenOptions, Permissions};
 use std::io::{self, ErrorKind, Read, Write};
-use std::os::unix::fs::{OpenOptionsExt, PermissionsExt};
+use std::os::unix::fs::{MetadataExt, OpenOptionsExt, PermissionsExt};
 use std::random::RandomSource;
 
 /// The environment variable that names the file of the counters.
@@ -46,13 +46,31 @@ pub trait ReplaceFile {
     ///
     /// `NotRegular` if something other than a regular file is at the path; `NotCounters` if it is a file that is neither
     /// empty nor one of counters; `NotWritten` if the system refuses something, or memory is refused.
-    fn replace(&self, path: &str, text: &[u8]) -> Result<(), FileFault>;
+    fn replace(&mut self, path: &str, text: &[u8]) -> Result<(), FileFault>;
 }
 
 /// Replaces the files of a runtime.
 #[derive(Drop)]
 pub struct RuntimeFiles<R> {
     rt: R,
+    /// The file that was written last.
+    last: Option<FileId>,
+}
+
+/// What tells a file from another one at the same path.
+#[derive(Clone, Copy, PartialEq, Eq)]
+struct FileId {
+    device: u64,
+    inode: u64,
+}
+
+impl FileId {
+    fn of(found: &Metadata) -> FileId {
+        FileId {
+            device: found.dev(),
+            inode: found.ino(),
+        }
+    }
 }
 
 /// The file that holds the text of the counters.
@@ -63,7 +81,7 @@ pub struct CounterFile {
 
 impl<R> RuntimeFiles<R> {
     pub fn new(rt: R) -> RuntimeFiles<R> {
-        RuntimeFiles { rt }
+        RuntimeFiles { rt, last: None }
     }
 }
 
@@ -71,11 +89,13 @@ impl<R: AllocGlobal + Files + RandomSource> ReplaceFile for RuntimeFiles<R>
 where
     R::File: Drop,
 {
-    fn replace(&self, path: &str, text: &[u8]) -> Result<(), FileFault> {
-        check_place(&self.rt, path)?;
+    fn replace(&mut self, path: &str, text: &[u8]) -> Result<(), FileFault> {
+        check_place(&self.rt, path, self.last)?;
         let name = new_name(&self.rt, path)?;
         let new = name.as_str();
-        if create(&self.rt, new, text)? && fs::rename(&self.rt, new, path).is_ok() {
+        let made = create(&self.rt, new, text)?;
+        if made.is_some() && fs::rename(&self.rt, new, path).is_ok() {
+            self.last = made;
             return Ok(());
         }
         let _ = fs::remove_file(&self.rt, new);
@@ -83,14 +103,15 @@ where
     }
 }
 
-/// Fails if something other than a file of counters is at a path. A link is not a regular file, wherever it leads.
-fn check_place<R: Files>(files: &R, path: &str) -> Result<(), FileFault>
+/// Fails if something other than a file of counters is at a path. A link is not a regular file, wherever it leads. The
+/// file that was written last is not opened.
+fn check_place<R: Files>(files: &R, path: &str, last: Option<FileId>) -> Result<(), FileFault>
 where
     R::File: Drop,
 {
     match fs::symlink_metadata(files, path) {
         Ok(found) if !found.is_file() => Err(FileFault::NotRegular),
-        Ok(found) if found.len() == 0 => Ok(()),
+        Ok(found) if found.len() == 0 || last == Some(FileId::of(&found)) => Ok(()),
         Ok(_) => check_head(files, path),
         Err(error) if error.kind() == ErrorKind::NotFound => Ok(()),
         Err(_) => Err(FileFault::NotWritten),
@@ -143,9 +164,9 @@ fn push_number(name: &mut String, number: u64) -> Result<(), AllocError> {
     name.push_str(".new")
 }
 
-/// Creates a file of this name, which must not exist yet, and returns whether it then has its mode, whatever the umask,
-/// and the text.
-fn create<R: Files>(files: &R, name: &str, text: &[u8]) -> Result<bool, FileFault>
+/// Creates a file of this name, which must not exist yet. Returns which file it is, if it then has the text and its mode,
+/// whatever the umask.
+fn create<R: Files>(files: &R, name: &str, text: &[u8]) -> Result<Option<FileId>, FileFault>
 where
     R::File: Drop,
 {
@@ -155,15 +176,16 @@ where
         .mode(MODE)
         .open(files, name);
     match opened {
-        Ok(mut file) => Ok(write(&mut file, text).is_ok()),
+        Ok(mut file) => Ok(write(&mut file, text).ok()),
         Err(_) => Err(FileFault::NotWritten),
     }
 }
 
-/// Sets a new file's mode, and writes the text to it.
-fn write<F: OpenFile + Write>(file: &mut F, text: &[u8]) -> io::Result<()> {
+/// Sets a new file's mode, writes the text to it, and returns which file it is.
+fn write<F: OpenFile + Write>(file: &mut F, text: &[u8]) -> io::Result<FileId> {
     file.set_permissions(Permissions::from_mode(MODE))?;
-    file.write_all(text)
+    file.write_all(text)?;
+    Ok(FileId::of(&file.metadata()?))
 }
 
 impl CounterFile {
@@ -177,7 +199,7 @@ impl CounterFile {
     /// # Errors
     ///
     /// Those of [`ReplaceFile::replace`].
-    pub fn replace<F: ReplaceFile>(&self, files: &F, text: &[u8]) -> Result<(), FileFault> {
+    pub fn replace<F: ReplaceFile>(&self, files: &mut F, text: &[u8]) -> Result<(), FileFault> {
         files.replace(self.path.as_str(), text)
     }
 }

@@ -53,18 +53,18 @@ impl CounterTexts {
     }
 
     /// Writes the texts to a file as they come, until the last one is written. The thread does nothing else.
-    pub fn write_all<R: Wait, F: ReplaceFile>(
+    pub fn write_all<R: Wait, F: ReplaceFile + Drop>(
         &self,
         rt: &R,
         alloc: Global,
         file: &CounterFile,
-        files: &F,
+        mut files: F,
     ) {
         let mut text = Vec::new(alloc);
         for _ in rt.forever() {
             let is_last = self.state.begin_round();
             if self.take(rt, &mut text) {
-                let outcome = file.replace(files, text.as_slice());
+                let outcome = file.replace(&mut files, text.as_slice());
                 self.next.lock(rt).set_fault(outcome.err());
             }
             if is_last {
@@ -110,7 +110,7 @@ where
     };
     let own = *rt;
     texts.state.start();
-    thread::spawn(rt, move || texts.write_all(&own, alloc, &file, &files)).is_ok()
+    thread::spawn(rt, move || texts.write_all(&own, alloc, &file, files)).is_ok()
 }
 
 impl NextText {
