@@ -202,8 +202,8 @@ impl<R: Clock, D: LedgerDisk + Drop> Session<'_, R, D> {
     /// Begins the next file if there is none, if the entries are of a later day, or if the file would have too many
     /// octets. A clock that went back begins none ([`FileDay::see`]).
     fn have_file(&mut self) -> Result<(), LedgerFault> {
+        self.file = self.file.see(self.clock_day(), self.passed());
         let day = self.day_now();
-        self.file = self.file.see(day, self.passed());
         let disk = self.files.disk();
         let open = if disk.is_open() {
             Some(OpenFile {
@@ -230,11 +230,15 @@ impl<R: Clock, D: LedgerDisk + Drop> Session<'_, R, D> {
 
     /// Returns the number of the day of the first entry that waits, or of now if there is none.
     fn day_now(&self) -> u64 {
-        let now = match self.oldest() {
-            Some(oldest) => Some(oldest),
-            None => time_since_1970(self.rt),
-        };
-        match now {
+        match self.oldest() {
+            Some(oldest) => day_of(oldest),
+            None => self.clock_day(),
+        }
+    }
+
+    /// Returns the number of the day of now, or of the file if the clock can't be read.
+    fn clock_day(&self) -> u64 {
+        match time_since_1970(self.rt) {
             Some(now) => day_of(now),
             None => self.file.day,
         }
