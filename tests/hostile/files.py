@@ -191,6 +191,17 @@ def leaves_other_files_alone(trial):
     hope("the folder", sorted(path.name for path in trial.folder.iterdir()), [ledger.name, text.name])
 
 
+def leaves_a_file_alone_that_took_its_place(trial):
+    """The same where another file takes the place of the counters while the program runs."""
+    trial.count()
+    until("the counters", trial.counters.exists)
+    other = trial.room / "other"
+    other.write_text("mine")
+    other.replace(trial.counters)
+    trial.told("no file of counters")
+    hope("the file", trial.counters.read_text(), "mine")
+
+
 def an_empty_file_becomes_one_of_counters(trial):
     """An empty file is replaced, and so is one of counters that another run wrote."""
     trial.counters.touch()
@@ -367,7 +378,8 @@ def a_line_that_is_cut_stands_alone(trial):
 
 TESTS = [
     writes_its_counters, leaves_a_device_alone, leaves_a_link_alone, leaves_a_pipe_alone, leaves_a_folder_alone,
-    leaves_a_socket_alone, leaves_other_files_alone, an_empty_file_becomes_one_of_counters, an_empty_name_is_none,
+    leaves_a_socket_alone, leaves_other_files_alone, leaves_a_file_alone_that_took_its_place,
+    an_empty_file_becomes_one_of_counters, an_empty_name_is_none,
     everybody_may_read_its_counters, follows_no_link_of_a_new_file, is_not_blocked_by_what_is_left, tells_what_it_cannot_write,
     a_hung_file_system_delays_no_end, a_slow_log_holds_no_worker, a_hung_log_delays_no_end, its_last_lines_are_written,
     each_line_is_there_or_counted, starts_a_line_after_a_part_of_one, a_line_that_is_cut_stands_alone,

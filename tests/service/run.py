@@ -808,13 +808,12 @@ def see_sent_again(service):
     sender = subprocess.Popen(
         [sys.executable, "-c", NASES, str(service.port), str(service.home.fileno())], pass_fds=[service.home.fileno()])
     try:
-        time.sleep(1)
+        until("requests come", lambda: re.search("^rad_proxy_accepted_total{.*} [1-9]", service.ask("metrics").stdout, re.M))
         for _ in range(4):
             done = service.ask("metrics")
             hope("status", (done.returncode, done.stderr), (0, ""))
             accepted, queued, sent = (int(re.search(rf"^rad_proxy_{name}{{.*}} (\d+)$", done.stdout, re.M)[1])
                                       for name in ("accepted_total", "queued", "sent_total"))
-            hope("requests come", accepted > 0, True)
             hope(f"sent {sent} accepted {accepted} queued {queued}", sent >= accepted - queued, True)
     finally:
         sender.kill()
