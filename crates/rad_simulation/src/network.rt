@@ -7,9 +7,7 @@ use crate::nases::turn_a_bit;
 use crate::rules::Rule;
 use crate::setting::{Home, Setting};
 use crate::trace::Arrival;
-use rad_auth::{
-    ACCOUNTING_RESPONSE, MESSAGE_AUTHENTICATOR, PROXY_STATE, STATUS_SERVER, Secret,
-};
+use rad_auth::{ACCOUNTING_RESPONSE, MESSAGE_AUTHENTICATOR, PROXY_STATE, STATUS_SERVER, Secret};
 use rad_packet::{Datagram, PacketRef, read};
 use rad_realms::Endpoint;
 use std::alloc::Global;

@@ -108,7 +108,9 @@ impl Rule {
 
     pub const DRAIN: Rule = Rule("a drain tells how many requests were accepted until then");
 
-    pub const SETTLES: Rule = Rule("at one moment a lane takes no more steps than its window, and one");
+    pub const SETTLES: Rule = Rule(
+        "at one moment a lane takes no more steps than its window, and one",
+    );
 
     pub const COMES_UP: Rule = Rule("a lane that is down goes up at the first step after its wait");
 

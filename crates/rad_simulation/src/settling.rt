@@ -39,7 +39,9 @@ impl Book {
     /// Returns how many steps the lane can take at one moment at most: one for each request of the window, and one more.
     fn most_steps(&self) -> u64 {
         let requests = self.queued().saturating_add(self.outstanding() as u64);
-        requests.min(u64::from(self.limits.window)).saturating_add(1)
+        requests
+            .min(u64::from(self.limits.window))
+            .saturating_add(1)
     }
 
     /// Returns how many rounds the queue takes at most: one, and one for each window of requests, rounded up.
