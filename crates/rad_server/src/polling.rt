@@ -92,20 +92,20 @@ pub(crate) struct PolledSockets<'a, G: Gate> {
 }
 
 impl<G: Gate> Drop for PolledSockets<'_, G> {
-    fn drop(mut self) {
-        self.departures.end(self.sockets.as_mut_slice());
+    fn drop(self) {
         let Self {
-            sockets: _,
+            mut sockets,
             turn: _,
             sleeper: _,
             neighbours: _,
             has_failed: _,
             receives: _,
             has_sent: _,
-            departures: _,
+            mut departures,
             ring: _,
             has_skipped: _,
         } = self;
+        departures.end(sockets.as_mut_slice());
     }
 }
 
@@ -237,7 +237,8 @@ impl<'a, G: Gate> PolledSockets<'a, G> {
         if self.has_sent || !self.sleeper.notifier.try_sleep() {
             return received;
         }
-        self.sleep(self.departures.longest_sleep(milliseconds));
+        let longest = self.departures.longest_sleep(milliseconds);
+        self.sleep(longest);
         self.try_each(room)
     }
 

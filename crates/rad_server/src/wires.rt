@@ -1,6 +1,6 @@
 //! The sockets of a worker as its wire.
 
-ghost use Rattle.std.specs.Prelude.{Some};
+ghost use Rattle.std.specs.Prelude.{◌≡◌, Some};
 
 use crate::heap_room::HeapRoom;
 use crate::notifying::Notifier;
@@ -102,6 +102,7 @@ impl<'a, R, G: Gate, A> UdpWire<'a, R, G, A> {
     fn refresh(&mut self)
     where
         R: Clock,
+        ensures { self.new.traffic.passed ≡ self.old.traffic.passed }
     {
         if !self.is_fresh {
             if let Some(moment) = self.read_clock() {
