@@ -5,7 +5,7 @@ usage: addresses.py PROGRAM [NAME ..]
 
 Each test is a function below, and its first line tells what holds. Names choose tests. It wants root, `unshare`, `setpriv` and `ip`,
 and tells where it leaves a test out for want of them. The variable STARTS says how many starts of each kind a thief of addresses has;
-a hundred take half a minute. The last line is `N passed, M failed`.
+a hundred take some twenty seconds. The last line is `N passed, M failed`.
 """
 import contextlib
 import json
@@ -265,7 +265,7 @@ def tried_from_outside(options):
     """The addresses at which a socket of this user with these options gets the port."""
     mapped = [f"::ffff:{address}" for address in SERVED]
     places = [(socket.AF_INET, place) for place in [*SERVED, *NASES, "0.0.0.0", "127.0.0.77"]]
-    if socket.has_ipv6:
+    if pathlib.Path("/proc/net/udp6").exists():
         places += [(socket.AF_INET6, place) for place in ["::", "::ffff:0.0.0.0", *mapped]]
     found = []
     for family, place in places:
@@ -525,8 +525,8 @@ def main():
     if sys.argv[1] == "--inside":
         inside(sys.argv[2], sys.argv[3:])
     program, names = str(pathlib.Path(sys.argv[1]).resolve()), sys.argv[2:]
-    if os.geteuid() or not shutil.which("ip") or subprocess.run(["unshare", "--net", "--mount", "true"]).returncode:
-        print("left out: it wants root, `ip` and `unshare`")
+    if os.geteuid() or not shutil.which("ip") or not shutil.which("setpriv") or subprocess.run(["unshare", "--net", "--mount", "true"]).returncode:
+        print("left out: it wants root, `ip`, `setpriv` and `unshare`")
         conclude(0, 0)
     words = ["unshare", "--net", sys.executable, __file__, "--inside", program, *names]
     sys.exit(subprocess.run(words).returncode)
