@@ -517,6 +517,7 @@ def keep_so_many_in_all(program, work):
             for together in zip(*asked):
                 for nas, octets in zip(crowded.nases, together):
                     nas.sendto(octets, crowded.proxy.listen)
+                time.sleep(0.005)
             told = []
             time.sleep(2.5)
             for nas, requests in zip(crowded.nases, asked):
