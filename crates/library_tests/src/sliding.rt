@@ -1,8 +1,8 @@
-//! A test of what no contract says of sliding lists: that an item is dropped when its turn comes, and that no call copies
-//! more than a few.
+//! A test of what no contract says of sliding lists: that an item is dropped when its turn comes, that no call copies more
+//! than a few, and that a list that gives up its first items drops none.
 
 use super::comparing::holds;
-use block_queue::{Share, SlidingList};
+use block_queue::{Numbered, Share, SlidingList};
 use std::alloc::{AllocError, Global};
 use std::process::Abort;
 use std::sync::atomic::{AtomicU64, Ordering};
@@ -51,6 +51,14 @@ impl Share for Counted<'_> {
     }
 }
 
+impl Numbered for Counted<'_> {
+    ghost number_of = { λ c. c.number };
+
+    fn number(&self) -> u64 {
+        self.number
+    }
+}
+
 /// A list with the numbers from `first` up to `end`.
 #[derive(Drop)]
 struct Slid<'a> {
@@ -88,18 +96,16 @@ impl<'a> Slid<'a> {
         self.first = self.first.wrapping_add(count as u64);
     }
 
-    /// Exchanges two items twice, so that the list is unchanged.
-    fn exchange(&mut self, i: usize, j: usize) {
-        self.swap(i, j);
-        self.swap(j, i);
-    }
-
-    /// Exchanges two items, if the list has both.
-    fn swap(&mut self, i: usize, j: usize) {
-        let count = self.list.as_slice().len();
-        if i < count && j < count {
-            self.list.swap(i, j);
-        }
+    /// Moves the first `count` items out, or all if there are fewer, and checks that none is dropped meanwhile.
+    fn take(&mut self, rt: &impl Abort, count: usize) -> Result<(), AllocError> {
+        let end = self.list.as_slice().len();
+        let number = self.first.wrapping_add(count.min(end) as u64);
+        let before = self.counts.dropped.load(Ordering::SeqCst);
+        let removed = self.list.take_below(number, end)?;
+        holds(rt, self.counts.dropped.load(Ordering::SeqCst) == before);
+        holds(rt, removed.items.len() == count.min(end));
+        self.first = number;
+        Ok(())
     }
 
     /// Replaces an item by an equal one.
@@ -130,13 +136,16 @@ impl<'a> Slid<'a> {
         number == self.end
     }
 
-    /// Pushes `pushes` items, and after each drops the first `cut` items.
+    /// Pushes `pushes` items, and after each drops the first `cut` items, or moves them out.
     fn play(&mut self, rt: &impl Abort, pushes: usize, cut: usize) -> Result<(), AllocError> {
         for turn in 0..pushes {
             self.push(rt)?;
-            self.exchange(turn % 7, turn % 50);
             self.renew(turn % 90);
-            self.cut(cut);
+            if turn % 2 == 0 {
+                self.cut(cut);
+            } else {
+                self.take(rt, cut)?;
+            }
             holds(rt, self.is_right());
         }
         Ok(())
