@@ -486,7 +486,7 @@ def keep_no_longer(program, work):
         took = time.monotonic() - begun - 1
         hope(f"until when it comes: {took}", OLD - 0.5 < took < OLD + 1, True)
         hope("what comes", told, [each for each in responses if each in set(told)])
-        hope(f"how much of it: {len(told)}", ROOM + 10 * OLD <= len(told) < ROOM + KEPT - 10, True)
+        hope(f"how much of it: {len(told)}", ROOM + 10 * OLD - 5 <= len(told) < ROOM + KEPT - 10, True)
         narrow.fill(KEPT)
         narrow.proxy.end()
         told += narrow.rest(0.1)
