@@ -17,3 +17,4 @@ pub mod Working
 pub mod Once
 pub mod HandOver
 pub mod Marks
+pub mod Reports

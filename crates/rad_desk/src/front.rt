@@ -6,7 +6,7 @@ ghost use Rattle.rad_desk.specs.Calls.{Passes};
 ghost use Rattle.rad_desk.specs.Once.{WorksInFront, SendsBack, SendsAnAnswer, Hands, Fits};
 ghost use Rattle.rad_desk.specs.HandOver.{KeepsTaken, HandsOver};
 
-use crate::gate::{Call, Gate, Note, Repeat, Worker};
+use crate::gate::{Call, Gate, Repeat, Worker, WorkerReport};
 use crate::handling::{Handled, handle};
 use crate::ledger::{Ledger, NoLedger};
 use crate::marks::count_marks;
@@ -15,7 +15,7 @@ use crate::wire::{Received, Wire};
 use rad_auth::check_response;
 use rad_lane::Taken;
 use rad_packet::Datagram;
-use rad_realms::{Config, Dropped, Endpoint, Incoming, check_in};
+use rad_realms::{Config, Endpoint, Incoming, check_in};
 use rad_rings::{Inlet, Proxy};
 use std::alloc::Global;
 use std::sync::Wait;
@@ -145,26 +145,23 @@ fn take_in<W: Wire, G: Gate>(
     else {
         return true;
     };
+    let from = Endpoint { address, port };
     match check_in(config, address, port, &octets[..count]) {
         Ok(incoming) => {
-            let from = Endpoint { address, port };
             serve(
                 rt, alloc, proxy, &incoming, wire, shift, socket, from, datagram,
             )
         }
         Err(reason) => {
-            tell_dropped(shift, reason, &octets[..count]);
+            let octets = &octets[..count];
+            shift.report(&WorkerReport::Dropped {
+                reason,
+                from,
+                octets,
+            });
             true
         }
     }
-}
-
-/// Reports that a datagram is dropped; before that, of a packet whose realm leads to no lane, the packet itself.
-fn tell_dropped<G: Gate>(shift: &Shift<'_, G>, reason: Dropped, octets: &[u8]) {
-    if reason == Dropped::NoRealm {
-        shift.gate.no_realm(octets);
-    }
-    shift.note(Note::Dropped(reason));
 }
 
 /// Reports how many Proxy-States of this proxy's form a request has, if it has any.
@@ -172,7 +169,8 @@ fn tell_marks<G: Gate>(shift: &Shift<'_, G>, incoming: &Incoming<'_>, from: Endp
     if let Incoming::Request(request) = incoming {
         let marks = count_marks(request.packet());
         if marks > 0 {
-            shift.gate.came_marked(request.lane(), from, marks);
+            let lane = request.lane();
+            shift.report(&WorkerReport::Marked { lane, from, marks });
         }
     }
 }
@@ -203,18 +201,41 @@ fn serve<W: Wire, G: Gate>(
         shift.made(Call::Accept);
     }
     match handled {
-        Ok(Handled::Taken(lane, Taken::New(number))) => shift.gate.accepted(lane, number),
-        Ok(Handled::Taken(_, Taken::Waiting(_))) => shift.gate.repeated(Repeat::Waiting),
+        Ok(Handled::Taken(lane, Taken::New(number))) => shift.report(&WorkerReport::Accepted {
+            lane,
+            number,
+            from,
+            octets: octets_of(incoming),
+        }),
+        Ok(Handled::Taken(_, Taken::Waiting(_))) => shift.report(&WorkerReport::Repeated {
+            repeat: Repeat::Waiting,
+            from,
+        }),
         Ok(Handled::Taken(_, Taken::Again(_))) => {
-            shift.gate.repeated(Repeat::Answered);
+            shift.report(&WorkerReport::Repeated {
+                repeat: Repeat::Answered,
+                from,
+            });
             if fits(incoming, datagram) {
                 shift.send(wire, socket, from, datagram.bytes());
             }
         }
         Ok(Handled::Answered) => shift.send(wire, socket, from, datagram.bytes()),
-        Err(refusal) => shift.note(Note::Refused(refusal)),
+        Err(reason) => shift.report(&WorkerReport::Refused {
+            reason,
+            from,
+            octets: octets_of(incoming),
+        }),
     }
     true
+}
+
+/// Returns the octets of a packet that passed the checks, without padding.
+fn octets_of<'a>(incoming: &'a Incoming<'_>) -> &'a [u8] {
+    match incoming {
+        Incoming::Request(request) => request.packet().octets(),
+        Incoming::Status(status) => status.packet().octets(),
+    }
 }
 
 /// Returns whether a packet has the Identifier of the request that it is to answer, and a Response Authenticator that
@@ -274,5 +295,8 @@ fn take<W: Wire, L: Ledger, G: Gate>(
     };
     ledger.keep(&outgoing);
     shift.send(wire, LISTEN, to, outgoing.reply.response());
-    shift.note(Note::Took(inlet.lane(), outgoing.serial));
+    shift.report(&WorkerReport::Took {
+        lane: inlet.lane(),
+        serial: outgoing.serial,
+    });
 }

@@ -1,10 +1,12 @@
 //! The interface that a worker asks before each call, and to which it reports.
 
+ghost use Rattle.std.specs.Prelude.{◌≡◌};
+ghost use Rattle.rad_desk.specs.Reports.{note_of};
+
 use rad_lane::Refusal;
 use rad_realms::{Dropped, Endpoint};
 use rad_rings::{DeskFault, Spent, Standing};
 use rad_tables::{Moment, Slot};
-use std::io::Error;
 
 /// The worker that asks or reports.
 #[derive(Clone, Copy, Debug, PartialEq, Eq)]
@@ -39,7 +41,7 @@ pub enum Go {
     Stop,
 }
 
-/// An event that a worker reports.
+/// An event of a worker in short: what happened, and neither to which datagram nor with whom.
 #[derive(Clone, Copy, Debug, PartialEq, Eq)]
 pub enum Note {
     /// The datagram that the front received last was dropped, for this reason.
@@ -84,8 +86,134 @@ pub enum Repeat {
     Answered,
 }
 
-/// The interface that a worker asks for permission before each call, and to which it reports. An implementation must
-/// have [`Gate::before`] and [`Gate::after`]; it may leave out the rest.
+/// What a worker reports: an event, with all that belongs to it. The lane of an event on the home servers' side is the
+/// worker's own.
+#[derive(Clone, Copy)]
+pub enum WorkerReport<'a> {
+    /// A receive returned, with a datagram or without one. All that the worker does until its next receive counts as done
+    /// at one time.
+    Woke,
+    /// A datagram was received from this address and port.
+    Received {
+        from: Endpoint,
+        octets: &'a [u8],
+    },
+    /// A receive failed.
+    ReceiveFault,
+    /// A datagram is about to be sent to this address and port.
+    Sends {
+        to: Endpoint,
+        octets: &'a [u8],
+    },
+    /// A datagram to this address and port could not be sent. It is lost.
+    SendFault {
+        to: Endpoint,
+    },
+    /// The front dropped a datagram that came from this address and port, for this reason.
+    Dropped {
+        reason: Dropped,
+        from: Endpoint,
+        octets: &'a [u8],
+    },
+    /// The front received, from this address and port, a request that leads to this lane and has this number of
+    /// Proxy-States of this proxy's form, at least one: this proxy, or another one like it, sent the request before.
+    Marked {
+        lane: u16,
+        from: Endpoint,
+        marks: u64,
+    },
+    /// A lane accepted a new request of the front's under this number, so its worker has something to send.
+    Accepted {
+        lane: u16,
+        number: u64,
+        from: Endpoint,
+        octets: &'a [u8],
+    },
+    /// A request that came to the front from this address and port is a repeat of a request in this state.
+    Repeated {
+        repeat: Repeat,
+        from: Endpoint,
+    },
+    /// A request that came to the front from this address and port was refused, for this reason.
+    Refused {
+        reason: Refusal,
+        from: Endpoint,
+        octets: &'a [u8],
+    },
+    /// The response of this lane and serial was taken from the lane's ring, and its datagram was handed to the wire.
+    Took {
+        lane: u16,
+        serial: u64,
+    },
+    /// A datagram to a lane's worker was dropped, since its home server did not send it.
+    NotHome {
+        from: Endpoint,
+        octets: &'a [u8],
+    },
+    /// A datagram of the home server was dropped, for this reason.
+    Unheard {
+        fault: DeskFault,
+        octets: &'a [u8],
+    },
+    /// The request that was outstanding under this pair of source port and Identifier is answered. The response of this
+    /// serial was added to the lane's ring, so the front has something to take.
+    Answered {
+        serial: u64,
+        slot: Slot,
+    },
+    /// The standing of the lane at this moment, for which the gate asked. All that the lane has sent was reported before.
+    Stands {
+        moment: Moment,
+        standing: Standing,
+    },
+    /// The lane's request of this number is about to be sent for the first time, under this pair of source port and
+    /// Identifier.
+    FirstSent {
+        number: u64,
+        slot: Slot,
+    },
+    /// The home server is marked down from now on, since this request is unanswered. If several requests are spent, it is
+    /// the one with the earliest due time; ties go to the lowest number.
+    WentDown(Option<&'a Spent>),
+    /// The home server is marked up from now on, for this reason. No worker can report that an answer to a request marked
+    /// it up: whoever saw that it was down learns that from [`WorkerReport::Answered`].
+    WentUp(UpReason),
+    /// This number of requests was removed from the book, all of them over.
+    Cut(u64),
+}
+
+impl WorkerReport<'_> {
+    /// Returns the note of the report, if its event is noted.
+    pub fn note(&self) -> Option<Note>
+        ensures { result ≡ note_of self.now }
+    {
+        match *self {
+            WorkerReport::ReceiveFault => Some(Note::ReceiveFault),
+            WorkerReport::SendFault { .. } => Some(Note::SendFault),
+            WorkerReport::Dropped { reason, .. } => Some(Note::Dropped(reason)),
+            WorkerReport::Refused { reason, .. } => Some(Note::Refused(reason)),
+            WorkerReport::Took { lane, serial } => Some(Note::Took(lane, serial)),
+            WorkerReport::NotHome { .. } => Some(Note::NotHome),
+            WorkerReport::Unheard { fault, .. } => Some(Note::Unheard(fault)),
+            WorkerReport::WentDown(_) => Some(Note::WentDown),
+            WorkerReport::WentUp(_) => Some(Note::WentUp),
+            WorkerReport::Cut(count) => Some(Note::Cut(count)),
+            WorkerReport::Woke
+            | WorkerReport::Received { .. }
+            | WorkerReport::Sends { .. }
+            | WorkerReport::Marked { .. }
+            | WorkerReport::Accepted { .. }
+            | WorkerReport::Repeated { .. }
+            | WorkerReport::Answered { .. }
+            | WorkerReport::Stands { .. }
+            | WorkerReport::FirstSent { .. } => None,
+        }
+    }
+}
+
+/// The interface that a worker asks for permission before each call, and to which it reports. A gate that wants no more
+/// than the notes leaves out [`Gate::report`]; one that wants all that is known of an event has it, and no
+/// [`Gate::note`].
 pub trait Gate {
     /// Returns whether a worker goes on to a call.
     fn before(&self, worker: Worker, call: Call) -> Go;
@@ -93,78 +221,18 @@ pub trait Gate {
     /// A worker made a call.
     fn after(&self, worker: Worker, call: Call);
 
-    /// A worker reports an event.
+    /// A worker notes an event.
     fn note(&self, _worker: Worker, _note: Note) {}
-
-    /// A receive of a worker returned, with a datagram or without one. All that the worker does until its next receive
-    /// counts as done at one time.
-    fn woke(&self, _worker: Worker) {}
-
-    /// A worker received a datagram from this address and port. If the datagram is noted, that is the worker's next
-    /// note.
-    fn received(&self, _worker: Worker, _from: Endpoint, _octets: &[u8]) {}
-
-    /// A worker is about to send a datagram to this address and port. If the send fails at once, that is the worker's
-    /// next note.
-    fn sends(&self, _worker: Worker, _to: Endpoint, _octets: &[u8]) {}
-
-    /// A worker sent a datagram to this address and port, and its wire, which sends several together, could not hand it
-    /// over later. The worker's next note is that failed send.
-    fn unsent(&self, _worker: Worker, _to: Endpoint) {}
-
-    /// A lane accepted a new request under this number, so its worker has something to send.
-    fn accepted(&self, _lane: u16, _number: u64) {}
-
-    /// The request that the front received last is a repeat of a request in this state.
-    fn repeated(&self, _repeat: Repeat) {}
 
     /// Returns whether the worker of a lane is to report the lane's standing.
     fn asks(&self, _lane: u16) -> bool {
         false
     }
 
-    /// The standing of a lane at this moment, which its worker was to report. All that the lane has sent was reported
-    /// before.
-    fn stands(&self, _lane: u16, _moment: Moment, _standing: Standing) {}
-
-    /// A lane's request of this number is about to be sent for the first time, under this pair of source port and
-    /// Identifier.
-    fn first_sent(&self, _lane: u16, _number: u64, _slot: Slot) {}
-
-    /// The request that is outstanding under this pair is answered, by the response of this serial. The worker's next
-    /// report, [`Gate::answered`], is that the response was added to the lane's ring.
-    fn replied(&self, _lane: u16, _serial: u64, _slot: Slot) {}
-
-    /// The response of this serial was added to a lane's ring, so the front has something to take.
-    fn answered(&self, _lane: u16, _serial: u64) {}
-
-    /// A lane's home server is marked down, since this request is unanswered. The worker noted that right before. If
-    /// several requests are spent, it is the one with the earliest due time; ties go to the lowest number.
-    fn went_down(&self, _lane: u16, _spent: &Spent) {}
-
-    /// A lane's home server is marked up, for this reason. The worker noted that right before. No worker can report
-    /// that an answer to a request marked it up: whoever saw that it was down learns that from [`Gate::answered`].
-    fn went_up(&self, _lane: u16, _reason: UpReason) {}
-
-    /// The front is about to drop this packet of a client, since its realm leads to no lane. The front's next note is
-    /// that drop.
-    fn no_realm(&self, _packet: &[u8]) {}
-
-    /// The front received, from this address and port, a request that leads to this lane and has this number of
-    /// Proxy-States of this proxy's form, at least one: this proxy, or another one like it, sent the request before.
-    fn came_marked(&self, _lane: u16, _from: Endpoint, _marks: u64) {}
-
-    /// A socket of this worker is bound to this address and port. The system granted it a receive buffer of this many
-    /// octets.
-    fn bound(&self, _worker: Worker, _at: Endpoint, _buffer: u32) {}
-
-    /// No socket can be bound to this address and port, for this reason of the system's. The service ends.
-    fn unbound(&self, _at: Endpoint, _error: &Error) {}
-
-    /// The addresses of this machine can't be read. A response is sent from whichever of them the system chooses.
-    fn addresses_unread(&self, _error: &Error) {}
-
-    /// This machine has this address, and no socket is bound to it alone. A datagram sent to it is answered from
-    /// whichever address the system chooses.
-    fn address_unbound(&self, _address: [u8; 4]) {}
+    /// A worker reports an event. A worker makes no other report; the default passes on the note of it, if it has one.
+    fn report(&self, worker: Worker, report: &WorkerReport<'_>) {
+        if let Some(note) = report.note() {
+            self.note(worker, note);
+        }
+    }
 }

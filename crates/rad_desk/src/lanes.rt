@@ -4,7 +4,7 @@ ghost use Rattle.std.specs.Prelude.{◌≡◌, ◌<◌, ◌≤◌, ◌*◌, ◌�
 ghost use Rattle.rad_desk.specs.Calls.{Passes, IsQuiet};
 ghost use Rattle.rad_desk.specs.Working.{WorksForHome, IsSentHome, slot_of, IsPortOf};
 
-use crate::gate::{Call, Gate, Note, UpReason, Worker};
+use crate::gate::{Call, Gate, UpReason, Worker, WorkerReport};
 use crate::tally::{Shift, Tally};
 use crate::wire::{Received, Wire};
 use rad_lane::Action;
@@ -97,7 +97,8 @@ fn hear<W: Wire, G: Gate>(
     };
     let from = Endpoint { address, port };
     if from != endpoint_of(home) {
-        shift.note(Note::NotHome);
+        let octets = &octets[..count];
+        shift.report(&WorkerReport::NotHome { from, octets });
         return true;
     }
     if !shift.may(Call::Hear) {
@@ -107,27 +108,19 @@ fn hear<W: Wire, G: Gate>(
     shift.made(Call::Hear);
     match told {
         Ok(Told::Answer(serial)) => {
-            let identifier = octets[1];
-            tell_answer(
-                lane,
-                serial,
-                Slot {
-                    port: socket,
-                    identifier,
-                },
-                shift,
-            );
+            let slot = Slot {
+                port: socket,
+                identifier: octets[1],
+            };
+            shift.report(&WorkerReport::Answered { serial, slot });
         }
-        Ok(Told::ProbeAnswered) => tell_up(lane, UpReason::ProbeAnswered, shift),
-        Err(fault) => shift.note(Note::Unheard(fault)),
+        Ok(Told::ProbeAnswered) => shift.report(&WorkerReport::WentUp(UpReason::ProbeAnswered)),
+        Err(fault) => {
+            let octets = &octets[..count];
+            shift.report(&WorkerReport::Unheard { fault, octets });
+        }
     }
     true
-}
-
-/// Reports that a request was answered, and the pair under which it was outstanding.
-fn tell_answer<G: Gate>(lane: u16, serial: u64, slot: Slot, shift: &Shift<'_, G>) {
-    shift.gate.replied(lane, serial, slot);
-    shift.gate.answered(lane, serial);
 }
 
 /// Makes the lane do its next step, sends what that gives, and returns whether the worker goes on.
@@ -159,15 +152,15 @@ fn step<W: Wire, G: Gate>(
     let Some(port) = port_of(&stepped.action) else {
         return follow(rt, alloc, proxy, lane, home, &stepped, wire, shift);
     };
-    tell_first(lane, &stepped.action, shift);
+    tell_first(&stepped.action, shift);
     send_home(home, port, wire, shift, datagram);
     true
 }
 
 /// Reports that a request is about to be sent for the first time, if that is the step.
-fn tell_first<G: Gate>(lane: u16, action: &Action, shift: &Shift<'_, G>) {
-    if let Action::Sent(number, slot) = action {
-        shift.gate.first_sent(lane, *number, *slot);
+fn tell_first<G: Gate>(action: &Action, shift: &Shift<'_, G>) {
+    if let Action::Sent(number, slot) = *action {
+        shift.report(&WorkerReport::FirstSent { number, slot });
     }
 }
 
@@ -182,7 +175,10 @@ fn tell_standing<G: Gate>(
     requires { lane < proxy.now }
 {
     if shift.gate.asks(lane) {
-        shift.gate.stands(lane, now, proxy.standing(rt, lane));
+        shift.report(&WorkerReport::Stands {
+            moment: now,
+            standing: proxy.standing(rt, lane),
+        });
     }
 }
 
@@ -215,7 +211,7 @@ fn follow<W: Wire, G: Gate>(
 {
     match stepped.action {
         Action::WentDown => tell_down(rt, proxy, lane, wire.now(), shift),
-        Action::WentUp => tell_up(lane, UpReason::DownWaitOver, shift),
+        Action::WentUp => shift.report(&WorkerReport::WentUp(UpReason::DownWaitOver)),
         Action::Idle(_) if is_half_full(stepped.held, home.limits().numbers().book) => {
             return cut(rt, alloc, proxy, lane, wire, shift);
         }
@@ -228,16 +224,8 @@ fn follow<W: Wire, G: Gate>(
 fn tell_down<G: Gate>(rt: &impl Wait, proxy: &Proxy, lane: u16, now: Moment, shift: &Shift<'_, G>)
     requires { lane < proxy.now }
 {
-    shift.note(Note::WentDown);
-    if let Some(spent) = proxy.spent(rt, lane, now) {
-        shift.gate.went_down(lane, &spent);
-    }
-}
-
-/// Reports that the home server is marked up, and why.
-fn tell_up<G: Gate>(lane: u16, reason: UpReason, shift: &Shift<'_, G>) {
-    shift.note(Note::WentUp);
-    shift.gate.went_up(lane, reason);
+    let spent = proxy.spent(rt, lane, now);
+    shift.report(&WorkerReport::WentDown(spent.as_ref()));
 }
 
 /// Sends a datagram to the home server, from the socket of a source port. If the home server does not have that port,
@@ -285,7 +273,8 @@ fn cut<W: Wire, G: Gate>(
     let turned = proxy.turn(rt, alloc, lane, wire.now());
     shift.made(Call::Turn);
     if let Ok(volume) = turned {
-        shift.note(Note::Cut(volume.stamps.as_slice().len() as u64));
+        let count = volume.stamps.as_slice().len() as u64;
+        shift.report(&WorkerReport::Cut(count));
     }
     true
 }

@@ -19,7 +19,7 @@ mod tally;
 mod wire;
 
 pub use front::{front_worker, front_worker_with};
-pub use gate::{Call, Gate, Go, Note, Repeat, UpReason, Worker};
+pub use gate::{Call, Gate, Go, Note, Repeat, UpReason, Worker, WorkerReport};
 pub use lanes::lane_worker;
 pub use ledger::{Handed, Ledger, NoLedger};
 pub use marks::count_marks;

@@ -4,7 +4,7 @@ ghost use Rattle.std.specs.Prelude.{◌≡◌, ◌<◌, ◌+◌};
 ghost use Rattle.rad_desk.specs.Traffic.{Receives};
 ghost use Rattle.rad_desk.specs.Calls.{Passes, IsSent};
 
-use crate::gate::{Call, Gate, Go, Note, Worker};
+use crate::gate::{Call, Gate, Go, Worker, WorkerReport};
 use crate::wire::{Delivery, Received, Wire};
 use rad_realms::Endpoint;
 
@@ -65,8 +65,8 @@ impl<'a, G: Gate> Shift<'a, G> {
         self.gate.after(self.worker, call);
     }
 
-    pub(crate) fn note(&self, note: Note) {
-        self.gate.note(self.worker, note);
+    pub(crate) fn report(&self, report: &WorkerReport<'_>) {
+        self.gate.report(self.worker, report);
     }
 
     /// Receives a datagram, reports it and counts it.
@@ -75,7 +75,7 @@ impl<'a, G: Gate> Shift<'a, G> {
         ensures turns { self.new.tally.turns ≡ self.old.tally.turns }
     {
         let received = wire.receive(datagram);
-        self.gate.woke(self.worker);
+        self.report(&WorkerReport::Woke);
         match received {
             Received::Got {
                 address,
@@ -85,12 +85,13 @@ impl<'a, G: Gate> Shift<'a, G> {
             } => {
                 self.tally.received = self.tally.received.saturating_add(1);
                 let from = Endpoint { address, port };
-                self.gate.received(self.worker, from, &datagram[..count]);
+                let octets = &datagram[..count];
+                self.report(&WorkerReport::Received { from, octets });
             }
             Received::Nothing => {}
             Received::Fault => {
                 self.tally.faults = self.tally.faults.saturating_add(1);
-                self.note(Note::ReceiveFault);
+                self.report(&WorkerReport::ReceiveFault);
             }
         }
         received
@@ -101,18 +102,18 @@ impl<'a, G: Gate> Shift<'a, G> {
         ensures sends { Passes (IsSent socket to octets.now) (W.log wire.old) (W.log wire.new) }
         ensures turns { self.new.tally.turns ≡ self.old.tally.turns }
     {
-        self.gate.sends(self.worker, to, octets);
+        self.report(&WorkerReport::Sends { to, octets });
         match wire.send(socket, to.address, to.port, octets) {
             Delivery::Sent => self.tally.sent = self.tally.sent.saturating_add(1),
-            Delivery::Fault => self.lose(),
+            Delivery::Fault => self.lose(to),
         }
     }
 
-    /// Counts and notes a datagram that could not be sent.
-    fn lose(&mut self)
+    /// Counts and reports a datagram that could not be sent.
+    fn lose(&mut self, to: Endpoint)
         ensures { self.new.tally.turns ≡ self.old.tally.turns }
     {
         self.tally.faults = self.tally.faults.saturating_add(1);
-        self.note(Note::SendFault);
+        self.report(&WorkerReport::SendFault { to });
     }
 }

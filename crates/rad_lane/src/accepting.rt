@@ -48,12 +48,36 @@ pub enum Refusal {
     WrongLane,
 }
 
+/// Each refusal, at its place.
+pub const REFUSALS: &[Refusal] = &[
+    Refusal::Draining,
+    Refusal::BookFull,
+    Refusal::QueueFull,
+    Refusal::TooLong,
+    Refusal::OutOfMemory,
+    Refusal::WrongLane,
+];
+
 impl Refusal {
     ghost use Rattle.std.specs.Prelude.{◌≡◌};
-    ghost use Rattle.rad_lane.specs.Printed.{refusal_text};
+    ghost use Rattle.rad_lane.specs.Printed.{refusal_text, refusal_place};
 
-    /// Returns the refusal as it is printed.
-    fn name(self) -> &'static str
+    /// Returns the index of the refusal in [`REFUSALS`].
+    pub fn place(self) -> usize
+        ensures { result ≡ refusal_place self }
+    {
+        match self {
+            Refusal::Draining => 0,
+            Refusal::BookFull => 1,
+            Refusal::QueueFull => 2,
+            Refusal::TooLong => 3,
+            Refusal::OutOfMemory => 4,
+            Refusal::WrongLane => 5,
+        }
+    }
+
+    /// Returns the name of the refusal.
+    pub fn name(self) -> &'static str
         ensures { result.now ≡ refusal_text self }
     {
         match self {

@@ -47,6 +47,52 @@ pub enum HearFault {
     OutOfMemory,
 }
 
+/// Each such fault, at its place. One read fault stands for all.
+pub const HEAR_FAULTS: &[HearFault] = &[
+    HearFault::Unread(ReadFault::Short),
+    HearFault::WrongCode,
+    HearFault::Unknown,
+    HearFault::BadAuthenticator,
+    HearFault::MessageAuthenticatorHere,
+    HearFault::NoProxyState,
+    HearFault::OutOfMemory,
+];
+
+impl HearFault {
+    ghost use Rattle.std.specs.Prelude.{◌≡◌};
+    ghost use Rattle.rad_lane.specs.Printed.{hear_fault_name, hear_fault_place};
+
+    /// Returns the name of the fault, without the read fault.
+    pub fn name(self) -> &'static str
+        ensures { result.now ≡ hear_fault_name self }
+    {
+        match self {
+            HearFault::Unread(_) => "Unread",
+            HearFault::WrongCode => "WrongCode",
+            HearFault::Unknown => "Unknown",
+            HearFault::BadAuthenticator => "BadAuthenticator",
+            HearFault::MessageAuthenticatorHere => "MessageAuthenticatorHere",
+            HearFault::NoProxyState => "NoProxyState",
+            HearFault::OutOfMemory => "OutOfMemory",
+        }
+    }
+
+    /// Returns the index of the fault in [`HEAR_FAULTS`]. All read faults have one.
+    pub fn place(self) -> usize
+        ensures { result ≡ hear_fault_place self }
+    {
+        match self {
+            HearFault::Unread(_) => 0,
+            HearFault::WrongCode => 1,
+            HearFault::Unknown => 2,
+            HearFault::BadAuthenticator => 3,
+            HearFault::MessageAuthenticatorHere => 4,
+            HearFault::NoProxyState => 5,
+            HearFault::OutOfMemory => 6,
+        }
+    }
+}
+
 impl fmt::Display for HearFault {
     ghost use Rattle.std.specs.Prelude.{Some};
     ghost use Rattle.rad_lane.specs.Printed.{hear_fault_text};
@@ -56,12 +102,7 @@ impl fmt::Display for HearFault {
     fn fmt<W: fmt::Write>(&self, f: &mut fmt::Formatter<W>) -> fmt::Result {
         match self {
             HearFault::Unread(fault) => write!(f, "Unread {fault}"),
-            HearFault::WrongCode => f.write_str("WrongCode"),
-            HearFault::Unknown => f.write_str("Unknown"),
-            HearFault::BadAuthenticator => f.write_str("BadAuthenticator"),
-            HearFault::MessageAuthenticatorHere => f.write_str("MessageAuthenticatorHere"),
-            HearFault::NoProxyState => f.write_str("NoProxyState"),
-            HearFault::OutOfMemory => f.write_str("OutOfMemory"),
+            fault => f.write_str(fault.name()),
         }
     }
 }

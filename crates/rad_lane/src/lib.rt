@@ -39,11 +39,11 @@ mod turning;
 mod views;
 mod watch;
 
-pub use accepting::{Refusal, Taken};
+pub use accepting::{REFUSALS, Refusal, Taken};
 pub use answered::Answered;
 pub use counts::Counts;
 pub use entry::{Entry, Probe};
-pub use hearing::{HearFault, Heard};
+pub use hearing::{HEAR_FAULTS, HearFault, Heard};
 pub use held::Held;
 pub use lane::{Lane, SetupFault};
 pub use laws::{

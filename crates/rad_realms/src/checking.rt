@@ -180,6 +180,51 @@ pub enum Dropped {
     NoRealm,
 }
 
+/// Each reason to drop a datagram, at its place. One read fault stands for all.
+pub const DROPPED: &[Dropped] = &[
+    Dropped::UnknownClient,
+    Dropped::Unread(ReadFault::Short),
+    Dropped::WrongCode,
+    Dropped::BadAuthenticator,
+    Dropped::BadMessageAuthenticator,
+    Dropped::MessageAuthenticatorHere,
+    Dropped::NoRealm,
+];
+
+impl Dropped {
+    ghost use Rattle.rad_realms.specs.Printed.{dropped_name, dropped_place};
+
+    /// Returns the name of the reason, without the read fault.
+    pub fn name(self) -> &'static str
+        ensures { result.now ≡ dropped_name self }
+    {
+        match self {
+            Dropped::UnknownClient => "UnknownClient",
+            Dropped::Unread(_) => "Unread",
+            Dropped::WrongCode => "WrongCode",
+            Dropped::BadAuthenticator => "BadAuthenticator",
+            Dropped::BadMessageAuthenticator => "BadMessageAuthenticator",
+            Dropped::MessageAuthenticatorHere => "MessageAuthenticatorHere",
+            Dropped::NoRealm => "NoRealm",
+        }
+    }
+
+    /// Returns the index of the reason in [`DROPPED`]. All read faults have one.
+    pub fn place(self) -> usize
+        ensures { result ≡ dropped_place self }
+    {
+        match self {
+            Dropped::UnknownClient => 0,
+            Dropped::Unread(_) => 1,
+            Dropped::WrongCode => 2,
+            Dropped::BadAuthenticator => 3,
+            Dropped::BadMessageAuthenticator => 4,
+            Dropped::MessageAuthenticatorHere => 5,
+            Dropped::NoRealm => 6,
+        }
+    }
+}
+
 impl fmt::Display for Dropped {
     ghost use Rattle.std.specs.Prelude.{Some};
     ghost use Rattle.rad_realms.specs.Printed.{dropped_text};
@@ -187,15 +232,10 @@ impl fmt::Display for Dropped {
     ghost output = { λ reason. Some (dropped_text reason) };
 
     fn fmt<W: fmt::Write>(&self, f: &mut fmt::Formatter<W>) -> fmt::Result {
-        f.write_str(match self {
-            Dropped::UnknownClient => "UnknownClient",
-            Dropped::Unread(fault) => return write!(f, "Unread {fault}"),
-            Dropped::WrongCode => "WrongCode",
-            Dropped::BadAuthenticator => "BadAuthenticator",
-            Dropped::BadMessageAuthenticator => "BadMessageAuthenticator",
-            Dropped::MessageAuthenticatorHere => "MessageAuthenticatorHere",
-            Dropped::NoRealm => "NoRealm",
-        })
+        match self {
+            Dropped::Unread(fault) => write!(f, "Unread {fault}"),
+            reason => f.write_str(reason.name()),
+        }
     }
 }
 

@@ -8,7 +8,7 @@
 mod checking;
 mod laws;
 
-pub use checking::{Checked, CheckedStatus, Dropped, Incoming, check_in, realm_of_packet};
+pub use checking::{Checked, CheckedStatus, DROPPED, Dropped, Incoming, check_in, realm_of_packet};
 pub use laws::taken_or_dropped_once;
 pub use rad_config::{
     AddressText, Client, Config, ConfigFault, DEFAULT_LIMITS, Endpoint, Home, Key, LimitFault,

@@ -30,6 +30,32 @@ pub enum DeskFault {
     Lane(HearFault),
 }
 
+impl DeskFault {
+    ghost use Rattle.std.specs.Prelude.{◌≡◌};
+    ghost use Rattle.rad_rings.specs.Printed.{desk_fault_name, desk_fault_place};
+
+    /// Returns the name of the fault, without the read fault.
+    pub fn name(self) -> &'static str
+        ensures { result.now ≡ desk_fault_name self }
+    {
+        match self {
+            DeskFault::RingFull => "RingFull",
+            DeskFault::Lane(fault) => fault.name(),
+        }
+    }
+
+    /// Returns the place of the fault among all: 0 is that of a full ring, and the lane's faults follow in the order of
+    /// [`rad_lane::HEAR_FAULTS`].
+    pub fn place(self) -> usize
+        ensures { result ≡ desk_fault_place self }
+    {
+        match self {
+            DeskFault::RingFull => 0,
+            DeskFault::Lane(fault) => fault.place() + 1,
+        }
+    }
+}
+
 impl fmt::Display for DeskFault {
     ghost use Rattle.std.specs.Prelude.{Some};
     ghost use Rattle.rad_rings.specs.Printed.{desk_fault_text};
