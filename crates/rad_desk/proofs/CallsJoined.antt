@@ -1,8 +1,6 @@
 -- What passed in a call, put together from what passed in its parts.
-use Rattle.std.proofs.Common.{◌≡◌, ℕ, List, [], ◌∷◌, ◌++◌, Option, refl, ap, ◌∙◌}
-use Rattle.rad_desk.specs.declared.wire.Received.{Received}
-use Rattle.rad_desk.specs.declared.wire.Received.TheVariants.{Got, Nothing, Fault}
-use Rattle.rad_desk.specs.Traffic.{Event, arrived, departed, told, drew, noted, logged, Receives}
+use Rattle.std.proofs.Common.{◌≡◌, List, [], ◌∷◌, ◌++◌, Option, refl, ap, ◌∙◌}
+use Rattle.rad_desk.specs.Traffic.{Event, arrived, departed, told, drew, noted, logged}
 use Rattle.rad_desk.specs.Calls.{Passes, IsQuiet}
 
 logged-append : (log : Option (List Event)) (first then : List Event) → logged (logged log first) then ≡ logged log (first ++ then)
@@ -46,9 +44,3 @@ passes_after P Q event after old mid new one more = record {
 -- One event passed.
 pub passes_one : (Right : List Event → Type 0) (event : Event) (old new : Option (List Event)) → Right (event ∷ []) → new ≡ noted old event → Passes Right old new
 passes_one Right event old new right passed = record { events = event ∷ []; passed = passed; right = right }
-
--- Nothing passed if nothing was received.
-pub nothing_came : (received : Received) (old new : Option (List Event)) (buffer : List ℕ) → ((address : List ℕ) (port socket count : ℕ) → received ≡ Got address port socket count → ⊥) → Receives old received buffer new → new ≡ old
-nothing_came (Got address port socket count) old new buffer not r = absurd (not address port socket count refl)
-nothing_came Nothing old new buffer not r = r
-nothing_came Fault old new buffer not r = r

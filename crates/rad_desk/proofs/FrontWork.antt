@@ -1,6 +1,6 @@
 -- The work in front, put together from its parts.
 use Rattle.std.proofs.Common.{◌≡◌, ◌<◌, ◌≤◌, ◌+◌, ℕ, zero, suc, List, [], ◌∷◌, ◌++◌, length, get_or, set, Option, refl, sym, ap, ◌∙◌, subst, arith, append_assoc, inl, inr, eq-eqb, ne_eqb}
-use Rattle.std.specs.Prelude.{All, ◌==◌, ◌≢◌, ◌⊎◌}
+use Rattle.std.specs.Prelude.{All, ◌≢◌, ◌⊎◌}
 use Rattle.std.specs.List.{flat_map}
 use Rattle.std.proofs.lemmas.List.{append-nil}
 use Rattle.std.proofs.lemmas.List.Concat.{flat_map-append}
@@ -15,7 +15,7 @@ use Rattle.rad_desk.specs.declared.wire.Delivery.{Delivery}
 use Rattle.rad_rings.specs.Inlet.{taken, SameInlet}
 use Rattle.rad_desk.specs.Traffic.{Event, arrived, departed, told, endpoint, noted}
 use Rattle.rad_desk.specs.Calls.{Passes, IsQuiet, IsSent}
-use Rattle.rad_desk.specs.Once.{IsAnswerTo, AnswersWhatCame, GoesBack, SendsBack, AnswerGoes, SendsAnAnswer, HandsOne, Hands, Part, quiet, back, given, events_of, IsRight, given_in, given_by, EachGave, WorksInFront}
+use Rattle.rad_desk.specs.Once.{IsAnswerTo, SendsBack, SendsAnAnswer, HandsOne, Hands, Part, quiet, back, given, events_of, IsRight, given_in, given_by, EachGave, WorksInFront}
 use Rattle.rad_desk.specs.HandOver.{response_of, responses_of}
 use Rattle.rad_desk.proofs.CallsJoined.{passes_none, passes_widen, passes_after}
 

@@ -35,8 +35,8 @@ module _ (config : Configuration) where
     kept = sym (ap (λ l. kept_with ledger l) (responses_none config inlets) ∙ kept-none ledger);
   }
 
-  pub over_none : (inlets : List Inlet) (ledger : Option (List Outgoing)) (log : Option (List Event)) → Passes (HandsOver config inlets inlets ledger ledger) log log
-  over_none inlets ledger log = passes_none (HandsOver config inlets inlets ledger ledger) log log (over_nothing inlets ledger) refl
+  pub over_none : (inlets : List Inlet) (ledger : Option (List Outgoing)) (old new : Option (List Event)) → new ≡ old → Passes (HandsOver config inlets inlets ledger ledger) old new
+  over_none inlets ledger old new = passes_none (HandsOver config inlets inlets ledger ledger) old new (over_nothing inlets ledger)
 
   -- Two stretches of work.
   over_append : (old mid new : List Inlet) (before between after : Option (List Outgoing)) (first then : List Event) → HandsOver config old mid before between first → HandsOver config mid new between after then → HandsOver config old new before after (first ++ then)

@@ -4,3 +4,4 @@ pub mod FrontWork
 pub mod HandOver
 pub mod Responses
 pub mod MarksCounted
+pub mod Kept

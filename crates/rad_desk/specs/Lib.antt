@@ -18,3 +18,4 @@ pub mod Once
 pub mod HandOver
 pub mod Marks
 pub mod Reports
+pub mod Keeping

@@ -1,5 +1,5 @@
 -- Proxy-States of the form of this proxy's own (own).
-use Rattle.std.specs.Prelude.{ℕ, List, Bool, ◌==◌, ◌&&◌, length, filter}
+use Rattle.std.specs.Prelude.{List, Bool, ◌==◌, ◌&&◌, length, filter}
 use Rattle.rad_packet.specs.Attribute.{Attribute}
 
 -- The attribute is a Proxy-State (RFC 2865 section 5.33) with a Value of ten octets, as many as the lane's number and

@@ -1,12 +1,11 @@
 -- What the worker of a lane does (own), as its wire sees it. It is a sequence of parts. Each part sends nothing, or
 -- sends what one step of the lane gave.
-use Rattle.std.specs.Prelude.{◌≡◌, ◌<◌, ⊤, ℕ, List, [], ◌∷◌, ◌++◌, ◌⊎◌, All, slice_get, Option, Some, None, MatchOption}
+use Rattle.std.specs.Prelude.{◌≡◌, ◌<◌, ℕ, List, [], ◌∷◌, ◌⊎◌, All, slice_get, Option, Some, None, MatchOption}
 use Rattle.std.specs.List.{flat_map}
 use Rattle.rad_realms.specs.Configuration.{HomeEntry, Configuration}
 use Rattle.rad_tables.specs.declared.slots.Slot.{Slot}
 use Rattle.rad_lane.specs.declared.stepping.Action.{Action}
 use Rattle.rad_lane.specs.declared.stepping.Action.TheVariants.{Sent, Resent, Probed, WentDown, WentUp, Idle}
-use Rattle.rad_lane.specs.Datagrams.{Datagrams}
 use Rattle.rad_desk.specs.declared.wire.Delivery.{Delivery}
 use Rattle.rad_rings.specs.Departures.{StepsFor}
 use Rattle.rad_desk.specs.Traffic.{Event, departed, told, drew}

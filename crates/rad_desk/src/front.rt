@@ -5,13 +5,15 @@ ghost use Rattle.rad_realms.specs.Configuration.{Configuration};
 ghost use Rattle.rad_desk.specs.Calls.{Passes};
 ghost use Rattle.rad_desk.specs.Once.{WorksInFront, SendsBack, SendsAnAnswer, Hands, Fits};
 ghost use Rattle.rad_desk.specs.HandOver.{KeepsTaken, HandsOver};
+ghost use Rattle.rad_desk.specs.Keeping.{Keeps};
 
 use crate::gate::{Call, Gate, Repeat, Worker, WorkerReport};
 use crate::handling::{Handled, handle};
 use crate::ledger::{Ledger, NoLedger};
 use crate::marks::count_marks;
-use crate::tally::{Shift, Tally};
-use crate::wire::{Received, Wire};
+use crate::shift::{Arrival, Buffers, Shift};
+use crate::tally::Tally;
+use crate::wire::Wire;
 use rad_auth::check_response;
 use rad_lane::Taken;
 use rad_packet::Datagram;
@@ -76,23 +78,11 @@ pub fn front_worker_with<W: Wire, L: Ledger, G: Gate>(
     ensures hands_over { Passes (HandsOver config.now inlets.old inlets.new (L.kept ledger.old) (L.kept ledger.new)) (W.log wire.old) (W.log wire.new) }
     ensures turns { result.turns ≤ turns }
 {
-    let mut shift = Shift::new(Worker::Front, gate);
-    let mut octets = [0; 4096];
-    let mut datagram = Datagram::new();
+    let mut shift = Shift::new(rt, alloc, proxy, wire, gate, Worker::Front);
+    let mut buffers = Buffers::new();
     for turn in 0..turns {
-        shift.begin_turn(turn);
-        if !take_turn(
-            rt,
-            alloc,
-            proxy,
-            config,
-            inlets,
-            wire,
-            ledger,
-            &mut shift,
-            &mut octets,
-            &mut datagram,
-        ) {
+        shift.tally.turns = turn + 1;
+        if !take_turn(&mut shift, &mut buffers, config, inlets, ledger) {
             return shift.tally;
         }
     }
@@ -101,59 +91,35 @@ pub fn front_worker_with<W: Wire, L: Ledger, G: Gate>(
 
 /// Does one turn, and returns whether the worker goes on. A response that an inlet gives in the turn is handed over and
 /// sent before the turn ends, even if the gate stops the worker.
-fn take_turn<W: Wire, L: Ledger, G: Gate>(
-    rt: &impl Wait,
-    alloc: Global,
-    proxy: &Proxy,
+fn take_turn<R: Wait, W: Wire, L: Ledger, G: Gate>(
+    shift: &mut Shift<'_, R, W, G>,
+    buffers: &mut Buffers,
     config: &Config,
     inlets: &mut [Inlet],
-    wire: &mut W,
     ledger: &mut L,
-    shift: &mut Shift<'_, G>,
-    octets: &mut [u8; 4096],
-    datagram: &mut Datagram,
 ) -> bool
-    ensures hands_over { Passes (HandsOver config.now inlets.old inlets.new (L.kept ledger.old) (L.kept ledger.new)) (W.log wire.old) (W.log wire.new) }
-    ensures turns { shift.new.tally.turns ≡ shift.old.tally.turns }
+    ensures hands_over { Passes (HandsOver config.now inlets.old inlets.new (L.kept ledger.old) (L.kept ledger.new)) (W.log shift.old.wire.now) (W.log shift.new.wire.now) }
+    ensures keeps { Keeps shift.old shift.new }
 {
-    if !take_in(rt, alloc, proxy, config, wire, shift, octets, datagram) {
-        return false;
-    }
-    hand_out(inlets, wire, ledger, shift)
+    take_in(shift, buffers, config) && hand_out(shift, inlets, ledger)
 }
 
 /// Receives once, handles what was received, and returns whether the worker goes on.
-fn take_in<W: Wire, G: Gate>(
-    rt: &impl Wait,
-    alloc: Global,
-    proxy: &Proxy,
+fn take_in<R: Wait, W: Wire, G: Gate>(
+    shift: &mut Shift<'_, R, W, G>,
+    buffers: &mut Buffers,
     config: &Config,
-    wire: &mut W,
-    shift: &mut Shift<'_, G>,
-    octets: &mut [u8; 4096],
-    datagram: &mut Datagram,
 ) -> bool
-    ensures sends { Passes (SendsBack config.now) (W.log wire.old) (W.log wire.new) }
-    ensures turns { shift.new.tally.turns ≡ shift.old.tally.turns }
+    ensures sends { Passes (SendsBack config.now) (W.log shift.old.wire.now) (W.log shift.new.wire.now) }
+    ensures keeps { Keeps shift.old shift.new }
 {
-    let Received::Got {
-        address,
-        port,
-        socket,
-        count,
-    } = shift.receive(wire, octets)
-    else {
+    let Some(arrival) = shift.receive(&mut buffers.octets) else {
         return true;
     };
-    let from = Endpoint { address, port };
-    match check_in(config, address, port, &octets[..count]) {
-        Ok(incoming) => {
-            serve(
-                rt, alloc, proxy, &incoming, wire, shift, socket, from, datagram,
-            )
-        }
+    let Arrival { from, octets, .. } = arrival;
+    match check_in(config, from.address, from.port, octets) {
+        Ok(incoming) => serve(shift, &arrival, &incoming, &mut buffers.datagram),
         Err(reason) => {
-            let octets = &octets[..count];
             shift.report(&WorkerReport::Dropped {
                 reason,
                 from,
@@ -165,7 +131,11 @@ fn take_in<W: Wire, G: Gate>(
 }
 
 /// Reports how many Proxy-States of this proxy's form a request has, if it has any.
-fn tell_marks<G: Gate>(shift: &Shift<'_, G>, incoming: &Incoming<'_>, from: Endpoint) {
+fn tell_marks<R, W: Wire, G: Gate>(
+    shift: &Shift<'_, R, W, G>,
+    from: Endpoint,
+    incoming: &Incoming<'_>,
+) {
     if let Incoming::Request(request) = incoming {
         let marks = count_marks(request.packet());
         if marks > 0 {
@@ -176,27 +146,30 @@ fn tell_marks<G: Gate>(shift: &Shift<'_, G>, incoming: &Incoming<'_>, from: Endp
 }
 
 /// Passes a request to its lane or answers a Status-Server, and returns whether the worker goes on.
-fn serve<W: Wire, G: Gate>(
-    rt: &impl Wait,
-    alloc: Global,
-    proxy: &Proxy,
+fn serve<R: Wait, W: Wire, G: Gate>(
+    shift: &mut Shift<'_, R, W, G>,
+    arrival: &Arrival<'_>,
     incoming: &Incoming<'_>,
-    wire: &mut W,
-    shift: &mut Shift<'_, G>,
-    socket: u16,
-    from: Endpoint,
     datagram: &mut Datagram,
 ) -> bool
-    ensures sends { Passes (SendsAnAnswer socket from incoming.now) (W.log wire.old) (W.log wire.new) }
-    ensures turns { shift.new.tally.turns ≡ shift.old.tally.turns }
+    ensures sends { Passes (SendsAnAnswer arrival.now.socket arrival.now.from incoming.now) (W.log shift.old.wire.now) (W.log shift.new.wire.now) }
+    ensures keeps { Keeps shift.old shift.new }
 {
+    let Arrival { from, socket, .. } = *arrival;
     let is_request = matches!(incoming, Incoming::Request(_));
     if is_request && !shift.may(Call::Accept) {
         return false;
     }
-    tell_marks(shift, incoming, from);
-    let moment = wire.now();
-    let handled = handle(rt, alloc, proxy, incoming, moment, datagram);
+    tell_marks(shift, from, incoming);
+    let moment = shift.wire.now();
+    let handled = handle(
+        shift.rt,
+        shift.alloc,
+        shift.proxy,
+        incoming,
+        moment,
+        datagram,
+    );
     if is_request {
         shift.made(Call::Accept);
     }
@@ -217,10 +190,10 @@ fn serve<W: Wire, G: Gate>(
                 from,
             });
             if fits(incoming, datagram) {
-                shift.send(wire, socket, from, datagram.bytes());
+                shift.send(socket, from, datagram.bytes());
             }
         }
-        Ok(Handled::Answered) => shift.send(wire, socket, from, datagram.bytes()),
+        Ok(Handled::Answered) => shift.send(socket, from, datagram.bytes()),
         Err(reason) => shift.report(&WorkerReport::Refused {
             reason,
             from,
@@ -255,34 +228,32 @@ fn fits(incoming: &Incoming<'_>, datagram: &Datagram) -> bool
 }
 
 /// Takes at most one response from each inlet, hands it over, sends it, and returns whether the worker goes on.
-fn hand_out<W: Wire, L: Ledger, G: Gate>(
+fn hand_out<R, W: Wire, L: Ledger, G: Gate>(
+    shift: &mut Shift<'_, R, W, G>,
     inlets: &mut [Inlet],
-    wire: &mut W,
     ledger: &mut L,
-    shift: &mut Shift<'_, G>,
 ) -> bool
-    ensures hands_over { (config : Configuration) → Passes (HandsOver config inlets.old inlets.new (L.kept ledger.old) (L.kept ledger.new)) (W.log wire.old) (W.log wire.new) }
-    ensures turns { shift.new.tally.turns ≡ shift.old.tally.turns }
+    ensures hands_over { (config : Configuration) → Passes (HandsOver config inlets.old inlets.new (L.kept ledger.old) (L.kept ledger.new)) (W.log shift.old.wire.now) (W.log shift.new.wire.now) }
+    ensures keeps { Keeps shift.old shift.new }
 {
     for place in 0..inlets.len() {
         if !shift.may(Call::Take) {
             return false;
         }
-        take(&mut inlets[place], wire, ledger, shift);
+        take(shift, &mut inlets[place], ledger);
     }
     true
 }
 
 /// Takes a response, if there is one, hands it over to the ledger, and then sends it.
-fn take<W: Wire, L: Ledger, G: Gate>(
+fn take<R, W: Wire, L: Ledger, G: Gate>(
+    shift: &mut Shift<'_, R, W, G>,
     inlet: &mut Inlet,
-    wire: &mut W,
     ledger: &mut L,
-    shift: &mut Shift<'_, G>,
 )
-    ensures hands { Passes (Hands inlet.old inlet.new) (W.log wire.old) (W.log wire.new) }
-    ensures keeps { KeepsTaken inlet.old inlet.new (L.kept ledger.old) (L.kept ledger.new) }
-    ensures turns { shift.new.tally.turns ≡ shift.old.tally.turns }
+    ensures hands { Passes (Hands inlet.old inlet.new) (W.log shift.old.wire.now) (W.log shift.new.wire.now) }
+    ensures taken { KeepsTaken inlet.old inlet.new (L.kept ledger.old) (L.kept ledger.new) }
+    ensures keeps { Keeps shift.old shift.new }
 {
     let taken = inlet.take();
     shift.made(Call::Take);
@@ -294,7 +265,7 @@ fn take<W: Wire, L: Ledger, G: Gate>(
         port: outgoing.port,
     };
     ledger.keep(&outgoing);
-    shift.send(wire, LISTEN, to, outgoing.reply.response());
+    shift.send(LISTEN, to, outgoing.reply.response());
     shift.report(&WorkerReport::Took {
         lane: inlet.lane(),
         serial: outgoing.serial,

@@ -2,11 +2,13 @@
 
 ghost use Rattle.std.specs.Prelude.{◌≡◌, ◌<◌, ◌≤◌, ◌*◌, ◌↔◌, IsTrue, None, MatchOption};
 ghost use Rattle.rad_desk.specs.Calls.{Passes, IsQuiet};
+ghost use Rattle.rad_desk.specs.Keeping.{Keeps};
 ghost use Rattle.rad_desk.specs.Working.{WorksForHome, IsSentHome, slot_of, IsPortOf};
 
 use crate::gate::{Call, Gate, UpReason, Worker, WorkerReport};
-use crate::tally::{Shift, Tally};
-use crate::wire::{Received, Wire};
+use crate::shift::{Arrival, Buffers, Shift};
+use crate::tally::Tally;
+use crate::wire::Wire;
 use rad_lane::Action;
 use rad_packet::Datagram;
 use rad_realms::{Endpoint, Home};
@@ -37,24 +39,14 @@ pub fn lane_worker<W: Wire, G: Gate>(
     ensures works { Passes (WorksForHome lane home.now) (W.log wire.old) (W.log wire.new) }
     ensures turns { result.turns ≤ turns }
 {
-    let mut shift = Shift::new(Worker::Lane(lane), gate);
-    let mut octets = [0; 4096];
-    let mut datagram = Datagram::new();
+    let mut shift = Shift::new(rt, alloc, proxy, wire, gate, Worker::Lane(lane));
+    let mut buffers = Buffers::new();
     for turn in 0..turns {
-        shift.begin_turn(turn);
-        if !hear(rt, alloc, proxy, lane, home, wire, &mut shift, &mut octets) {
+        shift.tally.turns = turn + 1;
+        if !hear(&mut shift, &mut buffers, lane, home) {
             return shift.tally;
         }
-        if !step(
-            rt,
-            alloc,
-            proxy,
-            lane,
-            home,
-            wire,
-            &mut shift,
-            &mut datagram,
-        ) {
+        if !step(&mut shift, &mut buffers, lane, home) {
             return shift.tally;
         }
     }
@@ -72,113 +64,97 @@ fn endpoint_of(home: &Home) -> Endpoint
 }
 
 /// Receives once, passes what came from the home server to the lane, and returns whether the worker goes on.
-fn hear<W: Wire, G: Gate>(
-    rt: &impl Wait,
-    alloc: Global,
-    proxy: &Proxy,
+fn hear<R: Wait, W: Wire, G: Gate>(
+    shift: &mut Shift<'_, R, W, G>,
+    buffers: &mut Buffers,
     lane: u16,
     home: &Home,
-    wire: &mut W,
-    shift: &mut Shift<'_, G>,
-    octets: &mut [u8; 4096],
 ) -> bool
-    requires { lane < proxy.now }
-    ensures quiet { Passes IsQuiet (W.log wire.old) (W.log wire.new) }
-    ensures turns { shift.new.tally.turns ≡ shift.old.tally.turns }
+    requires { lane < shift.old.proxy.now }
+    ensures quiet { Passes IsQuiet (W.log shift.old.wire.now) (W.log shift.new.wire.now) }
+    ensures keeps { Keeps shift.old shift.new }
 {
-    let Received::Got {
-        address,
-        port,
-        socket,
-        count,
-    } = shift.receive(wire, octets)
-    else {
+    let Some(arrival) = shift.receive(&mut buffers.octets) else {
         return true;
     };
-    let from = Endpoint { address, port };
+    let Arrival {
+        from,
+        socket,
+        octets,
+    } = arrival;
     if from != endpoint_of(home) {
-        let octets = &octets[..count];
         shift.report(&WorkerReport::NotHome { from, octets });
         return true;
     }
     if !shift.may(Call::Hear) {
         return false;
     }
-    let told = proxy.hear(rt, alloc, lane, wire.now(), socket, &octets[..count]);
+    let now = shift.wire.now();
+    let told = shift
+        .proxy
+        .hear(shift.rt, shift.alloc, lane, now, socket, octets);
     shift.made(Call::Hear);
     match told {
         Ok(Told::Answer(serial)) => {
             let slot = Slot {
                 port: socket,
-                identifier: octets[1],
+                identifier: buffers.octets[1],
             };
             shift.report(&WorkerReport::Answered { serial, slot });
         }
         Ok(Told::ProbeAnswered) => shift.report(&WorkerReport::WentUp(UpReason::ProbeAnswered)),
-        Err(fault) => {
-            let octets = &octets[..count];
-            shift.report(&WorkerReport::Unheard { fault, octets });
-        }
+        Err(fault) => shift.report(&WorkerReport::Unheard { fault, octets }),
     }
     true
 }
 
 /// Makes the lane do its next step, sends what that gives, and returns whether the worker goes on.
-fn step<W: Wire, G: Gate>(
-    rt: &impl Wait,
-    alloc: Global,
-    proxy: &Proxy,
+fn step<R: Wait, W: Wire, G: Gate>(
+    shift: &mut Shift<'_, R, W, G>,
+    buffers: &mut Buffers,
     lane: u16,
     home: &Home,
-    wire: &mut W,
-    shift: &mut Shift<'_, G>,
-    datagram: &mut Datagram,
 ) -> bool
-    requires { lane < proxy.now }
-    ensures works { Passes (WorksForHome lane home.now) (W.log wire.old) (W.log wire.new) }
-    ensures turns { shift.new.tally.turns ≡ shift.old.tally.turns }
+    requires { lane < shift.old.proxy.now }
+    ensures works { Passes (WorksForHome lane home.now) (W.log shift.old.wire.now) (W.log shift.new.wire.now) }
+    ensures keeps { Keeps shift.old shift.new }
 {
     if !shift.may(Call::Step) {
         return false;
     }
-    let now = wire.now();
-    tell_standing(rt, proxy, lane, now, shift);
+    let now = shift.wire.now();
+    tell_standing(shift, lane, now);
+    let random = shift.wire.random();
     let secret = home.secret();
-    let stepped = proxy.step_for(rt, lane, secret, now, wire.random(), datagram);
+    let stepped = shift
+        .proxy
+        .step_for(shift.rt, lane, secret, now, random, &mut buffers.datagram);
     shift.made(Call::Step);
     let Some(stepped) = stepped else {
         return true;
     };
     let Some(port) = port_of(&stepped.action) else {
-        return follow(rt, alloc, proxy, lane, home, &stepped, wire, shift);
+        return follow(shift, lane, home, &stepped);
     };
-    tell_first(&stepped.action, shift);
-    send_home(home, port, wire, shift, datagram);
+    tell_first(shift, &stepped.action);
+    send_home(shift, home, port, &buffers.datagram);
     true
 }
 
 /// Reports that a request is about to be sent for the first time, if that is the step.
-fn tell_first<G: Gate>(action: &Action, shift: &Shift<'_, G>) {
+fn tell_first<R, W: Wire, G: Gate>(shift: &Shift<'_, R, W, G>, action: &Action) {
     if let Action::Sent(number, slot) = *action {
         shift.report(&WorkerReport::FirstSent { number, slot });
     }
 }
 
 /// Reports the lane's standing at this moment, if the gate asks for it.
-fn tell_standing<G: Gate>(
-    rt: &impl Wait,
-    proxy: &Proxy,
-    lane: u16,
-    now: Moment,
-    shift: &Shift<'_, G>,
-)
-    requires { lane < proxy.now }
+fn tell_standing<R: Wait, W: Wire, G: Gate>(shift: &Shift<'_, R, W, G>, lane: u16, moment: Moment)
+    requires { lane < shift.now.proxy.now }
 {
     if shift.gate.asks(lane) {
-        shift.report(&WorkerReport::Stands {
-            moment: now,
-            standing: proxy.standing(rt, lane),
-        });
+        let standing = shift.proxy.standing(shift.rt, lane);
+        shift.report(&WorkerReport::Stands { moment, standing });
     }
 }
 
@@ -195,54 +171,45 @@ fn port_of(action: &Action) -> Option<u16>
 /// Follows up a step that sends nothing, and returns whether the worker goes on: it reports that the home server is
 /// marked down or up, or, if the lane is idle and its book is half full, removes what is over from the front of the
 /// book.
-fn follow<W: Wire, G: Gate>(
-    rt: &impl Wait,
-    alloc: Global,
-    proxy: &Proxy,
+fn follow<R: Wait, W: Wire, G: Gate>(
+    shift: &mut Shift<'_, R, W, G>,
     lane: u16,
     home: &Home,
     stepped: &Stepped,
-    wire: &mut W,
-    shift: &mut Shift<'_, G>,
 ) -> bool
-    requires { lane < proxy.now }
-    ensures quiet { Passes IsQuiet (W.log wire.old) (W.log wire.new) }
-    ensures turns { shift.new.tally.turns ≡ shift.old.tally.turns }
+    requires { lane < shift.old.proxy.now }
+    ensures quiet { Passes IsQuiet (W.log shift.old.wire.now) (W.log shift.new.wire.now) }
+    ensures keeps { Keeps shift.old shift.new }
 {
     match stepped.action {
-        Action::WentDown => tell_down(rt, proxy, lane, wire.now(), shift),
+        Action::WentDown => {
+            let now = shift.wire.now();
+            let spent = shift.proxy.spent(shift.rt, lane, now);
+            shift.report(&WorkerReport::WentDown(spent.as_ref()));
+        }
         Action::WentUp => shift.report(&WorkerReport::WentUp(UpReason::DownWaitOver)),
         Action::Idle(_) if is_half_full(stepped.held, home.limits().numbers().book) => {
-            return cut(rt, alloc, proxy, lane, wire, shift);
+            return cut(shift, lane);
         }
         Action::Idle(_) | Action::Sent(..) | Action::Resent(..) | Action::Probed(_) => {}
     }
     true
 }
 
-/// Reports that the home server is marked down, and the request that marked it down.
-fn tell_down<G: Gate>(rt: &impl Wait, proxy: &Proxy, lane: u16, now: Moment, shift: &Shift<'_, G>)
-    requires { lane < proxy.now }
-{
-    let spent = proxy.spent(rt, lane, now);
-    shift.report(&WorkerReport::WentDown(spent.as_ref()));
-}
-
 /// Sends a datagram to the home server, from the socket of a source port. If the home server does not have that port,
 /// since the port is another lane's, for example, nothing is sent.
-fn send_home<W: Wire, G: Gate>(
+fn send_home<R, W: Wire, G: Gate>(
+    shift: &mut Shift<'_, R, W, G>,
     home: &Home,
     port: u16,
-    wire: &mut W,
-    shift: &mut Shift<'_, G>,
     datagram: &Datagram,
 )
-    ensures sends { Passes (IsSentHome home.now port datagram.now) (W.log wire.old) (W.log wire.new) }
-    ensures turns { shift.new.tally.turns ≡ shift.old.tally.turns }
+    ensures sends { Passes (IsSentHome home.now port datagram.now) (W.log shift.old.wire.now) (W.log shift.new.wire.now) }
+    ensures keeps { Keeps shift.old shift.new }
 {
     let to = endpoint_of(home);
     if u32::from(port) < home.limits().numbers().ports {
-        shift.send(wire, port, to, datagram.bytes());
+        shift.send(port, to, datagram.bytes());
     }
 }
 
@@ -255,22 +222,16 @@ fn is_half_full(held: u64, book: u32) -> bool
 }
 
 /// Removes what is over from the front of the lane's book, drops it, and returns whether the worker goes on.
-fn cut<W: Wire, G: Gate>(
-    rt: &impl Wait,
-    alloc: Global,
-    proxy: &Proxy,
-    lane: u16,
-    wire: &mut W,
-    shift: &mut Shift<'_, G>,
-) -> bool
-    requires { lane < proxy.now }
-    ensures quiet { Passes IsQuiet (W.log wire.old) (W.log wire.new) }
-    ensures turns { shift.new.tally.turns ≡ shift.old.tally.turns }
+fn cut<R: Wait, W: Wire, G: Gate>(shift: &mut Shift<'_, R, W, G>, lane: u16) -> bool
+    requires { lane < shift.old.proxy.now }
+    ensures quiet { Passes IsQuiet (W.log shift.old.wire.now) (W.log shift.new.wire.now) }
+    ensures keeps { Keeps shift.old shift.new }
 {
     if !shift.may(Call::Turn) {
         return false;
     }
-    let turned = proxy.turn(rt, alloc, lane, wire.now());
+    let now = shift.wire.now();
+    let turned = shift.proxy.turn(shift.rt, shift.alloc, lane, now);
     shift.made(Call::Turn);
     if let Ok(volume) = turned {
         let count = volume.stamps.as_slice().len() as u64;

@@ -15,6 +15,7 @@ mod lanes;
 pub mod laws;
 mod ledger;
 mod marks;
+mod shift;
 mod tally;
 mod wire;
 

@@ -1,7 +1,9 @@
 //! The events of a call of a worker: each call of its wire and of its gate.
 
-use rad_desk::{Call, Go, Note, UpReason};
-use rad_realms::Endpoint;
+use rad_desk::{Call, DeskFault, Go, Repeat, UpReason, WorkerReport};
+use rad_lane::Refusal;
+use rad_realms::{Dropped, Endpoint};
+use rad_tables::Slot;
 use std::alloc::{AllocError, Global};
 
 /// The result of a receive.
@@ -47,43 +49,85 @@ pub struct Gone {
     pub is_handed_over: bool,
 }
 
-/// What a gate is asked or notified of, without octets.
-#[derive(Clone, Copy)]
+/// What a gate is asked, or what is reported to it, without octets.
+#[derive(Clone, Copy, PartialEq, Eq)]
 pub enum Sign {
     /// The gate is asked before a call.
     Before(Call, Go),
     /// The gate is notified that a call was made.
     After(Call),
-    Noted(Note),
-    Accepted(u16, u64),
-    Answered(u16, u64),
-    WentUp(u16, UpReason),
+    Woke,
+    Received(Endpoint),
+    ReceiveFault,
+    Sends(Endpoint),
+    SendFault(Endpoint),
+    Dropped(Dropped, Endpoint),
     Marked(u16, Endpoint, u64),
-    /// The gate is asked or notified in the name of another worker.
+    Accepted(u16, u64, Endpoint),
+    Repeated(Repeat, Endpoint),
+    Refused(Refusal, Endpoint),
+    Took(u16, u64),
+    NotHome(Endpoint),
+    Unheard(DeskFault),
+    Answered(u64, Slot),
+    Stands,
+    FirstSent(u64, Slot),
+    WentDown,
+    WentUp(UpReason),
+    Cut(u64),
+    /// The gate is asked, or something is reported to it, in the name of another worker.
     OfAnother,
 }
 
 impl Sign {
-    /// Returns whether it is `other`, which is a notification.
-    pub fn is(self, other: Sign) -> bool {
-        match (self, other) {
-            (Sign::After(call), Sign::After(of)) => call == of,
-            (Sign::Noted(note), Sign::Noted(of)) => note == of,
-            (Sign::Accepted(lane, number), Sign::Accepted(of, its)) => lane == of && number == its,
-            (Sign::Answered(lane, serial), Sign::Answered(of, its)) => lane == of && serial == its,
-            (Sign::WentUp(lane, reason), Sign::WentUp(of, its)) => lane == of && reason == its,
-            (Sign::Marked(lane, from, marks), Sign::Marked(of, its, count)) => {
-                lane == of && from == its && marks == count
-            }
-            _ => false,
+    /// Returns a report without its octets, and without the request that marked a home server down.
+    pub fn of(report: &WorkerReport<'_>) -> Sign {
+        match *report {
+            WorkerReport::Woke => Sign::Woke,
+            WorkerReport::Received { from, .. } => Sign::Received(from),
+            WorkerReport::ReceiveFault => Sign::ReceiveFault,
+            WorkerReport::Sends { to, .. } => Sign::Sends(to),
+            WorkerReport::SendFault { to } => Sign::SendFault(to),
+            WorkerReport::Dropped { reason, from, .. } => Sign::Dropped(reason, from),
+            WorkerReport::Marked { lane, from, marks } => Sign::Marked(lane, from, marks),
+            WorkerReport::Accepted {
+                lane,
+                number,
+                from,
+                ..
+            } => Sign::Accepted(lane, number, from),
+            WorkerReport::Repeated { repeat, from } => Sign::Repeated(repeat, from),
+            WorkerReport::Refused { reason, from, .. } => Sign::Refused(reason, from),
+            WorkerReport::Took { lane, serial } => Sign::Took(lane, serial),
+            WorkerReport::NotHome { from, .. } => Sign::NotHome(from),
+            WorkerReport::Unheard { fault, .. } => Sign::Unheard(fault),
+            WorkerReport::Answered { serial, slot } => Sign::Answered(serial, slot),
+            WorkerReport::Stands { .. } => Sign::Stands,
+            WorkerReport::FirstSent { number, slot } => Sign::FirstSent(number, slot),
+            WorkerReport::WentDown(_) => Sign::WentDown,
+            WorkerReport::WentUp(reason) => Sign::WentUp(reason),
+            WorkerReport::Cut(count) => Sign::Cut(count),
         }
     }
 }
 
-/// The request that marked a home server down, as the gate is notified of it.
+/// Returns the octets of a report, or none if it has none.
+pub fn octets_of<'a>(report: &WorkerReport<'a>) -> &'a [u8] {
+    match *report {
+        WorkerReport::Received { octets, .. }
+        | WorkerReport::Sends { octets, .. }
+        | WorkerReport::Dropped { octets, .. }
+        | WorkerReport::Accepted { octets, .. }
+        | WorkerReport::Refused { octets, .. }
+        | WorkerReport::NotHome { octets, .. }
+        | WorkerReport::Unheard { octets, .. } => octets,
+        _ => &[],
+    }
+}
+
+/// The request that marked a home server down, as it is reported to the gate.
 #[derive(Drop)]
 pub struct DownBy {
-    pub lane: u16,
     pub number: u64,
     pub client: Endpoint,
     pub session: Option<Vec<u8>>,
@@ -99,11 +143,8 @@ pub enum Event {
     Drew([u8; 16]),
     /// The wire sent this.
     Went(Gone),
-    Signed(Sign),
-    /// The gate is notified of a datagram that came from this endpoint.
-    ToldReceived(Endpoint, Vec<u8>),
-    /// The gate is notified of a datagram that is to be sent to this endpoint.
-    ToldSends(Endpoint, Vec<u8>),
-    ToldDown(DownBy),
-    ToldNoRealm(Vec<u8>),
+    /// The gate was asked or notified of this, with these octets.
+    Signed(Sign, Vec<u8>),
+    /// The gate was notified that the home server is marked down, by this request.
+    WentDown(Option<DownBy>),
 }

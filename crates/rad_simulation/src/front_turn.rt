@@ -2,7 +2,7 @@
 
 use crate::accepting::Taking;
 use crate::book::Book;
-use crate::events::{Mail, Sign};
+use crate::events::Mail;
 use crate::making::{USER_NAME, first_value, plain_answer};
 use crate::rules::Rule;
 use crate::setting::{client_secret, realm_of_home};
@@ -11,7 +11,7 @@ use rad_auth::{
     ACCOUNTING_REQUEST, MESSAGE_AUTHENTICATOR, PROXY_STATE, STATUS_SERVER, Secret, check_request,
     check_status,
 };
-use rad_desk::{Call, Note};
+use rad_desk::{Call, Repeat, WorkerReport};
 use rad_packet::{PacketRef, read};
 use rad_realms::{Dropped, Endpoint};
 
@@ -129,7 +129,7 @@ impl Books {
             if !walk.asks(Call::Take, Rule::TAKE) {
                 return false;
             }
-            walk.meets(Sign::After(Call::Take), Rule::TAKE);
+            walk.made(Call::Take, Rule::TAKE);
             take(book, walk);
         }
         true
@@ -138,10 +138,12 @@ impl Books {
 
 /// Expects that a datagram is dropped.
 fn dropped(mail: &Mail, reason: Dropped, walk: &mut Walk<'_>) {
-    if reason == Dropped::NoRealm {
-        walk.told_no_realm(mail.octets.as_slice());
-    }
-    walk.meets(Sign::Noted(Note::Dropped(reason)), Rule::DROPPED);
+    let dropped = WorkerReport::Dropped {
+        reason,
+        from: mail.from,
+        octets: mail.octets.as_slice(),
+    };
+    walk.meets(&dropped, Rule::DROPPED);
 }
 
 /// Expects the call that passes a request to a lane, and the report of what became of it.
@@ -157,22 +159,34 @@ fn accept(
     }
     let marks = marks_of(packet);
     if marks > 0 {
-        walk.meets(Sign::Marked(book.lane, mail.from, marks), Rule::MARKED);
+        let (lane, from) = (book.lane, mail.from);
+        walk.meets(&WorkerReport::Marked { lane, from, marks }, Rule::MARKED);
     }
-    walk.meets(Sign::After(Call::Accept), Rule::ACCEPT);
+    walk.made(Call::Accept, Rule::ACCEPT);
     match book.accept(mail.from, packet, moment) {
-        Ok(taking) => taken(book, taking, mail, walk),
+        Ok(taking) => taken(book, taking, mail, packet, walk),
         Err(rule) => walk.breaks(rule),
     }
     true
 }
 
 /// Expects that what became of a request is reported, or that the request is answered again.
-fn taken(book: &Book, taking: Taking, mail: &Mail, walk: &mut Walk<'_>) {
+fn taken(book: &Book, taking: Taking, mail: &Mail, packet: &PacketRef<'_>, walk: &mut Walk<'_>) {
+    let from = mail.from;
+    let octets = packet.octets();
     match taking {
-        Taking::New(number) => walk.meets(Sign::Accepted(book.lane, number), Rule::ACCEPTED),
-        Taking::Waiting => {}
+        Taking::New(number) => walk.meets(
+            &WorkerReport::Accepted {
+                lane: book.lane,
+                number,
+                from,
+                octets,
+            },
+            Rule::ACCEPTED,
+        ),
+        Taking::Waiting => repeats(Repeat::Waiting, from, walk),
         Taking::Again(number) => {
+            repeats(Repeat::Answered, from, walk);
             answer(
                 mail.socket,
                 mail.from,
@@ -181,10 +195,20 @@ fn taken(book: &Book, taking: Taking, mail: &Mail, walk: &mut Walk<'_>) {
                 walk,
             );
         }
-        Taking::Refused(refusal) => {
-            walk.meets(Sign::Noted(Note::Refused(refusal)), Rule::REFUSED);
-        }
+        Taking::Refused(reason) => walk.meets(
+            &WorkerReport::Refused {
+                reason,
+                from,
+                octets,
+            },
+            Rule::REFUSED,
+        ),
     }
+}
+
+/// Expects the report that a request is a repeat.
+fn repeats(repeat: Repeat, from: Endpoint, walk: &mut Walk<'_>) {
+    walk.meets(&WorkerReport::Repeated { repeat, from }, Rule::AGAIN);
 }
 
 /// Expects that the next response of a lane, if there is one, goes to its client.
@@ -203,7 +227,8 @@ fn take(book: &mut Book, walk: &mut Walk<'_>) {
         Rule::RESPONSE,
         walk,
     );
-    walk.meets(Sign::Noted(Note::Took(book.lane, serial)), Rule::TOOK);
+    let lane = book.lane;
+    walk.meets(&WorkerReport::Took { lane, serial }, Rule::TOOK);
 }
 
 /// Expects that these octets are sent to a client, from a socket.

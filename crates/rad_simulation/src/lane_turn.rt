@@ -1,12 +1,13 @@
 //! The turns of a lane's worker, by the rules.
 
 use crate::book::{Asked, Book};
-use crate::events::{DownBy, Mail, Sign};
+use crate::events::{DownBy, Mail};
 use crate::hearing::Hearing;
 use crate::rules::Rule;
 use crate::stepping::Doing;
 use crate::walk::Walk;
-use rad_desk::{Call, Note, UpReason};
+use rad_desk::{Call, UpReason, WorkerReport};
+use rad_tables::Slot;
 
 /// Compares a turn. Returns whether the worker goes on.
 pub fn lane_turn(book: &mut Book, walk: &mut Walk<'_>) -> bool {
@@ -21,28 +22,39 @@ pub fn lane_turn(book: &mut Book, walk: &mut Walk<'_>) -> bool {
 /// Expects that the lane hears what arrived from its home server.
 fn hear(book: &mut Book, moment: u64, mail: &Mail, walk: &mut Walk<'_>) -> bool {
     if mail.from != book.endpoint {
-        walk.meets(Sign::Noted(Note::NotHome), Rule::NOT_HOME);
+        let (from, octets) = (mail.from, mail.octets.as_slice());
+        walk.meets(&WorkerReport::NotHome { from, octets }, Rule::NOT_HOME);
         return true;
     }
     if !walk.asks(Call::Hear, Rule::HEAR) {
         return false;
     }
-    walk.meets(Sign::After(Call::Hear), Rule::HEAR);
+    walk.made(Call::Hear, Rule::HEAR);
     match book.hear(moment, mail.socket, mail.octets.as_slice()) {
-        Ok(hearing) => heard(book.lane, hearing, walk),
+        Ok(hearing) => heard(hearing, mail, walk),
         Err(rule) => walk.breaks(rule),
     }
     true
 }
 
 /// Expects that what the lane heard is reported.
-fn heard(lane: u16, hearing: Hearing, walk: &mut Walk<'_>) {
+fn heard(hearing: Hearing, mail: &Mail, walk: &mut Walk<'_>) {
+    let octets = mail.octets.as_slice();
     match hearing {
-        Hearing::Answer(serial) => walk.meets(Sign::Answered(lane, serial), Rule::ANSWERED),
-        Hearing::ProbeAnswered => {
-            went_up(lane, UpReason::ProbeAnswered, Rule::PROBE_ANSWERED, walk);
+        Hearing::Answer(serial) => {
+            let slot = Slot {
+                port: mail.socket,
+                identifier: octets.get(1).copied().unwrap_or(0),
+            };
+            walk.meets(&WorkerReport::Answered { serial, slot }, Rule::ANSWERED);
         }
-        Hearing::Fault(fault) => walk.meets(Sign::Noted(Note::Unheard(fault)), Rule::UNHEARD),
+        Hearing::ProbeAnswered => walk.meets(
+            &WorkerReport::WentUp(UpReason::ProbeAnswered),
+            Rule::PROBE_ANSWERED,
+        ),
+        Hearing::Fault(fault) => {
+            walk.meets(&WorkerReport::Unheard { fault, octets }, Rule::UNHEARD);
+        }
     }
 }
 
@@ -52,7 +64,7 @@ fn step(book: &mut Book, moment: u64, walk: &mut Walk<'_>) -> bool {
         return false;
     }
     let drawn = walk.draws(Rule::STEP);
-    walk.meets(Sign::After(Call::Step), Rule::STEP);
+    walk.made(Call::Step, Rule::STEP);
     match book.step(moment, drawn) {
         Ok(Doing::Idle) => return turn(book, moment, walk),
         Ok(doing) => does(book, doing, moment, walk),
@@ -64,12 +76,31 @@ fn step(book: &mut Book, moment: u64, walk: &mut Walk<'_>) -> bool {
 /// Expects that the worker does what this step asks for.
 fn does(book: &Book, doing: Doing, moment: u64, walk: &mut Walk<'_>) {
     match doing {
-        Doing::Send(place) => send(book, place, Rule::FIRST_SENDING, walk),
+        Doing::Send(place) => {
+            first_sent(book, place, walk);
+            send(book, place, Rule::FIRST_SENDING, walk);
+        }
         Doing::SendAgain(place) => send(book, place, Rule::RESENDING, walk),
         Doing::Probe(place) => send(book, place, Rule::PROBE, walk),
         Doing::GoDown(number) => went_down(book, number, moment, walk),
-        Doing::GoUp => went_up(book.lane, UpReason::DownWaitOver, Rule::WENT_UP, walk),
+        Doing::GoUp => walk.meets(&WorkerReport::WentUp(UpReason::DownWaitOver), Rule::WENT_UP),
         Doing::Idle => {}
+    }
+}
+
+/// Expects the report that the request at a place is about to be sent for the first time, under its pair.
+fn first_sent(book: &Book, place: usize, walk: &mut Walk<'_>) {
+    if let Some(out) = book.out.as_slice().get(place)
+        && let Some(number) = out.number
+    {
+        let slot = Slot {
+            port: (out.pair / 256 & 0xffff) as u16,
+            identifier: (out.pair & 0xff) as u8,
+        };
+        walk.meets(
+            &WorkerReport::FirstSent { number, slot },
+            Rule::FIRST_SENDING,
+        );
     }
 }
 
@@ -87,19 +118,10 @@ fn send(book: &Book, place: usize, rule: Rule, walk: &mut Walk<'_>) {
     }
 }
 
-/// Expects the reports that the home server was marked up, and why.
-fn went_up(lane: u16, reason: UpReason, rule: Rule, walk: &mut Walk<'_>) {
-    walk.meets(Sign::Noted(Note::WentUp), rule);
-    walk.meets(Sign::WentUp(lane, reason), rule);
-}
-
-/// Expects the reports that the home server was marked down, and of the request that marked it down.
+/// Expects the report that the home server was marked down, with the request that marked it down.
 fn went_down(book: &Book, number: u64, moment: u64, walk: &mut Walk<'_>) {
-    walk.meets(Sign::Noted(Note::WentDown), Rule::WENT_DOWN);
-    let is_told = match (walk.told_down(), book.at(number)) {
-        (Some(down), Some(asked)) => {
-            down.lane == book.lane && down.number == number && is_down_by(down, asked, moment)
-        }
+    let is_told = match (walk.went_down(), book.at(number)) {
+        (Some(down), Some(asked)) => down.number == number && is_down_by(down, asked, moment),
         _ => false,
     };
     walk.keeps(Rule::DOWN_BY, is_told);
@@ -125,10 +147,10 @@ fn turn(book: &mut Book, moment: u64, walk: &mut Walk<'_>) -> bool {
     if !walk.asks(Call::Turn, Rule::MUST_TURN) {
         return false;
     }
-    walk.meets(Sign::After(Call::Turn), Rule::TURN);
+    walk.made(Call::Turn, Rule::TURN);
     let count = book.cut(moment);
     if count > 0 {
-        walk.meets(Sign::Noted(Note::Cut(count)), Rule::CUT);
+        walk.meets(&WorkerReport::Cut(count), Rule::CUT);
     }
     true
 }

@@ -14,13 +14,15 @@ impl Rule {
 
     pub const RECEIVE: Rule = Rule("a turn begins with one receive");
 
+    pub const WOKE: Rule = Rule("the gate is told that a receive returned, before all else");
+
     pub const GOES_ON: Rule = Rule("a worker goes on until its turns are over or it is stopped");
 
     pub const STOPS: Rule = Rule("a worker that is stopped does nothing more");
 
     pub const ENDS: Rule = Rule("a worker does nothing more once its turns are over");
 
-    pub const TOLD_RECEIVED: Rule = Rule("the gate is told what came, before all else");
+    pub const TOLD_RECEIVED: Rule = Rule("the gate is told what came, right after");
 
     pub const RECEIVE_FAULT: Rule = Rule("a receive that fails is noted once, and ends nothing");
 
@@ -33,8 +35,6 @@ impl Rule {
     pub const OWN_NAME: Rule = Rule("a worker asks and tells in its own name");
 
     pub const DROPPED: Rule = Rule("what is no right request is dropped, its first reason noted");
-
-    pub const NO_REALM: Rule = Rule("the gate is told of a packet whose realm leads nowhere");
 
     pub const MARKED: Rule = Rule("the gate is told how many marks of this form a request has");
 

@@ -35,24 +35,6 @@ pub struct Served<'a> {
     proxy: &'a Proxy,
 }
 
-/// Runs a worker for `turns` turns. Returns `None` if there is no such worker.
-fn work(
-    rt: &impl Wait,
-    alloc: Global,
-    served: Served<'_>,
-    inlets: &mut [Inlet],
-    lane: Option<u16>,
-    wire: &mut TraceWire<'_>,
-    gate: &TraceGate<'_>,
-    turns: u64,
-) -> Option<Tally> {
-    let Served { config, proxy } = served;
-    match lane {
-        Some(lane) => work_lane(rt, alloc, served, lane, wire, gate, turns),
-        None => Some(front_worker(rt, alloc, proxy, config, inlets, wire, gate, turns)),
-    }
-}
-
 /// Runs the worker of a lane for `turns` turns. Returns `None` if there is no such lane.
 fn work_lane(
     rt: &impl Wait,
@@ -307,9 +289,14 @@ impl Run {
             worker: worker_of(lane),
             calls: Cell::new(calls),
         };
-        let tally = work(
-            rt, self.alloc, served, inlets, lane, &mut wire, &gate, turns,
-        );
+        let alloc = self.alloc;
+        let tally = match lane {
+            Some(lane) => work_lane(rt, alloc, served, lane, &mut wire, &gate, turns),
+            None => {
+                let Served { config, proxy } = served;
+                Some(front_worker(rt, alloc, proxy, config, inlets, &mut wire, &gate, turns))
+            }
+        };
         self.clock = wire.clock;
         let TraceWire { arrivals, .. } = wire;
         (tally, arrivals)

@@ -1,8 +1,8 @@
 //! The gate and the wire of a worker in the simulation. Both record their calls in one list.
 
 use crate::chance::Chance;
-use crate::events::{Came, DownBy, Event, Gone, Mail, Sign};
-use rad_desk::{Call, Delivery, Gate, Go, Note, Received, Spent, UpReason, Wire, Worker};
+use crate::events::{Came, DownBy, Event, Gone, Sign, octets_of};
+use rad_desk::{Call, Delivery, Gate, Go, Received, Spent, Wire, Worker, WorkerReport};
 use rad_realms::Endpoint;
 use rad_tables::Moment;
 use std::alloc::Global;
@@ -61,14 +61,35 @@ pub struct TraceGate<'a> {
 }
 
 impl<'a> TraceGate<'a> {
-    /// Records what it is asked or notified of, and in whose name.
-    fn add(&self, worker: Worker, sign: Sign) {
+    /// Records what the gate is asked or notified of, and in whose name, with octets.
+    fn add(&self, worker: Worker, sign: Sign, octets: &[u8]) {
         let is_own = worker == self.worker;
-        self.tell(if is_own { sign } else { Sign::OfAnother });
+        let sign = if is_own { sign } else { Sign::OfAnother };
+        if let Some(copy) = self.trace.copy(octets) {
+            self.trace.add(Event::Signed(sign, copy));
+        }
     }
 
-    fn tell(&self, sign: Sign) {
-        self.trace.add(Event::Signed(sign));
+    /// Records that the home server is marked down, by this request.
+    fn add_down(&self, spent: Option<&Spent>) {
+        let down = match spent {
+            Some(spent) => Some(self.down_by(spent)),
+            None => None,
+        };
+        self.trace.add(Event::WentDown(down));
+    }
+
+    fn down_by(&self, spent: &Spent) -> DownBy {
+        let session = match &spent.session {
+            Some(session) => self.trace.copy(session.octets()),
+            None => None,
+        };
+        DownBy {
+            number: spent.number,
+            client: spent.client,
+            session,
+            age: spent.age,
+        }
     }
 
     /// Returns whether one more call is allowed.
@@ -87,64 +108,19 @@ impl<'a> TraceGate<'a> {
 impl<'a> Gate for TraceGate<'a> {
     fn before(&self, worker: Worker, call: Call) -> Go {
         let go = self.lets();
-        self.add(worker, Sign::Before(call, go));
+        self.add(worker, Sign::Before(call, go), &[]);
         go
     }
 
     fn after(&self, worker: Worker, call: Call) {
-        self.add(worker, Sign::After(call));
+        self.add(worker, Sign::After(call), &[]);
     }
 
-    fn note(&self, worker: Worker, note: Note) {
-        self.add(worker, Sign::Noted(note));
-    }
-
-    fn received(&self, _worker: Worker, from: Endpoint, octets: &[u8]) {
-        if let Some(copy) = self.trace.copy(octets) {
-            self.trace.add(Event::ToldReceived(from, copy));
+    fn report(&self, worker: Worker, report: &WorkerReport<'_>) {
+        match *report {
+            WorkerReport::WentDown(spent) if worker == self.worker => self.add_down(spent),
+            _ => self.add(worker, Sign::of(report), octets_of(report)),
         }
-    }
-
-    fn sends(&self, _worker: Worker, to: Endpoint, octets: &[u8]) {
-        if let Some(copy) = self.trace.copy(octets) {
-            self.trace.add(Event::ToldSends(to, copy));
-        }
-    }
-
-    fn accepted(&self, lane: u16, number: u64) {
-        self.tell(Sign::Accepted(lane, number));
-    }
-
-    fn answered(&self, lane: u16, serial: u64) {
-        self.tell(Sign::Answered(lane, serial));
-    }
-
-    fn went_down(&self, lane: u16, spent: &Spent) {
-        let session = match &spent.session {
-            Some(session) => self.trace.copy(session.octets()),
-            None => None,
-        };
-        self.trace.add(Event::ToldDown(DownBy {
-            lane,
-            number: spent.number,
-            client: spent.client,
-            session,
-            age: spent.age,
-        }));
-    }
-
-    fn went_up(&self, lane: u16, reason: UpReason) {
-        self.tell(Sign::WentUp(lane, reason));
-    }
-
-    fn no_realm(&self, packet: &[u8]) {
-        if let Some(copy) = self.trace.copy(packet) {
-            self.trace.add(Event::ToldNoRealm(copy));
-        }
-    }
-
-    fn came_marked(&self, lane: u16, from: Endpoint, marks: u64) {
-        self.tell(Sign::Marked(lane, from, marks));
     }
 }
 

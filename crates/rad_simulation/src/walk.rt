@@ -1,8 +1,8 @@
 //! The walk over the events of one call of a worker, which compares each event with the expected one.
 
-use crate::events::{Came, DownBy, Event, Gone, Mail, Sign};
+use crate::events::{Came, DownBy, Event, Gone, Mail, Sign, octets_of};
 use crate::rules::Rule;
-use rad_desk::{Call, Go, Note, Tally};
+use rad_desk::{Call, Go, Tally, WorkerReport};
 
 /// The position of a walk, and what the worker should have done so far.
 #[derive(Clone, Copy)]
@@ -86,7 +86,10 @@ impl<'a> Walk<'a> {
     pub fn begins(&mut self) -> (u64, Option<&'a Mail>) {
         self.tally.turns = self.tally.turns.saturating_add(1);
         match self.next(Rule::RECEIVE) {
-            Some(Event::Received(moment, came)) => (*moment, self.received(came)),
+            Some(Event::Received(moment, came)) => {
+                self.meets(&WorkerReport::Woke, Rule::WOKE);
+                (*moment, self.received(came))
+            }
             other => {
                 self.misses(other, Rule::RECEIVE);
                 (0, None)
@@ -98,32 +101,27 @@ impl<'a> Walk<'a> {
     fn received(&mut self, came: &'a Came) -> Option<&'a Mail> {
         match came {
             Came::Datagram(mail) => {
-                self.told_received(mail);
+                self.tally.received = self.tally.received.saturating_add(1);
+                let from = mail.from;
+                let octets = mail.octets.as_slice();
+                self.meets(
+                    &WorkerReport::Received { from, octets },
+                    Rule::TOLD_RECEIVED,
+                );
                 Some(mail)
             }
             Came::Fault => {
-                self.fails(Note::ReceiveFault, Rule::RECEIVE_FAULT);
+                self.fails(&WorkerReport::ReceiveFault, Rule::RECEIVE_FAULT);
                 None
             }
             Came::Nothing => None,
         }
     }
 
-    /// Counts a receive or a send that fails, and expects its note.
-    fn fails(&mut self, note: Note, rule: Rule) {
+    /// Counts a receive or a send that fails, and expects its report.
+    fn fails(&mut self, report: &WorkerReport<'_>, rule: Rule) {
         self.tally.faults = self.tally.faults.saturating_add(1);
-        self.meets(Sign::Noted(note), rule);
-    }
-
-    fn told_received(&mut self, mail: &Mail) {
-        self.tally.received = self.tally.received.saturating_add(1);
-        let is_told = match self.next(Rule::TOLD_RECEIVED) {
-            Some(Event::ToldReceived(from, octets)) => {
-                *from == mail.from && octets.as_slice() == mail.octets.as_slice()
-            }
-            _ => false,
-        };
-        self.keeps(Rule::TOLD_RECEIVED, is_told);
+        self.meets(report, rule);
     }
 
     /// Expects that no event is left.
@@ -136,8 +134,8 @@ impl<'a> Walk<'a> {
     /// follow.
     pub fn asks(&mut self, call: Call, rule: Rule) -> bool {
         match self.next(rule) {
-            Some(Event::Signed(Sign::Before(asked, Go::On))) if *asked == call => true,
-            Some(Event::Signed(Sign::Before(asked, Go::Stop))) if *asked == call => {
+            Some(Event::Signed(Sign::Before(asked, Go::On), _)) if *asked == call => true,
+            Some(Event::Signed(Sign::Before(asked, Go::Stop), _)) if *asked == call => {
                 self.ends(Rule::STOPS);
                 false
             }
@@ -152,33 +150,37 @@ impl<'a> Walk<'a> {
     pub fn idles(&mut self) {
         match self.events.get(self.place) {
             Some(Event::Received(..)) | None => {}
-            Some(Event::Signed(Sign::Before(Call::Turn, _))) => self.breaks(Rule::TURN),
+            Some(Event::Signed(Sign::Before(Call::Turn, _), _)) => self.breaks(Rule::TURN),
             Some(_) => self.breaks(Rule::IDLE),
         }
     }
 
-    /// Expects that the gate is notified of `sign`.
-    pub fn meets(&mut self, sign: Sign, rule: Rule) {
+    /// Expects that the gate is notified that a call was made.
+    pub fn made(&mut self, call: Call, rule: Rule) {
         match self.next(rule) {
-            Some(Event::Signed(met)) if met.is(sign) => {}
+            Some(Event::Signed(Sign::After(made), _)) if *made == call => {}
             other => self.misses(other, rule),
         }
     }
 
-    /// Expects that the gate is notified of a packet whose realm leads to no lane.
-    pub fn told_no_realm(&mut self, octets: &[u8]) {
-        let is_told = match self.next(Rule::NO_REALM) {
-            Some(Event::ToldNoRealm(text)) => text.as_slice() == octets,
-            _ => false,
-        };
-        self.keeps(Rule::NO_REALM, is_told);
+    /// Expects that this is reported to the gate.
+    pub fn meets(&mut self, report: &WorkerReport<'_>, rule: Rule) {
+        match self.next(rule) {
+            Some(Event::Signed(sign, octets)) if *sign == Sign::of(report) => {
+                self.keeps(rule, octets.as_slice() == octets_of(report));
+            }
+            other => self.misses(other, rule),
+        }
     }
 
-    /// Expects that the gate is notified of the request that marked a home server down.
-    pub fn told_down(&mut self) -> Option<&'a DownBy> {
-        match self.next(Rule::DOWN_BY) {
-            Some(Event::ToldDown(down)) => Some(down),
-            _ => None,
+    /// Expects the report that the home server is marked down. Returns the request by which it is.
+    pub fn went_down(&mut self) -> Option<&'a DownBy> {
+        match self.next(Rule::WENT_DOWN) {
+            Some(Event::WentDown(down)) => down.as_ref(),
+            other => {
+                self.misses(other, Rule::WENT_DOWN);
+                None
+            }
         }
     }
 
@@ -193,10 +195,9 @@ impl<'a> Walk<'a> {
         }
     }
 
-    /// Expects that these octets are sent, and that the gate is notified right before. If the send fails, the datagram
-    /// is lost, and a note of that follows.
+    /// Expects that these octets are sent, and that the gate is notified right before.
     pub fn sends(&mut self, octets: &[u8], rule: Rule) -> Option<&'a Gone> {
-        let Some(Event::ToldSends(to, text)) = self.next(rule) else {
+        let Some(Event::Signed(Sign::Sends(to), text)) = self.next(rule) else {
             self.breaks(rule);
             return None;
         };
@@ -212,12 +213,12 @@ impl<'a> Walk<'a> {
         Some(gone)
     }
 
-    /// Counts a datagram that was sent. If it was lost, expects the note of that.
+    /// Counts a datagram that was sent. If it was lost, expects the report of that.
     pub fn counts(&mut self, gone: &Gone) {
         if gone.is_handed_over {
             self.tally.sent = self.tally.sent.saturating_add(1);
         } else {
-            self.fails(Note::SendFault, Rule::SEND_FAULT);
+            self.fails(&WorkerReport::SendFault { to: gone.to }, Rule::SEND_FAULT);
         }
     }
 }
@@ -226,8 +227,8 @@ impl<'a> Walk<'a> {
 /// which another event was expected.
 fn rule_of(event: &Event, rule: Rule) -> Rule {
     match event {
-        Event::Signed(sign) => rule_of_sign(*sign, rule),
-        Event::ToldSends(..) | Event::Went(_) => Rule::SENDS_ONCE,
+        Event::Signed(sign, _) => rule_of_sign(*sign, rule),
+        Event::Went(_) => Rule::SENDS_ONCE,
         _ => rule,
     }
 }
@@ -236,10 +237,11 @@ fn rule_of_sign(sign: Sign, rule: Rule) -> Rule {
     match sign {
         Sign::Before(Call::Turn, _) => Rule::TURN,
         Sign::OfAnother => Rule::OWN_NAME,
-        Sign::Noted(Note::ReceiveFault) => Rule::RECEIVE_FAULT,
-        Sign::Noted(Note::SendFault) => Rule::SEND_FAULT,
-        Sign::Noted(Note::Took(..)) => Rule::TOOK,
-        Sign::Noted(Note::Cut(_)) => Rule::CUT,
+        Sign::Sends(_) => Rule::SENDS_ONCE,
+        Sign::ReceiveFault => Rule::RECEIVE_FAULT,
+        Sign::SendFault(_) => Rule::SEND_FAULT,
+        Sign::Took(..) => Rule::TOOK,
+        Sign::Cut(_) => Rule::CUT,
         _ => rule,
     }
 }

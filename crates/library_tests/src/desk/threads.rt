@@ -207,7 +207,7 @@ fn are_whole(report: &Report, share: Share, taken: &[Outgoing]) -> bool {
 }
 
 /// Closes a proxy, again if memory was refused.
-fn close(alloc: Global, proxy: Proxy, inlets: Vec<Inlet>) -> Result<Report, CloseFault> {
+pub fn close(alloc: Global, proxy: Proxy, inlets: Vec<Inlet>) -> Result<Report, CloseFault> {
     match proxy.close(alloc, inlets) {
         Err(CloseFault::OutOfMemory(proxy, inlets)) => proxy.close(alloc, inlets.into_vec()),
         closed => closed,

@@ -4,7 +4,7 @@
 use crate::comparing::holds;
 use crate::configured::configured;
 use crate::telemetry::logs::{MemoryLog, has_logged, log_up_to};
-use rad_desk::{DeskFault, Gate, Note, Standing, Worker};
+use rad_desk::{DeskFault, Gate, Standing, Worker, WorkerReport};
 use rad_lane::Counts;
 use rad_log::LevelFilter;
 use rad_realms::{Config, Endpoint};
@@ -69,9 +69,17 @@ const ERRORS: &str = "event=stopped worker=front reason=\"ended by itself\"\n\
 fn report<R: Clock>(telemetry: &Telemetry<'_, MemoryLog, R>) -> bool {
     telemetry.tell_end(Worker::Front);
     telemetry.tell_end(Worker::Lane(1));
-    telemetry.note(Worker::Lane(1), Note::Unheard(DeskFault::RingFull));
-    telemetry.note(Worker::Lane(2), Note::WentDown);
-    telemetry.sends(Worker::Lane(1), HOME, &[4, 7, 0]);
+    let unheard = WorkerReport::Unheard {
+        fault: DeskFault::RingFull,
+        octets: &[4, 7, 0],
+    };
+    telemetry.report(Worker::Lane(1), &unheard);
+    telemetry.report(Worker::Lane(2), &WorkerReport::WentDown(None));
+    let sends = WorkerReport::Sends {
+        to: HOME,
+        octets: &[4, 7, 0],
+    };
+    telemetry.report(Worker::Lane(1), &sends);
     let counters = telemetry.counters();
     counters.get(Worker::Front, RING_FULL) == 0
         && counters.get(Worker::Lane(0), RING_FULL) == 0
@@ -83,7 +91,11 @@ fn report<R: Clock>(telemetry: &Telemetry<'_, MemoryLog, R>) -> bool {
 fn asks_until_told<R: Clock>(telemetry: &Telemetry<'_, MemoryLog, R>) -> bool {
     let before = telemetry.asks(0);
     telemetry.numbers().ask_each();
-    telemetry.stands(0, Moment::new(5067).unwrap(), EMPTY);
+    let stands = WorkerReport::Stands {
+        moment: Moment::new(5067).unwrap(),
+        standing: EMPTY,
+    };
+    telemetry.report(Worker::Lane(0), &stands);
     !before && !telemetry.asks(0) && telemetry.asks(1) && !telemetry.asks(2)
 }
 

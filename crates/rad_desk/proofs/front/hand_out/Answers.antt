@@ -1,9 +1,10 @@
-use Rattle.std.proofs.Common.{◌<◌, length, refl, ◌∙◌, arith}
+use Rattle.std.proofs.Common.{◌<◌, length, refl, arith}
+use Rattle.rad_desk.proofs.Kept.{keeps_all, keeps_then}
 use Rattle.rad_desk.proofs.HandOver.{over_none, over_join, over_by_handing}
 use Rattle.rad_desk.proofs.front.hand_out.Goals as goal
 
 pub loop-place-init : goal.loop-place-init
-loop-place-init g c = record { hands_over = λ config. over_none config _ _ _; turns = refl }
+loop-place-init g c = record { hands_over = λ config. over_none config _ _ _ _ refl; keeps = keeps_all _ }
 
 pub loop-place-preserved : goal.loop-place-preserved
 loop-place-preserved g c =
@@ -12,6 +13,6 @@ loop-place-preserved g c =
     record {
       hands_over = λ config.
           over_join config _ _ _ _ _ _ _ _ _ (before.hands_over config)
-          (over_by_handing config _ _ _ _ within _ _ c.take.ensures.keeps _ _ c.take.ensures.hands);
-      turns = c.take.ensures.turns ∙ before.turns;
+          (over_by_handing config _ _ _ _ within _ _ c.take.ensures.taken _ _ c.take.ensures.hands);
+      keeps = keeps_then _ _ _ before.keeps c.take.ensures.keeps;
     }

@@ -1,11 +1,11 @@
-use Rattle.std.proofs.Common.{◌≡◌}
 use Rattle.rad_realms.specs.Configuration.{Configuration}
 use Rattle.rad_desk.specs.Calls.{Passes}
 use Rattle.rad_desk.specs.HandOver.{HandsOver}
+use Rattle.rad_desk.specs.Keeping.{Keeps}
 use Rattle.rad_desk.proofs.front.hand_out.Given as goal
 
 abbrev pub invariant-loop-place : goal.invariant-loop-place
 invariant-loop-place g l = record {
-  hands_over : (config : Configuration) → Passes (HandsOver config l.initial.inlets l.inlets (g.L.Ledger.kept l.initial.ledger) (g.L.Ledger.kept l.ledger)) (g.W.Wire.log l.initial.wire) (g.W.Wire.log l.wire);
-  turns : l.shift.tally.turns ≡ l.initial.shift.tally.turns;
+  hands_over : (config : Configuration) → Passes (HandsOver config l.initial.inlets l.inlets (g.L.Ledger.kept l.initial.ledger) (g.L.Ledger.kept l.ledger)) (g.W.Wire.log l.initial.shift.wire.now) (g.W.Wire.log l.shift.wire.now);
+  keeps : Keeps l.initial.shift l.shift;
 }

@@ -23,8 +23,8 @@ returns-then-fits-clause-sends g c =
     let d : Datagrams = record { before = c.args.datagram.now; after = c.handle-handled.new.written } in
     let taken : arm.field-0 ≡ Taken arm.field-0-0 arm.field-0-1 = rw arm.is at arm.field-0-is in
     let again : arm.field-0-1 ≡ Again arm.field-0-1-0 = rw (arm.is, taken) at arm.field-0-1-is in
-    let answers : IsAnswerTo c.args.incoming.now moment c.handle-handled.new.written = again_handled c.args.incoming.now moment c.args.proxy.now c.handle-handled.result arm.field-0 arm.field-0-0 arm.field-0-1 arm.field-0-1-0 d arm.is taken again c.handle-handled.ensures (c.fits.ensures c.if-fits.true) in
-    answer_after c.args.socket c.args.from c.args.incoming.now moment c.bytes.result.now
+    let answers : IsAnswerTo c.args.incoming.now moment c.handle-handled.new.written = again_handled c.args.incoming.now moment c.args.shift.now.proxy.now c.handle-handled.result arm.field-0 arm.field-0-0 arm.field-0-1 arm.field-0-1-0 d arm.is taken again c.handle-handled.ensures (c.fits.ensures c.if-fits.true) in
+    answer_after c.args.arrival.now.socket c.args.arrival.now.from c.args.incoming.now moment c.bytes.result.now
     (subst (IsAnswerTo c.args.incoming.now moment) (sym c.bytes.ensures.value) answers)
     _ _ _ c.now-moment.ensures c.send.ensures.sends
 
@@ -37,8 +37,8 @@ returns-in-Ok-Answered-clause-sends g c =
     let moment = c.now-moment.result in
     let d : Datagrams = record { before = c.args.datagram.now; after = c.handle-handled.new.written } in
     let is_answered : arm.field-0 ≡ Answered = rw arm.is at arm.field-0-is in
-    let answers : IsAnswerTo c.args.incoming.now moment c.handle-handled.new.written = status_handled c.args.incoming.now moment c.args.proxy.now c.handle-handled.result arm.field-0 d arm.is is_answered c.handle-handled.ensures in
-    answer_after c.args.socket c.args.from c.args.incoming.now moment c.bytes-in-Ok-Answered.result.now
+    let answers : IsAnswerTo c.args.incoming.now moment c.handle-handled.new.written = status_handled c.args.incoming.now moment c.args.shift.now.proxy.now c.handle-handled.result arm.field-0 d arm.is is_answered c.handle-handled.ensures in
+    answer_after c.args.arrival.now.socket c.args.arrival.now.from c.args.incoming.now moment c.bytes-in-Ok-Answered.result.now
     (subst (IsAnswerTo c.args.incoming.now moment) (sym c.bytes-in-Ok-Answered.ensures.value) answers)
     _ _ _ c.now-moment.ensures c.send-in-Ok-Answered.ensures.sends
 
@@ -47,24 +47,3 @@ returns-in-Err-clause-sends g c = unanswered _ _ _ _ _ (passes_one IsQuiet (told
 
 pub returns-then-not-may-clause-sends : goal.returns-then-not-may-clause-sends
 returns-then-not-may-clause-sends g c = unanswered _ _ _ _ _ (passes_none IsQuiet _ _ tt refl)
-
-pub returns-then-not-may-clause-turns : goal.returns-then-not-may-clause-turns
-returns-then-not-may-clause-turns g c = refl
-
-pub returns-in-Ok-Taken-default-New-clause-turns : goal.returns-in-Ok-Taken-default-New-clause-turns
-returns-in-Ok-Taken-default-New-clause-turns g c = refl
-
-pub returns-in-Ok-Taken-default-Waiting-clause-turns : goal.returns-in-Ok-Taken-default-Waiting-clause-turns
-returns-in-Ok-Taken-default-Waiting-clause-turns g c = refl
-
-pub returns-then-fits-clause-turns : goal.returns-then-fits-clause-turns
-returns-then-fits-clause-turns g c = c.send.ensures.turns
-
-pub returns-else-fits-clause-turns : goal.returns-else-fits-clause-turns
-returns-else-fits-clause-turns g c = refl
-
-pub returns-in-Ok-Answered-clause-turns : goal.returns-in-Ok-Answered-clause-turns
-returns-in-Ok-Answered-clause-turns g c = c.send-in-Ok-Answered.ensures.turns
-
-pub returns-in-Err-clause-turns : goal.returns-in-Err-clause-turns
-returns-in-Err-clause-turns g c = refl

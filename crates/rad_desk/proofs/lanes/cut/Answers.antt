@@ -8,16 +8,7 @@ pub returns-then-not-may-clause-quiet : goal.returns-then-not-may-clause-quiet
 returns-then-not-may-clause-quiet g c = passes_none IsQuiet _ _ tt refl
 
 pub returns-in-Ok-clause-quiet : goal.returns-in-Ok-clause-quiet
-returns-in-Ok-clause-quiet g c = passes_one IsQuiet (told c.now.result) _ _ tt c.now.ensures
+returns-in-Ok-clause-quiet g c = passes_one IsQuiet (told c.now-now.result) _ _ tt c.now-now.ensures
 
 pub returns-in_default-clause-quiet : goal.returns-in_default-clause-quiet
-returns-in_default-clause-quiet g c = passes_one IsQuiet (told c.now.result) _ _ tt c.now.ensures
-
-pub returns-then-not-may-clause-turns : goal.returns-then-not-may-clause-turns
-returns-then-not-may-clause-turns g c = refl
-
-pub returns-in-Ok-clause-turns : goal.returns-in-Ok-clause-turns
-returns-in-Ok-clause-turns g c = refl
-
-pub returns-in_default-clause-turns : goal.returns-in_default-clause-turns
-returns-in_default-clause-turns g c = refl
+returns-in_default-clause-quiet g c = passes_one IsQuiet (told c.now-now.result) _ _ tt c.now-now.ensures

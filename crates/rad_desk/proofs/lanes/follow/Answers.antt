@@ -5,25 +5,13 @@ use Rattle.rad_desk.proofs.CallsJoined.{passes_one, passes_none}
 use Rattle.rad_desk.proofs.lanes.follow.Goals as goal
 
 pub returns-in-WentDown-clause-quiet : goal.returns-in-WentDown-clause-quiet
-returns-in-WentDown-clause-quiet g c = passes_one IsQuiet (told c.now.result) _ _ tt c.now.ensures
-
-pub returns-in-WentDown-clause-turns : goal.returns-in-WentDown-clause-turns
-returns-in-WentDown-clause-turns g c = refl
+returns-in-WentDown-clause-quiet g c = passes_one IsQuiet (told c.now-now.result) _ _ tt c.now-now.ensures
 
 pub returns-in-WentUp-clause-quiet : goal.returns-in-WentUp-clause-quiet
 returns-in-WentUp-clause-quiet g c = passes_none IsQuiet _ _ tt refl
 
-pub returns-in-WentUp-clause-turns : goal.returns-in-WentUp-clause-turns
-returns-in-WentUp-clause-turns g c = refl
-
 pub returns-in-Idle-clause-quiet : goal.returns-in-Idle-clause-quiet
 returns-in-Idle-clause-quiet g c = c.cut.ensures.quiet
 
-pub returns-in-Idle-clause-turns : goal.returns-in-Idle-clause-turns
-returns-in-Idle-clause-turns g c = c.cut.ensures.turns
-
 pub returns-clause-quiet : goal.returns-clause-quiet
 returns-clause-quiet g c = passes_none IsQuiet _ _ tt refl
-
-pub returns-clause-turns : goal.returns-clause-turns
-returns-clause-turns g c = refl
