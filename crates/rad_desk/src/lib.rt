@@ -6,6 +6,7 @@
 //! The definitions that the contracts cite are in specs. `Marks` is how many Proxy-States of this proxy's form a
 //! request has, and `Handling` what a checked datagram leads to. `Traffic` is what passes over a wire, `Working` what a
 //! lane's worker may send over it, `Once` what the front may send, and `HandOver` what the front hands over to a ledger.
+//! `Keeping` is what a call leaves as it was of what a worker has, and `Reports` the note of a report.
 #![tactic(auto)]
 
 mod front;

@@ -1,6 +1,6 @@
 //! A worker at work: what it works with, and its receives, sends and reports.
 
-ghost use Rattle.std.specs.Prelude.{◌≡◌, ◌<◌, ◌+◌, MatchOption};
+ghost use Rattle.std.specs.Prelude.{◌≡◌, MatchOption};
 ghost use Rattle.rad_desk.specs.Traffic.{arrived, noted};
 ghost use Rattle.rad_desk.specs.Calls.{Passes, IsSent};
 ghost use Rattle.rad_desk.specs.Keeping.{Keeps};
