@@ -192,7 +192,7 @@ def beside_others():
     rounds, seconds = re.match(r"(\d+) of (\d+) s", machine["rounds and seconds"]).groups()
     return (f"measured at commit {machine['rad_proxy']}, on {machine['processors'].split()[0]} processors, in {rounds} rounds of {seconds} "
             f"seconds: {min(to_radsecproxy):.2f} to {max(to_radsecproxy):.2f} times as many as radsecproxy, and {min(to_freeradius):.1f} to "
-            f"{max(to_freeradius):.1f} times as many as FreeRADIUS. With 256 outstanding at one home server it is {many} of radsecproxy's. The "
+            f"{max(to_freeradius):.1f} times as many as FreeRADIUS, by the middle figures. With 256 outstanding at one home server it is {many} of radsecproxy's. The "
             f"middle p99 of the rounds was lower than that of both at {lower} of {len(times)} rates")
 
 
