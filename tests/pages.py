@@ -152,14 +152,14 @@ def definition_row(path, names):
     shown = ", ".join(f"`{name}`" for name in dict.fromkeys(defined) if name in names)
     what = sentence if re.match(r"[\w-]+[A-Z]", sentence) else sentence[:1].lower() + sentence[1:]
     what += f" ({', '.join(sources)})" if sources else ""
-    return f"| `{path.relative_to(TOP / 'crates')}` | {what}{': ' + shown if shown else ''} |"
+    return f"`{path.relative_to(TOP / 'crates')}` | {what}{': ' + shown if shown else ''}"
 
 
 def definitions():
     """The list of all files of definitions that a public contract may cite."""
     names = cited()
     paths = [path for path in sorted(TOP.glob("crates/*/specs/*.antt")) if path.stem not in ("Lib", "internal")]
-    return "\n".join(["| file | what it defines |", "|---|---|"] + [definition_row(path, names) for path in paths])
+    return "\n".join(["file | what it defines", "---|---"] + [definition_row(path, names) for path in paths])
 
 
 def table(name):
