@@ -151,6 +151,7 @@ def definition_row(path, names):
     defined = re.findall(r"^(?:(?:abbrev|unfoldable|pub|record|data) )+([A-Za-z_]\w*)", text, re.MULTILINE)
     shown = ", ".join(f"`{name}`" for name in dict.fromkeys(defined) if name in names)
     what = sentence if re.match(r"[\w-]+[A-Z]", sentence) else sentence[:1].lower() + sentence[1:]
+    sources = [source for source in sources if source not in what]
     what += f" ({', '.join(sources)})" if sources else ""
     return f"`{path.relative_to(TOP / 'crates')}` | {what}{': ' + shown if shown else ''}"
 
