@@ -1,5 +1,6 @@
 pub mod Answers
 pub mod Outlets
+pub mod Fates
 pub mod Wires
 pub mod Opening
 pub mod Rests

@@ -1,4 +1,5 @@
 pub mod Outlet
+pub mod Fates
 pub mod Desk
 pub mod Inlet
 pub mod Tells

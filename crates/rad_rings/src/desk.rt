@@ -4,6 +4,7 @@ ghost use Rattle.std.specs.Prelude.{◌≤◌};
 ghost use Rattle.std.proofs.Props.{props};
 ghost use Rattle.rtrb.specs.Ring.{sent};
 ghost use Rattle.rad_rings.specs.Outlet.{IsOutlet};
+ghost use Rattle.rad_rings.specs.Fates.{AccountsForAll};
 
 use crate::inlet::Inlet;
 use crate::numbered::Numbered;
@@ -25,14 +26,16 @@ pub enum OpenFault {
 /// A lane and the sending end of its ring.
 ///
 /// Its type guarantees that each response that the lane served was added to the ring, in order of answering; that each
-/// kept answer is the response that was added under its serial; and that the lane's queue has a bound, so that the
-/// queues of all lanes can be joined.
+/// kept answer is the response that was added under its serial; that each request that the lane ever accepted is queued,
+/// or outstanding, or answered by one of these responses, and that once; and that the lane's queue has a bound, so that
+/// the queues of all lanes can be joined.
 #[derive(Drop)]
 pub struct Desk {
     pub(crate) lane: Lane<RecordQueue>,
     /// The end of the ring to which responses are added.
     pub(crate) giver: Producer<Outgoing, Global, Numbered>,
     ghost outlet: { IsOutlet lane (sent giver) } by { Prim.hlevel props },
+    ghost accounted: { AccountsForAll lane (sent giver) } by { Prim.hlevel props },
     ghost bounded: { lane.setup.limits.queue ≤ 65536 },
 }
 

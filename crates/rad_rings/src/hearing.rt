@@ -90,7 +90,10 @@ impl Desk {
         if self.giver.is_full() {
             return Err(DeskFault::RingFull);
         }
-        match self.lane.hear(alloc, moment, port, datagram) {
+        self.keep_law();
+        let heard = self.lane.hear(alloc, moment, port, datagram);
+        let _ = self.lane.accepted();
+        match heard {
             Ok(Heard::Answer(response)) => {
                 let serial = give(&mut self.giver, response);
                 Ok(Told::Answer(serial))

@@ -12,10 +12,10 @@ ghost use Rattle.rad_rings.specs.Desk.{book, given, SameOutlet};
 ghost use Rattle.rad_rings.specs.Departures.{Departs, Returns, StepsHolding, AcceptsLawfully, UnlessWrongLane};
 ghost use Rattle.rad_lane.specs.Setup.{IsOf};
 
-use crate::desk::Desk;
+use crate::desk::{Desk, RecordQueue};
 use crate::proxy::Stepped;
 use rad_auth::Secret;
-use rad_lane::{Action, Counts, Refusal, Stamp, Taken};
+use rad_lane::{Action, Counts, Lane, Refusal, Stamp, Taken};
 use rad_packet::Datagram;
 use rad_realms::Checked;
 use rad_tables::Moment;
@@ -90,10 +90,7 @@ impl Desk {
         ensures another { AllotsAnother (book self.old) result }
         ensures lawful { IsLawful (book self.old) × IsLawful (book self.new) }
     {
-        self.keep_law();
-        let action = self.lane.step(moment, random, datagram);
-        self.keep_law();
-        action
+        step_lawfully(&mut self.lane, moment, random, datagram)
     }
 
     /// Does the lane's next step like [`Desk::step`], if the lane has this number and its home server this secret, and
@@ -165,4 +162,21 @@ impl Desk {
     {
         self.lane.accepted()
     }
+}
+
+/// Does a lane's next step, and states the law before and after it.
+fn step_lawfully(
+    lane: &mut Lane<RecordQueue>,
+    moment: Moment,
+    random: [u8; 16],
+    datagram: &mut Datagram,
+) -> Action
+    ensures steps { Steps lane.old moment random result (record { before = datagram.old; after = datagram.new }) lane.new }
+    ensures another { AllotsAnother lane.old result }
+    ensures lawful { IsLawful lane.old × IsLawful lane.new }
+{
+    let _ = lane.accepted();
+    let action = lane.step(moment, random, datagram);
+    let _ = lane.accepted();
+    action
 }

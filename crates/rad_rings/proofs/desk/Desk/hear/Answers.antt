@@ -4,8 +4,10 @@ use Rattle.rad_lane.specs.declared.hearing.Heard.TheVariants.{Answer, ProbeAnswe
 use Rattle.rad_lane.specs.Hears.{Hears}
 use Rattle.rtrb.specs.Ring.{known_free}
 use Rattle.rad_rings.specs.Outlet.{IsOutlet}
+use Rattle.rad_rings.specs.Fates.{AccountsForAll}
 use Rattle.rad_lane.specs.Book.{moment_in}
 use Rattle.rad_rings.proofs.Answers.{same_by_probe}
+use Rattle.rad_rings.proofs.Fates.{accounts_by_reply, accounts_by_probe}
 use Rattle.rad_rings.proofs.Outlets.{outlet_answered, bounded_answered, outlet_same, bounded_same}
 use Rattle.rad_rings.proofs.desk.Desk.hear.Goals as goal
 use Rattle.rad_rings.proofs.desk.Desk.hear.Goals.{In-Ok-ProbeAnswered}
@@ -21,26 +23,27 @@ give-serial-requires-clause-place c = some_free (known_free c.is_full.new.self) 
 pub give-serial-requires-clause-next : goal.give-serial-requires-clause-next
 give-serial-requires-clause-next c =
     let response = c.in-Ok-Answer.response in
-    let heard : Hears c.args.self.now.lane c.args.moment c.args.port c.args.datagram.now (Ok (Answer response)) c.hear.new.self =
-    subst (λ h. Hears c.args.self.now.lane c.args.moment c.args.port c.args.datagram.now (Ok h) c.hear.new.self) c.in-Ok-Answer.field-0-is c.in-Ok-Answer.ensures in
+    let heard : Hears c.args.self.now.lane c.args.moment c.args.port c.args.datagram.now (Ok (Answer response)) c.hear-heard.new.self =
+    subst (λ h. Hears c.args.self.now.lane c.args.moment c.args.port c.args.datagram.now (Ok h) c.hear-heard.new.self) c.in-Ok-Answer.field-0-is c.in-Ok-Answer.ensures in
     heard.2.serial ∙ heard.1.keeps.serial ∙ sym c.args.self.now.outlet.served ∙ ap length (sym c.is_full.ensures.looked.1)
 
 pub invariant_of-self-in-Ok-Answer : goal.invariant_of-self-in-Ok-Answer
 invariant_of-self-in-Ok-Answer c =
     let response = c.in-Ok-Answer.response in
-    let heard : Hears c.args.self.now.lane c.args.moment c.args.port c.args.datagram.now (Ok (Answer response)) c.hear.new.self =
-    subst (λ h. Hears c.args.self.now.lane c.args.moment c.args.port c.args.datagram.now (Ok h) c.hear.new.self) c.in-Ok-Answer.field-0-is c.in-Ok-Answer.ensures in
+    let heard : Hears c.args.self.now.lane c.args.moment c.args.port c.args.datagram.now (Ok (Answer response)) c.hear-heard.new.self =
+    subst (λ h. Hears c.args.self.now.lane c.args.moment c.args.port c.args.datagram.now (Ok h) c.hear-heard.new.self) c.in-Ok-Answer.field-0-is c.in-Ok-Answer.ensures in
     let given = c.give-serial.ensures.sent ∙ ap (λ g. g ++ response ∷ []) c.is_full.ensures.looked.1 in
     record {
-      outlet = subst (IsOutlet c.hear.new.self) (sym given) (outlet_answered _ _ _ _ _ _ _ _ heard.1 heard.2 c.args.self.now.outlet);
+      accounted = subst (AccountsForAll c.hear-heard.new.self) (sym given) (accounts_by_reply _ _ _ _ _ _ _ _ c.keep_law.ensures c.accepted.ensures.lawful heard.1 heard.2 c.args.self.now.accounted);
+      outlet = subst (IsOutlet c.hear-heard.new.self) (sym given) (outlet_answered _ _ _ _ _ _ _ _ heard.1 heard.2 c.args.self.now.outlet);
       bounded = bounded_answered _ _ _ _ _ _ heard.1 c.args.self.now.bounded;
     }
 
 pub returns-in-Ok-Answer : goal.returns-in-Ok-Answer
 returns-in-Ok-Answer c =
     let response = c.in-Ok-Answer.response in
-    let heard : Hears c.args.self.now.lane c.args.moment c.args.port c.args.datagram.now (Ok (Answer response)) c.hear.new.self =
-    subst (λ h. Hears c.args.self.now.lane c.args.moment c.args.port c.args.datagram.now (Ok h) c.hear.new.self) c.in-Ok-Answer.field-0-is c.in-Ok-Answer.ensures in
+    let heard : Hears c.args.self.now.lane c.args.moment c.args.port c.args.datagram.now (Ok (Answer response)) c.hear-heard.new.self =
+    subst (λ h. Hears c.args.self.now.lane c.args.moment c.args.port c.args.datagram.now (Ok h) c.hear-heard.new.self) c.in-Ok-Answer.field-0-is c.in-Ok-Answer.ensures in
     let free = known_free c.is_full.new.self in
     let looked = c.is_full.ensures.looked.0 in
     let ring = c.give-serial.ensures.ring in
@@ -53,11 +56,12 @@ returns-in-Ok-Answer c =
     }
 
 -- the lane hears this datagram as the answer to its probe
-heard_probe : (c : In-Ok-ProbeAnswered) → Hears c.args.self.now.lane c.args.moment c.args.port c.args.datagram.now (Ok ProbeAnswered) c.hear.new.self
-heard_probe c = subst (λ h. Hears c.args.self.now.lane c.args.moment c.args.port c.args.datagram.now (Ok h) c.hear.new.self) c.in-Ok-ProbeAnswered.field-0-is c.in-Ok-ProbeAnswered.ensures
+heard_probe : (c : In-Ok-ProbeAnswered) → Hears c.args.self.now.lane c.args.moment c.args.port c.args.datagram.now (Ok ProbeAnswered) c.hear-heard.new.self
+heard_probe c = subst (λ h. Hears c.args.self.now.lane c.args.moment c.args.port c.args.datagram.now (Ok h) c.hear-heard.new.self) c.in-Ok-ProbeAnswered.field-0-is c.in-Ok-ProbeAnswered.ensures
 
 pub invariant_of-self : goal.invariant_of-self
 invariant_of-self c = record {
+  accounted = subst (AccountsForAll c.args.self.now.lane) (sym c.is_full.ensures.looked.1) c.args.self.now.accounted;
   outlet = subst (IsOutlet c.args.self.now.lane) (sym c.is_full.ensures.looked.1) c.args.self.now.outlet;
   bounded = c.args.self.now.bounded;
 }
@@ -75,9 +79,10 @@ returns-then-is_full c =
 pub invariant_of-self-in-Ok-ProbeAnswered : goal.invariant_of-self-in-Ok-ProbeAnswered
 invariant_of-self-in-Ok-ProbeAnswered c =
     let old = c.args.self.now.lane in
-    let new = c.hear.new.self in
+    let new = c.hear-heard.new.self in
     let same = same_by_probe old new (moment_in old c.args.moment) c.args.port c.args.datagram.now (heard_probe c) in
     record {
+      accounted = subst (AccountsForAll new) (sym c.is_full.ensures.looked.1) (accounts_by_probe old new _ _ _ _ c.keep_law.ensures c.accepted.ensures.lawful (heard_probe c) c.args.self.now.accounted);
       outlet = subst (IsOutlet new) (sym c.is_full.ensures.looked.1) (outlet_same old new _ same c.args.self.now.outlet);
       bounded = bounded_same old new same c.args.self.now.bounded;
     }

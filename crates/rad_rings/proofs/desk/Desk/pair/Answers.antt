@@ -2,6 +2,8 @@ use Rattle.std.proofs.Common.{◌≤◌, [], sym, ap, ◌∙◌, subst}
 use Rattle.rtrb.specs.Ring.{received, IsPair}
 use Rattle.rad_lane.specs.Book.{Book}
 use Rattle.rad_rings.specs.Outlet.{IsOutlet}
+use Rattle.rad_rings.specs.Fates.{AccountsForAll}
+use Rattle.rad_rings.proofs.Fates.{accounts_at_first}
 use Rattle.rad_rings.proofs.Outlets.{outlet_at_first}
 use Rattle.rad_config.specs.declared.limits.LimitNumbers.{LimitNumbers}
 use Rattle.rad_rings.proofs.desk.Desk.pair.Goals as goal
@@ -32,5 +34,6 @@ invariant_of-result c =
     let made = sym c.in-Ok-new.ensures in
     record {
       outlet = subst (IsOutlet c.in-Ok-new.lane) (sym c.in-Ok.ensures.producer.0) (subst (λ b. IsOutlet b []) made (outlet_at_first c.args.setup));
+      accounted = subst (AccountsForAll c.in-Ok-new.lane) (sym c.in-Ok.ensures.producer.0) (subst (λ b. AccountsForAll b []) made (accounts_at_first c.args.setup));
       bounded = subst (λ (b : Book). b.setup.limits.queue ≤ 65536) made (subst (λ (n : LimitNumbers). n.queue ≤ 65536) c.limits.ensures.value c.numbers-places.ensures.in_range.queue.1);
     }

@@ -1,18 +1,23 @@
 use Rattle.std.proofs.Common.{◌≡◌, length, arith}
 use Rattle.rad_rings.proofs.Answers.{same_by_step}
+use Rattle.rad_rings.proofs.Fates.{accounts_by_step}
 use Rattle.rad_rings.proofs.Outlets.{outlet_same, bounded_same}
 use Rattle.rad_rings.proofs.Wires.{departs}
 use Rattle.rad_rings.proofs.desk.Desk.step.Goals as goal
 
 pub invariant_of-self : goal.invariant_of-self
 invariant_of-self c =
-    let same = same_by_step c.args.self.now.lane c.step-action.new.self _ _ _ _ c.step-action.ensures.steps in
-    record { outlet = outlet_same _ _ _ same c.args.self.now.outlet; bounded = bounded_same c.args.self.now.lane c.step-action.new.self same c.args.self.now.bounded }
+    let stepped = c.step_lawfully.ensures in
+    let old = c.args.self.now.lane in
+    let new = c.step_lawfully.new.lane in
+    let same = same_by_step old new _ _ _ _ stepped.steps in
+    record {
+      outlet = outlet_same _ _ _ same c.args.self.now.outlet;
+      accounted = accounts_by_step old new _ _ _ _ _ stepped.lawful.0 stepped.lawful.1 stepped.steps c.args.self.now.accounted;
+      bounded = bounded_same old new same c.args.self.now.bounded;
+    }
 
 pub returns-clause-departs : goal.returns-clause-departs
 returns-clause-departs c =
     let sixteen : length c.args.random ≡ 16 = omega arith in
-    departs _ _ _ _ _ _ sixteen c.keep_law.ensures c.step-action.ensures.steps
-
-pub returns-clause-lawful : goal.returns-clause-lawful
-returns-clause-lawful c = (c.keep_law.ensures, c.keep_law-2.ensures)
+    departs _ _ _ _ _ _ sixteen c.step_lawfully.ensures.lawful.0 c.step_lawfully.ensures.steps
