@@ -11,6 +11,7 @@ use Rattle.rad_rings.specs.declared.desk.Desk.{Desk}
 use Rattle.rad_rings.specs.declared.inlet.Inlet.{Inlet}
 use Rattle.rad_rings.specs.declared.report.LaneEnd.{LaneEnd}
 use Rattle.rad_rings.specs.Desk.{book}
+use Rattle.rad_rings.proofs.Rests.{made_up}
 use Rattle.rad_rings.specs.Ending.{IsEnd, EndsAt}
 
 -- The first of what is left of a list, and what is left after it.
@@ -53,6 +54,8 @@ ends_still desks inlets ends desk end lane h = record {
   of_desk = still_at desks desk h.desk lane h.of_desk;
   there = still_at ends end h.end lane h.there;
   is_end = h.is_end;
+  accounted = h.accounted;
+  made_up = h.made_up;
 }
 
 pub ends_more : (desks : List Desk) (inlets : List Inlet) (ends : List LaneEnd) (desk : Desk) (end : LaneEnd) → length ends ≡ length desks → ((lane : ℕ) → lane < length desks → EndsAt desks inlets ends lane) → IsEnd (length desks) (book desk) (slice_get inlets (length desks)) end → (lane : ℕ) → lane < length (desks ++ desk ∷ []) → EndsAt (desks ++ desk ∷ []) inlets (ends ++ end ∷ []) lane
@@ -60,7 +63,7 @@ ends_more desks inlets ends desk end count h is lane within =
     let Ends : ℕ → Type 0 = λ n. EndsAt (desks ++ desk ∷ []) inlets (ends ++ end ∷ []) n in
     let before : (n : ℕ) → n < length desks → Ends n = λ n below. ends_still desks inlets ends desk end n (h n below) in
     let last : slice_get (ends ++ end ∷ []) (length desks) ≡ Some end = ap (λ n. slice_get (ends ++ end ∷ []) n) (sym count) ∙ last_at ends end in
-    let here : Ends (length desks) = record { desk = desk; end = end; of_desk = last_at desks desk; there = last; is_end = is } in
+    let here : Ends (length desks) = record { desk = desk; end = end; of_desk = last_at desks desk; there = last; is_end = is; accounted = desk.accounted; made_up = made_up desk (slice_get inlets (length desks)) end (length desks) is } in
     let below : lane < length desks + 1 = omega (arith, within, length-append desks (desk ∷ [])) in
     below_more Ends (length desks) before here lane below
 

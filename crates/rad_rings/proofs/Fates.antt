@@ -47,7 +47,7 @@ use Rattle.rad_lane.specs.Stamp.{Recorded}
 use Rattle.rad_lane.specs.Outstanding.{Outstanding, AnswerKept}
 use Rattle.rad_lane.specs.Book.{Book, moment_in, next_number, outstanding_of}
 use Rattle.rad_lane.specs.Lawful.{IsLawful}
-use Rattle.rad_rings.specs.Fates.{queued_with, outstanding_with, answered_with, marked_number, AccountsForAll}
+use Rattle.rad_rings.specs.Fates.{queued_with, outstanding_with, answered_with, marked_number, AccountsForAll, EachOnce}
 
 -- How many stamps have this number.
 abbrev pub stamps_with : ℕ → List Stamp → ℕ
@@ -279,6 +279,32 @@ coming_up (down until next out) now old new c = ap requests_of c.others
 pub accounts_by_probe : (old new : Book) (now port : ℕ) (datagram : List ℕ) (given : List Outgoing) → IsLawful old → IsLawful new → HearsProbe old now port datagram new → AccountsForAll old given → AccountsForAll new given
 accounts_by_probe old new now port datagram given lawful stays h = accounts_same old new given lawful stays (coming_up old.watch now _ new h.book)
 
+-- The answer is one more.
+answers_more : (old new : Book) (now port : ℕ) (datagram : List ℕ) (answer : AnswerKept) → HearsReply old now port datagram answer new → (n : ℕ) → stamps_with n (stamps_answered new) ≡ stamps_with n (stamps_answered old) + one_if_same answer.stamp.number n
+answers_more old new now port datagram answer h n =
+    let Requests : Type 0 = List Recorded × List Stamp × List AnswerKept × ℕ in
+    let made : requests_of new ≡ (old.queued, old.sent, old.answered ++ answer ∷ [], next_number old) = coming_up old.watch now _ new h.book in
+    ap (λ (q : Requests). stamps_with n (each (λ (a : AnswerKept). a.stamp) q.2)) made
+    ∙ sum_of_each (λ (s : Stamp). one_if_same s.number n) (λ (a : AnswerKept). a.stamp) (old.answered ++ answer ∷ [])
+    ∙ sum_by_push (λ (a : AnswerKept). one_if_same a.stamp.number n) old.answered answer
+    ∙ ap (λ m. m + one_if_same answer.stamp.number n) (sym (sum_of_each (λ (s : Stamp). one_if_same s.number n) (λ (a : AnswerKept). a.stamp) old.answered))
+
+-- The request that a reply answers was outstanding.
+outstanding_before : (old new : Book) (now port : ℕ) (datagram : List ℕ) (answer : AnswerKept) → IsLawful old → IsLawful new → HearsReply old now port datagram answer new → 1 ≤ outstanding_with answer.stamp.number (outstanding_of old)
+outstanding_before old new now port datagram answer lawful stays h =
+    let Requests : Type 0 = List Recorded × List Stamp × List AnswerKept × ℕ in
+    let made = coming_up old.watch now _ new h.book in
+    let number = answer.stamp.number in
+    let sent_same : stamps_with number new.sent ≡ stamps_with number old.sent = ap (λ (q : Requests). stamps_with number q.1) made in
+    omega (arith, sent_same, answers_more old new now port datagram answer h number, same_number number, placed old lawful number, placed new stays number)
+
+at_most_one : (is : Bool) → cond is 1 0 ≤ 1
+at_most_one true = omega arith
+at_most_one false = omega arith
+
+counted_below : (book : Book) (given : List Outgoing) (number : ℕ) → 1 ≤ outstanding_with number (outstanding_of book) → AccountsForAll book given → 1 ≤ one_if_below number (next_number book)
+counted_below book given number there accounts = omega (arith, there, accounts.once number)
+
 -- A reply moves a request from the outstanding ones to those that a response answers.
 pub accounts_by_reply : (old new : Book) (now port : ℕ) (datagram : List ℕ) (answer : AnswerKept) (outgoing : Outgoing) (given : List Outgoing) → IsLawful old → IsLawful new → HearsReply old now port datagram answer new → GoesOut answer outgoing → AccountsForAll old given → AccountsForAll new (given ++ outgoing ∷ [])
 accounts_by_reply old new now port datagram answer outgoing given lawful stays h out accounts =
@@ -287,14 +313,8 @@ accounts_by_reply old new now port datagram answer outgoing given lawful stays h
     let number = answer.stamp.number in
     let numbers : next_number new ≡ next_number old = ap (λ (q : Requests). q.3) made in
     let sent : (n : ℕ) → queued_with n new.queued + stamps_with n new.sent ≡ queued_with n old.queued + stamps_with n old.sent = λ n. ap (λ (q : Requests). queued_with n q.0 + stamps_with n q.1) made in
-    let kept : (n : ℕ) → stamps_with n (stamps_answered new) ≡ stamps_with n (stamps_answered old) + one_if_same number n = λ n.
-      ap (λ (q : Requests). stamps_with n (each (λ (a : AnswerKept). a.stamp) q.2)) made
-      ∙ sum_of_each (λ (s : Stamp). one_if_same s.number n) (λ (a : AnswerKept). a.stamp) (old.answered ++ answer ∷ [])
-      ∙ sum_by_push (λ (a : AnswerKept). one_if_same a.stamp.number n) old.answered answer
-      ∙ ap (λ m. m + one_if_same number n) (sym (sum_of_each (λ (s : Stamp). one_if_same s.number n) (λ (a : AnswerKept). a.stamp) old.answered)) in
-    let queue_same : queued_with number new.queued ≡ queued_with number old.queued = ap (λ (q : Requests). queued_with number q.0) made in
-    let sent_same : stamps_with number new.sent ≡ stamps_with number old.sent = ap (λ (q : Requests). stamps_with number q.1) made in
-    let there : 1 ≤ one_if_below number (next_number old) = omega (arith, sent_same, kept number, same_number number, placed old lawful number, placed new stays number, accounts.once number) in
+    let kept = answers_more old new now port datagram answer h in
+    let there = counted_below old given number (outstanding_before old new now port datagram answer lawful stays h) accounts in
     let small : number < 2 ^ 64 = below_mark number (next_number old) there accounts.fits in
     let answers : marked_number outgoing.reply.sending ≡ number = marked old port datagram answer outgoing now new lawful h out small in
     let more : (n : ℕ) → answered_with n (given ++ outgoing ∷ []) ≡ answered_with n given + one_if_same number n = λ n.
@@ -303,3 +323,25 @@ accounts_by_reply old new now port datagram answer outgoing given lawful stays h
     (λ n. omega (arith, sent n))
     (λ n. omega (arith, kept n, more n))
     (λ n. omega (arith, ap (one_if_below n) numbers))
+
+-- The request that a reply answers was not answered before.
+pub unanswered : (old new : Book) (now port : ℕ) (datagram : List ℕ) (answer : AnswerKept) (outgoing : Outgoing) (given : List Outgoing) → IsLawful old → IsLawful new → HearsReply old now port datagram answer new → GoesOut answer outgoing → AccountsForAll old given → answered_with (marked_number outgoing.reply.sending) given ≡ 0
+unanswered old new now port datagram answer outgoing given lawful stays h out accounts =
+    let there = outstanding_before old new now port datagram answer lawful stays h in
+    let number = answer.stamp.number in
+    let below = counted_below old given number there accounts in
+    let small : number < 2 ^ 64 = below_mark number (next_number old) below accounts.fits in
+    let none : answered_with number given ≡ 0 = omega (arith, there, accounts.once number, at_most_one (nat_lt number (next_number old))) in
+    ap (λ n. answered_with n given) (marked old port datagram answer outgoing now new lawful h out small) ∙ none
+
+-- One response more, to a request that none before it answers.
+once_cases : (own number before : ℕ) (is : Bool) → (own == number) ≡ is → before ≤ 1 → (own ≡ number → before ≡ 0) → before + cond is 1 0 ≤ 1
+once_cases own number before true is most none = omega (arith, none (eqb-true own number is))
+once_cases own number before false is most none = omega (arith, most)
+
+pub once_more : (before : List Outgoing) (response : Outgoing) → EachOnce before → answered_with (marked_number response.reply.sending) before ≡ 0 → EachOnce (before ++ response ∷ [])
+once_more before response once first number =
+    let own = marked_number response.reply.sending in
+    let more : answered_with number (before ++ response ∷ []) ≡ answered_with number before + one_if_same own number = sum_by_push (λ (r : Outgoing). one_if_same (marked_number r.reply.sending) number) before response in
+    let most = once_cases own number (answered_with number before) (own == number) refl (once number) (λ same. ap (λ n. answered_with n before) (sym same) ∙ first) in
+    omega (arith, more, most)

@@ -1,11 +1,20 @@
 -- The rest of a ring, and the answers of its serials.
-use Rattle.std.proofs.Common.{◌≡◌, ℕ, zero, suc, ◌+◌, ◌<◌, ◌≤◌, List, [], ◌∷◌, ◌++◌, length, sym, ap, ◌∙◌, subst, arith, add-zero, zero-add, get_or}
-use Rattle.std.specs.Prelude.{slice_get, Some}
+use Rattle.std.proofs.Common.{◌≡◌, ℕ, zero, suc, ◌+◌, ◌<◌, ◌≤◌, List, [], ◌∷◌, ◌++◌, length, sym, ap, ◌∙◌, subst, arith, add-zero, zero-add, get_or, length-append, append_assoc, append-nil}
+use Rattle.std.specs.Prelude.{slice_get, Option, Some, None}
+use Rattle.std.specs.List.{range_with_len}
 use Rattle.std.proofs.lemmas.Option.{get_or_from_slice_get, slice_get_within}
 use Rattle.rad_lane.specs.declared.outgoing.Outgoing.{Outgoing}
 use Rattle.rad_lane.specs.Outstanding.{AnswerKept}
 use Rattle.rad_rings.specs.Outlet.{InOrder, Agrees}
-use Rattle.rad_rings.specs.Ending.{GoOnFrom, AgreesAmong}
+use Rattle.rad_rings.specs.declared.desk.Desk.{Desk}
+use Rattle.rad_rings.specs.declared.inlet.Inlet.{Inlet}
+use Rattle.rad_rings.specs.declared.report.LaneEnd.{LaneEnd}
+use Rattle.rad_rings.specs.declared.report.Rest.{Rest}
+use Rattle.rad_rings.specs.declared.report.Rest.TheVariants.{Known, Unknown}
+use Rattle.rad_rings.specs.Desk.{book, given}
+use Rattle.rad_rings.specs.Inlet.{taken}
+use Rattle.rad_rings.specs.Ending.{GoOnFrom, AgreesAmong, TellsRest, IsEnd, MakesUp}
+use Rattle.rad_rings.proofs.Outlets.{in_order_more}
 
 -- Of responses whose serials go on, the last ones go on where the first ones stop.
 rest_from : (from : ℕ) (before rest : List Outgoing) → GoOnFrom from (before ++ rest) → GoOnFrom (from + length before) rest
@@ -51,3 +60,27 @@ agrees_there first responses answer response place h there at all =
     let here = get_or_from_slice_get responses place response response there in
     let serial : response.serial ≡ first + place = ap (λ (r : Outgoing). r.serial) (sym here) ∙ serial_at first responses h place response within in
     subst (Agrees answer) here (all place response within (ap (λ (r : Outgoing). r.serial) here ∙ serial ∙ sym at))
+
+-- Responses in order, and those that go on from them, are in order together.
+in_order_joined : (before rest : List Outgoing) → InOrder before → GoOnFrom (length before) rest → InOrder (before ++ rest)
+in_order_joined before [] h on = subst InOrder (sym (append-nil before)) h
+in_order_joined before (r ∷ rest) h on =
+    let head : r.serial ≡ length before = cc in
+    let tail : GoOnFrom (length before + 1) rest = cc in
+    let count : length before + 1 ≡ length (before ++ r ∷ []) = sym (length-append before (r ∷ [])) in
+    subst InOrder (append_assoc before (r ∷ []) rest)
+    (in_order_joined (before ++ r ∷ []) rest (in_order_more before r h head) (subst (λ n. GoOnFrom n rest) count tail))
+
+-- The rest that is known, and what was taken before it, have the serials of all that was given.
+made_up_by : (lane : ℕ) (desk : Desk) (inlet : Option Inlet) (rest : Rest) → TellsRest lane (book desk).answered (book desk).served inlet rest → MakesUp (given desk) inlet rest
+made_up_by lane desk None (Known rest) h = tt
+made_up_by lane desk None Unknown h = tt
+made_up_by lane desk (Some inlet) Unknown h = tt
+made_up_by lane desk (Some inlet) (Known rest) h =
+    let is = h.1.2 in
+    let joined : InOrder (taken inlet ++ rest) = in_order_joined (taken inlet) rest inlet.in_order is.go_on in
+    let count : length (taken inlet ++ rest) ≡ length (given desk) = length-append (taken inlet) rest ∙ is.all ∙ sym desk.outlet.served in
+    joined ∙ ap (λ n. range_with_len 0 n) count ∙ sym desk.outlet.in_order
+
+pub made_up : (desk : Desk) (inlet : Option Inlet) (end : LaneEnd) (lane : ℕ) → IsEnd lane (book desk) inlet end → MakesUp (given desk) inlet end.rest
+made_up desk inlet end lane h = made_up_by lane desk inlet end.rest h.rest

@@ -19,7 +19,8 @@ use Rattle.rad_rings.specs.declared.report.Rest.TheVariants.{Known, Unknown}
 use Rattle.rad_rings.specs.declared.report.LaneEnd.{LaneEnd}
 use Rattle.rad_rings.specs.declared.report.Report.{Report}
 use Rattle.rad_rings.specs.Outlet.{Agrees}
-use Rattle.rad_rings.specs.Desk.{book}
+use Rattle.rad_rings.specs.Fates.{AccountsForAll}
+use Rattle.rad_rings.specs.Desk.{book, given}
 use Rattle.rad_rings.specs.Inlet.{lane_of, taken, Empties}
 
 -- The serials of the responses are `first` and the numbers that follow it.
@@ -79,13 +80,23 @@ pub record IsEnd (lane : ℕ) (book : Book) (inlet : Option Inlet) (end : LaneEn
   pub accounts : Accounts end book.queued
   pub rest : TellsRest lane book.answered book.served inlet end.rest
 
--- The end at this place is that of the desk at the same place, with the inlet at that place, if there is one.
+-- If the rest is known, then what the inlet took before and the rest are as many as the responses given, and have the
+-- same serials.
+abbrev pub MakesUp : List Outgoing → Option Inlet → Rest → Type 0
+MakesUp given (Some inlet) (Known rest) = each (λ r. r.serial) (taken inlet ++ rest) ≡ each (λ r. r.serial) given
+MakesUp given None (Known rest) = ⊤
+MakesUp given inlet Unknown = ⊤
+
+-- The end at this place is that of the desk at the same place, with the inlet at that place, if there is one. Each request
+-- that the lane ever accepted is queued, or outstanding, or answered by one of the responses given.
 pub record EndsAt (desks : List Desk) (inlets : List Inlet) (ends : List LaneEnd) (lane : ℕ) : Type 0 where
   pub desk : Desk
   pub end : LaneEnd
   pub of_desk : slice_get desks lane ≡ Some desk
   pub there : slice_get ends lane ≡ Some end
   pub is_end : IsEnd lane (book desk) (slice_get inlets lane) end
+  pub accounted : AccountsForAll (book desk) (given desk)
+  pub made_up : MakesUp (given desk) (slice_get inlets lane) end.rest
 
 -- The report of these desks, with these inlets: an end for each desk, and their queues joined in order.
 pub record IsReport (desks : List Desk) (inlets : List Inlet) (report : Report) : Type 0 where

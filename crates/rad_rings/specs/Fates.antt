@@ -28,3 +28,12 @@ pub record AccountsForAll (book : Book) (given : List Outgoing) : Type 0 where
   pub once : (number : ℕ) → queued_with number book.queued + outstanding_with number (outstanding_of book) + answered_with number given ≡ (if nat_lt number (next_number book) then 1 else 0)
   -- Each number fits in a mark.
   pub fits : next_number book ≤ 2 ^ 62
+
+-- A response may follow these in a ring: its serial is their number, and none of them answers the same request.
+pub record MayFollow (before : List Outgoing) (response : Outgoing) : Type 0 where
+  pub serial : response.serial ≡ length before
+  pub first : answered_with (marked_number response.reply.sending) before ≡ 0
+
+-- No two of these responses answer one request.
+abbrev pub EachOnce : List Outgoing → Type 0
+EachOnce responses = (number : ℕ) → answered_with number responses ≤ 1

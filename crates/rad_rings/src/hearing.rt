@@ -1,7 +1,8 @@
 //! Hearing the home server, if the ring has a place for the response.
 
-ghost use Rattle.std.specs.Prelude.{◌≡◌, ◌<◌, ◌+◌, [], ◌∷◌, ◌++◌, length};
+ghost use Rattle.std.specs.Prelude.{◌≡◌, ◌<◌, ◌+◌, [], ◌∷◌, ◌++◌};
 ghost use Rattle.rtrb.specs.Ring.{sent, known_free, SameProducer};
+ghost use Rattle.rad_rings.specs.Fates.{MayFollow};
 ghost use Rattle.rad_rings.specs.Tells.{Tells};
 
 use crate::desk::Desk;
@@ -107,7 +108,7 @@ impl Desk {
 /// Adds a response to a ring that has a free place, and returns its serial.
 fn give(giver: &mut Producer<Outgoing, Global, Numbered>, response: Outgoing) -> u64
     requires place { 0 < known_free giver.old }
-    requires next { response.serial ≡ length (sent giver.old) }
+    requires next { MayFollow (sent giver.old) response }
     ensures serial { result ≡ response.serial }
     ensures sent { sent giver.new ≡ sent giver.old ++ response ∷ [] }
     ensures free { known_free giver.old ≡ known_free giver.new + 1 }

@@ -3,6 +3,7 @@
 ghost use Rattle.std.specs.Prelude.{◌≡◌, length};
 ghost use Rattle.rtrb.specs.Ring.{received};
 ghost use Rattle.rad_rings.specs.Outlet.{InOrder, count_to};
+ghost use Rattle.rad_rings.specs.Fates.{EachOnce};
 
 use crate::numbered::Numbered;
 use rad_lane::Outgoing;
@@ -11,7 +12,8 @@ use std::alloc::{AllocError, Global};
 
 /// The end of a lane's ring from which the front takes responses.
 ///
-/// Its type guarantees, whatever other threads do, that the responses taken have the serials 0, 1, 2 and so on.
+/// Its type guarantees, whatever other threads do, that the responses taken have the serials 0, 1, 2 and so on, and that
+/// no two of them answer one request.
 #[derive(Drop)]
 pub struct Inlet {
     /// The number of the lane.
@@ -22,6 +24,7 @@ pub struct Inlet {
     /// The room for the responses that are left at the end. It is allocated when it is needed.
     room: Option<Vec<Outgoing>>,
     ghost in_order: { InOrder (received taker) },
+    ghost once: { EachOnce (received taker) },
     ghost counted: { length (received taker) ≡ count_to last },
 }
 
@@ -29,6 +32,7 @@ impl Inlet {
     ghost use Rattle.std.specs.Prelude.{◌≡◌, ◌<◌, ◌↔◌, ◌∷◌, ◌++◌, [], length, IsTrue, IsSome, IfSome, IfNone, OnOk};
     ghost use mathlib.Core.List.{IsPrefix};
     ghost use Rattle.rad_rings.specs.Outlet.{InOrder};
+    ghost use Rattle.rad_rings.specs.Fates.{EachOnce};
     ghost use Rattle.rad_rings.specs.Inlet.{lane_of, taken, seen, SameInlet, IsUntouched, HasRoom, Empties};
 
     /// Makes an inlet that has taken nothing yet.
@@ -62,6 +66,7 @@ impl Inlet {
         ensures succeeds { 0 < length (seen self.old) → IsSome result }
         ensures same { SameInlet self.old self.new }
         ensures in_order { InOrder (taken self.new) }
+        ensures once { EachOnce (taken self.new) }
     {
         match self.taker.pop() {
             Ok(response) => {

@@ -3,12 +3,13 @@
 use rad_lane::Outgoing;
 use rtrb::Protocol;
 
-/// The protocol of a lane's ring: the serial of each response is the number of responses before it.
+/// The protocol of a lane's ring: the serial of each response is the number of responses before it, and none of these
+/// answers the same request.
 #[derive(Clone, Copy)]
 pub(crate) struct Numbered;
 
 impl Protocol<Outgoing> for Numbered {
-    ghost use Rattle.std.specs.Prelude.{◌≡◌, length};
+    ghost use Rattle.rad_rings.specs.Fates.{MayFollow};
 
-    ghost allows = { λ before response. response.serial ≡ length before };
+    ghost allows = { λ before response. MayFollow before response };
 }

@@ -4,10 +4,10 @@ use Rattle.rad_lane.specs.declared.hearing.Heard.TheVariants.{Answer, ProbeAnswe
 use Rattle.rad_lane.specs.Hears.{Hears}
 use Rattle.rtrb.specs.Ring.{known_free}
 use Rattle.rad_rings.specs.Outlet.{IsOutlet}
-use Rattle.rad_rings.specs.Fates.{AccountsForAll}
+use Rattle.rad_rings.specs.Fates.{AccountsForAll, answered_with, marked_number}
 use Rattle.rad_lane.specs.Book.{moment_in}
 use Rattle.rad_rings.proofs.Answers.{same_by_probe}
-use Rattle.rad_rings.proofs.Fates.{accounts_by_reply, accounts_by_probe}
+use Rattle.rad_rings.proofs.Fates.{accounts_by_reply, accounts_by_probe, unanswered}
 use Rattle.rad_rings.proofs.Outlets.{outlet_answered, bounded_answered, outlet_same, bounded_same}
 use Rattle.rad_rings.proofs.desk.Desk.hear.Goals as goal
 use Rattle.rad_rings.proofs.desk.Desk.hear.Goals.{In-Ok-ProbeAnswered}
@@ -25,7 +25,11 @@ give-serial-requires-clause-next c =
     let response = c.in-Ok-Answer.response in
     let heard : Hears c.args.self.now.lane c.args.moment c.args.port c.args.datagram.now (Ok (Answer response)) c.hear-heard.new.self =
     subst (λ h. Hears c.args.self.now.lane c.args.moment c.args.port c.args.datagram.now (Ok h) c.hear-heard.new.self) c.in-Ok-Answer.field-0-is c.in-Ok-Answer.ensures in
-    heard.2.serial ∙ heard.1.keeps.serial ∙ sym c.args.self.now.outlet.served ∙ ap length (sym c.is_full.ensures.looked.1)
+    let same = c.is_full.ensures.looked.1 in
+    record {
+      serial = heard.2.serial ∙ heard.1.keeps.serial ∙ sym c.args.self.now.outlet.served ∙ ap length (sym same);
+      first = ap (answered_with (marked_number response.reply.sending)) same ∙ unanswered _ _ _ _ _ _ _ _ c.keep_law.ensures c.accepted.ensures.lawful heard.1 heard.2 c.args.self.now.accounted;
+    }
 
 pub invariant_of-self-in-Ok-Answer : goal.invariant_of-self-in-Ok-Answer
 invariant_of-self-in-Ok-Answer c =
