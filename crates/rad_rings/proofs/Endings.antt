@@ -11,7 +11,7 @@ use Rattle.rad_rings.specs.declared.desk.Desk.{Desk}
 use Rattle.rad_rings.specs.declared.inlet.Inlet.{Inlet}
 use Rattle.rad_rings.specs.declared.report.LaneEnd.{LaneEnd}
 use Rattle.rad_rings.specs.Desk.{book}
-use Rattle.rad_rings.proofs.Rests.{made_up}
+use Rattle.rad_rings.proofs.Rests.{made_up_by}
 use Rattle.rad_rings.specs.Ending.{IsEnd, EndsAt}
 
 -- The first of what is left of a list, and what is left after it.
@@ -63,7 +63,7 @@ ends_more desks inlets ends desk end count h is lane within =
     let Ends : ℕ → Type 0 = λ n. EndsAt (desks ++ desk ∷ []) inlets (ends ++ end ∷ []) n in
     let before : (n : ℕ) → n < length desks → Ends n = λ n below. ends_still desks inlets ends desk end n (h n below) in
     let last : slice_get (ends ++ end ∷ []) (length desks) ≡ Some end = ap (λ n. slice_get (ends ++ end ∷ []) n) (sym count) ∙ last_at ends end in
-    let here : Ends (length desks) = record { desk = desk; end = end; of_desk = last_at desks desk; there = last; is_end = is; accounted = desk.accounted; made_up = made_up desk (slice_get inlets (length desks)) end (length desks) is } in
+    let here : Ends (length desks) = record { desk = desk; end = end; of_desk = last_at desks desk; there = last; is_end = is; accounted = desk.accounted; made_up = made_up_by (length desks) desk (slice_get inlets (length desks)) end.rest is.rest } in
     let below : lane < length desks + 1 = omega (arith, within, length-append desks (desk ∷ [])) in
     below_more Ends (length desks) before here lane below
 

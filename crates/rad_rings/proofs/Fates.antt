@@ -1,11 +1,13 @@
 -- What becomes of each request, after each call of its lane.
-use Rattle.std.proofs.Common.{◌≡◌, ℕ, zero, suc, ◌+◌, ◌-◌, ◌/◌, ◌%◌, ◌≤◌, ◌<◌, ◌^◌, Bool, true, false, List, [], ◌∷◌, ◌++◌, length, drop, replicate, cond, refl, sym, ap, ◌∙◌, subst, arith, lit≤, add-one, length-append, append_assoc, inr}
-use Rattle.std.specs.Prelude.{◌==◌, nat_lt, map as each, All, Some, None, Option, Result, Ok, Err}
+use Rattle.std.proofs.Common.{◌≡◌, ℕ, ◌+◌, ◌-◌, ◌/◌, ◌%◌, ◌≤◌, ◌<◌, ◌^◌, Bool, true, false, List, [], ◌∷◌, ◌++◌, length, drop, replicate, cond, refl, sym, ap, ◌∙◌, subst, arith, lit≤, length-append, append_assoc, inr}
+use Rattle.std.specs.Prelude.{◌==◌, nat_lt, map as each, Some, None, Option, Result, Ok, Err}
 use Rattle.std.specs.Int.{w16, w64, from_be_bytes, to_be_bytes}
 use Rattle.std.specs.List.{count_by, sum_by, filter_map}
-use Rattle.std.specs.List.Sorted.{IsPermutation}
 use Rattle.std.proofs.lemmas.List.Sums.{sum_by-append, sum_by-cons, sum_by_push}
-use Rattle.std.proofs.lemmas.List.Sorted.{sum_by-IsPermutation}
+use Rattle.std.proofs.lemmas.List.Sorted.{sum_by-IsPermutation, length_permutation}
+use Rattle.std.proofs.lemmas.List.{length-map}
+use Rattle.rad_lane.specs.Counting.{counts_of}
+use Rattle.rad_rings.specs.Lawful.{AddUp}
 use Rattle.std.proofs.Math.Seq.{drop-append_seam}
 use Rattle.std.proofs.lemmas.Nat.{from_be_bytes-to_be_bytes_8}
 use Rattle.std.proofs.lemmas.Bool.{ltb-true, ltb-false, le-ltb, eq-eqb, eqb-true, eqb-false}
@@ -138,11 +140,12 @@ module _ (text : List ℕ) (mark : Mark) (identifier : ℕ) (secret : List ℕ) 
       let head : List ℕ = 0x21 ∷ 0x0c ∷ to_be_bytes w16 mark.lane in
       let number : List ℕ = to_be_bytes w64 mark.number in
       let digest : List ℕ = request_authenticator secret (packet_text 4 identifier (replicate 16 0) octets) in
-      let start : List ℕ = 4 ∷ identifier ∷ ((20 + length octets) / 256) ∷ ((20 + length octets) % 256) ∷ [] in
-      (start ++ (digest ++ (attribute_octets text ++ head)),
-       ap (λ xs. start ++ (digest ++ xs)) (sym (append_assoc (attribute_octets text) head number))
-       ∙ ap (λ xs. start ++ xs) (sym (append_assoc digest (attribute_octets text ++ head) number))
-       ∙ sym (append_assoc start (digest ++ (attribute_octets text ++ head)) number))
+      let start : List ℕ = 4 ∷ identifier ∷ ((20 + length octets) / 256) ∷ ((20 + length octets) % 256) ∷ [] in (
+        start ++ (digest ++ (attribute_octets text ++ head)),
+        ap (λ xs. start ++ (digest ++ xs)) (sym (append_assoc (attribute_octets text) head number))
+            ∙ ap (λ xs. start ++ xs) (sym (append_assoc digest (attribute_octets text ++ head) number))
+            ∙ sym (append_assoc start (digest ++ (attribute_octets text ++ head)) number),
+      )
 
 pub marked_forwarded : (text : List ℕ) (mark : Mark) (identifier : ℕ) (secret : List ℕ) → mark.number < 2 ^ 64 → marked_number (forwarded text mark identifier secret) ≡ mark.number
 marked_forwarded text mark identifier secret small =
@@ -318,7 +321,7 @@ accounts_by_reply old new now port datagram answer outgoing given lawful stays h
     let small : number < 2 ^ 64 = below_mark number (next_number old) there accounts.fits in
     let answers : marked_number outgoing.reply.sending ≡ number = marked old port datagram answer outgoing now new lawful h out small in
     let more : (n : ℕ) → answered_with n (given ++ outgoing ∷ []) ≡ answered_with n given + one_if_same number n = λ n.
-      sum_by_push (λ (r : Outgoing). one_if_same (marked_number r.reply.sending) n) given outgoing ∙ ap (λ m. answered_with n given + one_if_same m n) answers in
+    sum_by_push (λ (r : Outgoing). one_if_same (marked_number r.reply.sending) n) given outgoing ∙ ap (λ m. answered_with n given + one_if_same m n) answers in
     accounts_on old new given (given ++ outgoing ∷ []) (λ n. 0) lawful stays accounts (omega (arith, numbers, accounts.fits))
     (λ n. omega (arith, sent n))
     (λ n. omega (arith, kept n, more n))
@@ -345,3 +348,19 @@ once_more before response once first number =
     let more : answered_with number (before ++ response ∷ []) ≡ answered_with number before + one_if_same own number = sum_by_push (λ (r : Outgoing). one_if_same (marked_number r.reply.sending) number) before response in
     let most = once_cases own number (answered_with number before) (own == number) refl (once number) (λ same. ap (λ n. answered_with n before) (sym same) ∙ first) in
     omega (arith, more, most)
+
+-- The counts of a lawful book add up.
+pub add_up : (book : Book) → IsLawful book → AddUp (counts_of book)
+add_up book lawful =
+    let out : List Stamp = each (λ e. e.request.stamp) (outstanding_of book) in
+    omega (
+      arith,
+      ap length lawful.in_order,
+      length-append book.sent (each (λ r. r.stamp) book.queued),
+      length-map book.queued (λ (r : Recorded). r.stamp),
+      length_permutation book.sent (out ++ stamps_answered book) lawful.placed_once,
+      length-append out (stamps_answered book),
+      length-map (outstanding_of book) (λ (e : Outstanding). e.request.stamp),
+      length-map book.answered (λ (a : AnswerKept). a.stamp),
+      lawful.served_count,
+    )

@@ -8,12 +8,11 @@ use Rattle.rad_lane.specs.Outstanding.{AnswerKept}
 use Rattle.rad_rings.specs.Outlet.{InOrder, Agrees}
 use Rattle.rad_rings.specs.declared.desk.Desk.{Desk}
 use Rattle.rad_rings.specs.declared.inlet.Inlet.{Inlet}
-use Rattle.rad_rings.specs.declared.report.LaneEnd.{LaneEnd}
 use Rattle.rad_rings.specs.declared.report.Rest.{Rest}
 use Rattle.rad_rings.specs.declared.report.Rest.TheVariants.{Known, Unknown}
 use Rattle.rad_rings.specs.Desk.{book, given}
 use Rattle.rad_rings.specs.Inlet.{taken}
-use Rattle.rad_rings.specs.Ending.{GoOnFrom, AgreesAmong, TellsRest, IsEnd, MakesUp}
+use Rattle.rad_rings.specs.Ending.{GoOnFrom, AgreesAmong, TellsRest, MakesUp}
 use Rattle.rad_rings.proofs.Outlets.{in_order_more}
 
 -- Of responses whose serials go on, the last ones go on where the first ones stop.
@@ -72,7 +71,7 @@ in_order_joined before (r ∷ rest) h on =
     (in_order_joined (before ++ r ∷ []) rest (in_order_more before r h head) (subst (λ n. GoOnFrom n rest) count tail))
 
 -- The rest that is known, and what was taken before it, have the serials of all that was given.
-made_up_by : (lane : ℕ) (desk : Desk) (inlet : Option Inlet) (rest : Rest) → TellsRest lane (book desk).answered (book desk).served inlet rest → MakesUp (given desk) inlet rest
+pub made_up_by : (lane : ℕ) (desk : Desk) (inlet : Option Inlet) (rest : Rest) → TellsRest lane (book desk).answered (book desk).served inlet rest → MakesUp (given desk) inlet rest
 made_up_by lane desk None (Known rest) h = tt
 made_up_by lane desk None Unknown h = tt
 made_up_by lane desk (Some inlet) Unknown h = tt
@@ -81,6 +80,3 @@ made_up_by lane desk (Some inlet) (Known rest) h =
     let joined : InOrder (taken inlet ++ rest) = in_order_joined (taken inlet) rest inlet.in_order is.go_on in
     let count : length (taken inlet ++ rest) ≡ length (given desk) = length-append (taken inlet) rest ∙ is.all ∙ sym desk.outlet.served in
     joined ∙ ap (λ n. range_with_len 0 n) count ∙ sym desk.outlet.in_order
-
-pub made_up : (desk : Desk) (inlet : Option Inlet) (end : LaneEnd) (lane : ℕ) → IsEnd lane (book desk) inlet end → MakesUp (given desk) inlet end.rest
-made_up desk inlet end lane h = made_up_by lane desk inlet end.rest h.rest

@@ -15,6 +15,7 @@ use Rattle.rad_rings.specs.Inlet.{taken, seen, IsUntouched, Empties}
 use Rattle.rad_rings.specs.Desk.{book}
 use Rattle.rad_rings.specs.Refusing.{AreUntouched}
 use Rattle.rad_rings.specs.Ending.{IsTheRest, TellsRest, IsReport}
+use Rattle.rad_rings.proofs.Rests.{made_up_by}
 
 empties_before : (old new : Inlet) (rest : List Outgoing) (after : Inlet) → IsUntouched old new → Empties new rest after → Empties old rest after
 empties_before old new rest after u h = record {
@@ -81,6 +82,8 @@ report_before desks old new report u h = record {
           accounts = is.accounts;
           rest = told;
         };
+        accounted = at.accounted;
+        made_up = made_up_by lane at.desk (slice_get old lane) at.end.rest told;
       };
   queued = h.queued;
 }

@@ -8,6 +8,7 @@ ghost use Rattle.rad_lane.specs.Drains.{Drains};
 ghost use Rattle.rad_lane.specs.Counting.{counts_of, IsDone};
 ghost use Rattle.rad_lane.specs.Lawful.{IsLawful};
 ghost use Rattle.rad_rings.specs.Outlet.{IsOutlet};
+ghost use Rattle.rad_rings.specs.Lawful.{AddUp};
 ghost use Rattle.rad_rings.specs.Desk.{book, given, SameOutlet};
 ghost use Rattle.rad_rings.specs.Departures.{Departs, Returns, StepsHolding, AcceptsLawfully, UnlessWrongLane};
 ghost use Rattle.rad_lane.specs.Setup.{IsOf};
@@ -128,6 +129,7 @@ impl Desk {
     /// Returns the counts of the lane.
     pub fn counts(&self) -> Counts
         ensures counts { result ≡ counts_of (book self.now) }
+        ensures add_up { AddUp result }
         ensures lawful { IsLawful (book self.now) }
         ensures outlet { IsOutlet (book self.now) (given self.now) }
     {

@@ -6,7 +6,7 @@ ghost use Rattle.rad_lane.specs.declared.accepting.Refusal.TheVariants.{WrongLan
 ghost use Rattle.rad_lane.specs.Datagrams.{Datagrams};
 ghost use Rattle.rad_rings.specs.Inlet.{lane_of, taken};
 ghost use Rattle.rad_rings.specs.Departures.{Departs, Returns, StepsHolding, AcceptsLawfully, UnlessWrongLane};
-ghost use Rattle.rad_rings.specs.Lawful.{AreLawful};
+ghost use Rattle.rad_rings.specs.Lawful.{AreLawful, AddUp};
 
 use crate::desk::Desk;
 use crate::inlet::Inlet;
@@ -179,7 +179,8 @@ impl Proxy {
     /// Returns the counts of a lane.
     pub fn counts(&self, rt: &impl Wait, lane: u16) -> Counts
         requires { lane < self.now }
-        ensures { AreLawful result }
+        ensures lawful { AreLawful result }
+        ensures add_up { AddUp result }
     {
         self.lock(rt, lane).counts()
     }
