@@ -38,6 +38,7 @@ gave_none parts place [] none = tt
 gave_none parts place (i ∷ rest) none = (
   same_refl i,
   sym (ap (λ l. taken i ++ l) (none place (omega arith)) ∙ append-nil (taken i)),
+  i.once,
   gave_none parts (place + 1) rest (λ at from. none at (omega (arith, from))),
 )
 
@@ -50,7 +51,8 @@ gave_append first then place (i ∷ old) (j ∷ mid) (k ∷ new) a b = (
       ∙ ap (λ l. l ++ given_by place then) a.1
       ∙ append_assoc (taken i) (given_by place first) (given_by place then)
       ∙ ap (λ l. taken i ++ l) (sym (flat_map-append (given_in place) first then)),
-  gave_append first then (place + 1) old mid new a.2 b.2,
+  k.once,
+  gave_append first then (place + 1) old mid new a.3 b.3,
 )
 gave_append first then place [] (j ∷ mid) new a b = absurd a
 gave_append first then place (i ∷ old) [] new a b = absurd a
@@ -59,7 +61,7 @@ gave_append first then place (i ∷ old) (j ∷ mid) [] a b = absurd b
 
 length-gave : (parts : List Part) (place : ℕ) (old new : List Inlet) → EachGave parts place old new → length new ≡ length old
 length-gave parts place [] [] g = refl
-length-gave parts place (i ∷ old) (j ∷ new) g = ap suc (length-gave parts (place + 1) old new g.2)
+length-gave parts place (i ∷ old) (j ∷ new) g = ap suc (length-gave parts (place + 1) old new g.3)
 length-gave parts place [] (j ∷ new) g = absurd g
 length-gave parts place (i ∷ old) [] g = absurd g
 
@@ -76,20 +78,22 @@ gave_one first zero at outgoing delivery (i ∷ rest) other now is within same t
     let here : at ≡ first = omega (arith, is) in (
       same,
       took ∙ ap (λ l. taken i ++ l) (sym (subst (λ n. given_by n (given at outgoing delivery ∷ []) ≡ outgoing ∷ []) here (of_one at outgoing delivery))),
+      now.once,
       gave_none (given at outgoing delivery ∷ []) (first + 1) rest (λ n from. of_another n at outgoing delivery (λ e. omega (arith, e, from, here))),
     )
 gave_one first (suc place) at outgoing delivery (i ∷ rest) other now is within same took = (
   same_refl i,
   sym (ap (λ l. taken i ++ l) (of_another first at outgoing delivery (λ e. omega (arith, e, is))) ∙ append-nil (taken i)),
+  i.once,
   gave_one (first + 1) place at outgoing delivery rest other now (omega (arith, is)) (omega (arith, within)) same took,
 )
 
 gave_still : (first place : ℕ) (inlets : List Inlet) (other now : Inlet) → place < length inlets → SameInlet (get_or inlets place other) now → taken now ≡ taken (get_or inlets place other) → EachGave [] first inlets (set inlets place now)
 gave_still first place [] other now within same took = absurd (omega (arith, within))
 gave_still first zero (i ∷ rest) other now within same took =
-    (same, took ∙ sym (append-nil (taken i)), gave_none [] (first + 1) rest (λ n from. refl))
+    (same, took ∙ sym (append-nil (taken i)), now.once, gave_none [] (first + 1) rest (λ n from. refl))
 gave_still first (suc place) (i ∷ rest) other now within same took =
-    (same_refl i, sym (append-nil (taken i)), gave_still (first + 1) place rest other now (omega (arith, within)) same took)
+    (same_refl i, sym (append-nil (taken i)), i.once, gave_still (first + 1) place rest other now (omega (arith, within)) same took)
 
 module _ (config : Configuration) where
   pub works_none : (inlets : List Inlet) → WorksInFront config inlets inlets []

@@ -1,4 +1,5 @@
 pub use Rattle.rad_rings.specs.Outlet
+pub use Rattle.rad_rings.specs.Fates
 pub use Rattle.rad_rings.specs.Desk
 pub use Rattle.rad_rings.specs.Inlet
 pub use Rattle.rad_rings.specs.Tells

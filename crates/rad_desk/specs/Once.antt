@@ -15,6 +15,7 @@ use Rattle.rad_lane.specs.declared.accepting.Taken.TheVariants.{Again}
 use Rattle.rad_rings.specs.declared.inlet.Inlet.{Inlet}
 use Rattle.rad_desk.specs.declared.wire.Delivery.{Delivery}
 use Rattle.rad_rings.specs.Departures.{AcceptsLawfully, IsVerifiedResponse}
+use Rattle.rad_rings.specs.Fates.{EachOnce}
 use Rattle.rad_rings.specs.Inlet.{taken, SameInlet}
 use Rattle.rad_desk.specs.Traffic.{Event, arrived, departed, told, endpoint}
 use Rattle.rad_desk.specs.Calls.{IsQuiet}
@@ -119,11 +120,11 @@ abbrev pub given_by : ℕ → List Part → List Outgoing
 given_by place parts = flat_map (given_in place) parts
 
 -- Each inlet, from this place on, is still that of the same ring and lane, and took what the parts have of its place,
--- each once, in order.
+-- each once, in order. No two responses that it ever took answer one request.
 abbrev pub EachGave : List Part → ℕ → List Inlet → List Inlet → Type 0
 EachGave parts place [] [] = ⊤
 EachGave parts place (a ∷ then) (b ∷ now) =
-    SameInlet a b × (taken b ≡ taken a ++ given_by place parts) × EachGave parts (place + 1) then now
+    SameInlet a b × (taken b ≡ taken a ++ given_by place parts) × EachOnce (taken b) × EachGave parts (place + 1) then now
 EachGave parts place [] (b ∷ now) = ⊥
 EachGave parts place (a ∷ then) [] = ⊥
 
