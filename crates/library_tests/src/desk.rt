@@ -4,6 +4,7 @@
 //! `rad_simulation`.
 
 mod closing;
+mod fates;
 mod making;
 mod noting;
 mod setting;
