@@ -2,7 +2,7 @@
 
 use crate::accepting::Taking;
 use crate::book::Book;
-use crate::events::Mail;
+use crate::events::{Mail, Sign};
 use crate::making::{USER_NAME, first_value, plain_answer};
 use crate::rules::Rule;
 use crate::setting::{client_secret, realm_of_home};
@@ -11,7 +11,7 @@ use rad_auth::{
     ACCOUNTING_REQUEST, MESSAGE_AUTHENTICATOR, PROXY_STATE, STATUS_SERVER, Secret, check_request,
     check_status,
 };
-use rad_desk::{Call, Repeat, WorkerReport};
+use rad_desk::{Call, Repeat};
 use rad_packet::{PacketRef, read};
 use rad_realms::{Dropped, Endpoint};
 
@@ -138,12 +138,8 @@ impl Books {
 
 /// Expects that a datagram is dropped.
 fn dropped(mail: &Mail, reason: Dropped, walk: &mut Walk<'_>) {
-    let dropped = WorkerReport::Dropped {
-        reason,
-        from: mail.from,
-        octets: mail.octets.as_slice(),
-    };
-    walk.meets(&dropped, Rule::DROPPED);
+    let sign = Sign::Dropped(reason, mail.from);
+    walk.meets(sign, mail.octets.as_slice(), Rule::DROPPED);
 }
 
 /// Expects the call that passes a request to a lane, and the report of what became of it.
@@ -159,8 +155,8 @@ fn accept(
     }
     let marks = marks_of(packet);
     if marks > 0 {
-        let (lane, from) = (book.lane, mail.from);
-        walk.meets(&WorkerReport::Marked { lane, from, marks }, Rule::MARKED);
+        let sign = Sign::Marked(book.lane, mail.from, marks);
+        walk.meets(sign, &[], Rule::MARKED);
     }
     walk.made(Call::Accept, Rule::ACCEPT);
     match book.accept(mail.from, packet, moment) {
@@ -176,12 +172,8 @@ fn taken(book: &Book, taking: Taking, mail: &Mail, packet: &PacketRef<'_>, walk:
     let octets = packet.octets();
     match taking {
         Taking::New(number) => walk.meets(
-            &WorkerReport::Accepted {
-                lane: book.lane,
-                number,
-                from,
-                octets,
-            },
+            Sign::Accepted(book.lane, number, from),
+            octets,
             Rule::ACCEPTED,
         ),
         Taking::Waiting => repeats(Repeat::Waiting, from, walk),
@@ -195,20 +187,13 @@ fn taken(book: &Book, taking: Taking, mail: &Mail, packet: &PacketRef<'_>, walk:
                 walk,
             );
         }
-        Taking::Refused(reason) => walk.meets(
-            &WorkerReport::Refused {
-                reason,
-                from,
-                octets,
-            },
-            Rule::REFUSED,
-        ),
+        Taking::Refused(reason) => walk.meets(Sign::Refused(reason, from), octets, Rule::REFUSED),
     }
 }
 
 /// Expects the report that a request is a repeat.
 fn repeats(repeat: Repeat, from: Endpoint, walk: &mut Walk<'_>) {
-    walk.meets(&WorkerReport::Repeated { repeat, from }, Rule::AGAIN);
+    walk.meets(Sign::Repeated(repeat, from), &[], Rule::AGAIN);
 }
 
 /// Expects that the next response of a lane, if there is one, goes to its client.
@@ -227,8 +212,7 @@ fn take(book: &mut Book, walk: &mut Walk<'_>) {
         Rule::RESPONSE,
         walk,
     );
-    let lane = book.lane;
-    walk.meets(&WorkerReport::Took { lane, serial }, Rule::TOOK);
+    walk.meets(Sign::Took(book.lane, serial), &[], Rule::TOOK);
 }
 
 /// Expects that these octets are sent to a client, from a socket.

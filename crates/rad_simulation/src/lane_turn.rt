@@ -1,12 +1,12 @@
 //! The turns of a lane's worker, by the rules.
 
 use crate::book::{Asked, Book};
-use crate::events::{DownBy, Mail};
+use crate::events::{DownBy, Mail, Sign};
 use crate::hearing::Hearing;
 use crate::rules::Rule;
 use crate::stepping::Doing;
 use crate::walk::Walk;
-use rad_desk::{Call, UpReason, WorkerReport};
+use rad_desk::{Call, UpReason};
 use rad_tables::Slot;
 
 /// Compares a turn. Returns whether the worker goes on.
@@ -22,8 +22,8 @@ pub fn lane_turn(book: &mut Book, walk: &mut Walk<'_>) -> bool {
 /// Expects that the lane hears what arrived from its home server.
 fn hear(book: &mut Book, moment: u64, mail: &Mail, walk: &mut Walk<'_>) -> bool {
     if mail.from != book.endpoint {
-        let (from, octets) = (mail.from, mail.octets.as_slice());
-        walk.meets(&WorkerReport::NotHome { from, octets }, Rule::NOT_HOME);
+        let octets = mail.octets.as_slice();
+        walk.meets(Sign::NotHome(mail.from), octets, Rule::NOT_HOME);
         return true;
     }
     if !walk.asks(Call::Hear, Rule::HEAR) {
@@ -46,14 +46,15 @@ fn heard(hearing: Hearing, mail: &Mail, walk: &mut Walk<'_>) {
                 port: mail.socket,
                 identifier: octets.get(1).copied().unwrap_or(0),
             };
-            walk.meets(&WorkerReport::Answered { serial, slot }, Rule::ANSWERED);
+            walk.meets(Sign::Answered(serial, slot), &[], Rule::ANSWERED);
         }
         Hearing::ProbeAnswered => walk.meets(
-            &WorkerReport::WentUp(UpReason::ProbeAnswered),
+            Sign::WentUp(UpReason::ProbeAnswered),
+            &[],
             Rule::PROBE_ANSWERED,
         ),
         Hearing::Fault(fault) => {
-            walk.meets(&WorkerReport::Unheard { fault, octets }, Rule::UNHEARD);
+            walk.meets(Sign::Unheard(fault), octets, Rule::UNHEARD);
         }
     }
 }
@@ -83,7 +84,7 @@ fn does(book: &Book, doing: Doing, moment: u64, walk: &mut Walk<'_>) {
         Doing::SendAgain(place) => send(book, place, Rule::RESENDING, walk),
         Doing::Probe(place) => send(book, place, Rule::PROBE, walk),
         Doing::GoDown(number) => went_down(book, number, moment, walk),
-        Doing::GoUp => walk.meets(&WorkerReport::WentUp(UpReason::DownWaitOver), Rule::WENT_UP),
+        Doing::GoUp => walk.meets(Sign::WentUp(UpReason::DownWaitOver), &[], Rule::WENT_UP),
         Doing::Idle => {}
     }
 }
@@ -97,10 +98,7 @@ fn first_sent(book: &Book, place: usize, walk: &mut Walk<'_>) {
             port: (out.pair / 256 & 0xffff) as u16,
             identifier: (out.pair & 0xff) as u8,
         };
-        walk.meets(
-            &WorkerReport::FirstSent { number, slot },
-            Rule::FIRST_SENDING,
-        );
+        walk.meets(Sign::FirstSent(number, slot), &[], Rule::FIRST_SENDING);
     }
 }
 
@@ -150,7 +148,7 @@ fn turn(book: &mut Book, moment: u64, walk: &mut Walk<'_>) -> bool {
     walk.made(Call::Turn, Rule::TURN);
     let count = book.cut(moment);
     if count > 0 {
-        walk.meets(&WorkerReport::Cut(count), Rule::CUT);
+        walk.meets(Sign::Cut(count), &[], Rule::CUT);
     }
     true
 }

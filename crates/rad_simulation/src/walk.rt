@@ -1,8 +1,8 @@
 //! The walk over the events of one call of a worker, which compares each event with the expected one.
 
-use crate::events::{Came, DownBy, Event, Gone, Mail, Sign, octets_of};
+use crate::events::{Came, DownBy, Event, Gone, Mail, Sign};
 use crate::rules::Rule;
-use rad_desk::{Call, Go, Tally, WorkerReport};
+use rad_desk::{Call, Go, Tally};
 
 /// The position of a walk, and what the worker should have done so far.
 #[derive(Clone, Copy)]
@@ -87,7 +87,7 @@ impl<'a> Walk<'a> {
         self.tally.turns = self.tally.turns.saturating_add(1);
         match self.next(Rule::RECEIVE) {
             Some(Event::Received(moment, came)) => {
-                self.meets(&WorkerReport::Woke, Rule::WOKE);
+                self.meets(Sign::Woke, &[], Rule::WOKE);
                 (*moment, self.received(came))
             }
             other => {
@@ -104,14 +104,11 @@ impl<'a> Walk<'a> {
                 self.tally.received = self.tally.received.saturating_add(1);
                 let from = mail.from;
                 let octets = mail.octets.as_slice();
-                self.meets(
-                    &WorkerReport::Received { from, octets },
-                    Rule::TOLD_RECEIVED,
-                );
+                self.meets(Sign::Received(from), octets, Rule::TOLD_RECEIVED);
                 Some(mail)
             }
             Came::Fault => {
-                self.fails(&WorkerReport::ReceiveFault, Rule::RECEIVE_FAULT);
+                self.fails(Sign::ReceiveFault, Rule::RECEIVE_FAULT);
                 None
             }
             Came::Nothing => None,
@@ -119,9 +116,9 @@ impl<'a> Walk<'a> {
     }
 
     /// Counts a receive or a send that fails, and expects its report.
-    fn fails(&mut self, report: &WorkerReport<'_>, rule: Rule) {
+    fn fails(&mut self, sign: Sign, rule: Rule) {
         self.tally.faults = self.tally.faults.saturating_add(1);
-        self.meets(report, rule);
+        self.meets(sign, &[], rule);
     }
 
     /// Expects that no event is left.
@@ -163,11 +160,11 @@ impl<'a> Walk<'a> {
         }
     }
 
-    /// Expects that this is reported to the gate.
-    pub fn meets(&mut self, report: &WorkerReport<'_>, rule: Rule) {
+    /// Expects that this is reported to the gate, with these octets.
+    pub fn meets(&mut self, sign: Sign, octets: &[u8], rule: Rule) {
         match self.next(rule) {
-            Some(Event::Signed(sign, octets)) if *sign == Sign::of(report) => {
-                self.keeps(rule, octets.as_slice() == octets_of(report));
+            Some(Event::Signed(met, text)) if *met == sign => {
+                self.keeps(rule, text.as_slice() == octets);
             }
             other => self.misses(other, rule),
         }
@@ -218,7 +215,7 @@ impl<'a> Walk<'a> {
         if gone.is_handed_over {
             self.tally.sent = self.tally.sent.saturating_add(1);
         } else {
-            self.fails(&WorkerReport::SendFault { to: gone.to }, Rule::SEND_FAULT);
+            self.fails(Sign::SendFault(gone.to), Rule::SEND_FAULT);
         }
     }
 }
