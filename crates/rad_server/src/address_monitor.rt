@@ -1,8 +1,8 @@
 //! Looking for addresses that this machine gets after the start.
 
 use crate::lingering::has_passed;
+use crate::socket_reports::SocketReports;
 use rad_addresses::{KnownAddresses, LocalAddresses};
-use rad_desk::Gate;
 use std::alloc::Global;
 use std::time::{Clock, Duration, Instant};
 
@@ -53,7 +53,7 @@ impl<'a, R, G, A> AddressMonitor<'a, R, G, A> {
     }
 }
 
-impl<R: Clock, G: Gate, A: LocalAddresses> AddressMonitor<'_, R, G, A> {
+impl<R: Clock, G: SocketReports, A: LocalAddresses> AddressMonitor<'_, R, G, A> {
     /// Looks for new addresses, if that is due. The clock is read only if a datagram came to the socket of all
     /// addresses.
     pub(crate) fn look_if_due(&mut self) {

@@ -3,8 +3,9 @@
 ghost use Rattle.rad_server.specs.internal.Wires.{FitsRoom};
 
 use crate::address_monitor::AddressMonitor;
+use crate::socket_reports::SocketReports;
 use rad_addresses::{LocalAddresses, Origins};
-use rad_desk::{Gate, Received};
+use rad_desk::Received;
 use rad_realms::Endpoint;
 use std::time::Clock;
 
@@ -38,7 +39,7 @@ impl<'a, R, G, A> Answering<'a, R, G, A> {
     }
 }
 
-impl<R: Clock, G: Gate, A: LocalAddresses> Answering<'_, R, G, A> {
+impl<R: Clock, G: SocketReports, A: LocalAddresses> Answering<'_, R, G, A> {
     /// Returns this receive as if the front had one socket. If no datagram came, it looks for new addresses, if that is
     /// due.
     pub(crate) fn received(&mut self, received: Received) -> Received

@@ -10,7 +10,24 @@ use std::io::{self, ErrorKind, Read, Write};
 use std::sync::{Wait, WaitMethods};
 use std::time::{Clock, Instant};
 
-/// Writes what the output holds once all workers have begun, and obeys the commands of a reader to its end. Then it
+/// The commands, and the output for their answers.
+#[derive(Drop)]
+pub(crate) struct Console<I: Drop, O: Drop> {
+    commands: Commands<I>,
+    pub(crate) output: Output<O>,
+}
+
+impl<I: Read + Drop, O: Drop> Console<I, O> {
+    /// Makes it for the commands of this reader.
+    pub(crate) fn new(reader: I, output: Output<O>) -> Console<I, O> {
+        Console {
+            commands: Commands::new(reader),
+            output,
+        }
+    }
+}
+
+/// Writes what the output holds once all workers have begun, and obeys the commands to their end. Then it
 /// drains the lanes and waits until they are done or `linger` has passed.
 ///
 /// # Errors
@@ -19,14 +36,13 @@ use std::time::{Clock, Instant};
 /// was refused, and otherwise as [`Output::advance`].
 pub(crate) fn attend<R: Clock + Wait, G: Gate, I: Read + Drop, O: Write + Drop>(
     service: Service<'_, R, G>,
-    reader: I,
-    output: &mut Output<O>,
+    console: &mut Console<I, O>,
 ) -> Result<(), ServeFault> {
     service.supervisor.wait_for_all(service.rt);
-    send(service, output)?;
-    obey_each(service, reader, output)?;
+    send(service, &mut console.output)?;
+    obey_each(service, console)?;
     drain_each(service);
-    linger(service, end_of_input(service.rt, output)?);
+    linger(service, end_of_input(service.rt, &console.output)?);
     check_workers(service)
 }
 
@@ -44,15 +60,14 @@ fn end_of_input<O: Write + Drop>(
     }
 }
 
-/// Obeys the commands of a reader to its end.
+/// Obeys the commands to their end.
 fn obey_each<R: Clock + Wait, G, I: Read + Drop, O: Write + Drop>(
     service: Service<'_, R, G>,
-    reader: I,
-    output: &mut Output<O>,
+    console: &mut Console<I, O>,
 ) -> Result<(), ServeFault> {
-    let mut commands = Commands::new(reader);
     for _ in service.rt.forever() {
-        if !obey_next(service, commands.next(), output)? {
+        let command = console.commands.next();
+        if !obey_next(service, command, &mut console.output)? {
             return Ok(());
         }
     }

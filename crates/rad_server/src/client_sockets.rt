@@ -3,9 +3,9 @@
 
 use crate::faults::ServeFault;
 use crate::raw_sockets::{bind_beside, set_shared, widen};
+use crate::socket_reports::SocketReports;
 use crate::sockets::{BUFFER, bind};
 use rad_addresses::{KnownAddresses, LocalAddresses};
-use rad_desk::Gate;
 use rad_realms::Endpoint;
 use std::alloc::Global;
 use std::io::{Error, ErrorKind};
@@ -33,7 +33,7 @@ impl ClientSockets {
     /// # Errors
     ///
     /// `Listen` if a socket can't be bound, and `Memory` if a growth is refused.
-    pub(crate) fn bind<R: Net, A: LocalAddresses, G: Gate>(
+    pub(crate) fn bind<R: Net, A: LocalAddresses, G: SocketReports>(
         rt: &R,
         addresses: &A,
         alloc: Global,
@@ -45,40 +45,30 @@ impl ClientSockets {
             Err(error) => return Err(fault_at(listen, listen, &error, gate)),
         };
         let mut sockets = Vec::new(alloc);
-        if sockets.push(first).is_err() {
-            return Err(ServeFault::Memory);
-        }
-        if listen.address != ALL {
-            return Ok(ClientSockets {
-                sockets,
-                known: None,
-            });
-        }
-        match addresses.read(alloc) {
-            Ok(local) => bind_each(alloc, sockets, listen, local.as_slice(), gate),
-            Err(error) => {
-                gate.addresses_unread(&error);
-                Ok(ClientSockets {
-                    sockets,
-                    known: None,
-                })
+        sockets.push(first)?;
+        if listen.address == ALL {
+            match addresses.read(alloc) {
+                Ok(local) => return bind_each(alloc, sockets, listen, local.as_slice(), gate),
+                Err(error) => gate.addresses_unread(&error),
             }
         }
+        Ok(ClientSockets {
+            sockets,
+            known: None,
+        })
     }
 }
 
 /// Adds to these sockets, of which the first is at `listen`, one for each of these addresses. Sockets of the same user
 /// may be bound beside them while it does so, and none afterwards.
-fn bind_each<G: Gate>(
+fn bind_each<G: SocketReports>(
     alloc: Global,
     mut sockets: Vec<UdpSocket>,
     listen: Endpoint,
     addresses: &[[u8; 4]],
     gate: &G,
 ) -> Result<ClientSockets, ServeFault> {
-    let Ok(mut known) = KnownAddresses::new(alloc) else {
-        return Err(ServeFault::Memory);
-    };
+    let mut known = KnownAddresses::new(alloc)?;
     share_each(&sockets, true, listen, gate)?;
     for address in addresses {
         if known.learn(*address) {
@@ -93,7 +83,7 @@ fn bind_each<G: Gate>(
 }
 
 /// Adds a socket for this address, unless [`MOST`] addresses have one or the machine no longer has the address.
-fn bind_next<G: Gate>(
+fn bind_next<G: SocketReports>(
     sockets: &mut Vec<UdpSocket>,
     listen: Endpoint,
     address: [u8; 4],
@@ -105,26 +95,18 @@ fn bind_next<G: Gate>(
     }
     let at = Endpoint { address, ..listen };
     match bind_beside(at) {
-        Ok(socket) => add(sockets, socket),
-        Err(error) if error.kind() == ErrorKind::AddrNotAvailable => {
-            gate.address_unbound(address);
-            Ok(())
+        Ok(socket) => {
+            widen(&socket, BUFFER);
+            sockets.push(socket)?;
         }
-        Err(error) => Err(fault_at(listen, at, &error, gate)),
+        Err(error) if error.kind() == ErrorKind::AddrNotAvailable => gate.address_unbound(address),
+        Err(error) => return Err(fault_at(listen, at, &error, gate)),
     }
-}
-
-/// Adds a socket.
-fn add(sockets: &mut Vec<UdpSocket>, socket: UdpSocket) -> Result<(), ServeFault> {
-    widen(&socket, BUFFER);
-    match sockets.push(socket) {
-        Ok(()) => Ok(()),
-        Err(_) => Err(ServeFault::Memory),
-    }
+    Ok(())
 }
 
 /// Sets whether other sockets of the same user may be bound beside these from now on.
-fn share_each<G: Gate>(
+fn share_each<G: SocketReports>(
     sockets: &[UdpSocket],
     is_shared: bool,
     listen: Endpoint,
@@ -139,7 +121,7 @@ fn share_each<G: Gate>(
 }
 
 /// Reports to the gate that a socket can't be bound or set up, and returns the fault.
-pub(crate) fn fault_at<G: Gate>(
+pub(crate) fn fault_at<G: SocketReports>(
     listen: Endpoint,
     at: Endpoint,
     error: &Error,

@@ -3,7 +3,7 @@
 use crate::kept::Kept;
 use crate::outbox::{Outbox, Sent};
 use crate::ready_socket::{Handed, ReadySocket, is_full, send_from, try_anew};
-use rad_desk::{Delivery, Gate, Note, Worker};
+use rad_desk::{Delivery, Gate, Worker, WorkerReport};
 use rad_realms::Endpoint;
 use std::alloc::{AllocError, Global};
 
@@ -30,8 +30,8 @@ impl<G> Copy for Reports<'_, G> {}
 impl<G: Gate> Reports<'_, G> {
     /// Reports that a datagram to this address and port is lost.
     fn lost(&self, to: Endpoint) {
-        self.gate.unsent(self.worker, to);
-        self.gate.note(self.worker, Note::SendFault);
+        self.gate
+            .report(self.worker, &WorkerReport::SendFault { to });
     }
 }
 

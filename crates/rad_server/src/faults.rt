@@ -1,7 +1,11 @@
 //! Why a service ends early.
 
+ghost use Rattle.std.specs.Prelude.{◌≡◌};
+ghost use Rattle.rad_server.specs.declared.faults.ServeFault.TheVariants as fault;
+
 use rad_desk::Worker;
 use rad_realms::Endpoint;
+use std::alloc::{AllocError, AllocFailed};
 use std::io::{Error, ErrorKind};
 
 /// Why a service ends early. The workers have ended by then. By itself the service drains the lanes only at the end of
@@ -27,6 +31,22 @@ pub enum ServeFault {
     Output,
     /// A growth was refused.
     Memory,
+}
+
+impl From<AllocError> for ServeFault {
+    ghost from_gives = { λ _ given. given ≡ fault.Memory };
+
+    fn from(_error: AllocError) -> ServeFault {
+        ServeFault::Memory
+    }
+}
+
+impl<T: Drop> From<AllocFailed<T>> for ServeFault {
+    ghost from_gives = { λ _ given. given ≡ fault.Memory };
+
+    fn from(_failed: AllocFailed<T>) -> ServeFault {
+        ServeFault::Memory
+    }
 }
 
 impl ServeFault {

@@ -19,18 +19,13 @@ pub(crate) struct Neighbours {
 }
 
 impl Neighbours {
-    /// Makes it for the worker that has this notifier, without any others.
-    pub(crate) fn new(own: Notifier, none: Vec<Notifier>) -> Neighbours {
+    /// Makes it for the worker that has this notifier, with those of the others.
+    pub(crate) fn new(own: Notifier, others: Vec<Notifier>) -> Neighbours {
         Neighbours {
             own,
-            others: none,
+            others,
             run: 0,
         }
-    }
-
-    /// Sets the notifiers of the others.
-    pub(crate) fn set(&mut self, others: Vec<Notifier>) {
-        self.others = others;
     }
 
     /// Records that a datagram was received without a sleep before it.

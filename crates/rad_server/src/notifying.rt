@@ -176,21 +176,43 @@ impl Notifiers {
         }
     }
 
-    /// Returns the level of a lane's ring that has so many places: the one that the workers heed, if they heed one.
+    /// Returns the level of a lane's ring, if the workers heed it.
     ///
     /// # Errors
     ///
     /// `AllocError` if memory is refused.
-    pub(crate) fn ring_of(
+    pub(crate) fn share_ring(&self, lane: usize) -> Result<Option<RingLevel>, AllocError> {
+        match self.rings.get(lane) {
+            Some(ring) => Ok(Some(ring.share()?)),
+            None => Ok(None),
+        }
+    }
+
+    /// Returns the notifiers of those that a worker has work for: the front has work for all lanes, and each lane for the
+    /// front.
+    ///
+    /// # Errors
+    ///
+    /// `AllocError` if memory is refused.
+    pub(crate) fn others_of(
         &self,
         alloc: Global,
-        lane: usize,
-        places: u32,
-    ) -> Result<RingLevel, AllocError> {
-        match self.rings.get(lane) {
-            Some(ring) => ring.share(),
-            None => RingLevel::new(alloc, places),
+        worker: Worker,
+    ) -> Result<Vec<Notifier>, AllocError> {
+        let mut others = Vec::new(alloc);
+        match worker {
+            Worker::Front => {
+                for lane in &self.lanes {
+                    others.push(lane.share()?)?;
+                }
+            }
+            Worker::Lane(_) => {
+                if let Some(front) = &self.front {
+                    others.push(front.share()?)?;
+                }
+            }
         }
+        Ok(others)
     }
 
     /// Returns the notifier of a worker, if it has one.

@@ -5,58 +5,26 @@ ghost use Rattle.rad_server.specs.internal.Wires.{FitsRoom};
 
 use crate::departing::{Departures, Reports};
 use crate::neighbours::Neighbours;
-use crate::notifying::Notifier;
 use crate::ready_socket::ReadySocket;
 use crate::ring_level::RingLevel;
-use mio::{Events, Poll, Token};
+use crate::sleeping::Sleeper;
+use mio::{Poll, Token};
 use rad_desk::{Delivery, Gate, Received};
 use rad_realms::Endpoint;
-use std::alloc::{AllocError, Global};
+use std::alloc::Global;
 use std::io;
-use std::net::{Net, UdpSocket};
-use std::time::Duration;
-
-/// The longest sleep, in milliseconds.
-pub(crate) const SLEEP: u64 = 20;
-
-/// The most events that one sleep returns: those of a lane's sockets and of its notifier. The next sleep, which then
-/// ends at once, returns the others.
-const EVENTS: usize = 8;
+use std::net::UdpSocket;
 
 /// The number of receives for each socket that a worker may do without a sleep before it tries every socket again.
 const RECEIVES: usize = 16;
 
-/// What a worker sleeps over.
+/// What ties a worker to the others.
 #[derive(Drop)]
-struct Sleeper {
-    poll: Poll,
-    events: Events<Global>,
-    notifier: Notifier,
-}
-
-impl Sleeper {
-    /// Makes it without a registered socket.
-    ///
-    /// # Errors
-    ///
-    /// The system's error, and `OutOfMemory` if memory is refused.
-    fn new(net: &impl Net, alloc: Global) -> io::Result<Sleeper> {
-        let poll = Poll::new(net)?;
-        let notifier = Notifier::new(alloc, &poll)?;
-        let events = Events::with_capacity(alloc, EVENTS)?;
-        Ok(Sleeper {
-            poll,
-            events,
-            notifier,
-        })
-    }
-
-    /// Sleeps until a datagram arrives, the worker is notified, or so many milliseconds have passed, of which more than
-    /// [`SLEEP`] do not count. Returns whether the system allowed it.
-    fn sleep(&mut self, milliseconds: u64) -> bool {
-        let longest = Duration::from_millis(milliseconds.min(SLEEP));
-        self.poll.poll(&mut self.events, Some(longest)).is_ok()
-    }
+pub(crate) struct Links {
+    pub(crate) sleeper: Sleeper,
+    pub(crate) neighbours: Neighbours,
+    /// The ring that the worker adds responses to, if it is a lane's.
+    pub(crate) ring: Option<RingLevel>,
 }
 
 /// The sockets of a worker, and its sleep while none of them has a datagram.
@@ -116,14 +84,17 @@ impl<'a, G: Gate> PolledSockets<'a, G> {
     ///
     /// The system's error, and `OutOfMemory` if memory is refused.
     pub(crate) fn new(
-        net: &impl Net,
         alloc: Global,
         sockets: Vec<UdpSocket>,
+        links: Links,
         reports: Reports<'a, G>,
     ) -> io::Result<PolledSockets<'a, G>> {
-        let sleeper = Sleeper::new(net, alloc)?;
+        let Links {
+            sleeper,
+            neighbours,
+            ring,
+        } = links;
         let sockets = register_each(alloc, &sleeper.poll, sockets)?;
-        let neighbours = Neighbours::new(sleeper.notifier.share()?, Vec::new(alloc));
         Ok(PolledSockets {
             sockets,
             turn: 0,
@@ -133,23 +104,9 @@ impl<'a, G: Gate> PolledSockets<'a, G> {
             receives: 0,
             has_sent: false,
             departures: Departures::new(alloc, reports),
-            ring: None,
+            ring,
             has_skipped: false,
         })
-    }
-
-    /// Returns a notifier that ends a sleep.
-    ///
-    /// # Errors
-    ///
-    /// `AllocError` if memory is refused.
-    pub(crate) fn notifier(&self) -> Result<Notifier, AllocError> {
-        self.sleeper.notifier.share()
-    }
-
-    /// Sets the notifiers of the other workers that the worker has work for.
-    pub(crate) fn set_neighbours(&mut self, others: Vec<Notifier>) {
-        self.neighbours.set(others);
     }
 
     /// Returns whether datagrams wait that the system did not accept.
@@ -160,16 +117,6 @@ impl<'a, G: Gate> PolledSockets<'a, G> {
     /// Sets the moment of the worker's turn, in milliseconds.
     pub(crate) fn set_moment(&mut self, moment: u64) {
         self.departures.set_moment(moment);
-    }
-
-    /// Sets the ring that the worker adds responses to.
-    pub(crate) fn set_ring(&mut self, ring: RingLevel) {
-        self.ring = Some(ring);
-    }
-
-    /// Returns the ring that the worker adds responses to, if there is one.
-    pub(crate) fn ring(&self) -> Option<&RingLevel> {
-        self.ring.as_ref()
     }
 
     /// Receives a datagram, and waits for one if there is nothing else to do, for at most so many milliseconds. The

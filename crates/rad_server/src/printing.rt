@@ -82,9 +82,6 @@ impl<O: Write + Drop> Output<O> {
         lines: usize,
         most: Duration,
     ) -> Result<Output<O>, ServeFault> {
-        let Ok(text) = Vec::with_capacity(alloc, lines.saturating_mul(LINE)) else {
-            return Err(ServeFault::Memory);
-        };
         Ok(Output {
             writer,
             streams: StreamPoll::new(descriptors),
@@ -93,7 +90,7 @@ impl<O: Write + Drop> Output<O> {
                 first: None,
                 since: None,
             },
-            text,
+            text: Vec::with_capacity(alloc, lines.saturating_mul(LINE))?,
             gone: 0,
         })
     }

@@ -2,13 +2,14 @@
 
 ghost use Rattle.rad_server.specs.internal.Wires.{FitsRoom};
 
+use crate::endpoints::{endpoint_of, socket_address};
 use crate::outbox::Sent;
 use mio::net::UdpSocket;
 use mio::{Interest, Registry, Token};
 use rad_desk::Received;
 use rad_realms::Endpoint;
 use std::io::{self, ErrorKind};
-use std::net::{self, Ipv4Addr, SocketAddr, SocketAddrV4};
+use std::net::{self, SocketAddr};
 
 /// What became of a datagram that was handed to the system.
 #[derive(Clone, Copy, PartialEq, Eq)]
@@ -62,12 +63,15 @@ impl ReadySocket {
             return Received::Nothing;
         }
         match self.socket.recv_from(room) {
-            Ok((count, SocketAddr::V4(from))) => Received::Got {
-                address: from.ip().octets(),
-                port: from.port(),
-                socket: index,
-                count,
-            },
+            Ok((count, SocketAddr::V4(from))) => {
+                let Endpoint { address, port } = endpoint_of(from);
+                Received::Got {
+                    address,
+                    port,
+                    socket: index,
+                    count,
+                }
+            }
             Ok(_) => Received::Nothing,
             Err(error) => {
                 self.waiting = false;
@@ -81,9 +85,7 @@ impl ReadySocket {
 
     /// Hands a datagram to the system.
     fn send(&mut self, to: Endpoint, octets: &[u8]) -> Handed {
-        let Endpoint { address, port } = to;
-        let to = SocketAddr::V4(SocketAddrV4::new(Ipv4Addr::from(address), port));
-        let handed = match self.socket.send_to(octets, to) {
+        let handed = match self.socket.send_to(octets, socket_address(to)) {
             Ok(_) => Handed::Accepted,
             Err(error) => match error.kind() {
                 ErrorKind::WouldBlock => Handed::Full,

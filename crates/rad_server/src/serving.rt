@@ -3,27 +3,27 @@
 ghost use Rattle.std.specs.Prelude.{length, IfOk, IsSome};
 ghost use Rattle.rad_console.specs.Closing.{IsEndOf};
 
+use crate::attending::Console;
+use crate::bounds::{Host, OwnedLedger, OwnedWire, SharedGate};
 use crate::faults::ServeFault;
 use crate::lingering::linger_of;
 use crate::notifying::Notifiers;
 use crate::printing::Output;
+use crate::socket_reports::SocketReports;
 use crate::sockets::BoundSockets;
-use crate::streams::Descriptors;
+use crate::streams::{Descriptors, Streams};
 use crate::supervising::Supervisor;
 use crate::threads::work;
-use crate::wiring::{Wires, make_reader, make_wires, notifiers_of};
+use crate::wiring::{NotifiedWires, WireMaker, Wires, make_reader};
 use crate::working::Service;
 use rad_addresses::LocalAddresses;
 use rad_console::{EndLine, ListeningLine, close};
-use rad_desk::{Gate, Ledger, NoLedger, OpenFault, Wire, open};
+use rad_desk::{NoLedger, OpenFault, open};
 use rad_realms::Config;
 use std::alloc::Global;
 use std::io::{Read, Write};
 use std::net::Net;
 use std::random::RandomSource;
-use std::sync::Wait;
-use std::thread::Threads;
-use std::time::Clock;
 
 /// Serves a configuration over UDP until the reader ends. It binds the sockets, serves, and prints where it listens
 /// once all workers have begun.
@@ -48,24 +48,19 @@ pub fn run<R, A, G, I, O>(
     descriptors: Descriptors,
 ) -> Result<EndLine, ServeFault>
 where
-    R: Clock + Net + RandomSource + Threads + Wait + Sync,
+    R: Host + Net + RandomSource,
     A: LocalAddresses + Sync,
-    G: Gate + Sync,
+    G: SharedGate + SocketReports,
     I: Read + Drop,
     O: Write + Drop,
     ensures { IfOk result (IsEndOf (length config.now.homes)) }
 {
-    run_with(
-        rt,
-        addresses,
-        alloc,
-        config,
-        gate,
-        NoLedger,
+    let streams = Streams {
         reader,
         writer,
         descriptors,
-    )
+    };
+    run_with(rt, addresses, alloc, config, gate, NoLedger, streams)
 }
 
 /// Serves a configuration over UDP as [`run`] does, and keeps its responses in a ledger.
@@ -84,31 +79,44 @@ pub fn run_with<R, A, G, L, I, O>(
     config: &Config,
     gate: &G,
     ledger: L,
-    reader: I,
-    writer: O,
-    descriptors: Descriptors,
+    streams: Streams<I, O>,
 ) -> Result<EndLine, ServeFault>
 where
-    R: Clock + Net + RandomSource + Threads + Wait + Sync,
+    R: Host + Net + RandomSource,
     A: LocalAddresses + Sync,
-    G: Gate + Sync,
-    L: Ledger + Send + Drop,
+    G: SharedGate + SocketReports,
+    L: OwnedLedger,
     I: Read + Drop,
     O: Write + Drop,
     ensures { IfOk result (IsEndOf (length config.now.homes)) }
 {
-    let listen = config.listen();
+    let Streams {
+        reader,
+        writer,
+        descriptors,
+    } = streams;
     let mut output = open_output(alloc, config, writer, descriptors)?;
-    output.add(&ListeningLine { endpoint: listen })?;
+    output.add(&ListeningLine {
+        endpoint: config.listen(),
+    })?;
     let sockets = BoundSockets::bind(rt, addresses, alloc, config, gate)?;
     sockets.tell(gate);
-    let wires = make_wires(rt, addresses, alloc, config, gate, sockets)?;
+    let maker = WireMaker::new(rt, addresses, alloc, gate)?;
+    let sleepers = maker.make_sleepers(config)?;
     let reader = make_reader(rt, alloc, reader, descriptors.input)?;
-    let Ok(notifiers) = notifiers_of(alloc, &wires, &reader) else {
-        return Err(ServeFault::Memory);
+    let notifiers = sleepers.notifiers(alloc, config.homes(), &reader)?;
+    let wires = NotifiedWires {
+        wires: maker.make_wires(config, sockets, sleepers, &notifiers)?,
+        notifiers: &notifiers,
     };
     serve_over(
-        rt, alloc, config, wires, &notifiers, gate, ledger, reader, output,
+        rt,
+        alloc,
+        config,
+        wires,
+        gate,
+        ledger,
+        Console::new(reader, output),
     )
 }
 
@@ -136,22 +144,27 @@ pub fn serve<R, W, G, I, O>(
     writer: O,
 ) -> Result<EndLine, ServeFault>
 where
-    R: Clock + Threads + Wait + Sync,
-    W: Wire + Send + Drop,
-    G: Gate + Sync,
+    R: Host,
+    W: OwnedWire,
+    G: SharedGate,
     I: Read + Drop,
     O: Write + Drop,
     requires keeps { (wire : W) → IsSome (W.log wire) }
     ensures { IfOk result (IsEndOf (length config.now.homes)) }
 {
-    serve_with(
-        rt, alloc, config, wires, notifiers, gate, NoLedger, reader, writer,
-    )
+    let wires = NotifiedWires { wires, notifiers };
+    let streams = Streams {
+        reader,
+        writer,
+        descriptors: Descriptors::none(),
+    };
+    serve_with(rt, alloc, config, wires, gate, NoLedger, streams)
 }
 
 /// Serves a configuration over these wires as [`serve`] does, and keeps its responses in a ledger.
 ///
-/// The ledger begins before the workers do. The front hands each response over to it before it sends it.
+/// The ledger begins before the workers do. The front hands each response over to it before it sends it. If the writer
+/// writes to a descriptor, the input is watched while a write waits, as [`run`] does.
 ///
 /// # Errors
 ///
@@ -160,26 +173,30 @@ pub fn serve_with<R, W, G, L, I, O>(
     rt: &R,
     alloc: Global,
     config: &Config,
-    wires: Wires<W>,
-    notifiers: &Notifiers,
+    wires: NotifiedWires<'_, W>,
     gate: &G,
     ledger: L,
-    reader: I,
-    writer: O,
+    streams: Streams<I, O>,
 ) -> Result<EndLine, ServeFault>
 where
-    R: Clock + Threads + Wait + Sync,
-    W: Wire + Send + Drop,
-    G: Gate + Sync,
-    L: Ledger + Send + Drop,
+    R: Host,
+    W: OwnedWire,
+    G: SharedGate,
+    L: OwnedLedger,
     I: Read + Drop,
     O: Write + Drop,
     requires keeps { (wire : W) → IsSome (W.log wire) }
     ensures { IfOk result (IsEndOf (length config.now.homes)) }
 {
-    let output = open_output(alloc, config, writer, Descriptors::none())?;
+    let output = open_output(alloc, config, streams.writer, streams.descriptors)?;
     serve_over(
-        rt, alloc, config, wires, notifiers, gate, ledger, reader, output,
+        rt,
+        alloc,
+        config,
+        wires,
+        gate,
+        ledger,
+        Console::new(streams.reader, output),
     )
 }
 
@@ -199,30 +216,27 @@ fn serve_over<R, W, G, L, I, O>(
     rt: &R,
     alloc: Global,
     config: &Config,
-    wires: Wires<W>,
-    notifiers: &Notifiers,
+    wires: NotifiedWires<'_, W>,
     gate: &G,
     mut ledger: L,
-    reader: I,
-    mut output: Output<O>,
+    mut console: Console<I, O>,
 ) -> Result<EndLine, ServeFault>
 where
-    R: Clock + Threads + Wait + Sync,
-    W: Wire + Send + Drop,
-    G: Gate + Sync,
-    L: Ledger + Send + Drop,
+    R: Host,
+    W: OwnedWire,
+    G: SharedGate,
+    L: OwnedLedger,
     I: Read + Drop,
     O: Write + Drop,
     requires keeps { (wire : W) → IsSome (W.log wire) }
     ensures { IfOk result (IsEndOf (length config.now.homes)) }
 {
+    let NotifiedWires { wires, notifiers } = wires;
     let (proxy, inlets) = match open(alloc, config) {
         Ok(opened) => opened,
         Err(OpenFault::OutOfMemory) => return Err(ServeFault::Memory),
     };
-    let Ok(supervisor) = Supervisor::new(alloc, config.homes(), gate, notifiers) else {
-        return Err(ServeFault::Memory);
-    };
+    let supervisor = Supervisor::new(alloc, config.homes(), gate, notifiers)?;
     let service = Service {
         rt,
         alloc,
@@ -231,11 +245,9 @@ where
         supervisor: &supervisor,
     };
     ledger.begin();
-    let inlets = work(service, wires, ledger, inlets, reader, &mut output)?;
-    let Ok(end) = close(alloc, proxy, inlets) else {
-        return Err(ServeFault::Memory);
-    };
-    output.add(&end)?;
-    output.finish(rt)?;
+    let inlets = work(service, wires, ledger, inlets, &mut console)?;
+    let end = close(alloc, proxy, inlets)?;
+    console.output.add(&end)?;
+    console.output.finish(rt)?;
     Ok(end)
 }

@@ -1,14 +1,16 @@
 //! The sockets of the proxy: those for its clients, and for each lane one for each of its source ports.
 
 use crate::client_sockets::ClientSockets;
+use crate::endpoints::{endpoint_of, socket_address};
 use crate::faults::ServeFault;
 use crate::raw_sockets::{granted, widen};
+use crate::socket_reports::SocketReports;
 use rad_addresses::LocalAddresses;
-use rad_desk::{Gate, Worker};
+use rad_desk::Worker;
 use rad_realms::{Config, Endpoint, Home};
 use std::alloc::Global;
 use std::io::{self, Error};
-use std::net::{Ipv4Addr, Net, SocketAddr, SocketAddrV4, UdpSocket};
+use std::net::{Net, SocketAddr, UdpSocket};
 
 /// The octets of datagrams not yet received that a socket may hold, and of those not yet sent. The system may grant less.
 pub(crate) const BUFFER: i32 = 1 << 20;
@@ -34,7 +36,7 @@ impl BoundSockets {
     ///
     /// `Listen`, and after that `LaneSocket` of the first such lane, if a socket can't be bound; `Memory` if a growth
     /// is refused.
-    pub(crate) fn bind<R: Net, A: LocalAddresses, G: Gate>(
+    pub(crate) fn bind<R: Net, A: LocalAddresses, G: SocketReports>(
         rt: &R,
         addresses: &A,
         alloc: Global,
@@ -45,11 +47,9 @@ impl BoundSockets {
         let lanes = bind_lanes(rt, alloc, config.homes(), gate)?;
         Ok(BoundSockets { front, lanes })
     }
-}
 
-impl BoundSockets {
     /// Reports to a gate each socket and the receive buffer that it was granted.
-    pub(crate) fn tell<G: Gate>(&self, gate: &G) {
+    pub(crate) fn tell<G: SocketReports>(&self, gate: &G) {
         tell_each(self.front.sockets.as_slice(), Worker::Front, gate);
         for (lane, sockets) in self.lanes.iter().enumerate() {
             let worker = Worker::Lane(u16::try_from(lane).unwrap_or(u16::MAX));
@@ -59,43 +59,34 @@ impl BoundSockets {
 }
 
 /// Reports a worker's sockets. A socket is omitted if the system does not say where it is bound.
-fn tell_each<G: Gate>(sockets: &[UdpSocket], worker: Worker, gate: &G) {
+fn tell_each<G: SocketReports>(sockets: &[UdpSocket], worker: Worker, gate: &G) {
     for socket in sockets {
         if let Ok(SocketAddr::V4(at)) = socket.local_addr() {
-            let at = Endpoint {
-                address: at.ip().octets(),
-                port: at.port(),
-            };
-            gate.bound(worker, at, granted(socket));
+            gate.bound(worker, endpoint_of(at), granted(socket));
         }
     }
 }
 
 /// Binds the sockets of the lanes of these home servers, in order.
-fn bind_lanes<R: Net, G: Gate>(
+fn bind_lanes<R: Net, G: SocketReports>(
     rt: &R,
     alloc: Global,
     homes: &[Home],
     gate: &G,
 ) -> Result<Vec<Vec<UdpSocket>>, ServeFault> {
-    let Ok(mut lanes) = Vec::with_capacity(alloc, homes.len()) else {
-        return Err(ServeFault::Memory);
-    };
+    let mut lanes = Vec::with_capacity(alloc, homes.len())?;
     for (lane, home) in homes.iter().enumerate() {
         let ports = home.limits().numbers().ports;
-        let sockets = match bind_ports(rt, alloc, ports) {
-            Ok(sockets) => sockets,
+        match bind_ports(rt, alloc, ports) {
+            Ok(sockets) => lanes.push(sockets)?,
             Err(error) => return Err(lane_fault(lane, &error, gate)),
-        };
-        if lanes.push(sockets).is_err() {
-            return Err(ServeFault::Memory);
         }
     }
     Ok(lanes)
 }
 
 /// Reports to the gate that the sockets of a lane can't be bound or set up, and returns the fault.
-pub(crate) fn lane_fault<G: Gate>(lane: usize, error: &Error, gate: &G) -> ServeFault {
+pub(crate) fn lane_fault<G: SocketReports>(lane: usize, error: &Error, gate: &G) -> ServeFault {
     gate.unbound(ANY, error);
     ServeFault::LaneSocket(lane).or_memory(error)
 }
@@ -119,11 +110,7 @@ fn bind_ports<R: Net>(rt: &R, alloc: Global, count: u32) -> io::Result<Vec<UdpSo
 ///
 /// The system's error.
 pub(crate) fn bind<R: Net>(rt: &R, endpoint: Endpoint) -> io::Result<UdpSocket> {
-    let address = SocketAddr::V4(SocketAddrV4::new(
-        Ipv4Addr::from(endpoint.address),
-        endpoint.port,
-    ));
-    let socket = UdpSocket::bind(rt, address)?;
+    let socket = UdpSocket::bind(rt, socket_address(endpoint))?;
     socket.set_nonblocking(true)?;
     widen(&socket, BUFFER);
     Ok(socket)

@@ -40,6 +40,14 @@ impl Descriptors {
     }
 }
 
+/// The reader of the commands and the writer of what is printed, with the descriptors on which they may wait.
+#[derive(Drop)]
+pub struct Streams<I: Drop, O: Drop> {
+    pub reader: I,
+    pub writer: O,
+    pub descriptors: Descriptors,
+}
+
 /// Polls the output and the input.
 #[derive(Clone, Copy)]
 pub(crate) struct StreamPoll {

@@ -6,12 +6,14 @@ use crate::client_sockets::{ClientSockets, fault_at};
 use crate::departing::Reports;
 use crate::faults::ServeFault;
 use crate::interrupting::Interruptible;
-use crate::notifying::{Notifier, Notifiers};
-use crate::polling::PolledSockets;
+use crate::neighbours::Neighbours;
+use crate::notifying::Notifiers;
+use crate::polling::{Links, PolledSockets};
 use crate::ring_level::RingLevel;
+use crate::sleeping::Sleeper;
+use crate::socket_reports::SocketReports;
 use crate::sockets::{BoundSockets, lane_fault};
 use crate::wires::UdpWire;
-use crate::worker_sockets::WorkerSockets;
 use rad_addresses::{KnownAddresses, Origins};
 use rad_desk::{Gate, Worker};
 use rad_realms::{Client, Config, Home};
@@ -22,7 +24,6 @@ use std::io::{self, Read};
 use std::net::{Net, UdpSocket};
 use std::os::fd::RawFd;
 use std::random::RandomSource;
-use std::slice;
 use std::time::{Clock, Instant};
 
 /// The wires of the workers.
@@ -33,9 +34,55 @@ pub struct Wires<W: Drop> {
     pub lanes: Vec<W>,
 }
 
-/// Makes wires whose moments count from the same start.
+/// The wires of the workers, and the notifiers of those that wait.
 #[derive(Drop)]
-struct WireMaker<'a, R, G, A> {
+pub struct NotifiedWires<'a, W: Drop> {
+    pub wires: Wires<W>,
+    /// The notifiers of the wires and of the reader, as far as these have any.
+    pub notifiers: &'a Notifiers,
+}
+
+/// What the workers sleep over.
+#[derive(Drop)]
+pub(crate) struct Sleepers {
+    front: Sleeper,
+    /// Those of the lanes, in order.
+    lanes: Vec<Sleeper>,
+}
+
+impl Sleepers {
+    /// Returns the notifiers of the workers that sleep over these and of the reader, and the levels of the lanes' rings.
+    ///
+    /// # Errors
+    ///
+    /// `AllocError` if memory is refused.
+    pub(crate) fn notifiers<I: Read + Drop>(
+        &self,
+        alloc: Global,
+        homes: &[Home],
+        reader: &Interruptible<I>,
+    ) -> Result<Notifiers, AllocError> {
+        let mut lanes = Vec::with_capacity(alloc, self.lanes.len())?;
+        for sleeper in &self.lanes {
+            lanes.push(sleeper.notifier()?)?;
+        }
+        let mut rings = Vec::with_capacity(alloc, homes.len())?;
+        for home in homes {
+            rings.push(RingLevel::new(alloc, home.limits().numbers().ring)?)?;
+        }
+        Ok(Notifiers {
+            front: Some(self.front.notifier()?),
+            lanes,
+            reader: Some(reader.notifier()?),
+            rings,
+        })
+    }
+}
+
+/// Makes the wires over a configuration's sockets. Their moments count from the same start. An address that this machine
+/// gets later, and what the system refuses, is reported to the gate.
+#[derive(Drop)]
+pub(crate) struct WireMaker<'a, R, G, A> {
     rt: &'a R,
     addresses: &'a A,
     alloc: Global,
@@ -43,7 +90,85 @@ struct WireMaker<'a, R, G, A> {
     gate: &'a G,
 }
 
-impl<'a, R: Clock + Net + RandomSource, G: Gate, A> WireMaker<'a, R, G, A> {
+impl<'a, R: Clock + Net + RandomSource, G: Gate + SocketReports, A> WireMaker<'a, R, G, A> {
+    /// Makes it with the start now.
+    ///
+    /// # Errors
+    ///
+    /// `Clock` if the clock fails.
+    pub(crate) fn new(
+        rt: &'a R,
+        addresses: &'a A,
+        alloc: Global,
+        gate: &'a G,
+    ) -> Result<WireMaker<'a, R, G, A>, ServeFault> {
+        match Instant::now(rt) {
+            Ok(start) => Ok(WireMaker {
+                rt,
+                addresses,
+                alloc,
+                start,
+                gate,
+            }),
+            Err(_) => Err(ServeFault::Clock),
+        }
+    }
+
+    /// Makes what the workers of a configuration sleep over.
+    ///
+    /// # Errors
+    ///
+    /// `Listen` or `LaneSocket` if the system refuses a poll, and `Memory` if a growth is refused.
+    pub(crate) fn make_sleepers(&self, config: &Config) -> Result<Sleepers, ServeFault> {
+        let listen = config.listen();
+        let front = match Sleeper::new(self.rt, self.alloc) {
+            Ok(sleeper) => sleeper,
+            Err(error) => return Err(fault_at(listen, listen, &error, self.gate)),
+        };
+        let mut lanes = Vec::with_capacity(self.alloc, config.homes().len())?;
+        for lane in 0..config.homes().len() {
+            match Sleeper::new(self.rt, self.alloc) {
+                Ok(sleeper) => lanes.push(sleeper)?,
+                Err(error) => return Err(lane_fault(lane, &error, self.gate)),
+            }
+        }
+        Ok(Sleepers { front, lanes })
+    }
+
+    /// Makes the wires over these sockets, whose workers have these notifiers.
+    ///
+    /// # Errors
+    ///
+    /// `Listen` or `LaneSocket` if the system refuses a wire, and `Memory` if a growth is refused.
+    pub(crate) fn make_wires(
+        &self,
+        config: &Config,
+        sockets: BoundSockets,
+        sleepers: Sleepers,
+        notifiers: &Notifiers,
+    ) -> Result<Wires<UdpWire<'a, R, G, A>>, ServeFault> {
+        let listen = config.listen();
+        let BoundSockets { front, lanes } = sockets;
+        let links = links_of(self.alloc, Worker::Front, sleepers.front, notifiers)?;
+        let front = match self.make_front(front, links, config.clients()) {
+            Ok(wire) => wire,
+            Err(error) => return Err(fault_at(listen, listen, &error, self.gate)),
+        };
+        let mut wires = Vec::with_capacity(self.alloc, lanes.len())?;
+        for (lane, (sockets, sleeper)) in lanes.into_iter().zip(sleepers.lanes).enumerate() {
+            let worker = Worker::Lane(u16::try_from(lane).unwrap_or(u16::MAX));
+            let links = links_of(self.alloc, worker, sleeper, notifiers)?;
+            match self.make_lane(worker, sockets, links) {
+                Ok(wire) => wires.push(wire)?,
+                Err(error) => return Err(lane_fault(lane, &error, self.gate)),
+            }
+        }
+        Ok(Wires {
+            front,
+            lanes: wires,
+        })
+    }
+
     /// Makes the wire of the front over these sockets, which these clients see as one.
     ///
     /// # Errors
@@ -52,6 +177,7 @@ impl<'a, R: Clock + Net + RandomSource, G: Gate, A> WireMaker<'a, R, G, A> {
     fn make_front(
         &self,
         sockets: ClientSockets,
+        links: Links,
         clients: &[Client],
     ) -> io::Result<UdpWire<'a, R, G, A>> {
         let ClientSockets { sockets, known } = sockets;
@@ -60,7 +186,7 @@ impl<'a, R: Clock + Net + RandomSource, G: Gate, A> WireMaker<'a, R, G, A> {
             Some(known) => Some(self.answer(clients, known, random.next_u64())?),
             None => None,
         };
-        self.make(Worker::Front, random, sockets, answering)
+        self.make(Worker::Front, random, sockets, links, answering)
     }
 
     /// Makes what answers each datagram from the front's socket that it came to.
@@ -79,6 +205,20 @@ impl<'a, R: Clock + Net + RandomSource, G: Gate, A> WireMaker<'a, R, G, A> {
         Ok(Answering::new(origins, monitor))
     }
 
+    /// Makes the wire of a lane over these sockets, each of which has a number of its own.
+    ///
+    /// # Errors
+    ///
+    /// The system's error, and `OutOfMemory` if memory is refused.
+    fn make_lane(
+        &self,
+        worker: Worker,
+        sockets: Vec<UdpSocket>,
+        links: Links,
+    ) -> io::Result<UdpWire<'a, R, G, A>> {
+        self.make(worker, make_rng(self.rt)?, sockets, links, None)
+    }
+
     /// Makes the wire of a worker over these sockets.
     ///
     /// # Errors
@@ -89,199 +229,37 @@ impl<'a, R: Clock + Net + RandomSource, G: Gate, A> WireMaker<'a, R, G, A> {
         worker: Worker,
         random: StdRng,
         sockets: Vec<UdpSocket>,
+        links: Links,
         answering: Option<Answering<'a, R, G, A>>,
     ) -> io::Result<UdpWire<'a, R, G, A>> {
-        let reports = Reports {
-            worker,
-            gate: self.gate,
-        };
-        let polled = PolledSockets::new(self.rt, self.alloc, sockets, reports)?;
-        let sockets = WorkerSockets::new(polled, answering);
-        Ok(UdpWire::new(self.rt, self.alloc, self.start, random, sockets))
-    }
-
-    /// Makes the wire of a lane over these sockets.
-    ///
-    /// # Errors
-    ///
-    /// `LaneSocket` if the system refuses the poll of the sockets or the random octets, which is reported to the gate,
-    /// and `Memory` if a growth is refused.
-    fn make_lane(
-        &self,
-        lane: usize,
-        sockets: Vec<UdpSocket>,
-    ) -> Result<UdpWire<'a, R, G, A>, ServeFault> {
-        let worker = Worker::Lane(u16::try_from(lane).unwrap_or(u16::MAX));
-        match self.make_over(worker, sockets) {
-            Ok(wire) => Ok(wire),
-            Err(error) => Err(lane_fault(lane, &error, self.gate)),
-        }
-    }
-
-    /// Makes the wire of a worker over these sockets, each of which has a number of its own.
-    ///
-    /// # Errors
-    ///
-    /// The system's error, and `OutOfMemory` if memory is refused.
-    fn make_over(
-        &self,
-        worker: Worker,
-        sockets: Vec<UdpSocket>,
-    ) -> io::Result<UdpWire<'a, R, G, A>> {
-        self.make(worker, make_rng(self.rt)?, sockets, None)
-    }
-
-    /// Makes the wires of the lanes over these sockets, in order.
-    ///
-    /// # Errors
-    ///
-    /// `LaneSocket` for the first lane whose wire can't be made, and `Memory` if a growth is refused.
-    fn make_lanes(
-        &self,
-        lanes: Vec<Vec<UdpSocket>>,
-    ) -> Result<Vec<UdpWire<'a, R, G, A>>, ServeFault> {
-        let Ok(mut wires) = Vec::with_capacity(self.alloc, lanes.len()) else {
-            return Err(ServeFault::Memory);
-        };
-        for (lane, sockets) in lanes.into_iter().enumerate() {
-            let wire = self.make_lane(lane, sockets)?;
-            if wires.push(wire).is_err() {
-                return Err(ServeFault::Memory);
-            }
-        }
-        Ok(wires)
+        let gate = self.gate;
+        let polled = PolledSockets::new(self.alloc, sockets, links, Reports { worker, gate })?;
+        let (rt, start) = (self.rt, self.start);
+        Ok(UdpWire::new(self.alloc, rt, start, random, polled, answering))
     }
 }
 
-/// Makes the wires over these sockets of a configuration. Their moments count from now. An address that this machine
-/// gets later, and what the system refuses, is reported to the gate.
-///
-/// # Errors
-///
-/// `Listen` or `LaneSocket` if the system refuses a wire, `Memory` if a growth is refused, and `Clock` if the clock
-/// fails.
-pub(crate) fn make_wires<'a, R: Clock + Net + RandomSource, G: Gate, A>(
-    rt: &'a R,
-    addresses: &'a A,
-    alloc: Global,
-    config: &Config,
-    gate: &'a G,
-    sockets: BoundSockets,
-) -> Result<Wires<UdpWire<'a, R, G, A>>, ServeFault> {
-    let Ok(start) = Instant::now(rt) else {
-        return Err(ServeFault::Clock);
-    };
-    let maker = WireMaker {
-        rt,
-        addresses,
-        alloc,
-        start,
-        gate,
-    };
-    let BoundSockets { front, lanes } = sockets;
-    let mut front = match maker.make_front(front, config.clients()) {
-        Ok(wire) => wire,
-        Err(error) => return Err(fault_at(config.listen(), config.listen(), &error, gate)),
-    };
-    let mut lanes = maker.make_lanes(lanes)?;
-    if set_neighbours(alloc, &mut front, lanes.as_mut_slice()).is_err()
-        || set_rings(alloc, config.homes(), lanes.as_mut_slice()).is_err()
-    {
-        return Err(ServeFault::Memory);
-    }
-    Ok(Wires { front, lanes })
-}
-
-/// Gives each worker the notifiers of those that it has work for: the front those of all lanes, and each lane that of
-/// the front.
+/// Returns what ties a worker that sleeps over this to the others.
 ///
 /// # Errors
 ///
 /// `AllocError` if memory is refused.
-fn set_neighbours<R, G: Gate, A>(
+fn links_of(
     alloc: Global,
-    front: &mut UdpWire<'_, R, G, A>,
-    lanes: &mut [UdpWire<'_, R, G, A>],
-) -> Result<(), AllocError> {
-    front.set_neighbours(notifiers_of_wires(alloc, lanes)?);
-    for lane in lanes {
-        lane.set_neighbours(notifiers_of_wires(alloc, slice::from_ref(front))?);
-    }
-    Ok(())
-}
-
-/// Gives the worker of each lane the level of the lane's ring.
-///
-/// # Errors
-///
-/// `AllocError` if memory is refused.
-fn set_rings<R, G: Gate, A>(
-    alloc: Global,
-    homes: &[Home],
-    lanes: &mut [UdpWire<'_, R, G, A>],
-) -> Result<(), AllocError> {
-    for (lane, wire) in lanes.iter_mut().enumerate() {
-        if let Some(home) = homes.get(lane) {
-            wire.set_ring(RingLevel::new(alloc, home.limits().numbers().ring)?);
-        }
-    }
-    Ok(())
-}
-
-/// Returns the notifiers of the workers of these wires and of the reader, and the levels of the lanes' rings.
-///
-/// # Errors
-///
-/// `AllocError` if memory is refused.
-pub(crate) fn notifiers_of<R, G: Gate, A, I: Read + Drop>(
-    alloc: Global,
-    wires: &Wires<UdpWire<'_, R, G, A>>,
-    reader: &Interruptible<I>,
-) -> Result<Notifiers, AllocError> {
-    let lanes = notifiers_of_wires(alloc, wires.lanes.as_slice())?;
-    let front = wires.front.notifier()?;
-    let reader = reader.notifier()?;
-    let rings = rings_of_wires(alloc, wires.lanes.as_slice())?;
-    Ok(Notifiers {
-        front: Some(front),
-        lanes,
-        reader: Some(reader),
-        rings,
+    worker: Worker,
+    sleeper: Sleeper,
+    notifiers: &Notifiers,
+) -> Result<Links, AllocError> {
+    let neighbours = Neighbours::new(sleeper.notifier()?, notifiers.others_of(alloc, worker)?);
+    let ring = match worker {
+        Worker::Front => None,
+        Worker::Lane(lane) => notifiers.share_ring(usize::from(lane))?,
+    };
+    Ok(Links {
+        sleeper,
+        neighbours,
+        ring,
     })
-}
-
-/// Returns the levels of the rings of the lanes of these wires, in order.
-///
-/// # Errors
-///
-/// `AllocError` if memory is refused.
-fn rings_of_wires<R, G: Gate, A>(
-    alloc: Global,
-    wires: &[UdpWire<'_, R, G, A>],
-) -> Result<Vec<RingLevel>, AllocError> {
-    let mut rings = Vec::with_capacity(alloc, wires.len())?;
-    for wire in wires {
-        if let Some(ring) = wire.ring() {
-            rings.push(ring.share()?)?;
-        }
-    }
-    Ok(rings)
-}
-
-/// Returns the notifiers of the workers of these wires.
-///
-/// # Errors
-///
-/// `AllocError` if memory is refused.
-fn notifiers_of_wires<R, G: Gate, A>(
-    alloc: Global,
-    wires: &[UdpWire<'_, R, G, A>],
-) -> Result<Vec<Notifier>, AllocError> {
-    let mut notifiers = Vec::with_capacity(alloc, wires.len())?;
-    for wire in wires {
-        notifiers.push(wire.notifier()?)?;
-    }
-    Ok(notifiers)
 }
 
 /// Makes a reader that a notification interrupts.

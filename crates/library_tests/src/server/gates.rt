@@ -1,6 +1,7 @@
 //! A gate that makes a worker end by itself.
 
 use rad_desk::{Call, Gate, Go, Worker};
+use rad_server::SocketReports;
 use std::sync::atomic::{AtomicBool, Ordering};
 
 /// Makes one worker end by itself once that is due, and notes that the front accepted a request.
@@ -43,3 +44,5 @@ impl Gate for Ending {
         }
     }
 }
+
+impl SocketReports for Ending {}

@@ -1,0 +1,22 @@
+//! What is reported of the sockets alone.
+
+use rad_desk::Worker;
+use rad_realms::Endpoint;
+use std::io::Error;
+
+/// To which the service reports what happens to its sockets beside the datagrams. The workers report those to a `Gate`.
+pub trait SocketReports {
+    /// A socket of this worker is bound to this address and port. The system granted it a receive buffer of this many
+    /// octets.
+    fn bound(&self, _worker: Worker, _at: Endpoint, _buffer: u32) {}
+
+    /// No socket can be bound to this address and port, for this reason of the system's. The service ends.
+    fn unbound(&self, _at: Endpoint, _error: &Error) {}
+
+    /// The addresses of this machine can't be read. A response is sent from whichever of them the system chooses.
+    fn addresses_unread(&self, _error: &Error) {}
+
+    /// This machine has this address, and no socket is bound to it alone. A datagram sent to it is answered from
+    /// whichever address the system chooses.
+    fn address_unbound(&self, _address: [u8; 4]) {}
+}
