@@ -157,7 +157,8 @@ impl<'a, G: Gate> Departures<'a, G> {
     pub(crate) fn end(&mut self, sockets: &mut [ReadySocket]) {
         self.hand_over(sockets);
         if let Some(kept) = &mut self.kept {
-            lose_each(kept, self.reports);
+            // At the last moment that there is, all of it is kept for too long.
+            lose_old(kept, u64::MAX, self.reports);
         }
     }
 
@@ -176,16 +177,6 @@ impl<'a, G: Gate> Departures<'a, G> {
 fn lose_old<G: Gate>(kept: &mut Kept, moment: u64, reports: Reports<'_, G>) {
     for _ in 0..kept.tries() {
         match kept.lose_old(moment) {
-            Some(to) => reports.lost(to),
-            None => return,
-        }
-    }
-}
-
-/// Loses everything that is kept, and reports it.
-fn lose_each<G: Gate>(kept: &mut Kept, reports: Reports<'_, G>) {
-    for _ in 0..kept.tries() {
-        match kept.lose_any() {
             Some(to) => reports.lost(to),
             None => return,
         }

@@ -47,12 +47,7 @@ impl Kept {
 
     /// Returns the place of a client's queue.
     fn place_of(&self, client: [u8; 4]) -> Option<usize> {
-        for (place, queue) in self.queues.as_slice().iter().enumerate() {
-            if queue.is_of(client) {
-                return Some(place);
-            }
-        }
-        None
+        self.queues.iter().position(|queue| queue.is_of(client))
     }
 
     /// Keeps a datagram behind those of its client, and returns where the one was to go that is lost by that, if one is:
@@ -117,19 +112,7 @@ impl Kept {
 
     /// Returns the place of a queue whose oldest datagram was sent too long before `now`.
     fn place_of_old(&self, now: u64) -> Option<usize> {
-        for (place, queue) in self.queues.as_slice().iter().enumerate() {
-            if let Some(first) = queue.first() {
-                if now.saturating_sub(first.sent().moment) >= LONGEST {
-                    return Some(place);
-                }
-            }
-        }
-        None
-    }
-
-    /// Loses any datagram, and returns where it was to go.
-    pub(crate) fn lose_any(&mut self) -> Option<Endpoint> {
-        self.take(0)
+        self.queues.iter().position(|queue| is_old(queue, now))
     }
 
     /// Takes the oldest datagram of the queue at a place, and returns where it goes. A queue that is empty then is
@@ -141,18 +124,12 @@ impl Kept {
             self.queues.remove(place);
         }
         self.count = self.count.saturating_sub(1);
-        match datagram {
-            Some(datagram) => Some(datagram.sent().to),
-            None => None,
-        }
+        Some(datagram?.sent().to)
     }
 
     /// Returns the oldest datagram of the queue at a place.
     pub(crate) fn first(&self, place: usize) -> Option<Sent<'_>> {
-        match self.queues.get(place)?.first() {
-            Some(first) => Some(first.sent()),
-            None => None,
-        }
+        Some(self.queues.get(place)?.first()?.sent())
     }
 
     /// Returns the place of the queue to try next: of those whose first datagram leaves from a socket that may have room,
@@ -173,6 +150,14 @@ impl Kept {
     /// room.
     pub(crate) fn tries(&self) -> usize {
         self.count.saturating_add(self.queues.len())
+    }
+}
+
+/// Returns whether the oldest datagram of a queue was sent too long before `now`.
+fn is_old(queue: &ClientQueue, now: u64) -> bool {
+    match queue.first() {
+        Some(first) => now.saturating_sub(first.sent().moment) >= LONGEST,
+        None => false,
     }
 }
 

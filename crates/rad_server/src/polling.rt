@@ -18,7 +18,7 @@ use std::net::UdpSocket;
 /// The number of receives for each socket that a worker may do without a sleep before it tries every socket again.
 const RECEIVES: usize = 16;
 
-/// What ties a worker to the others.
+/// What a worker sleeps over, the others that it has work for, and the ring that it adds to.
 #[derive(Drop)]
 pub(crate) struct Links {
     pub(crate) sleeper: Sleeper,

@@ -1,10 +1,11 @@
-//! What is reported of the sockets alone.
+//! The interface to which a service reports its sockets.
 
 use rad_desk::Worker;
 use rad_realms::Endpoint;
 use std::io::Error;
 
-/// To which the service reports what happens to its sockets beside the datagrams. The workers report those to a `Gate`.
+/// The interface to which a service reports where its sockets are bound, and what can't be bound or read. What is received
+/// and sent over them is reported to the `Gate`. An implementation may leave out any of it.
 pub trait SocketReports {
     /// A socket of this worker is bound to this address and port. The system granted it a receive buffer of this many
     /// octets.

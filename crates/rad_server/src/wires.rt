@@ -62,7 +62,7 @@ impl<'a, R, G: Gate, A> UdpWire<'a, R, G, A> {
         }
     }
 
-    /// Returns the index of the socket from which a peer is sent to that the worker sends to from this one.
+    /// Returns the index of the socket for a datagram that the worker sends to a peer from the socket of this number.
     fn index_of(&self, socket: u16, peer: Endpoint) -> u16 {
         match &self.answering {
             Some(answering) if socket == 0 => answering.socket_of(peer),

@@ -239,7 +239,7 @@ impl<'a, R: Clock + Net + RandomSource, G: Gate + SocketReports, A> WireMaker<'a
     }
 }
 
-/// Returns what ties a worker that sleeps over this to the others.
+/// Returns what a worker sleeps over, which is this, with its neighbours and its ring.
 ///
 /// # Errors
 ///
