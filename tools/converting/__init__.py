@@ -1,0 +1,1 @@
+"""What rad_convert is made of."""

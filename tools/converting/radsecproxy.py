@@ -1,0 +1,372 @@
+"""The configuration of radsecproxy 1.9: how it is written, and what it means to rad_proxy."""
+import contextlib
+import dataclasses
+import glob
+import os
+import re
+
+from . import addresses, site
+from .reading import Fault, Place, shown
+
+# radsecproxy cuts longer lines.
+LINE = 1023
+
+# The port at which radsecproxy receives, and to which it sends, unless another one is written.
+PORT = 1812
+
+ON_OFF = {b"on", b"off"}
+
+# Options that change nothing of what accounting requests become, or that rad_proxy does by its own keys.
+WAITS = {b"retrycount", b"retryinterval", b"duplicateinterval", b"statusserver"}
+QUIET = WAITS | {
+    b"loglevel", b"logdestination", b"logthreadid", b"logmac", b"logkey", b"logfullusername", b"pidfile", b"verifyeap",
+    b"fticksreporting", b"fticksmac", b"ftickskey", b"ftickssyslogfacility", b"fticksprefix", b"fticksviscountry", b"fticksvisinst",
+    b"ipv4only", b"tcpkeepalive", b"tls", b"certificatenamecheck", b"matchcertificateattribute", b"type", b"secret", b"host", b"port",
+    b"listenudp", b"server", b"accountingserver", b"accountingresponse", b"replymessage", b"ttlattribute", b"sourcetcp", b"sourcetls",
+    b"sourcedtls", b"blockingstartup", b"sni", b"servername",
+}
+LOST = {
+    b"listentcp": "rad_proxy has no TCP",
+    b"listentls": "rad_proxy has no TLS",
+    b"listendtls": "rad_proxy has no TLS",
+    b"sourceudp": "the system picks the address and the ports that rad_proxy sends from",
+    b"source": "the system picks the address and the ports that rad_proxy sends from",
+    b"addttl": "rad_proxy has no loop prevention",
+    b"rewrite": "rad_proxy does not rewrite",
+    b"rewritein": "rad_proxy does not rewrite",
+    b"rewriteout": "rad_proxy does not rewrite",
+    b"rewriteattribute": "rad_proxy does not rewrite",
+    b"dynamiclookupcommand": "rad_proxy looks up no home servers",
+}
+LOST_IF_ON = {b"loopprevention": "rad_proxy has no loop prevention", b"ipv6only": "rad_proxy has no IPv6"}
+
+
+@dataclasses.dataclass(frozen=True)
+class Option:
+    """An option as it is written. Names are in lower case."""
+
+    name: bytes
+    value: bytes
+    place: Place
+
+
+@dataclasses.dataclass
+class Block:
+    """A block, with its options in order."""
+
+    kind: bytes
+    name: bytes
+    place: Place
+    options: list
+
+    def all(self, name):
+        """The options of a name."""
+        return [option for option in self.options if option.name == name]
+
+    def value(self, name, default=None):
+        """The value of the first option of a name."""
+        return next((option.value for option in self.options if option.name == name), default)
+
+
+def tokens(line, place):
+    """The first three words of a line, as radsecproxy cuts them: a `#` begins a comment only as the first character."""
+    words, rest = [], line
+    while len(words) < 3:
+        rest = rest.lstrip(b" \t\r\n")
+        if not rest or not words and rest[:1] == b"#":
+            break
+        if rest[:1] in (b'"', b"'"):
+            word, end, after = rest[1:].partition(rest[:1])
+            if not end or after and after[:1] not in (b" ", b"\t", b"\r", b"\n"):
+                raise Fault(f"{place}: a quotation mark has no partner at the end of a word")
+        else:
+            word = re.match(rb"[^ \t\r\n]*", rest)[0]
+            after = rest[len(word):]
+        words.append(word)
+        rest = after[1:]
+    return words
+
+
+def unescaped(value, nul=False):
+    """A value whose `%` and two hexadecimal digits stand for an octet."""
+    def octet(found):
+        return found[0] if found[1] == b"00" and not nul else bytes([int(found[1], 16)])
+    return re.sub(rb"%([0-9A-Fa-f]{2})", octet, value)
+
+
+class Lines:
+    """The lines of a file, and in their place those of the files that they include."""
+
+    def __init__(self, library, path, exits):
+        self.library = library
+        self.exits = exits
+        self.files = []
+        self._push(path, None)
+
+    def _push(self, path, asked):
+        one = contextlib.ExitStack()
+        lines = one.enter_context(self.library.reading(path, asked))
+        self.exits.push(one)
+        self.files.append((one, path, enumerate(lines, 1)))
+        self.last = Place(path, 1)
+
+    def include(self, pattern, place):
+        """Goes on with the files of a pattern, which is relative to the file of this place."""
+        path = os.path.join(os.path.dirname(place.file) or b".", pattern)
+        found = sorted(glob.glob(path)) if glob.has_magic(path) else [path]
+        if not found:
+            raise Fault(f"{place}: no file matches {shown(pattern)}")
+        for name in reversed(found):
+            self._push(name, place)
+
+    def __iter__(self):
+        while self.files:
+            one, path, lines = self.files[-1]
+            entry = next(lines, None)
+            if entry is None:
+                self.files.pop()
+                one.close()
+                continue
+            self.last = Place(path, entry[0])
+            if len(entry[1]) > LINE:
+                raise Fault(f"{self.last}: a line of more than {LINE} octets, which radsecproxy cuts")
+            yield self.last, entry[1]
+
+
+class Reader:
+    """Reads a configuration into the options outside of blocks, and the blocks."""
+
+    def __init__(self, library):
+        self.library = library
+        self.options = []
+        self.blocks = []
+        self.block = None
+
+    def read(self, path):
+        """Reads a file and those that it includes."""
+        with contextlib.ExitStack() as exits:
+            lines = Lines(self.library, path, exits)
+            for place, line in lines:
+                words = tokens(line, place)
+                if words:
+                    self._take(words, place, lines)
+            if self.block:
+                raise Fault(f"{lines.last}: the file ends within the block of line {self.block.place.line}")
+
+    def _take(self, words, place, lines):
+        if words[0].startswith(b"}"):
+            if not self.block:
+                raise Fault(f"{place}: }} without a block")
+            self.block = None
+            return
+        if len(words) == 3 and words[1] == b"=":
+            words = [words[0], words[2]]
+        if len(words) == 2 and words[0].lower() == b"include":
+            lines.include(words[1], place)
+        elif len(words) == 2:
+            (self.block.options if self.block else self.options).append(Option(words[0].lower(), words[1], place))
+        elif len(words) == 3 and words[2] == b"{":
+            self._begin(words[0].lower(), words[1], place)
+        else:
+            raise Fault(f"{place}: neither an option with a value nor the beginning of a block")
+
+    def _begin(self, kind, name, place):
+        if self.block:
+            raise Fault(f"{place}: a block within the block of line {self.block.place.line}")
+        self.block = Block(kind, name, place, [])
+        self.blocks.append(self.block)
+
+
+class Converter:
+    """Carries a configuration over to a site."""
+
+    def __init__(self, reader, made):
+        self.reader = reader
+        self.site = made
+        self.servers = {}
+        self.homes = {}
+        self.catch_all = None
+        self.rewrites = {block.name.lower() for block in reader.blocks if block.kind == b"rewrite"}
+
+    def convert(self):
+        """Carries everything over, and tells what was not."""
+        self._tell_options("", self.reader.options)
+        self._listen()
+        kinds = {b"client": self._client, b"server": self._server, b"realm": self._realm}
+        for block in self.reader.blocks:
+            if block.kind in kinds:
+                kinds[block.kind](block)
+            elif block.kind not in (b"tls", b"rewrite"):
+                self.site.tell(block.place, f"{site.named(shown(block.kind), block.name)}: no block of radsecproxy 1.9")
+        self._tell_authentication()
+
+    def _tell_options(self, what, options):
+        for option in options:
+            if option.name in LOST:
+                self.site.tell(option.place, f"{what}{shown(option.name)}: {LOST[option.name]}")
+            elif option.name in LOST_IF_ON:
+                if option.value.lower() != b"off":
+                    self.site.tell(option.place, f"{what}{shown(option.name)}: {LOST_IF_ON[option.name]}")
+            elif option.name not in QUIET:
+                self.site.tell(option.place, f"{what}{shown(option.name)}: no option of radsecproxy 1.9 that rad_convert knows")
+
+    def _tell_authentication(self):
+        places = [option.place for block in self.reader.blocks if block.kind == b"realm" for option in block.all(b"server")]
+        if places:
+            self.site.tell(places[0], f"server: rad_proxy does no authentication ({len(places)} such lines in realms)")
+
+    def _listen(self):
+        found = []
+        for option in (option for option in self.reader.options if option.name == b"listenudp"):
+            host, port = addresses.host_and_port(shown(unescaped(option.value)))
+            try:
+                number = site.port_of(port) if port else PORT
+                address = "0.0.0.0" if host == "*" else self.site.addresses_of(host, short=True)[0]
+            except (addresses.Uncarried, site.Unfit) as why:
+                self.site.tell(option.place, f"ListenUDP: {why}")
+                continue
+            found.append((number != 1813, len(found), address, number, option.place))
+        if not found:
+            self.site.listens("0.0.0.0", PORT, [f"radsecproxy's own port {PORT}, since no ListenUDP is carried over"])
+            return
+        _, _, address, port, place = min(found)
+        self.site.listens(address, port, [f"ListenUDP, {place}"])
+        for entry in sorted(found, key=lambda entry: entry[1]):
+            if entry[4] != place:
+                self.site.tell(entry[4], f"ListenUDP: rad_proxy receives at one address and port, which is that of {place}")
+
+    def _is_datagrams(self, block, what):
+        kind = block.value(b"type", b"").lower()
+        if kind == b"udp":
+            return True
+        said = {b"tls": "rad_proxy has no TLS", b"dtls": "rad_proxy has no TLS", b"tcp": "rad_proxy has no TCP"}
+        self.site.tell(block.place, f"{what}: " + (said.get(kind) or "it has no type that is known"))
+        return False
+
+    def _tell_default_rewrite(self, block, what, names):
+        if block.all(b"rewritein") or block.all(b"rewrite"):
+            return
+        for name in names:
+            if name in self.rewrites:
+                self.site.tell(block.place, f"{what}: rewrite {shown(name)} applies to it, and rad_proxy does not rewrite")
+                return
+
+    def _hosts(self, block):
+        return [(option.value, option.place) for option in block.all(b"host")] or [(block.name, block.place)]
+
+    def _client(self, block):
+        what = site.named("client", block.name)
+        if not self._is_datagrams(block, what):
+            return
+        found = []
+        for host, place in self._hosts(block):
+            try:
+                found += [(address, place) for address in self.site.addresses_of(shown(unescaped(host)), short=True)]
+            except addresses.Uncarried as why:
+                self.site.tell(place, f"{what}: {why}" + (f" ({shown(host)})" if host != block.name else ""))
+        if not found:
+            return
+        self._tell_options(f"{what}: ", block.options)
+        self._tell_default_rewrite(block, what, (b"defaultclient", b"default"))
+        for address, place in found:
+            self.site.add_client(block.place, what, address, unescaped(block.value(b"secret", b""), nul=True), self._waits(block))
+
+    @staticmethod
+    def _waits(block):
+        names = sorted({shown(option.name) for option in block.options if option.name in WAITS - {b"statusserver"}})
+        return [f"not carried over: {', '.join(names)}; rad_proxy has keys of its own (rad_proxy.toml(5))"] if names else []
+
+    def _server(self, block):
+        key = block.name.lower()
+        self.servers.setdefault(key, block)
+
+    def _home(self, block):
+        """The name of the home server that a server became, or None."""
+        key = block.name.lower()
+        if key not in self.homes:
+            self.homes[key] = self._made_home(block)
+        return self.homes[key]
+
+    def _made_home(self, block):
+        what = site.named("server", block.name)
+        if not self._is_datagrams(block, what):
+            return None
+        hosts = self._hosts(block)
+        for host, place in hosts[1:]:
+            self.site.tell(place, f"{what}: rad_proxy has one address for a home server ({shown(host)} is another one)")
+        host, port = addresses.host_and_port(shown(unescaped(hosts[0][0])))
+        try:
+            number = site.port_of(port or shown(block.value(b"port", b"%d" % PORT)))
+            found = self.site.addresses_of(host, short=True)
+        except (addresses.Uncarried, site.Unfit) as why:
+            self.site.tell(hosts[0][1], f"{what}: {why}")
+            return None
+        if len(found) > 1:
+            self.site.tell(hosts[0][1], f"{what}: the name has {len(found)} addresses, and rad_proxy gets {found[0]}")
+        self._tell_options(f"{what}: ", block.options)
+        self._tell_default_rewrite(block, what, (b"defaultserver", b"default"))
+        secret = unescaped(block.value(b"secret", b""), nul=True)
+        return self.site.add_home(block.place, what, block.name, f"{found[0]}:{number}", secret, self._waits(block))
+
+    def _realm(self, block):
+        what = site.named("realm", block.name)
+        name = self._literal(block.name)
+        servers = block.all(b"accountingserver")
+        if self.catch_all:
+            self.site.tell(block.place, f"{what}: radsecproxy never comes to it, since realm * of {self.catch_all} is before it")
+            return
+        if block.name == b"*":
+            self.catch_all = block.place
+        if not servers:
+            if block.value(b"accountingresponse", b"off").lower() == b"on":
+                self.site.tell(block.place, f"{what}: AccountingResponse: rad_proxy answers nothing by itself")
+            elif name is None and block.name != b"*":
+                self.site.tell(block.place, f"{what}: a pattern; requests that it keeps away are forwarded if a realm has them")
+            return
+        if name is None and block.name != b"*":
+            self.site.tell(block.place, f"{what}: a pattern; rad_proxy has realms by their whole name alone")
+            return
+        for option in servers[1:]:
+            self.site.tell(option.place, f"{what}: rad_proxy has one home server for a realm ({shown(option.value)} is another one)")
+        home = self._home_of(servers[0], what)
+        if block.name == b"*":
+            self._catch_all(block, home)
+        elif home:
+            self.site.add_realm(block.place, what, name, home)
+
+    def _home_of(self, option, what):
+        block = self.servers.get(unescaped(option.value).lower())
+        if block is None:
+            self.site.tell(option.place, f"{what}: there is no server {shown(option.value)} before it")
+            return None
+        home = self._home(block)
+        if home is None:
+            self.site.tell(option.place, f"{what}: its home server {shown(option.value)} is not carried over")
+        return home
+
+    def _catch_all(self, block, home):
+        rest = "requests without a realm go to its home server, those of other realms are dropped" if home else "it is dropped"
+        self.site.tell(block.place, f"realm *: rad_proxy has no catch-all; {rest}")
+        if home:
+            self.site.default_home = home
+            self.site.default_comment = [f"realm *, {block.place}, for requests without a realm alone"]
+
+    @staticmethod
+    def _literal(name):
+        """The realm that a name stands for, or None if it is a pattern that is more than one whole name."""
+        if name == b"*":
+            return None
+        if not name.startswith(b"/"):
+            return name
+        pattern = name[1:-1] if len(name) > 1 and name.endswith(b"/") else name[1:]
+        if re.fullmatch(rb"@(?:[A-Za-z0-9_-]|\\[.-])+\$", pattern):
+            return pattern[1:-1].replace(b"\\", b"")
+        return None
+
+
+def convert(library, path, made):
+    """Carries the configuration at a path over to a site."""
+    reader = Reader(library)
+    reader.read(path)
+    Converter(reader, made).convert()
+    return f"From radsecproxy's {shown(path)}, by rad_convert."
