@@ -67,7 +67,7 @@ class Converter:
         realms = [realm for realm in self.root.sections(b"realm") if realm.pair(b"auth_pool", b"pool", b"home_server_pool", b"authhost")]
         if realms:
             pair = realms[0].pair(b"auth_pool", b"pool", b"home_server_pool", b"authhost")
-            self.site.tell(pair.place, f"{shown(pair.name)}: rad_proxy does no authentication ({len(realms)} realms have it)")
+            self.site.tell(pair.place, f"{shown(pair.name)}: rad_proxy does no authentication (realms with it: {len(realms)})")
 
     # Where requests are received.
 

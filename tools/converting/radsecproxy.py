@@ -43,11 +43,16 @@ LOST_IF_ON = {b"loopprevention": "rad_proxy has no loop prevention", b"ipv6only"
 
 @dataclasses.dataclass(frozen=True)
 class Option:
-    """An option as it is written. Names are in lower case."""
+    """An option: its name as it is written, its value, and where it is."""
 
-    name: bytes
+    word: bytes
     value: bytes
     place: Place
+
+    @property
+    def name(self):
+        """The name in lower case."""
+        return self.word.lower()
 
 
 @dataclasses.dataclass
@@ -164,7 +169,7 @@ class Reader:
         if len(words) == 2 and words[0].lower() == b"include":
             lines.include(words[1], place)
         elif len(words) == 2:
-            (self.block.options if self.block else self.options).append(Option(words[0].lower(), words[1], place))
+            (self.block.options if self.block else self.options).append(Option(words[0], words[1], place))
         elif len(words) == 3 and words[2] == b"{":
             self._begin(words[0].lower(), words[1], place)
         else:
@@ -203,17 +208,17 @@ class Converter:
     def _tell_options(self, what, options):
         for option in options:
             if option.name in LOST:
-                self.site.tell(option.place, f"{what}{shown(option.name)}: {LOST[option.name]}")
+                self.site.tell(option.place, f"{what}{shown(option.word)}: {LOST[option.name]}")
             elif option.name in LOST_IF_ON:
                 if option.value.lower() != b"off":
-                    self.site.tell(option.place, f"{what}{shown(option.name)}: {LOST_IF_ON[option.name]}")
+                    self.site.tell(option.place, f"{what}{shown(option.word)}: {LOST_IF_ON[option.name]}")
             elif option.name not in QUIET:
-                self.site.tell(option.place, f"{what}{shown(option.name)}: no option of radsecproxy 1.9 that rad_convert knows")
+                self.site.tell(option.place, f"{what}{shown(option.word)}: no option of radsecproxy 1.9 that rad_convert knows")
 
     def _tell_authentication(self):
         places = [option.place for block in self.reader.blocks if block.kind == b"realm" for option in block.all(b"server")]
         if places:
-            self.site.tell(places[0], f"server: rad_proxy does no authentication ({len(places)} such lines in realms)")
+            self.site.tell(places[0], f"server: rad_proxy does no authentication (lines for it in realms: {len(places)})")
 
     def _listen(self):
         found = []
@@ -273,7 +278,7 @@ class Converter:
 
     @staticmethod
     def _waits(block):
-        names = sorted({shown(option.name) for option in block.options if option.name in WAITS - {b"statusserver"}})
+        names = sorted({shown(option.word) for option in block.options if option.name in WAITS - {b"statusserver"}})
         return [f"not carried over: {', '.join(names)}; rad_proxy has keys of its own (rad_proxy.toml(5))"] if names else []
 
     def _server(self, block):

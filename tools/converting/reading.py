@@ -76,15 +76,15 @@ class Library:
         except (OSError, ValueError) as fault:
             said = reason(fault) if isinstance(fault, OSError) else "no name of a file"
             raise Fault(f"{before}{shown(path)}: {said}") from None
-        with open(handle, "rb") as file:
-            status = os.fstat(handle)
-            if not stat.S_ISREG(status.st_mode):
-                kind = "a directory" if stat.S_ISDIR(status.st_mode) else "no regular file"
-                raise Fault(f"{before}{shown(path)}: {kind}")
-            try:
+        status = os.fstat(handle)
+        if not stat.S_ISREG(status.st_mode):
+            os.close(handle)
+            raise Fault(f"{before}{shown(path)}: {'a directory' if stat.S_ISDIR(status.st_mode) else 'no regular file'}")
+        try:
+            with open(handle, "rb") as file:
                 octets = file.read(self.left + 1)
-            except OSError as fault:
-                raise Fault(f"{before}{shown(path)}: {reason(fault)}") from None
+        except OSError as fault:
+            raise Fault(f"{before}{shown(path)}: {reason(fault)}") from None
         if len(octets) > self.left:
             raise Fault(f"{before}{shown(path)}: the files have more than {LIMIT} octets in all")
         self.left -= len(octets)

@@ -3,7 +3,7 @@ import dataclasses
 import re
 
 from . import addresses
-from .reading import Fault, shown
+from .reading import Fault, Place, shown
 
 # The limits of docs/formats.md.
 CLIENTS = 256
@@ -90,7 +90,11 @@ class Site:
 
     def tell(self, place, text):
         """Tells of something that was not carried over."""
-        self.told.append(f"{place}: {text}")
+        self.told.append((place.file, place.line, text))
+
+    def losses(self):
+        """What was told, in the order of the files' names and their lines."""
+        return [f"{Place(file, line)}: {text}" for file, line, text in sorted(self.told, key=lambda entry: entry[:2])]
 
     def listens(self, address, port, comment):
         """Sets where requests are received."""

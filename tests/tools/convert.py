@@ -1,0 +1,505 @@
+"""Has rad_convert carry configurations over, and looks at what it writes, what it tells and how it ends.
+
+usage: python3 -m tests.tools.convert PROGRAM [WORD]
+
+PROGRAM is rad_proxy: its `check` judges what is written, and it serves a site that is written in both languages (table.py). Where
+radsecproxy and FreeRADIUS are installed, they serve the same files, and each client's secret is tried by a signed request. Their
+shipped files are those of the packages `radsecproxy`, `freeradius` and `freeradius-config`, which `apt-get download` gets; where it
+cannot, these cases are left out. With WORD, only the cases are tried that have it in their names. The result of each case is printed. The last line is `N passed, M failed`.
+"""
+import contextlib
+import io
+import os
+import pathlib
+import random
+import re
+import shutil
+import subprocess
+import sys
+import tempfile
+import tomllib
+
+sys.dont_write_bytecode = True
+
+TOP = pathlib.Path(__file__).resolve().parents[2]
+TOOL = TOP / "tools" / "rad_convert"
+SECONDS = 60
+
+sys.path[:0] = [str(TOP / "tests" / "hostile"), str(TOP / "tools")]
+
+from trying import LeftOut, conclude, hope, outcome  # noqa: E402
+
+from converting import freeradius, radsecproxy  # noqa: E402
+from converting.reading import Fault, Library  # noqa: E402
+from converting.site import Site  # noqa: E402
+
+from . import table, talking, texts  # noqa: E402
+
+MAIN = {"radsecproxy": "it", "freeradius": "radiusd.conf"}
+MODULES = {"radsecproxy": radsecproxy, "freeradius": freeradius}
+PROGRAM = ""
+
+
+def convert(*words, cwd=None, out=subprocess.PIPE, env=None):
+    """Runs the tool. The result is its status, what it wrote, and the lines that it told."""
+    environment = {name: value for name, value in os.environ.items() if name != "NO_SUCH_NAME"} | (env or {})
+    ran = subprocess.run([sys.executable, TOOL, *words], stdin=subprocess.DEVNULL, stdout=out, stderr=subprocess.PIPE, cwd=cwd,
+                         timeout=SECONDS, env=environment)
+    told = ran.stderr.decode()
+    hope("a traceback", "Traceback" in told, False)
+    return ran.returncode, ran.stdout, told.splitlines()
+
+
+def checked(octets, room):
+    """What a configuration says, which `check` of the program has to take without a word."""
+    path = room / "checked.toml"
+    path.write_bytes(octets)
+    ran = subprocess.run([PROGRAM, "check", path], capture_output=True, timeout=SECONDS, env={**os.environ, "RAD_PROXY_LOG": "warn"})
+    found = tomllib.loads(octets.decode())
+    counts = " ".join(f"{part}s {len(found.get(part, []))}" for part in ("client", "home", "realm")) + "\n"
+    hope("check", (ran.returncode, ran.stdout.decode()), (0, counts))
+    hope("check tells of a key", "unread-key" in ran.stderr.decode(), False)
+    return found
+
+
+def short(found):
+    """A configuration as the rows of texts.py have it."""
+    made = {
+        "client": [(one["address"], one["secret"]) for one in found["client"]],
+        "home": [(one["name"], one["address"], one["secret"]) for one in found["home"]],
+        "realm": [(one["name"], one["home"]) for one in found.get("realm", [])],
+    }
+    return made | ({"default": found["default_home"]} if "default_home" in found else {})
+
+
+def hope_told(told, wanted, file):
+    """Fails where other lines are told than these, each by its number in a file and a part of what it says."""
+    found = [re.fullmatch(re.escape(str(file)) + r":(\d+): (.*)", line) for line in told]
+    hope("a line without a place", [line for line, match in zip(told, found) if not match], [])
+    pairs = [(int(match[1]), match[2]) for match in found]
+    fits = len(pairs) == len(wanted) and all(pair[0] == want[0] and want[1] in pair[1] for pair, want in zip(pairs, wanted))
+    hope("told", fits or pairs, True if fits else wanted)
+
+
+def written(kind, text, room):
+    """A text as the only file of a proxy: the path to give to the tool, and that of the file."""
+    folder = room / "it"
+    shutil.rmtree(folder, ignore_errors=True)
+    folder.mkdir()
+    file = folder / MAIN[kind]
+    file.write_bytes(text.encode("utf-8", "surrogateescape"))
+    return file if kind == "radsecproxy" else folder, file
+
+
+def row(kind, text, told, wanted):
+    """A case that converts a text."""
+    def case(room):
+        path, file = written(kind, text, room)
+        status, out, lines = convert(kind, path)
+        if wanted is None:
+            hope("the last line", lines[-1].startswith("rad_convert: no "), True)
+            hope("status and output", (status, out), (2, b""))
+            hope_told(lines[:-1], told, file)
+            return
+        hope("status", (status, lines) if status == 2 else status, 3 if told else 0)
+        hope_told(lines, told, file)
+        found = checked(out, room)
+        hope("listen", found["listen"], wanted.get("listen", found["listen"]))
+        hope("the configuration", short(found), {key: value for key, value in wanted.items() if key != "listen"})
+        hope_comments(out.decode(), file)
+    return case
+
+
+def hope_comments(text, file):
+    """Fails where a table has no comment with a place, or where the place is not one of a block of this kind."""
+    lines = file.read_text("utf-8", "surrogateescape").split("\n")
+    for part, comment in re.findall(r"\n\n((?:#.*\n)+)\[\[(\w+)\]\]", text):
+        part, comment = comment, part
+        found = re.search(r"^# .*, " + re.escape(str(file)) + r":(\d+)$", comment.split("\n")[0])
+        hope(f"the comment of a {part}", bool(found) or comment, True)
+        word = lines[int(found[1]) - 1].split()[0].lower()
+        hope(f"the line of a {part}", word in {"client": ["client"], "home": ["server", "home_server", "accthost"], "realm": ["realm"]}[part], True)
+    hope("tables with a comment", len(re.findall(r"\n\n(?:#.*\n)+\[\[", text)), text.count("\n[["))
+
+
+def fault(kind, text, line, part):
+    """A case with a text that cannot be read."""
+    def case(room):
+        path, file = written(kind, text, room)
+        status, out, lines = convert(kind, path)
+        hope("status and output", (status, out, len(lines)), (2, b"", 1))
+        hope("the place", lines[0].startswith(f"rad_convert: {file}:{line}: ") or lines, True)
+        hope("what is told", part in lines[0] or lines, True)
+    return case
+
+
+def call(status, part, *words, **how):
+    """A case with a call that has one line on standard error, and this status."""
+    def case(room):
+        found, out, lines = convert(*(word.replace("ROOM", str(room)) if isinstance(word, str) else word for word in words), **how)
+        hope("status and output", (found, out or b"", len(lines)), (status, b"", 1))
+        hope("what is told", part in lines[0] or lines, True)
+        hope("printable", lines[0].isprintable(), True)
+    return case
+
+
+def prepared(case, prepare):
+    """A case before which a room is prepared."""
+    def both(room):
+        prepare(room)
+        case(room)
+    return both
+
+
+def words_are_told(room):
+    """--help has the statuses, --version one line."""
+    for word, part in (("--help", "statuses:"), ("--version", "rad_convert 0.1.0")):
+        status, out, told = convert(word)
+        hope(word, (status, told, part in out.decode()), (0, [], True))
+
+
+def calls():
+    """Calls that are wrong, and files that cannot be read or written."""
+    yield "help and version", words_are_told
+    yield "no words", call(2, "required: KIND, PATH")
+    yield "an unknown kind", call(2, "invalid choice", "other", "x")
+    yield "an unknown option", call(2, "unrecognized", "radsecproxy", "x", "--none")
+    yield "a newline in a word", call(2, "unrecognized", "radsecproxy", "x", "--a\nb\x1b[1m")
+    yield "no file", call(2, "No such file", "radsecproxy", "ROOM/none")
+    yield "a directory", call(2, "a directory", "radsecproxy", "ROOM")
+    yield "a directory without its files", call(2, "neither radiusd.conf", "freeradius", "ROOM")
+    yield "a name with control characters", call(2, r"a\x0ab\x1b[1m", "radsecproxy", "ROOM/a\nb\x1b[1m")
+    yield "a name that is not UTF-8", call(2, r"\xff\xfe", "radsecproxy", b"/none/\xff\xfe")
+    yield "a pipe", prepared(call(2, "no regular file", "radsecproxy", "ROOM/pipe"), lambda room: os.mkfifo(room / "pipe"))
+    yield "a huge file", prepared(call(2, "more than 8388608 octets", "radsecproxy", "ROOM/huge"), huge)
+    yield "a directory in place of radiusd.conf", prepared(
+        call(2, "a directory", "freeradius", "ROOM"), lambda room: (room / "radiusd.conf").mkdir())
+    yield "a full disk", prepared(full_disk, site_in)
+    for target, part in (("ROOM", "a directory"), ("ROOM/none/it", "No such file"), ("ROOM/radsecproxy.conf", "one of the files")):
+        yield f"-o {target}", prepared(call(2, part, "radsecproxy", "ROOM/radsecproxy.conf", "-o", target), site_in)
+    yield "-o of a file", prepared(a_file_is_written, site_in)
+    yield "an address that is looked up", addresses_are_looked_up
+
+
+def huge(room):
+    """A file that is larger than what is read."""
+    with open(room / "huge", "wb") as file:
+        file.truncate(1 << 33)
+
+
+def site_in(room):
+    """The files of radsecproxy for the site."""
+    table.put(table.radsecproxy(table.site(1813, 2813)), room)
+
+
+def full_disk(room):
+    """An output that takes nothing."""
+    with open("/dev/full", "wb") as full:
+        status, _, told = convert("radsecproxy", room / "radsecproxy.conf", out=full)
+    hope("status", (status, told), (2, ["rad_convert: standard output: No space left on device"]))
+
+
+def a_file_is_written(room):
+    """A file is written whole, for its owner alone, and nothing beside it."""
+    out = room / "out" / "it.toml"
+    out.parent.mkdir()
+    out.write_text("old")
+    hope("the call", convert("radsecproxy", room / "radsecproxy.conf", "-o", out), (0, b"", []))
+    hope("the mode", oct(out.stat().st_mode & 0o777), "0o600")
+    hope("the folder", os.listdir(out.parent), ["it.toml"])
+    checked(out.read_bytes(), room)
+
+
+def addresses_are_looked_up(room):
+    """Host names are looked up with --resolve alone."""
+    text = texts.R.replace("192.0.2.1", "localhost") + texts.R_REALM + "client no.such.invalid {\n type udp\n secret x\n}\n"
+    path, file = written("radsecproxy", text, room)
+    status, out, told = convert("radsecproxy", path, "--resolve")
+    hope("status", (status, short(checked(out, room))["client"]), (3, [("127.0.0.1", "abc")]))
+    hope_told(told, [(13, "for which no IPv4 address is found")], file)
+
+
+def limits():
+    """More clients, home servers and realms than rad_proxy takes."""
+    def case(room):
+        text = "".join(f"client 10.0.{number // 256}.{number % 256} {{\n type udp\n secret x\n}}\n" for number in range(258))
+        text += "".join(f"server h{number} {{\n type udp\n host 10.1.0.{number}\n secret x\n}}\n" for number in range(66))
+        text += "".join(f"realm r{number} {{\n accountingServer h{number % 64}\n}}\n" for number in range(258))
+        text += "realm a {\n accountingServer h64\n}\n"
+        path, _ = written("radsecproxy", text, room)
+        status, out, told = convert("radsecproxy", path)
+        found = checked(out, room)
+        hope("counts", (status, [len(found[part]) for part in ("client", "home", "realm")]), (3, [256, 64, 256]))
+        hope("told", [line.split(": ", 1)[1] for line in told], [
+            "client 10.0.1.0: rad_proxy has 256 clients at most", "client 10.0.1.1: rad_proxy has 256 clients at most",
+            "server h64: rad_proxy has 64 homes at most", "realm r256: rad_proxy has 256 realms at most",
+            "realm r257: rad_proxy has 256 realms at most", "realm a: its home server h64 is not carried over"])
+    yield "limits", case
+
+
+# The site in both languages.
+
+def site_case(kind, name):
+    """A case that has the site's files carried over, and compares the result with the table."""
+    def case(room):
+        made = table.site(1813, 2813)
+        table.put(getattr(table, kind)(made), room)
+        status, out, told = convert(kind, room / name)
+        hope("status", (status, told), (0, []))
+        found, wanted = checked(out, room), made.configuration()
+        for part in wanted:
+            hope(part, ordered(found[part]), ordered(wanted[part]))
+    return case
+
+
+def ordered(value):
+    """A value, whose tables have no order."""
+    return value if isinstance(value, str) else sorted(value, key=str)
+
+
+def served(kind, name, words):
+    """A case that has the site served, by the proxy itself or by the program over what was converted."""
+    def case(room):
+        if words and not shutil.which(words[0], path=os.environ["PATH"] + ":/usr/sbin"):
+            raise LeftOut(f"there is no {words[0]}")
+        homes = [f"127.0.20.{number}" for number in range(1, 6)]
+        port = talking.free_port([talking.table.FRONT])
+        made = table.site(port, talking.free_port(homes, (1000,)))
+        table.put(getattr(table, kind)(made), room)
+        if words:
+            started = [word.replace("ROOM", str(room)) for word in words]
+        else:
+            convert(kind, room / name, "-o", room / "it.toml")
+            started = [PROGRAM, "run", str(room / "it.toml")]
+        with talking.serving(started, made, room):
+            hope("each client", talking.faults(made), [])
+    return case
+
+
+def sites():
+    """The site of table.py."""
+    for kind, name, words in (("radsecproxy", "radsecproxy.conf", ["radsecproxy", "-f", "-c", "ROOM/radsecproxy.conf"]),
+                              ("freeradius", ".", ["freeradius", "-f", "-l", "stdout", "-d", "ROOM"])):
+        yield f"the site of {kind} is that of the table", site_case(kind, name)
+        yield f"the program serves what was the site of {kind}", served(kind, name, None)
+        yield f"{kind} serves the same site", served(kind, name, words)
+
+
+# What the packages ship.
+
+def shipped(package, name):
+    """The folder that a package is unpacked into."""
+    folder = SHIPPED / package
+    if not folder.exists():
+        folder.mkdir()
+        got = shutil.which("apt-get") and shutil.which("dpkg-deb") and subprocess.run(
+            ["apt-get", "download", package], cwd=folder, capture_output=True, timeout=SECONDS).returncode == 0
+        for file in folder.glob("*.deb"):
+            subprocess.run(["dpkg-deb", "-x", file, folder], check=True)
+        if not got:
+            raise LeftOut(f"apt-get cannot download {package}")
+    found = next(iter(sorted(folder.rglob(name))), None)
+    if found is None:
+        raise LeftOut(f"{package} has no {name}")
+    return found
+
+
+OPTIONS = ("ListenUDP|ListenTCP|ListenTLS|ListenDTLS|SourceUDP|LoopPrevention|AddTTL|type|secret|rewriteIn|rewriteOut|accountingServer|"
+           "StatusServer|server|replymessage|AccountingResponse|removeAttribute|addAttribute|modifyAttribute")
+SHOWN = {
+    "radsecproxy": re.compile(rf"(?:{OPTIONS})[ \t]+[^ \t]+"),
+    "freeradius": re.compile(r"[a-z0-9_]+[ \t]*= *[^ .][^ ]*(?:[ \t]+#.*)?|nostrip"),
+}
+BEGUN = re.compile(r"(?:client|clients|server|realm|rewrite|home_server|home_server_pool) [^ ]+ ?\{")
+
+
+def turned_on(kind, text):
+    """A configuration with what it shows in comments turned on: what looks like a pair, an option, or the edge of a block."""
+    lines, depth = [], 0
+    for line in text.split("\n"):
+        inner = line.strip().lstrip("#").strip()
+        begins, ends = bool(BEGUN.fullmatch(inner)), inner == "}" and depth > 0
+        if line.strip().startswith("#") and (begins or ends or SHOWN[kind].fullmatch(inner)):
+            line = inner
+            depth += begins - ends
+        lines.append(line)
+    return "\n".join(lines)
+
+
+def example_of_radsecproxy(room):
+    """The example of all options, as it is: its realms have no home server for accounting."""
+    file = shipped("radsecproxy", "radsecproxy.conf-example")
+    status, out, told = convert("radsecproxy", file)
+    hope("status", (status, out, told[-1]), (2, b"", "rad_convert: no home server for accounting can be carried over, so there is no configuration"))
+    lines = file.read_text().split("\n")
+    for line in told[:-1]:
+        number = int(re.fullmatch(r".*:(\d+): .*", line)[1])
+        hope(line, lines[number - 1].split()[0] in ("client", "server", "realm"), True)
+    hope("TLS and DTLS", sum("no TLS" in line for line in told), len(re.findall(r"(?mi)^client [^}]*?type\s+d?tls", file.read_text())))
+
+
+def example_of_radsecproxy_turned_on(room):
+    """The same with accounting and its other comments turned on."""
+    text = turned_on("radsecproxy", shipped("radsecproxy", "radsecproxy.conf-example").read_text())
+    hope("turned on", [word in re.sub("(?m)^#.*", "", text) for word in ("accountingServer", "ListenUDP", "rewrite example")], [True] * 3)
+    path = room / "it"
+    path.write_text(text)
+    status, out, told = convert("radsecproxy", path)
+    hope("status", status, 3)
+    found = short(checked(out, room))
+    hope("the configuration", found, {"client": [("127.0.0.1", "secret")], "home": [("127.0.0.1", "127.0.0.1:1812", "secret")],
+                                      "realm": [("eduroam.cc", "127.0.0.1")]})
+    for part in ("ListenUDP: a host name", "no loop prevention", "ListenTLS: rad_proxy has no TLS", "does not rewrite", "a pattern", "no TCP",
+                 "no authentication"):
+        hope(part, any(part in line for line in told) or told, True)
+
+
+def default_of_radsecproxy(room):
+    """The configuration that is installed, which has a client alone."""
+    status, out, told = convert("radsecproxy", shipped("radsecproxy", "radsecproxy.conf"))
+    hope("status", (status, out, len(told)), (2, b"", 1))
+
+
+def default_of_freeradius(room):
+    """The folder that is installed, with the sites that Debian enables."""
+    folder = shipped("freeradius-config", "radiusd.conf").parent
+    for name in ("default", "inner-tunnel"):
+        with contextlib.suppress(FileExistsError):
+            os.symlink(f"../sites-available/{name}", folder / "sites-enabled" / name)
+    status, out, told = convert("freeradius", folder)
+    hope("status", (status, out), (2, b""))
+    for part in ("clients.conf:221: client localhost_ipv6: an IPv6 address", "realm LOCAL", "sites-enabled/default"):
+        hope(part, any(part in line for line in told) or told, True)
+
+
+def all_sites_of_freeradius_are_read(room):
+    """Each site and policy that is shipped is read as far as it goes."""
+    folder = shipped("freeradius-config", "radiusd.conf").parent
+    for file in sorted([*folder.glob("sites-available/*"), *folder.glob("policy.d/*")]):
+        if file.name != "README":
+            _, _, told = convert("freeradius", file)
+            hope(file.name, told[-1].endswith("so there is no configuration") or told, True)
+
+
+def freeradius_turned_on(room):
+    """proxy.conf and clients.conf with their comments turned on, and the host name of a home server replaced by an address."""
+    for name in ("proxy.conf", "clients.conf", "templates.conf"):
+        text = turned_on("freeradius", shipped("freeradius-config", name).read_text())
+        (room / name).write_text(text.replace("radius.example.com", "192.0.2.77"))
+    status, out, told = convert("freeradius", room)
+    hope("status", (status, status == 3 or told), (3, True))
+    found = short(checked(out, room))
+    hope("the home server", found["home"], [("192.0.2.77", "192.0.2.77:1601", "testing123")])
+    hope("without a realm", found["default"], "192.0.2.77")
+    hope("a client", ("127.0.0.1", "testing123") in found["client"], True)
+    for part in ("a block of addresses", "IPv6", "a pattern", "no catch-all", "host name", "one list of clients", "nostrip", "virtual"):
+        hope(part, any(part in line for line in told) or told, True)
+
+
+def packages():
+    """The files of the packages, as they are and with their comments turned on."""
+    for case in (default_of_radsecproxy, example_of_radsecproxy, example_of_radsecproxy_turned_on, default_of_freeradius,
+                 all_sites_of_freeradius_are_read, freeradius_turned_on):
+        yield case.__name__.replace("_", " "), case
+
+
+# Damaged files.
+
+def converted(kind, path):
+    """What becomes of a file in this process: `Fault` is the only end that is not a result."""
+    made = Site()
+    try:
+        title = MODULES[kind].convert(Library(), os.fsencode(path), made)
+        return made.text(title)
+    except Fault as found:
+        hope("one line", str(found).isprintable(), True)
+        return None
+
+
+def damaged(kind, name, damage):
+    """A case that has the site's files damaged, one at a time, in many ways."""
+    def case(room):
+        files = getattr(table, kind)(table.site(1813, 2813))
+        table.put(files, room)
+        for file, octets in files.items():
+            for made in damage(octets):
+                (room / file).write_bytes(made)
+                try:
+                    text = converted(kind, room / name)
+                except Exception as other:  # pylint: disable=broad-except
+                    raise AssertionError(f"{file}: {type(other).__name__}: {other}: {made[-60:]!r}") from None
+                if text is not None:
+                    tomllib.loads(text)
+            (room / file).write_bytes(octets)
+        with contextlib.redirect_stdout(io.StringIO()):
+            checked(converted(kind, room / name).encode(), room)
+    return case
+
+
+def cut(octets):
+    """The octets, cut at each seventh place."""
+    return (octets[:size] for size in range(0, len(octets), 7))
+
+
+def spoiled(octets):
+    """The octets with some of them changed, put in, or left out, by a fixed chance."""
+    chance = random.Random(1)
+    for _ in range(300):
+        made = bytearray(octets)
+        for _ in range(chance.randint(1, 4)):
+            at = chance.randrange(len(made))
+            made[at:at + chance.randint(0, 3)] = chance.choice([b"", b"{", b"}", b'"', b"\\", b"\xff", b"$", b"%", b"\n", b"\r", b"\0", b"=", b"\x1b"])
+        yield bytes(made)
+
+
+def damages():
+    """Files that are cut or spoiled."""
+    for kind, name in (("radsecproxy", "radsecproxy.conf"), ("freeradius", ".")):
+        yield f"files of {kind} that are cut", damaged(kind, name, cut)
+        yield f"files of {kind} that are spoiled", damaged(kind, name, spoiled)
+
+
+def cases():
+    """Each case with its name."""
+    yield from calls()
+    for kind in MODULES:
+        for name, text, told, wanted in getattr(texts, kind)():
+            yield f"{kind}: {name}", row(kind, text, told, wanted)
+        for text, line, part in getattr(texts, f"{kind}_faults")():
+            yield f"{kind}: a fault in {text[:30]!r}", fault(kind, text, line, part)
+    yield from limits()
+    yield from sites()
+    yield from packages()
+    yield from damages()
+
+
+def tried(case):
+    """What is wrong with a case, or None."""
+    with tempfile.TemporaryDirectory() as made:
+        try:
+            case(pathlib.Path(made))
+        except (AssertionError, OSError, subprocess.SubprocessError) as found:
+            return str(found) or type(found).__name__
+    return None
+
+
+def main():
+    """Tries all cases, or those whose names have the word behind the program."""
+    global PROGRAM, SHIPPED
+    if len(sys.argv) not in (2, 3):
+        sys.exit(__doc__)
+    PROGRAM = str(pathlib.Path(sys.argv[1]).resolve())
+    words = []
+    with tempfile.TemporaryDirectory() as made:
+        SHIPPED = pathlib.Path(made)
+        for name, case in cases():
+            if sys.argv[2:] and sys.argv[2] not in name:
+                continue
+            word, text = outcome(case, tried)
+            words.append(word)
+            print(f"{word}: {name}" + (f": {text}" if text else ""), flush=True)
+    conclude(words.count("passed"), words.count("failed"))
+
+
+if __name__ == "__main__":
+    main()
