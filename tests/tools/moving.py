@@ -1,0 +1,422 @@
+"""Tries the steps of docs/moving.md in network namespaces, with two or three NASes and a home server around the proxies.
+
+usage: python3 -m tests.tools.moving PROGRAM [WORD]
+
+PROGRAM is rad_proxy. A case that wants root, `ip`, `nft`, `conntrack`, radsecproxy or FreeRADIUS is left out where that is not here.
+The NASes are 10.20.0.11 to 10.20.0.13 and send from port 1646. The proxies' machine is 10.20.0.1, and the home servers are
+198.51.100.20 and 198.51.100.21. With WORD, only the cases are tried that have it in their names. The result of each case is printed.
+The last line is `N passed, M failed`.
+"""
+import contextlib
+import ctypes
+import os
+import pathlib
+import select
+import shutil
+import subprocess
+import sys
+import tempfile
+import threading
+import time
+
+sys.dont_write_bytecode = True
+
+TOP = pathlib.Path(__file__).resolve().parents[2]
+sys.path.append(str(TOP / "tests" / "hostile"))
+
+from trying import LeftOut, conclude, hope, outcome  # noqa: E402
+
+from . import talking  # noqa: E402
+
+NAS, PROXY, HOME = (f"moving-{os.getpid()}-{name}" for name in ("nas", "proxy", "home"))
+HERE, BILLING, HUB = "10.20.0.1", "198.51.100.20", "198.51.100.21"
+NEW_NETWORK = 0x40000000
+HOME_SECRET = b"home secret"
+SECRETS = {11: b"first secret", 12: b"second secret", 13: b"third secret"}
+ONE_SECRET = b"one secret of all"
+
+OLD = """ListenUDP *:1813
+client 10.20.0.11 {
+	type udp
+	secret "first secret"
+}
+client 10.20.0.12 {
+	type udp
+	secret second%20secret
+}
+server billing {
+	type udp
+	host 198.51.100.20
+	port 1813
+	secret "home secret"
+}
+realm example.org {
+	accountingServer billing
+}
+"""
+NEW = """listen = "{listen}"
+[[client]]
+address = "{client}"
+secret = "one secret of all"
+[[home]]
+name = "billing"
+address = "198.51.100.20:1813"
+secret = "home secret"
+[[realm]]
+name = "example.org"
+home = "billing"
+"""
+FRONT = """prefix = /usr
+libdir = ${prefix}/lib/freeradius
+logdir = ${confdir}
+run_dir = ${confdir}
+log {
+	destination = stdout
+}
+client block {
+	ipaddr = 10.20.0.0/24
+	secret = "one secret of all"
+}
+home_server rad_proxy {
+	type = acct
+	ipaddr = 127.0.0.1
+	port = 11813
+	secret = "one secret of all"
+	response_window = 60
+	zombie_period = 120
+	status_check = status-server
+}
+home_server hub {
+	type = acct
+	ipaddr = 198.51.100.21
+	port = 1813
+	secret = "home secret"
+}
+home_server_pool rad_proxy {
+	home_server = rad_proxy
+}
+home_server_pool hub {
+	home_server = hub
+}
+realm example.org {
+	acct_pool = rad_proxy
+	nostrip
+}
+realm DEFAULT {
+	acct_pool = hub
+	nostrip
+}
+modules {
+	always ok {
+		rcode = ok
+	}
+	realm suffix {
+		format = suffix
+		delimiter = "@"
+	}
+}
+server accounting {
+	listen {
+		type = acct
+		ipaddr = *
+		port = 1813
+	}
+	preacct {
+		suffix
+	}
+	accounting {
+		ok
+	}
+}
+"""
+CHAIN = "nft add table ip moving\nnft add chain ip moving in { type nat hook prerouting priority -100 ; }"
+ONE_RULE = "nft add rule ip moving in ip saddr 10.20.0.11 udp dport 1813 counter redirect to :11813"
+ALL_RULE = "nft add rule ip moving in udp dport 1813 counter redirect to :11813"
+BLOCK = ("nft add table ip block\nnft add chain ip block in { type nat hook input priority 100 ; }\n"
+         "nft add rule ip block in ip saddr 10.20.0.0/24 udp dport 1813 counter snat to 192.0.2.254")
+
+
+def run(*words):
+    """Runs a command that has to succeed."""
+    subprocess.run(words, check=True, capture_output=True)
+
+
+def at_proxy(lines):
+    """Runs commands at the proxies' machine, a line each."""
+    for line in lines.splitlines():
+        run("ip", "netns", "exec", PROXY, *line.split(" "))
+
+
+def forget(*words):
+    """Deletes mappings there, of which there may be none."""
+    subprocess.run(["ip", "netns", "exec", PROXY, "conntrack", "-D", "-p", "udp", *words], capture_output=True, check=False)
+
+
+def socket_in(space, address, port):
+    """A socket of an address in a namespace."""
+    library = ctypes.CDLL(None, use_errno=True)
+    with open("/proc/self/ns/net", "rb") as own, open(f"/run/netns/{space}", "rb") as other:
+        try:
+            if library.setns(other.fileno(), NEW_NETWORK):
+                raise OSError(ctypes.get_errno(), "setns")
+            return talking.bound(address, port)
+        finally:
+            library.setns(own.fileno(), NEW_NETWORK)
+
+
+@contextlib.contextmanager
+def network():
+    """Three machines: that of the NASes, that of the proxies, and that of the home servers."""
+    try:
+        for space in (NAS, PROXY, HOME):
+            run("ip", "netns", "add", space)
+            run("ip", "-n", space, "link", "set", "lo", "up")
+        for name, space, own, others in (("n", NAS, HERE, ["10.20.0.11", "10.20.0.12", "10.20.0.13"]), ("h", HOME, "198.51.100.1", [BILLING, HUB])):
+            run("ip", "link", "add", f"{name}0", "netns", PROXY, "type", "veth", "peer", "name", "e0", "netns", space)
+            for address in others:
+                run("ip", "-n", space, "address", "add", f"{address}/24", "dev", "e0")
+            run("ip", "-n", PROXY, "address", "add", f"{own}/24", "dev", f"{name}0")
+            run("ip", "-n", PROXY, "link", "set", f"{name}0", "up")
+            run("ip", "-n", space, "link", "set", "e0", "up")
+        run("ip", "-n", PROXY, "route", "add", "default", "via", "10.20.0.254")
+        yield
+    finally:
+        for space in (NAS, PROXY, HOME):
+            subprocess.run(["ip", "netns", "del", space], capture_output=True, check=False)
+
+
+class HomeServer:
+    """A home server that answers each request after some seconds, and keeps the sessions that came."""
+
+    def __init__(self, address=BILLING):
+        self.delay = 0
+        self.sessions = []
+        self.where = socket_in(HOME, address, 1813)
+        threading.Thread(target=self._serve, daemon=True).start()
+
+    def _serve(self):
+        while True:
+            try:
+                packet, sender = self.where.recvfrom(4096)
+            except OSError:
+                return
+            if packet[0] == talking.REQUEST and talking.is_signed(packet, bytes(16), HOME_SECRET):
+                found = {kind: octets[2:] for kind, octets in talking.attributes(packet)}
+                self.sessions.append((sender[1], found[talking.SESSION].decode()))
+                threading.Timer(self.delay, self._answer, (packet, sender)).start()
+
+    def _answer(self, packet, sender):
+        states = b"".join(octets for kind, octets in talking.attributes(packet) if kind == talking.PROXY_STATE)
+        answer = talking.signed(talking.RESPONSE, packet[1], packet[4:20], states, HOME_SECRET)
+        with contextlib.suppress(OSError):
+            self.where.sendto(answer, sender)
+
+    def senders(self, session):
+        """How many senders a session came from."""
+        return len({port for port, name in self.sessions if name == session})
+
+
+class Proxy:
+    """rad_proxy, as a program that is asked by its standard input."""
+
+    def __init__(self, configuration, folder, stack):
+        path = folder / "it.toml"
+        path.write_text(configuration)
+        self.counters = folder / "counters"
+        self.ran = stack.enter_context(subprocess.Popen(
+            ["ip", "netns", "exec", PROXY, PROGRAM, "run", str(path)], stdin=subprocess.PIPE, stdout=subprocess.PIPE, stderr=subprocess.DEVNULL,
+            text=True, env={**os.environ, "RAD_PROXY_COUNTERS": str(self.counters)}))
+        stack.callback(self.ran.kill)
+        hope("listening", self.ran.stdout.readline().split()[:1], ["listening"])
+
+    def ask(self, word):
+        """The answer to a word."""
+        self.ran.stdin.write(word + "\n")
+        self.ran.stdin.flush()
+        return self.ran.stdout.readline().rstrip("\n")
+
+    def accepted(self):
+        """How many requests it has accepted."""
+        return int(self.ask("state").split(" accepted ")[1].split()[0])
+
+    def counter(self, text):
+        """A counter's value, a second and a half later."""
+        time.sleep(1.5)
+        return next((int(line.rsplit(" ", 1)[1]) for line in self.counters.read_text().splitlines() if line.startswith(text)), None)
+
+
+def asks(number, session, secret=None, user="bob@example.org", times=1, every=2.0, meanwhile=None):
+    """Has a NAS send a request, and repeat it. The result is the port that the answer came from, or None."""
+    secret = secret or SECRETS[number]
+    body = talking.attribute(talking.USER_NAME, user.encode()) + talking.attribute(talking.STATUS_TYPE, bytes([0, 0, 0, 1]))
+    body += talking.attribute(talking.SESSION, session.encode())
+    packet = talking.signed(talking.REQUEST, sum(session.encode()) % 256, bytes(16), body, secret)
+    with socket_in(NAS, f"10.20.0.{number}", 1646) as nas:
+        for _ in range(times):
+            nas.sendto(packet, (HERE, 1813))
+            if meanwhile:
+                time.sleep(0.5)
+                meanwhile()
+                meanwhile = None
+            if select.select([nas], [], [], every)[0]:
+                answer, sender = nas.recvfrom(4096)
+                hope("the answer", talking.is_signed(answer, packet[4:20], secret), True)
+                return sender[1]
+    return None
+
+
+def background(words, stack):
+    """A proxy that runs until the case ends."""
+    if not shutil.which(words[0]):
+        raise LeftOut(f"there is no {words[0]}")
+    ran = stack.enter_context(subprocess.Popen(["ip", "netns", "exec", PROXY, *words], stdout=subprocess.DEVNULL, stderr=subprocess.DEVNULL))
+    stack.callback(ran.kill)
+    time.sleep(2)
+
+
+def beside(folder, stack):
+    """radsecproxy at port 1813, and rad_proxy with what was converted of its file at port 11813."""
+    file = folder / "radsecproxy.conf"
+    file.write_text(OLD)
+    background(["radsecproxy", "-f", "-c", str(file)], stack)
+    ran = subprocess.run([sys.executable, TOP / "tools" / "rad_convert", "radsecproxy", file], capture_output=True, text=True, check=True)
+    return Proxy(ran.stdout.replace('"0.0.0.0:1813"', '"0.0.0.0:11813"'), folder, stack)
+
+
+def one_nas_is_moved_and_comes_back(folder, stack):
+    """The rule and the mapping decide which proxy has a NAS, and the other NAS stays."""
+    home, proxy = HomeServer(), beside(folder, stack)
+    hope("the old proxy answers", (asks(11, "a"), asks(12, "b"), proxy.accepted()), (1813, 1813, 0))
+    at_proxy(CHAIN + "\n" + ONE_RULE)
+    forget("-s", "10.20.0.11")
+    hope("the new one answers one", (asks(11, "c"), asks(12, "d"), proxy.accepted()), (1813, 1813, 1))
+    hope("its counter", proxy.counter('rad_proxy_client_responses_total{client="10.20.0.11"}'), 1)
+    at_proxy("nft delete table ip moving")
+    forget("-s", "10.20.0.11")
+    hope("the old one answers again", (asks(11, "e"), proxy.accepted()), (1813, 1))
+    hope("each record came once", [home.senders(session) for session in "abcde"], [1] * 5)
+
+
+def a_mapping_that_is_not_deleted_stays(folder, stack):
+    """Where connections are tracked, a rule alone changes nothing for a NAS that has sent within the last seconds."""
+    HomeServer()
+    proxy = beside(folder, stack)
+    at_proxy(CHAIN + "\nnft add rule ip moving in ct state new counter")
+    hope("before", asks(11, "a"), 1813)
+    at_proxy(ONE_RULE)
+    hope("with a rule alone", (asks(11, "b"), proxy.accepted()), (1813, 0))
+    forget("-s", "10.20.0.11")
+    hope("with the mapping deleted", (asks(11, "c"), proxy.accepted()), (1813, 1))
+
+
+def an_unanswered_request_that_is_moved_comes_twice(folder, stack):
+    """Both proxies send a request that its NAS repeats after the move."""
+    home, proxy = HomeServer(), beside(folder, stack)
+    home.delay = 3
+    at_proxy(CHAIN)
+
+    def move():
+        at_proxy(ALL_RULE)
+        forget("-s", "10.20.0.11")
+
+    asks(11, "a", times=2, every=1.5, meanwhile=move)
+    time.sleep(2)
+    hope("it came from both", (home.senders("a"), proxy.accepted()), (2, 1))
+
+
+def all_are_moved_and_the_new_proxy_takes_the_port(folder, stack):
+    """A rule for all; then the old proxy ends, and the new one is drained and started at its port."""
+    HomeServer()
+    with contextlib.ExitStack() as both:
+        proxy = beside(folder, both)
+        at_proxy(CHAIN + "\n" + ALL_RULE)
+        forget("--dport", "1813")
+        hope("both are moved", (asks(11, "a"), asks(12, "b"), proxy.accepted()), (1813, 1813, 2))
+        hope("drained", (proxy.ask("drain"), " done " in proxy.ask("state")), ("drain: 0 2", True))
+        proxy.ran.stdin.close()
+        hope("the end", (proxy.ran.wait(10), proxy.ran.stdout.read()), (0, "end: queued 0 outstanding 0 untaken 0\n"))
+        text = (folder / "it.toml").read_text()
+    proxy = Proxy(text.replace(":11813", ":1813"), folder, stack)
+    at_proxy("nft delete table ip moving")
+    forget("--dport", "1813")
+    hope("at its port", (asks(11, "c"), asks(12, "d"), proxy.accepted()), (1813, 1813, 2))
+
+
+def a_block_by_source_translation_is_one_client(folder, stack):
+    """All addresses of a block are one client, and NASes that send from one port get several."""
+    HomeServer()
+    proxy = Proxy(NEW.format(listen="0.0.0.0:1813", client="192.0.2.254"), folder, stack)
+    hope("without it", (asks(11, "a", ONE_SECRET), proxy.accepted()), (None, 0))
+    at_proxy(BLOCK)
+    forget()
+    hope("with it", [asks(number, f"b{number}", ONE_SECRET) for number in (11, 12, 13)], [1813] * 3)
+    hope("one client", proxy.counter('rad_proxy_client_accepted_total{client="192.0.2.254"}'), 3)
+
+
+def a_mapping_that_is_too_short_loses_answers(folder, stack):
+    """An answer after the mapping's end is lost, and the repeat is a new record. A longer mapping keeps both."""
+    home = HomeServer()
+    proxy = Proxy(NEW.format(listen="0.0.0.0:1813", client="192.0.2.254"), folder, stack)
+    at_proxy(BLOCK + "\nsysctl -w net.netfilter.nf_conntrack_udp_timeout=3")
+    hope("two NASes", [asks(number, f"a{number}", ONE_SECRET) for number in (11, 12)], [1813] * 2)
+    forget()
+    home.delay = 5
+    asks(11, "b", ONE_SECRET, every=0.1)
+    hope("a short mapping", (asks(12, "c", ONE_SECRET, times=2, every=7), proxy.accepted()), (None, 5))
+    forget()
+    at_proxy("sysctl -w net.netfilter.nf_conntrack_udp_timeout=60")
+    hope("a long one", (asks(12, "d", ONE_SECRET, times=2, every=7), proxy.accepted()), (1813, 6))
+
+
+def a_catch_all_by_freeradius_in_front(folder, stack):
+    """FreeRADIUS sends known realms to rad_proxy and all else to another home server, and repeats stay repeats."""
+    home, hub = HomeServer(), HomeServer(HUB)
+    proxy = Proxy(NEW.format(listen="127.0.0.1:11813", client="127.0.0.1"), folder, stack)
+    (folder / "radiusd.conf").write_text(FRONT)
+    background(["freeradius", "-f", "-l", "stdout", "-d", str(folder)], stack)
+    users = ("bob@example.org", "eve@elsewhere.example", "norealm")
+    hope("answers", [asks(11 + number, user, ONE_SECRET, user) for number, user in enumerate(users)], [1813] * 3)
+    hope("who gets what", ([name for _, name in home.sessions], [name for _, name in hub.sessions]), ([users[0]], list(users[1:])))
+    home.delay = 5
+    hope("a slow one", (asks(11, "slow", ONE_SECRET, times=4), proxy.accepted()), (1813, 2))
+    hope("repeats", proxy.counter('rad_proxy_client_repeats_total{client="127.0.0.1",repeat="waiting"}'), 2)
+
+
+CASES = [one_nas_is_moved_and_comes_back, a_mapping_that_is_not_deleted_stays, an_unanswered_request_that_is_moved_comes_twice,
+         all_are_moved_and_the_new_proxy_takes_the_port, a_block_by_source_translation_is_one_client,
+         a_mapping_that_is_too_short_loses_answers, a_catch_all_by_freeradius_in_front]
+
+
+def tried(case):
+    """What is wrong with a case, or None."""
+    os.environ["PATH"] += ":/usr/sbin:/sbin"
+    for word in ("ip", "nft", "conntrack"):
+        if not shutil.which(word):
+            raise LeftOut(f"there is no {word}")
+    if os.geteuid():
+        raise LeftOut("it wants root")
+    with tempfile.TemporaryDirectory() as folder, network(), contextlib.ExitStack() as stack:
+        try:
+            case(pathlib.Path(folder), stack)
+        except (AssertionError, OSError, subprocess.SubprocessError) as found:
+            return str(found) or type(found).__name__
+    return None
+
+
+def main():
+    """Tries all cases, or those whose names have the word behind the program."""
+    global PROGRAM
+    if len(sys.argv) not in (2, 3):
+        sys.exit(__doc__)
+    PROGRAM = str(pathlib.Path(sys.argv[1]).resolve())
+    words = []
+    for case in CASES:
+        if not sys.argv[2:] or sys.argv[2] in case.__name__:
+            word, text = outcome(case, tried)
+            words.append(word)
+            print(f"{word}: {case.__name__.replace('_', ' ')}" + (f": {text}" if text else ""), flush=True)
+    conclude(words.count("passed"), words.count("failed"))
+
+
+if __name__ == "__main__":
+    main()
