@@ -5,7 +5,8 @@ usage: python3 -m tests.tools.convert PROGRAM [WORD]
 PROGRAM is rad_proxy: its `check` judges what is written, and it serves a site that is written in both languages (table.py). Where
 radsecproxy and FreeRADIUS are installed, they serve the same files, and each client's secret is tried by a signed request. Their
 shipped files are those of the packages `radsecproxy`, `freeradius` and `freeradius-config`, which `apt-get download` gets; where it
-cannot, these cases are left out. With WORD, only the cases are tried that have it in their names. The result of each case is printed. The last line is `N passed, M failed`.
+cannot, these cases are left out. With WORD, only the cases are tried that have it in their names. The result of each case is printed.
+The last line is `N passed, M failed`.
 """
 import contextlib
 import io
@@ -118,7 +119,8 @@ def hope_comments(text, file):
         found = re.search(r"^# .*, " + re.escape(str(file)) + r":(\d+)$", comment.split("\n")[0])
         hope(f"the comment of a {part}", bool(found) or comment, True)
         word = lines[int(found[1]) - 1].split()[0].lower()
-        hope(f"the line of a {part}", word in {"client": ["client"], "home": ["server", "home_server", "accthost"], "realm": ["realm"]}[part], True)
+        kinds = {"client": ["client"], "home": ["server", "home_server", "accthost"], "realm": ["realm"]}
+        hope(f"the line of a {part}", word in kinds[part] or word, True)
     hope("tables with a comment", len(re.findall(r"\n\n(?:#.*\n)+\[\[", text)), text.count("\n[["))
 
 
@@ -171,7 +173,7 @@ def calls():
     yield "a name with control characters", call(2, r"a\x0ab\x1b[1m", "radsecproxy", "ROOM/a\nb\x1b[1m")
     yield "a name that is not UTF-8", call(2, r"\xff\xfe", "radsecproxy", b"/none/\xff\xfe")
     yield "a pipe", prepared(call(2, "no regular file", "radsecproxy", "ROOM/pipe"), lambda room: os.mkfifo(room / "pipe"))
-    yield "a huge file", prepared(call(2, "more than 8388608 octets", "radsecproxy", "ROOM/huge"), huge)
+    yield "a huge file", prepared(call(2, "more than 4194304 octets", "radsecproxy", "ROOM/huge"), huge)
     yield "a directory in place of radiusd.conf", prepared(
         call(2, "a directory", "freeradius", "ROOM"), lambda room: (room / "radiusd.conf").mkdir())
     yield "a full disk", prepared(full_disk, site_in)
@@ -194,9 +196,10 @@ def site_in(room):
 
 def full_disk(room):
     """An output that takes nothing."""
-    with open("/dev/full", "wb") as full:
-        status, _, told = convert("radsecproxy", room / "radsecproxy.conf", out=full)
-    hope("status", (status, told), (2, ["rad_convert: standard output: No space left on device"]))
+    for words in (["radsecproxy", room / "radsecproxy.conf"], ["--help"], ["--version"]):
+        with open("/dev/full", "wb") as full:
+            status, _, told = convert(*words, out=full)
+        hope("status", (status, told), (2, ["rad_convert: standard output: No space left on device"]))
 
 
 def a_file_is_written(room):
@@ -330,7 +333,8 @@ def example_of_radsecproxy(room):
     """The example of all options, as it is: its realms have no home server for accounting."""
     file = shipped("radsecproxy", "radsecproxy.conf-example")
     status, out, told = convert("radsecproxy", file)
-    hope("status", (status, out, told[-1]), (2, b"", "rad_convert: no home server for accounting can be carried over, so there is no configuration"))
+    hope("status", (status, out), (2, b""))
+    hope("the last line", told[-1].startswith("rad_convert: no home server for accounting") or told, True)
     lines = file.read_text().split("\n")
     for line in told[:-1]:
         number = int(re.fullmatch(r".*:(\d+): .*", line)[1])
@@ -349,8 +353,8 @@ def example_of_radsecproxy_turned_on(room):
     found = short(checked(out, room))
     hope("the configuration", found, {"client": [("127.0.0.1", "secret")], "home": [("127.0.0.1", "127.0.0.1:1812", "secret")],
                                       "realm": [("eduroam.cc", "127.0.0.1")]})
-    for part in ("ListenUDP: a host name", "no loop prevention", "ListenTLS: rad_proxy has no TLS", "does not rewrite", "a pattern", "no TCP",
-                 "no authentication"):
+    for part in ("ListenUDP: a host name", "no loop prevention", "ListenTLS: rad_proxy has no TLS", "does not rewrite", "a pattern",
+                 "no TCP", "no authentication"):
         hope(part, any(part in line for line in told) or told, True)
 
 
@@ -448,7 +452,8 @@ def spoiled(octets):
         made = bytearray(octets)
         for _ in range(chance.randint(1, 4)):
             at = chance.randrange(len(made))
-            made[at:at + chance.randint(0, 3)] = chance.choice([b"", b"{", b"}", b'"', b"\\", b"\xff", b"$", b"%", b"\n", b"\r", b"\0", b"=", b"\x1b"])
+            made[at:at + chance.randint(0, 3)] = chance.choice(
+                [b"", b"{", b"}", b'"', b"\\", b"\xff", b"$", b"%", b"\n", b"\r", b"\0", b"=", b"\x1b", b"client", b"home_server {"])
         yield bytes(made)
 
 

@@ -65,6 +65,8 @@ def radsecproxy():
         [(13, "a pattern"), (16, "a pattern")]), WHOLE
     yield "a pattern of one whole name", R + "realm /@example\\.org$/ {\n accountingServer h\n}\n", [], WHOLE
     yield "a pattern with a dot", R + R_REALM + "realm /@example.net$/ {\n accountingServer h\n}\n", [(13, "a pattern")], WHOLE
+    yield "names that radsecproxy takes as patterns", R + R_REALM + "realm *.example {\n accountingServer h\n}\nrealm a+b {\n accountingServer h\n}\n", (
+        [(13, "a pattern"), (16, "a pattern")]), WHOLE
     yield "one realm twice", R + R_REALM + "realm EXAMPLE.org {\n accountingServer h\n}\n", [(13, "has this name")], WHOLE
     yield "a realm with @, and one of 253 octets", (
         R + R_REALM + f"realm a@b {{\n accountingServer h\n}}\nrealm {'x' * 253} {{\n accountingServer h\n}}\n"), (
@@ -83,6 +85,7 @@ def radsecproxy():
         [(1, "loop prevention"), (2, "loop prevention"), (3, "no TCP"), (4, "no TLS"), (5, "picks the address"),
          (7, "one address and port"), (9, "IPv6"), (10, "no option"), (20, "server h: LoopPreve")]), WHOLE | {"listen": "0.0.0.0:1813"}
     yield "where it receives", "ListenUDP 192.0.2.3:1645\n" + R + R_REALM, [], WHOLE | {"listen": "192.0.2.3:1645"}
+    yield "everywhere", "ListenUDP 0.0.0.0:1813\n" + R + R_REALM, [], WHOLE | {"listen": "0.0.0.0:1813"}
     yield "waits", R.replace("secret def", "secret def\n retryCount 3\n retryInterval 5\n statusServer on") + R_REALM, [], WHOLE
     yield "home servers that are looked up", R.replace("secret def", "secret def\n dynamicLookupCommand /x") + R_REALM, [(9, "looks up no")], WHOLE
     yield "nothing", "", [], None
@@ -177,6 +180,8 @@ def freeradius():
         [(17, "one list of clients")]), WHOLE
     yield "lines for all", "proxy_requests = no\nproxy server {\n default_fallback = yes\n dynamic = no\n}\n" + F_ALL, (
         [(1, "proxy_requests"), (3, "default_fallback")]), WHOLE
+    yield "sections without a name", F_ALL + "home_server {\n type = acct\n}\nhome_server_pool q {\n home_server\n}\nrealm b {\n nostrip\n acct_pool = q\n}\n"\
+        "client {\n secret = x\n}\n", [(17, "no address"), (21, "not carried over"), (25, "no home server"), (27, "no address")], WHOLE
     yield "nothing", "", [], None
 
 

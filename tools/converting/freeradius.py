@@ -12,6 +12,9 @@ AUTHENTICATION = 1812
 AT_PORT = {b"acct"}
 NEXT_PORT = {b"auth+acct"}
 
+# The types of listen sections that receive accounting.
+RECEIVING = {b"acct", b"auth+acct"}
+
 # The files of a folder that has no radiusd.conf.
 FILES = (b"templates.conf", b"proxy.conf", b"clients.conf")
 
@@ -46,7 +49,7 @@ class Converter:
         for server in self.servers:
             self._clients(server)
         for part in self.root.sections(b"clients"):
-            self.site.tell(part.place, f"{site.named('clients', part.name or b'')}: rad_proxy has one list of clients, for all that it receives")
+            self.site.tell(part.place, f"{site.named('clients', part.name)}: rad_proxy has one list of clients")
         self._realms()
         for server in self.servers:
             self._policies(server)
@@ -75,8 +78,7 @@ class Converter:
         kept = None
         for server in self.servers:
             for part in server.sections(b"listen"):
-                kind = self._value(part, b"type")
-                if kind not in (b"acct", b"auth+acct"):
+                if self._value(part, b"type") not in RECEIVING:
                     continue
                 target = self._listened(part)
                 if target and kept:
@@ -107,6 +109,10 @@ class Converter:
             if found:
                 self.site.tell(found.place, f"listen: {shown(name)}: {said}")
         return address, port
+
+    def _receives(self, server):
+        """Whether a server listens for accounting."""
+        return any(self._value(one, b"type") in RECEIVING for one in server.sections(b"listen"))
 
     # Values of sections.
 
@@ -142,14 +148,14 @@ class Converter:
 
     def _clients(self, server):
         for client in server.sections(b"client"):
-            what = site.named("client", client.name or b"")
+            what = site.named("client", client.name)
             try:
                 found = self._client_addresses(client)
                 secret = self._secret(client)
             except (addresses.Uncarried, site.Unfit) as why:
                 self.site.tell((client.pair(*ADDRESS) or client).place, f"{what}: {why}")
                 continue
-            if server is not self.root and not any(self._value(one, b"type") in (b"acct", b"auth+acct") for one in server.sections(b"listen")):
+            if server is not self.root and not self._receives(server):
                 self.site.tell(client.place, f"{what}: its server receives no accounting")
                 continue
             self._lost(client, what, {
@@ -167,10 +173,11 @@ class Converter:
         pair, netmask = client.pair(*ADDRESS), client.pair(b"netmask")
         if pair and pair.name == b"ipv6addr":
             raise addresses.Uncarried(addresses.VERSION_6)
-        text = self._text(pair) if pair else shown(client.name or b"")
+        text = self._text(pair) if pair else shown(client.name)
         found = self.site.addresses_of(text, prefix=self._text(netmask) if netmask else None)
         if len(found) > 1:
-            self.site.tell(client.place, f"{site.named('client', client.name or b'')}: the name has {len(found)} addresses, of which FreeRADIUS takes one")
+            what = site.named("client", client.name)
+            self.site.tell(client.place, f"{what}: the name has {len(found)} addresses, of which FreeRADIUS takes one")
         return found
 
     # Home servers.
@@ -216,7 +223,7 @@ class Converter:
 
     def _pool_home(self, pair, what):
         """The first home server of the pool that a realm names, or None."""
-        pool = self.root.section(b"home_server_pool", pair.value) or self.root.section(b"server_pool", pair.value)
+        pool = self.root.section(b"home_server_pool", pair.value or b"") or self.root.section(b"server_pool", pair.value or b"")
         if pool is None:
             self.site.tell(pair.place, f"{what}: there is no home_server_pool {shown(pair.value or b'')}")
             return None
@@ -235,7 +242,7 @@ class Converter:
             if kept:
                 self.site.tell(pair.place, f"{what}: rad_proxy has one home server for a realm ({shown(pair.value or b'')} is another one)")
                 continue
-            kept = self._home(pair.value)
+            kept = self._home(pair.value or b"")
             if kept is None:
                 self.site.tell(pair.place, f"{what}: its home server {shown(pair.value or b'')} is not carried over")
         return kept
@@ -245,7 +252,7 @@ class Converter:
     def _realms(self):
         special = {}
         for realm in self.root.sections(b"realm"):
-            name = realm.name or b""
+            name = realm.name
             what = site.named("realm", name)
             if name in (b"NULL", b"DEFAULT"):
                 special.setdefault(name, realm)
@@ -261,8 +268,8 @@ class Converter:
     def _default(self, null, default):
         """The home server of requests without a realm is that of the realm NULL, or else of DEFAULT."""
         if default:
-            taken = "those of other realms are dropped" if null else "requests without a realm go to its home server, those of other realms are dropped"
-            self.site.tell(default.place, f"realm DEFAULT: rad_proxy has no catch-all; {taken}")
+            taken = "" if null else "requests without a realm go to its home server, "
+            self.site.tell(default.place, f"realm DEFAULT: rad_proxy has no catch-all; {taken}those of other realms are dropped")
         realm = null or default
         if realm:
             what = site.named("realm", realm.name)
@@ -308,14 +315,14 @@ class Converter:
     # What is run beside forwarding.
 
     def _policies(self, server):
-        if server is self.root or not any(self._value(one, b"type") in (b"acct", b"auth+acct") for one in server.sections(b"listen")):
+        if server is self.root or not self._receives(server):
             return
         for kind, said in SECTIONS.items():
             part = server.section(kind)
             names = [shown(_called(item)) for item in part.items if _called(item) not in PLAIN] if part else []
             if names:
                 some = ", ".join(names[:8]) + (" .." if len(names) > 8 else "")
-                self.site.tell(part.place, f"{site.named('server', server.name or b'')}: {shown(kind)}: {said} ({some})")
+                self.site.tell(part.place, f"{site.named('server', server.name)}: {shown(kind)}: {said} ({some})")
 
 
 def _called(item):

@@ -14,8 +14,6 @@ LINE = 1023
 # The port at which radsecproxy receives, and to which it sends, unless another one is written.
 PORT = 1812
 
-ON_OFF = {b"on", b"off"}
-
 # Options that change nothing of what accounting requests become, or that rad_proxy does by its own keys.
 WAITS = {b"retrycount", b"retryinterval", b"duplicateinterval", b"statusserver"}
 QUIET = WAITS | {
@@ -226,7 +224,7 @@ class Converter:
             host, port = addresses.host_and_port(shown(unescaped(option.value)))
             try:
                 number = site.port_of(port) if port else PORT
-                address = "0.0.0.0" if host == "*" else self.site.addresses_of(host, short=True)[0]
+                address = "0.0.0.0" if host in ("*", "0.0.0.0") else self.site.addresses_of(host, short=True)[0]
             except (addresses.Uncarried, site.Unfit) as why:
                 self.site.tell(option.place, f"ListenUDP: {why}")
                 continue
@@ -282,12 +280,16 @@ class Converter:
         return [f"not carried over: {', '.join(names)}; rad_proxy has keys of its own (rad_proxy.toml(5))"] if names else []
 
     def _server(self, block):
-        key = block.name.lower()
-        self.servers.setdefault(key, block)
+        self.servers.setdefault(self._key(block.name), block)
+
+    @staticmethod
+    def _key(name):
+        """What servers are known by: an IPv6 address with brackets and without is the same."""
+        return name.lower().strip(b"[]")
 
     def _home(self, block):
         """The name of the home server that a server became, or None."""
-        key = block.name.lower()
+        key = self._key(block.name)
         if key not in self.homes:
             self.homes[key] = self._made_home(block)
         return self.homes[key]
@@ -340,7 +342,7 @@ class Converter:
             self.site.add_realm(block.place, what, name, home)
 
     def _home_of(self, option, what):
-        block = self.servers.get(unescaped(option.value).lower())
+        block = self.servers.get(self._key(unescaped(option.value)))
         if block is None:
             self.site.tell(option.place, f"{what}: there is no server {shown(option.value)} before it")
             return None
@@ -358,11 +360,14 @@ class Converter:
 
     @staticmethod
     def _literal(name):
-        """The realm that a name stands for, or None if it is a pattern that is more than one whole name."""
+        """The realm that a name stands for, or None if it is a pattern of more than one whole name.
+
+        radsecproxy makes a pattern of each name, so `*.example` is one too.
+        """
         if name == b"*":
             return None
         if not name.startswith(b"/"):
-            return name
+            return None if re.search(rb"[*+?()\[\]{}|^$\\]", name) else name
         pattern = name[1:-1] if len(name) > 1 and name.endswith(b"/") else name[1:]
         if re.fullmatch(rb"@(?:[A-Za-z0-9_-]|\\[.-])+\$", pattern):
             return pattern[1:-1].replace(b"\\", b"")

@@ -1,11 +1,12 @@
 """Files as their octets, the places in them, and how both are shown."""
 import contextlib
 import dataclasses
+import io
 import os
 import stat
 
 # So many octets are read at most, of all files together.
-LIMIT = 8 * 1024 * 1024
+LIMIT = 4 * 1024 * 1024
 
 # So many files are read within each other at most.
 DEPTH = 32
@@ -92,10 +93,7 @@ class Library:
 
     @staticmethod
     def _lines(path, octets):
-        lines = octets.split(b"\n")
-        last = lines.pop()
-        lines = [line + b"\n" for line in lines] + ([last] if last else [])
-        for number, line in enumerate(lines, 1):
+        for number, line in enumerate(io.BytesIO(octets), 1):
             if b"\0" in line:
                 raise Fault(f"{Place(path, number)}: a NUL octet")
-        return lines
+            yield line

@@ -13,7 +13,7 @@ VALUE = 8191
 DEPTH = 64
 
 # So many sections and pairs are read at most, those of templates included.
-ITEMS = 1_000_000
+ITEMS = 200_000
 
 # Operators and brackets, in the order in which they are looked for.
 TOKENS = [b"=~", b"!~", b"{", b"}", b"(", b")", b",", b"++", b"+=", b"-=", b":=", b"=*", b"!*", b"==", b"^=", b"=", b"!=", b">=",
@@ -40,11 +40,11 @@ class Pair:
 
 
 class Section:
-    """A section: its kind, its name, and the pairs and sections in it."""
+    """A section: its kind, its name, which may be empty, and the pairs and sections in it."""
 
     def __init__(self, kind, name, place, parent):
         self.kind = kind
-        self.name = name
+        self.name = name or b""
         self.place = place
         self.parent = parent
         self.items = []
@@ -66,10 +66,6 @@ class Section:
     def section(self, kind, name=None):
         """The first section of a kind, and of a name if one is given."""
         return next((one for one in self.sections(kind) if name is None or one.name == name), None)
-
-    def top(self):
-        """The outermost section."""
-        return self.parent.top() if self.parent else self
 
 
 def word_of(text, place, stops=True, unescape=False):
@@ -153,7 +149,7 @@ class Reader:
             self._read(path, lines, current)
 
     def _read(self, path, lines, current):
-        inner, joined, begun, strips = current, b"", 0, False
+        inner, joined, begun, strips, number = current, b"", 0, False, 1
         for number, line in enumerate(lines, 1):
             if not begun and (not line.strip(SPACES) or line.lstrip(SPACES).startswith(b"#")):
                 continue
@@ -171,7 +167,7 @@ class Reader:
         if begun:
             raise Fault(f"{Place(path, begun)}: the file ends in a continued line")
         if inner is not current:
-            raise Fault(f"{Place(path, max(len(lines), 1))}: the file ends within the section of line {inner.place.line}")
+            raise Fault(f"{Place(path, number)}: the file ends within the section of line {inner.place.line}")
 
     def _line(self, line, place, inner, outer):
         """Takes a line in a section. The result is the section of the next line."""
