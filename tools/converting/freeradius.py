@@ -2,7 +2,7 @@
 import os
 
 from . import addresses, sections, site
-from .reading import Fault, Place, shown
+from .reading import Fault, shown
 
 # The ports of accounting and of authentication.
 ACCOUNTING = 1813
@@ -346,9 +346,9 @@ def _paths(path):
 def convert(library, path, made):
     """Carries the configuration of a folder, or of a file, over to a site."""
     paths = _paths(path)
-    reader = sections.Reader(library, made.tell)
+    reader = sections.Reader(library)
     reader.read(paths[0])
     for more in paths[1:]:
-        reader.add(more, reader.root)
+        reader.read_into(more, reader.root)
     Converter(reader.root, made).convert()
     return f"From FreeRADIUS's {shown(path)}, by rad_convert."

@@ -11,6 +11,9 @@ from .reading import Fault, Place, shown
 # radsecproxy cuts longer lines.
 LINE = 1023
 
+# So many options are read at most.
+OPTIONS = 200_000
+
 # The port at which radsecproxy receives, and to which it sends, unless another one is written.
 PORT = 1812
 
@@ -144,6 +147,7 @@ class Reader:
         self.options = []
         self.blocks = []
         self.block = None
+        self.count = 0
 
     def read(self, path):
         """Reads a file and those that it includes."""
@@ -167,11 +171,17 @@ class Reader:
         if len(words) == 2 and words[0].lower() == b"include":
             lines.include(words[1], place)
         elif len(words) == 2:
-            (self.block.options if self.block else self.options).append(Option(words[0], words[1], place))
+            self._add(Option(words[0], words[1], place))
         elif len(words) == 3 and words[2] == b"{":
             self._begin(words[0].lower(), words[1], place)
         else:
             raise Fault(f"{place}: neither an option with a value nor the beginning of a block")
+
+    def _add(self, option):
+        self.count += 1
+        if self.count > OPTIONS:
+            raise Fault(f"{option.place}: more than {OPTIONS} options")
+        (self.block.options if self.block else self.options).append(option)
 
     def _begin(self, kind, name, place):
         if self.block:

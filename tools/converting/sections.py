@@ -48,16 +48,23 @@ class Section:
         self.place = place
         self.parent = parent
         self.items = []
+        self.named = {Pair: {}, Section: {}}
         self.template = None
         self.depth = parent.depth + 1 if parent else 0
 
+    def add(self, item):
+        """Adds a pair or a section at the end."""
+        self.items.append(item)
+        name = item.kind if isinstance(item, Section) else item.name
+        self.named[type(item)].setdefault(name, []).append(item)
+
     def sections(self, kind):
         """The sections of a kind."""
-        return [item for item in self.items if isinstance(item, Section) and item.kind == kind]
+        return self.named[Section].get(kind, [])
 
     def pairs(self, name):
         """The pairs of a name."""
-        return [item for item in self.items if isinstance(item, Pair) and item.name == name]
+        return self.named[Pair].get(name, [])
 
     def pair(self, *names):
         """The first pair of the first of these names that has one."""
@@ -129,9 +136,8 @@ def _bare_value(text):
 class Reader:
     """Reads a configuration into one section."""
 
-    def __init__(self, library, tell):
+    def __init__(self, library):
         self.library = library
-        self.tell = tell
         self.root = Section(b"main", None, None, None)
         self.files = set()
         self.items = 0
@@ -139,10 +145,10 @@ class Reader:
     def read(self, path):
         """Reads a file and those that it includes. The folder of the file is `confdir`."""
         self.root.place = Place(path, 1)
-        self.root.items.insert(0, Pair(b"confdir", os.path.dirname(path) or b".", self.root.place))
-        self.add(path, self.root)
+        self.root.add(Pair(b"confdir", os.path.dirname(path) or b".", self.root.place))
+        self.read_into(path, self.root)
 
-    def add(self, path, current, asked=None):
+    def read_into(self, path, current, asked=None):
         """Reads a file into a section."""
         self.files.add(os.path.realpath(path))
         with self.library.reading(path, asked) as lines:
@@ -255,7 +261,7 @@ class Reader:
         self.items += 1
         if self.items > ITEMS:
             raise Fault(f"{item.place}: more than {ITEMS} sections and pairs")
-        section.items.append(item)
+        section.add(item)
 
     def _condition(self, name, text, place, inner):
         """Begins the section of a condition, whose `{` is the first one outside of brackets and quotation marks."""
@@ -289,7 +295,7 @@ class Reader:
         if value.endswith(b"/"):
             self._include_folder(value, place, inner)
         elif not is_optional or os.path.exists(value):
-            self.add(value, inner, place)
+            self.read_into(value, inner, place)
 
     def _include_folder(self, path, place, inner):
         try:
@@ -301,7 +307,7 @@ class Reader:
             if not re.fullmatch(rb"[A-Za-z0-9_-][A-Za-z0-9_.-]*", name) or os.path.isdir(file):
                 continue
             if os.path.realpath(file) not in self.files:
-                self.add(file, inner, place)
+                self.read_into(file, inner, place)
 
     def _template(self, text, place, inner):
         _, name, rest = word_of(text, place, stops=False)
