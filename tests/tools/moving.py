@@ -30,6 +30,7 @@ from . import talking  # noqa: E402
 
 NAS, PROXY, HOME = (f"moving-{os.getpid()}-{name}" for name in ("nas", "proxy", "home"))
 HERE, BILLING, HUB = "10.20.0.1", "198.51.100.20", "198.51.100.21"
+NASES = ["10.20.0.11", "10.20.0.12", "10.20.0.13"]
 NEW_NETWORK = 0x40000000
 HOME_SECRET = b"home secret"
 SECRETS = {11: b"first secret", 12: b"second secret", 13: b"third secret"}
@@ -171,7 +172,7 @@ def network():
         for space in (NAS, PROXY, HOME):
             run("ip", "netns", "add", space)
             run("ip", "-n", space, "link", "set", "lo", "up")
-        for name, space, own, others in (("n", NAS, HERE, ["10.20.0.11", "10.20.0.12", "10.20.0.13"]), ("h", HOME, "198.51.100.1", [BILLING, HUB])):
+        for name, space, own, others in (("n", NAS, HERE, NASES), ("h", HOME, "198.51.100.1", [BILLING, HUB])):
             run("ip", "link", "add", f"{name}0", "netns", PROXY, "type", "veth", "peer", "name", "e0", "netns", space)
             for address in others:
                 run("ip", "-n", space, "address", "add", f"{address}/24", "dev", "e0")
@@ -224,8 +225,8 @@ class Proxy:
         path.write_text(configuration)
         self.counters = folder / "counters"
         self.ran = stack.enter_context(subprocess.Popen(
-            ["ip", "netns", "exec", PROXY, PROGRAM, "run", str(path)], stdin=subprocess.PIPE, stdout=subprocess.PIPE, stderr=subprocess.DEVNULL,
-            text=True, env={**os.environ, "RAD_PROXY_COUNTERS": str(self.counters)}))
+            ["ip", "netns", "exec", PROXY, PROGRAM, "run", str(path)], stdin=subprocess.PIPE, stdout=subprocess.PIPE,
+            stderr=subprocess.DEVNULL, text=True, env={**os.environ, "RAD_PROXY_COUNTERS": str(self.counters)}))
         stack.callback(self.ran.kill)
         hope("listening", self.ran.stdout.readline().split()[:1], ["listening"])
 
@@ -269,7 +270,8 @@ def background(words, stack):
     """A proxy that runs until the case ends."""
     if not shutil.which(words[0]):
         raise LeftOut(f"there is no {words[0]}")
-    ran = stack.enter_context(subprocess.Popen(["ip", "netns", "exec", PROXY, *words], stdout=subprocess.DEVNULL, stderr=subprocess.DEVNULL))
+    quiet = {"stdout": subprocess.DEVNULL, "stderr": subprocess.DEVNULL}
+    ran = stack.enter_context(subprocess.Popen(["ip", "netns", "exec", PROXY, *words], **quiet))
     stack.callback(ran.kill)
     time.sleep(2)
 

@@ -5,7 +5,6 @@ All addresses are the machine's own, so that each of the three proxies can serve
 import dataclasses
 
 FRONT = "127.0.0.1"
-LETTERS = "bcdefghijklmnopqrstuvwxyz"
 
 # What the secrets of the clients have in them; the others are plain.
 ODD = [
@@ -14,8 +13,8 @@ ODD = [
     "=equals=", "%{User-Name}", "x" * 128, "z",
 ]
 HOME_SECRETS = ['home "one"', "100% of\\home two", "#home's three", "ünd vier", "five"]
-REALMS = ["example.org", "Example.NET", "a-b.example", "x_y.example", "bücher.example", "one", "two.example", "three.example", "four.example",
-          "five.example", "six.example", "deep.under.the.example"]
+REALMS = ["example.org", "Example.NET", "a-b.example", "x_y.example", "bücher.example", "one", "two.example", "three.example",
+          "four.example", "five.example", "six.example", "deep.under.the.example"]
 
 
 @dataclasses.dataclass(frozen=True)
@@ -130,7 +129,16 @@ def freeradius(made):
         proxy += f"home_server_pool {one.name}_pool {{\n\thome_server = {one.name}\n}}\n".encode()
     for one in made.realms:
         proxy += f'realm "{one.name}" {{\n\tacct_pool = {one.home}_pool\n\tnostrip\n}}\n'.encode()
-    templates = f"templates {{\n\ta_home {{\n\t\ttype = acct\n\t\tport = {made.homes[0].port}\n\t}}\n\ta_nas {{\n\t\tproto = udp\n\t}}\n}}\n"
+    templates = f"""templates {{
+	a_home {{
+		type = acct
+		port = {made.homes[0].port}
+	}}
+	a_nas {{
+		proto = udp
+	}}
+}}
+"""
     main = f"""# A site.
 prefix = /usr
 libdir = ${{prefix}}/lib/freeradius

@@ -19,6 +19,11 @@ F_REALM = "realm example.org {\n nostrip\n acct_pool = p\n}\n"
 F_ALL = F + F_POOL + F_REALM
 
 
+def block(head, *lines):
+    """A block, with these lines in it."""
+    return f"{head} {{\n" + "".join(f" {line}\n" for line in lines) + "}\n"
+
+
 def clients(*more):
     """A whole site with these clients behind the first one."""
     return WHOLE | {"client": ONE + list(more)}
@@ -65,7 +70,8 @@ def radsecproxy():
         [(13, "a pattern"), (16, "a pattern")]), WHOLE
     yield "a pattern of one whole name", R + "realm /@example\\.org$/ {\n accountingServer h\n}\n", [], WHOLE
     yield "a pattern with a dot", R + R_REALM + "realm /@example.net$/ {\n accountingServer h\n}\n", [(13, "a pattern")], WHOLE
-    yield "names that radsecproxy takes as patterns", R + R_REALM + "realm *.example {\n accountingServer h\n}\nrealm a+b {\n accountingServer h\n}\n", (
+    yield "names that radsecproxy takes as patterns", (
+        R + R_REALM + block("realm *.example", "accountingServer h") + block("realm a+b", "accountingServer h")), (
         [(13, "a pattern"), (16, "a pattern")]), WHOLE
     yield "one realm twice", R + R_REALM + "realm EXAMPLE.org {\n accountingServer h\n}\n", [(13, "has this name")], WHOLE
     yield "a realm with @, and one of 253 octets", (
@@ -73,7 +79,8 @@ def radsecproxy():
         [(13, "an `@`"), (16, "253 octets")]), WHOLE
     yield "authentication", R + "realm example.org {\n accountingServer h\n server h\n}\nrealm b {\n server h\n}\n", (
         [(12, "no authentication (lines for it in realms: 2)")]), WHOLE
-    yield "an answer of radsecproxy's own", R + R_REALM + "realm b {\n AccountingResponse on\n}\n", [(13, "answers nothing by itself")], WHOLE
+    yield "an answer of radsecproxy's own", R + R_REALM + block("realm b", "AccountingResponse on"), (
+        [(13, "answers nothing by itself")]), WHOLE
     yield "a server that comes too late", R_REALM + R, [(2, "no server h before it")], None
     yield "rewriting", (
         "rewrite default {\n removeAttribute 5\n}\n" + R.replace("secret abc", "secret abc\n rewriteIn x\n rewriteOut x").replace(
@@ -81,13 +88,15 @@ def radsecproxy():
         [(7, "does not rewrite"), (8, "does not rewrite"), (10, "rewrite default applies"), (14, "does not rewrite")]), WHOLE
     yield "loops, and lines for all", (
         "LoopPrevention on\nAddTTL 20\nListenTCP *:1\nListenTLS *:2\nSourceUDP 192.0.2.2:33\nLoopPrevention off\nListenUDP *:1812\n"
-        "ListenUDP *:1813\nListenUDP [::1]\nNewOption on\nPidFile x\n" + R.replace("secret def", "secret def\n LoopPrevention on") + R_REALM), (
+        "ListenUDP *:1813\nListenUDP [::1]\nNewOption on\nPidFile x\n"
+        + R.replace("secret def", "secret def\n LoopPrevention on") + R_REALM), (
         [(1, "loop prevention"), (2, "loop prevention"), (3, "no TCP"), (4, "no TLS"), (5, "picks the address"),
          (7, "one address and port"), (9, "IPv6"), (10, "no option"), (20, "server h: LoopPreve")]), WHOLE | {"listen": "0.0.0.0:1813"}
     yield "where it receives", "ListenUDP 192.0.2.3:1645\n" + R + R_REALM, [], WHOLE | {"listen": "192.0.2.3:1645"}
     yield "everywhere", "ListenUDP 0.0.0.0:1813\n" + R + R_REALM, [], WHOLE | {"listen": "0.0.0.0:1813"}
     yield "waits", R.replace("secret def", "secret def\n retryCount 3\n retryInterval 5\n statusServer on") + R_REALM, [], WHOLE
-    yield "home servers that are looked up", R.replace("secret def", "secret def\n dynamicLookupCommand /x") + R_REALM, [(9, "looks up no")], WHOLE
+    yield "home servers that are looked up", (
+        R.replace("secret def", "secret def\n dynamicLookupCommand /x") + R_REALM), [(9, "looks up no")], WHOLE
     yield "nothing", "", [], None
     yield "no home server", "client 192.0.2.1 {\n type udp\n secret abc\n}\nrealm * {\n}\n", [], None
 
@@ -117,13 +126,15 @@ def freeradius():
     yield "a client of old", F_ALL.replace("client a {\n ipaddr = 192.0.2.1", "client 192.0.2.1 {"), [], WHOLE
     yield "blocks of addresses", F_ALL + "client b {\n ipaddr = 10.0.0.0/8\n secret = x\n}\nclient c {\n ipaddr = 10.0.0.0\n netmask = 8\n"\
         " secret = x\n}\nclient d {\n ipaddr = *\n secret = x\n}\n", [(18, "a block"), (22, "a block"), (27, "a block")], WHOLE
-    yield "IPv6 and a host name", F_ALL + "client b {\n ipv6addr = ::1\n secret = x\n}\nclient c {\n ipaddr = nas.example\n secret = x\n}\n", (
+    yield "IPv6 and a host name", (
+        F_ALL + block("client b", "ipv6addr = ::1", "secret = x") + block("client c", "ipaddr = nas.example", "secret = x")), (
         [(18, "IPv6"), (22, "host name")]), WHOLE
     yield "leading zeros", F_ALL + "client b {\n ipaddr = 010.0.0.1\n secret = x\n}\n", [(18, "no address")], WHOLE
-    yield "marks and backslashes", F_ALL + (
-        "client b {\n ipaddr = 10.0.0.1\n secret = \"a\\\"b\\101\\\\c#ü%{x}\"\n}\nclient c {\n ipaddr = 10.0.0.2\n secret = 'a\"\\'${x}'\n}\n"
-        "client d {\n ipaddr = 10.0.0.3\n secret = a\"b'#\\ \n}\n"), [], (
-        clients(("10.0.0.1", 'a"b\\101\\\\c#ü%{x}'), ("10.0.0.2", "a\"'${x}"), ("10.0.0.3", "a\"b'#\\")))
+    yield "marks and backslashes", (
+        F_ALL + block("client b", "ipaddr = 10.0.0.1", 'secret = "a\\"b\\101\\\\c#ü%{x}"')
+        + block("client c", "ipaddr = 10.0.0.2", "secret = 'a\"\\'${x}'")
+        + block("client d", "ipaddr = 10.0.0.3", "secret = a\"b'#\\ ")), [], (
+            clients(("10.0.0.1", 'a"b\\101\\\\c#ü%{x}'), ("10.0.0.2", "a\"'${x}"), ("10.0.0.3", "a\"b'#\\")))
     yield "continued lines", F_ALL + 'client b {\n ipaddr = \\\n10.0.0.1\n secret = "\\\n   a"\n}\n', [], clients(("10.0.0.1", "a"))
     yield "variables", "word = abc\n" + F_ALL.replace("= abc", '= "${word}"').replace("= def", "= ${client[a].secret}${..word}"), [], (
         WHOLE | {"home": [("h", "192.0.2.9:1813", "abcabc")]})
@@ -147,19 +158,21 @@ def freeradius():
     yield "a home server of authentication", F_ALL.replace("type = acct", "type = auth"), (
         [(5, "no accounting"), (11, "h is not carried over"), (15, "no home server of its pool")]), None
     yield "home servers that rad_proxy cannot have", F_ALL + "".join(
-        f"home_server {name} {{\n{text}\n secret = x\n}}\nhome_server_pool {name} {{\n home_server = {name}\n}}\nrealm {name} {{\n nostrip\n"
-        f" acct_pool = {name}\n}}\n" for name, text in (
+        f"home_server {name} {{\n{text}\n secret = x\n}}\n" + block(f"home_server_pool {name}", f"home_server = {name}")
+        + block(f"realm {name}", "nostrip", f"acct_pool = {name}") for name, text in (
             ("v6", " ipv6addr = ::1"), ("tcp", " ipaddr = 10.0.0.1\n proto = tcp"), ("virtual", " virtual_server = x"),
             ("name", " ipaddr = home.example"), ("port", " ipaddr = 10.0.0.1\n port = x"))), (
         [(18, "IPv6"), (22, "v6 is not"), (26, "no home server of"), (29, "TCP"), (34, "tcp is not"), (38, "no home"), (40, "virtual"),
          (45, "virtual is not"), (49, "no home"), (52, "host name"), (56, "name is not"), (60, "no home"), (63, "no number"),
          (68, "port is not"), (72, "no home")]), WHOLE
     yield "a second home server, a fallback and policies of a pool", (
-        F + F[F.index("home"):].replace("server h", "server i") + "home_server_pool p {\n home_server = h\n home_server = i\n fallback = f\n"
-        " virtual_server = v\n}\n" + F_REALM), [(17, "i is another one"), (18, "fallback"), (19, "virtual")], WHOLE
+        F + F[F.index("home"):].replace("server h", "server i")
+        + block("home_server_pool p", "home_server = h", "home_server = i", "fallback = f", "virtual_server = v") + F_REALM), (
+            [(17, "i is another one"), (18, "fallback"), (19, "virtual")]), WHOLE
     yield "a pool that is not there", F_ALL + "realm b {\n nostrip\n acct_pool = q\n}\n", [(19, "no home_server_pool q")], WHOLE
     yield "patterns", F_ALL + 'realm "~.*\\.example$" {\n nostrip\n acct_pool = p\n}\n', [(17, "a pattern")], WHOLE
-    yield "the realms NULL and DEFAULT", F_ALL + "realm NULL {\n nostrip\n acct_pool = p\n}\nrealm DEFAULT {\n nostrip\n acct_pool = p\n}\n", (
+    yield "the realms NULL and DEFAULT", (
+        F_ALL + block("realm NULL", "nostrip", "acct_pool = p") + block("realm DEFAULT", "nostrip", "acct_pool = p")), (
         [(21, "no catch-all; those of")]), WHOLE | {"default": "h"}
     yield "the realm DEFAULT", F_ALL + "realm DEFAULT {\n nostrip\n acct_pool = p\n}\n", [(17, "no catch-all; requests without")], (
         WHOLE | {"default": "h"})
@@ -170,18 +183,62 @@ def freeradius():
     yield "a realm of old", F_ALL + "realm b {\n nostrip\n accthost = 10.0.0.1:1646\n secret = x\n}\n", [], (
         WHOLE | {"home": HOME + [("10.0.0.1", "10.0.0.1:1646", "x")], "realm": REALM + [("b", "10.0.0.1")]})
     yield "one pool for both", F_ALL.replace("acct_pool", "pool"), [(15, "no authentication")], WHOLE
-    yield "where it receives", F_ALL + "server s {\n listen {\n  type = auth\n }\n listen {\n  type = acct\n  ipaddr = 192.0.2.3\n  port = 1646\n"\
-        " }\n listen {\n  type = acct\n  ipv6addr = ::\n }\n listen {\n  type = acct\n  ipaddr = *\n }\n client b {\n  ipaddr = 10.0.0.1\n"\
-        "  secret = x\n }\n}\n", [(28, "IPv6"), (30, "one address and port")], clients(("10.0.0.1", "x")) | {"listen": "192.0.2.3:1646"}
-    yield "policies", F_ALL + "server s {\n listen {\n  type = acct\n  ipaddr = *\n  port = 0\n }\n preacct {\n  suffix\n  if (&User-Name =~"\
-        " /^\\{\"}/ && (\"%{a}\" == '{')) {\n   update request {\n    &User-Name := \"x\"\n   }\n  }\n }\n accounting {\n  detail\n  ok\n }\n pre-proxy {\n"\
-        " }\n post-proxy {\n  eap\n }\n}\n", [(23, "preacct"), (31, "(detail)"), (37, "(eap)")], WHOLE | {"listen": "0.0.0.0:1813"}
+    yield "where it receives", F_ALL + """server s {
+ listen {
+  type = auth
+ }
+ listen {
+  type = acct
+  ipaddr = 192.0.2.3
+  port = 1646
+ }
+ listen {
+  type = acct
+  ipv6addr = ::
+ }
+ listen {
+  type = acct
+  ipaddr = *
+ }
+ client b {
+  ipaddr = 10.0.0.1
+  secret = x
+ }
+}
+""", [(28, "IPv6"), (30, "one address and port")], clients(("10.0.0.1", "x")) | {"listen": "192.0.2.3:1646"}
+    yield "policies", F_ALL + """server s {
+ listen {
+  type = acct
+  ipaddr = *
+  port = 0
+ }
+ preacct {
+  suffix
+  if (&User-Name =~ /^\\{"}/ && ("%{a}" == '{')) {
+   update request {
+    &User-Name := "x"
+   }
+  }
+ }
+ accounting {
+  detail
+  ok
+ }
+ pre-proxy {
+ }
+ post-proxy {
+  eap
+ }
+}
+""", [(23, "preacct"), (31, "(detail)"), (37, "(eap)")], WHOLE | {"listen": "0.0.0.0:1813"}
     yield "a list of clients for one listener", F_ALL + "clients x {\n client b {\n  ipaddr = 10.0.0.1\n  secret = x\n }\n}\n", (
         [(17, "one list of clients")]), WHOLE
     yield "lines for all", "proxy_requests = no\nproxy server {\n default_fallback = yes\n dynamic = no\n}\n" + F_ALL, (
         [(1, "proxy_requests"), (3, "default_fallback")]), WHOLE
-    yield "sections without a name", F_ALL + "home_server {\n type = acct\n}\nhome_server_pool q {\n home_server\n}\nrealm b {\n nostrip\n acct_pool = q\n}\n"\
-        "client {\n secret = x\n}\n", [(17, "no address"), (21, "not carried over"), (25, "no home server"), (27, "no address")], WHOLE
+    yield "sections without a name", (
+        F_ALL + block("home_server", "type = acct") + block("home_server_pool q", "home_server")
+        + block("realm b", "nostrip", "acct_pool = q") + block("client", "secret = x")), (
+            [(17, "no address"), (21, "not carried over"), (25, "no home server"), (27, "no address")]), WHOLE
     yield "nothing", "", [], None
 
 
@@ -193,6 +250,7 @@ def freeradius_faults():
     yield 'client a {\n secret = "abc\n}\n', 2, "quotation mark"
     yield "a = b c\n", 1, "something behind"
     yield "a = b\\\n", 1, "continued line"
+    yield "a = ${b\n", 1, "has no }"
     yield "$INCLUDE none.conf", 1, "No such file"
     yield "$INCLUDE none/", 1, "No such file"
     yield "\n$INCLUDE .", 2, "a directory"

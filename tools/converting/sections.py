@@ -353,6 +353,8 @@ class Reader:
             why = why or item.why
             return item.value or b""
 
+        if re.search(rb"\$(?:ENV)?\{[^}]*$", value):
+            raise Fault(f"{place}: a variable has no }}")
         made = re.sub(rb"\$ENV\{([^}]*)\}|\$\{([^}]*)\}", filled, value)
         if len(made) > VALUE:
             raise Fault(f"{place}: a value of more than {VALUE} octets, which FreeRADIUS refuses")
