@@ -73,6 +73,8 @@ def radsecproxy():
     yield "names that radsecproxy takes as patterns", (
         R + R_REALM + block("realm *.example", "accountingServer h") + block("realm a+b", "accountingServer h")), (
         [(13, "a pattern"), (16, "a pattern")]), WHOLE
+    yield "a realm that is ignored first", R + R_REALM + "realm b {\n}\n" + block("realm B", "accountingServer h"), (
+        [(15, "never comes to it")]), WHOLE
     yield "one realm twice", R + R_REALM + "realm EXAMPLE.org {\n accountingServer h\n}\n", [(13, "has this name")], WHOLE
     yield "a realm with @, and one of 253 octets", (
         R + R_REALM + f"realm a@b {{\n accountingServer h\n}}\nrealm {'x' * 253} {{\n accountingServer h\n}}\n"), (
@@ -205,7 +207,7 @@ def freeradius():
   secret = x
  }
 }
-""", [(28, "IPv6"), (30, "one address and port")], clients(("10.0.0.1", "x")) | {"listen": "192.0.2.3:1646"}
+""", [(17, "does not run suffix"), (28, "IPv6"), (30, "one address and port")], clients(("10.0.0.1", "x")) | {"listen": "192.0.2.3:1646"}
     yield "policies", F_ALL + """server s {
  listen {
   type = acct
@@ -213,7 +215,9 @@ def freeradius():
   port = 0
  }
  preacct {
-  suffix
+  group {
+   suffix
+  }
   if (&User-Name =~ /^\\{"}/ && ("%{a}" == '{')) {
    update request {
     &User-Name := "x"
@@ -230,7 +234,7 @@ def freeradius():
   eap
  }
 }
-""", [(23, "preacct"), (31, "(detail)"), (37, "(eap)")], WHOLE | {"listen": "0.0.0.0:1813"}
+""", [(23, "preacct"), (33, "(detail)"), (39, "(eap)")], WHOLE | {"listen": "0.0.0.0:1813"}
     yield "a list of clients for one listener", F_ALL + "clients x {\n client b {\n  ipaddr = 10.0.0.1\n  secret = x\n }\n}\n", (
         [(17, "one list of clients")]), WHOLE
     yield "lines for all", "proxy_requests = no\nproxy server {\n default_fallback = yes\n dynamic = no\n}\n" + F_ALL, (

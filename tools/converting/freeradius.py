@@ -317,16 +317,26 @@ class Converter:
     def _policies(self, server):
         if server is self.root or not self._receives(server):
             return
+        what = site.named("server", server.name)
+        before = server.section(b"preacct")
+        if not before or not _runs(before, b"suffix"):
+            said = "it does not run suffix, so FreeRADIUS does not choose by the realm of a User-Name"
+            self.site.tell((before or server).place, f"{what}: {said}")
         for kind, said in SECTIONS.items():
             part = server.section(kind)
             names = [shown(_called(item)) for item in part.items if _called(item) not in PLAIN] if part else []
             if names:
                 some = ", ".join(names[:8]) + (" .." if len(names) > 8 else "")
-                self.site.tell(part.place, f"{site.named('server', server.name)}: {shown(kind)}: {said} ({some})")
+                self.site.tell(part.place, f"{what}: {shown(kind)}: {said} ({some})")
 
 
 def _called(item):
     return item.kind if isinstance(item, sections.Section) else item.name
+
+
+def _runs(part, name):
+    """Whether a section runs a module, at any depth."""
+    return any(_called(item) == name or isinstance(item, sections.Section) and _runs(item, name) for item in part.items)
 
 
 def _paths(path):

@@ -199,6 +199,7 @@ class Converter:
         self.servers = {}
         self.homes = {}
         self.catch_all = None
+        self.ignored = {}
         self.rewrites = {block.name.lower() for block in reader.blocks if block.kind == b"rewrite"}
 
     def convert(self):
@@ -334,7 +335,11 @@ class Converter:
             return
         if block.name == b"*":
             self.catch_all = block.place
+        if name is not None and name.lower() in self.ignored:
+            self.site.tell(block.place, f"{what}: radsecproxy never comes to it, since {self.ignored[name.lower()]} has this realm")
+            return
         if not servers:
+            self.ignored |= {} if name is None else {name.lower(): block.place}
             if block.value(b"accountingresponse", b"off").lower() == b"on":
                 self.site.tell(block.place, f"{what}: AccountingResponse: rad_proxy answers nothing by itself")
             elif name is None and block.name != b"*":
