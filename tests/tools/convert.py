@@ -448,7 +448,7 @@ def cut(octets):
 def spoiled(octets):
     """The octets with some of them changed, put in, or left out, by a fixed chance."""
     chance = random.Random(1)
-    for _ in range(300):
+    for _ in range(10 + len(octets) // 8):
         made = bytearray(octets)
         for _ in range(chance.randint(1, 4)):
             at = chance.randrange(len(made))

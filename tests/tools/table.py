@@ -83,11 +83,12 @@ def _for_radsecproxy(secret, number):
 
 def radsecproxy(made):
     """The files of radsecproxy, by their names."""
-    clients = [b"", b""]
+    files = {f"clients.d/none{number}.conf": b"# No client.\n" for number in range(10)}
     for number, one in enumerate(made.clients):
         name, host = (one.address, "") if number % 3 else (f"nas{number}", f"\thost {one.address}\n")
         text = f"client {name} {{\n{host}\ttype {'UDP' if number % 4 else 'udp'}\n".encode()
-        clients[number % 2] += text + b"\tsecret" + (b" " if number % 5 else b"\t=\t") + _for_radsecproxy(one.secret, number) + b"\n}\n"
+        secret = b"\tsecret" + (b" " if number % 5 else b"\t=\t") + _for_radsecproxy(one.secret, number)
+        files[f"clients.d/{number:02}.conf"] = text + secret + b"\n}\n"
     servers = b""
     for number, one in enumerate(made.homes):
         where = f"\thost {one.address}:{one.port}\n" if number % 2 else f"\thost {one.address}\n\tport {one.port}\n"
@@ -97,7 +98,7 @@ def radsecproxy(made):
         name = "/@two\\.example$/" if one.name == "two.example" else one.name
         realms += f"realm {name} {{\n\taccountingServer {one.home}\n}}\n"
     main = f"# A site.\nLogLevel 3\nListenUDP {FRONT}:{made.port}\n\ninclude clients.d/*.conf\n".encode() + servers + realms.encode()
-    return {"radsecproxy.conf": main, "clients.d/1.conf": clients[0], "clients.d/2.conf": clients[1]}
+    return files | {"radsecproxy.conf": main}
 
 
 def _for_freeradius(secret):

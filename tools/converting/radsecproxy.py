@@ -1,5 +1,4 @@
 """The configuration of radsecproxy 1.9: how it is written, and what it means to rad_proxy."""
-import contextlib
 import dataclasses
 import glob
 import os
@@ -103,18 +102,19 @@ def unescaped(value, nul=False):
 class Lines:
     """The lines of a file, and in their place those of the files that they include."""
 
-    def __init__(self, library, path, exits):
+    def __init__(self, library, path):
         self.library = library
-        self.exits = exits
-        self.files = []
-        self._push(path, None)
-
-    def _push(self, path, asked):
-        one = contextlib.ExitStack()
-        lines = one.enter_context(self.library.reading(path, asked))
-        self.exits.push(one)
-        self.files.append((one, path, enumerate(lines, 1)))
         self.last = Place(path, 1)
+        self.files = [self._of(path, None)]
+
+    def _of(self, path, asked):
+        """The lines of one file, which is opened for the first of them."""
+        with self.library.reading(path, asked) as lines:
+            for number, line in enumerate(lines, 1):
+                self.last = Place(path, number)
+                if len(line) > LINE:
+                    raise Fault(f"{self.last}: a line of more than {LINE} octets, which radsecproxy cuts")
+                yield self.last, line
 
     def include(self, pattern, place):
         """Goes on with the files of a pattern, which is relative to the file of this place."""
@@ -122,21 +122,15 @@ class Lines:
         found = sorted(glob.glob(path)) if glob.has_magic(path) else [path]
         if not found:
             raise Fault(f"{place}: no file matches {shown(pattern)}")
-        for name in reversed(found):
-            self._push(name, place)
+        self.files += [self._of(name, place) for name in reversed(found)]
 
     def __iter__(self):
         while self.files:
-            one, path, lines = self.files[-1]
-            entry = next(lines, None)
+            entry = next(self.files[-1], None)
             if entry is None:
                 self.files.pop()
-                one.close()
-                continue
-            self.last = Place(path, entry[0])
-            if len(entry[1]) > LINE:
-                raise Fault(f"{self.last}: a line of more than {LINE} octets, which radsecproxy cuts")
-            yield self.last, entry[1]
+            else:
+                yield entry
 
 
 class Reader:
@@ -151,14 +145,13 @@ class Reader:
 
     def read(self, path):
         """Reads a file and those that it includes."""
-        with contextlib.ExitStack() as exits:
-            lines = Lines(self.library, path, exits)
-            for place, line in lines:
-                words = tokens(line, place)
-                if words:
-                    self._take(words, place, lines)
-            if self.block:
-                raise Fault(f"{lines.last}: the file ends within the block of line {self.block.place.line}")
+        lines = Lines(self.library, path)
+        for place, line in lines:
+            words = tokens(line, place)
+            if words:
+                self._take(words, place, lines)
+        if self.block:
+            raise Fault(f"{lines.last}: the file ends within the block of line {self.block.place.line}")
 
     def _take(self, words, place, lines):
         if words[0].startswith(b"}"):
