@@ -143,9 +143,10 @@ def freeradius():
     yield "variables that are not known", F_ALL + (
         "client b {\n ipaddr = 10.0.0.1\n secret = $ENV{NO_SUCH_NAME}\n}\nclient c {\n ipaddr = ${none}\n secret = x\n}\n"), (
         [(18, "$ENV{NO_SUCH_NAME} is not set"), (22, "${none} is not known")]), WHOLE
-    yield "templates", "templates {\n t {\n  type = acct\n  secret = def\n  port = 1900\n  limit { x = 1 }\n }\n}\n" + F_ALL.replace(
-        " type = acct\n ipaddr = 192.0.2.9\n secret = def\n", " ipaddr = 192.0.2.9\n $template t\n secret = own\n"), [], (
-        WHOLE | {"home": [("h", "192.0.2.9:1900", "own")]})
+    yield "templates", (
+        "templates {\n t {\n  type = acct\n  secret = def\n  port = 1900\n  limit { x = 1 }\n }\n q {\n  home_server = other\n }\n}\n"
+        + F_ALL.replace(" type = acct\n ipaddr = 192.0.2.9\n secret = def\n", " ipaddr = 192.0.2.9\n $template t\n secret = own\n").replace(
+            " home_server = h\n", " $template q\n home_server = h\n")), [], WHOLE | {"home": [("h", "192.0.2.9:1900", "own")]}
     yield "no secret, one that is not UTF-8, and one too long", (
         F_ALL + "client b {\n ipaddr = 10.0.0.1\n}\nclient c {\n ipaddr = 10.0.0.2\n secret = \"\udcff\"\n}\n"
         f"client d {{\n ipaddr = 10.0.0.3\n secret = {'x' * 129}\n}}\n"), [(17, "empty"), (20, "not UTF-8"), (24, "129 octets")], WHOLE
