@@ -26,7 +26,7 @@ TOP = pathlib.Path(__file__).resolve().parents[2]
 TOOL = TOP / "tools" / "rad_convert"
 SECONDS = 60
 
-sys.path[:0] = [str(TOP / "tests" / "hostile"), str(TOP / "tools")]
+sys.path[:0] = [str(TOP), str(TOP / "tests" / "hostile"), str(TOP / "tools")]
 
 from trying import LeftOut, conclude, hope, outcome  # noqa: E402
 
@@ -34,7 +34,7 @@ from converting import freeradius, radsecproxy  # noqa: E402
 from converting.reading import Fault, Library  # noqa: E402
 from converting.site import Site  # noqa: E402
 
-from . import table, talking, texts  # noqa: E402
+from tests.tools import table, talking, texts  # noqa: E402
 
 MAIN = {"radsecproxy": "it", "freeradius": "radiusd.conf"}
 MODULES = {"radsecproxy": radsecproxy, "freeradius": freeradius}

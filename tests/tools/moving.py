@@ -22,11 +22,11 @@ import time
 sys.dont_write_bytecode = True
 
 TOP = pathlib.Path(__file__).resolve().parents[2]
-sys.path.append(str(TOP / "tests" / "hostile"))
+sys.path[:0] = [str(TOP), str(TOP / "tests" / "hostile")]
 
 from trying import LeftOut, conclude, hope, outcome  # noqa: E402
 
-from . import talking  # noqa: E402
+from tests.tools import talking  # noqa: E402
 
 NAS, PROXY, HOME = (f"moving-{os.getpid()}-{name}" for name in ("nas", "proxy", "home"))
 HERE, BILLING, HUB = "10.20.0.1", "198.51.100.20", "198.51.100.21"
