@@ -1,4 +1,4 @@
--- Lines of a ledger (own): objects of JSON (RFC 8259), with their keys in any order, each once.
+-- Lines of a ledger (RFC 8259, RFC 3339, own): objects of JSON, with their keys in any order, each once.
 use Rattle.std.specs.Prelude.{◌≡◌, ℕ, ◌<◌, ◌≤◌, ◌*◌, ◌^◌, List, [], ◌∷◌, length, get_or, codes, Bool, option_copied, IsTrue, cond, ◌==◌, Option, Some, None, Ok, ◌⊎◌, ⊤}
 use Rattle.std.specs.List.{All, Contains}
 use Rattle.std.specs.Int.{w64, from_be_bytes}

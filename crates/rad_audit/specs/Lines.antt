@@ -1,4 +1,4 @@
--- Lines that were cut short (own).
+-- Lines of a ledger that were cut short (own).
 use Rattle.std.specs.Prelude.{◌≡◌, ◌<◌, ℕ, List, ◌++◌, length}
 
 -- Octets are the front of longer ones.

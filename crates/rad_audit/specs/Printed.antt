@@ -1,4 +1,4 @@
--- The printed lines, without their line feeds (own).
+-- The lines that the auditor prints (own), without their line feeds.
 use Rattle.std.specs.Prelude.{ℕ, ◌^◌, ◌-◌, false, List, [], ◌++◌, codes}
 use Rattle.std.specs.Fmt.{decimal, digits, format_spec, padded_integral}
 use Rattle.rad_ledger.specs.Printed.{gap_text, reason_text, verdict_text}

@@ -1,4 +1,4 @@
--- A count over a list.
+-- A count over a list, for the totals of all lanes (own).
 use Rattle.std.specs.Prelude.{ℕ, ◌^◌, ◌-◌, List, min, sum_by}
 
 -- The sum of the counts of all items, or 2^64 - 1, the greatest number of the machine, if the sum is above that.

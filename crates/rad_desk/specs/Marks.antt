@@ -1,4 +1,4 @@
--- Proxy-States of the form of this proxy's own (own).
+-- Proxy-States of this proxy's own form (RFC 2865 section 5.33, own).
 use Rattle.std.specs.Prelude.{List, Bool, ◌==◌, ◌&&◌, length, filter}
 use Rattle.rad_packet.specs.Attribute.{Attribute}
 

@@ -1,5 +1,6 @@
--- What the front does (own), as its wire sees it. It is a sequence of parts. Each part sends nothing, or answers the
--- datagram that came right before it, or sends what an inlet gave. What each inlet gave is sent once, in order.
+-- What the front does, as its wire sees it (RFC 2866 section 4.2, RFC 5997 section 4.2, own). It is a sequence of parts. Each
+-- part sends nothing, or answers the datagram that came right before it, or sends what an inlet gave. What each inlet gave is
+-- sent once, in order.
 use Rattle.std.specs.Prelude.{◌≡◌, ◌+◌, ◌<◌, ◌==◌, ⊤, ℕ, List, [], ◌∷◌, ◌++◌, ◌⊎◌, length, All, cond, Ok}
 use Rattle.std.specs.List.{flat_map}
 use Rattle.rad_packet.specs.Packet.{identifier_of, authenticator_of}

@@ -1,5 +1,5 @@
--- What the worker of a lane does (own), as its wire sees it. It is a sequence of parts. Each part sends nothing, or
--- sends what one step of the lane gave.
+-- What the worker of a lane does, as its wire sees it (RFC 2866 section 2.1, own). It is a sequence of parts. Each part sends
+-- nothing, or sends what one step of the lane gave.
 use Rattle.std.specs.Prelude.{◌≡◌, ◌<◌, ℕ, List, [], ◌∷◌, ◌⊎◌, All, slice_get, Option, Some, None, MatchOption}
 use Rattle.std.specs.List.{flat_map}
 use Rattle.rad_realms.specs.Configuration.{HomeEntry, Configuration}

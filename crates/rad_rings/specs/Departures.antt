@@ -1,4 +1,5 @@
--- What is sent over a wire (own). Whatever the lane, nothing but one of these is given to a socket.
+-- What is sent over a wire (RFC 2866 section 2.1, RFC 5997 section 3, own). Whatever the lane, nothing but one of these is
+-- given to a socket.
 use Rattle.std.specs.Prelude.{◌≡◌, ⊤, ℕ, List, length, Result, Ok, Err}
 use Rattle.rad_auth.specs.Forwarding.{forwarded}
 use Rattle.rad_auth.specs.Status.{status_server}
