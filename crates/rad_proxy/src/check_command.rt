@@ -6,26 +6,24 @@ ghost use Rattle.rad_proxy.specs.Configurations.{IsCounted};
 
 use crate::faults::Fault;
 use crate::loading::{MOST_FILE_OCTETS, load, load_text};
+use crate::machine::Host;
 use rad_console::CountLine;
 use rad_log::Log;
 use rad_realms::Config;
 use std::alloc::Global;
 use std::io::Read;
-use std::rt::Files;
 
 /// Counts the clients, home servers and realms of the configuration in a file.
 ///
 /// # Errors
 ///
 /// Those of `load`.
-pub fn check_file<R: Files, L: Log>(
-    rt: &R,
+pub fn check_file<H: Host, L: Log>(
+    rt: &H,
     alloc: Global,
     log: &L,
     path: &str,
 ) -> Result<CountLine, Fault>
-where
-    R::File: Drop,
     ensures { IfOk result (λ line. IsCounted None MOST_FILE_OCTETS line) }
 {
     let config = load(rt, alloc, log, path)?;

@@ -4,6 +4,7 @@ use crate::file_name::FileName;
 use rad_realms::{ConfigFault, Endpoint};
 use rad_replay::ReplayFault;
 use rad_server::ServeFault;
+use std::alloc::AllocError;
 use thiserror::Error;
 
 /// Why the program ends early. Its `Display` is the line for standard error.
@@ -61,6 +62,17 @@ impl Fault {
             | Fault::Events(_)
             | Fault::Output => 4,
         }
+    }
+}
+
+impl From<AllocError> for Fault {
+    ghost use Rattle.std.specs.Prelude.{◌≡◌};
+    ghost use Rattle.rad_proxy.specs.declared.faults.Fault.TheVariants.{Memory};
+
+    ghost from_gives = { λ _ fault. fault ≡ Memory };
+
+    fn from(_error: AllocError) -> Fault {
+        Fault::Memory
     }
 }
 

@@ -5,6 +5,7 @@ ghost use Rattle.rad_proxy.specs.Configurations.{IsLoaded};
 
 use crate::faults::Fault;
 use crate::file_name::FileName;
+use crate::machine::Host;
 use crate::reasons::{tell_file, tell_homes, tell_text};
 use rad_addresses::read_local_addresses;
 use rad_console::{read_at_most, read_configuration};
@@ -13,7 +14,6 @@ use rad_realms::Config;
 use std::alloc::Global;
 use std::fs;
 use std::io::{Error, ErrorKind, Read};
-use std::rt::Files;
 
 /// The most octets of a configuration's file.
 pub const MOST_FILE_OCTETS: u64 = 1_048_576;
@@ -25,9 +25,7 @@ pub const MOST_FILE_OCTETS: u64 = 1_048_576;
 ///
 /// `File` if the file can't be read or is longer than 1,048,576 octets, `Configuration` if it is not a configuration,
 /// `Memory` if a growth is refused.
-pub fn load<R: Files, L: Log>(rt: &R, alloc: Global, log: &L, path: &str) -> Result<Config, Fault>
-where
-    R::File: Drop,
+pub fn load<H: Host, L: Log>(rt: &H, alloc: Global, log: &L, path: &str) -> Result<Config, Fault>
     ensures { IfOk result (λ config. IsLoaded None MOST_FILE_OCTETS config) }
 {
     let file = match fs::open(rt, path) {
@@ -43,10 +41,7 @@ where
 
 /// Logs what an operator should know of a configuration on this machine. If the machine's addresses can't be read, only
 /// those that every machine has are known.
-fn advise<R: Files, L: Log>(rt: &R, alloc: Global, log: &L, config: &Config)
-where
-    R::File: Drop,
-{
+fn advise<H: Host, L: Log>(rt: &H, alloc: Global, log: &L, config: &Config) {
     match read_local_addresses(rt, alloc) {
         Ok(local) => tell_homes(alloc, log, config, local.as_slice()),
         Err(_) => tell_homes(alloc, log, config, &[]),

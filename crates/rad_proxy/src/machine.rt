@@ -1,24 +1,80 @@
-//! What the program reads of the machine that it runs on.
+//! What the program needs of the system, and of the machine that it runs on.
 
 use rad_addresses::{LocalAddresses, read_local_addresses};
 use rad_metrics::{UdpSockets, read_udp_sockets};
-use std::alloc::Global;
-use std::io;
-use std::rt::Files;
+use rad_telemetry::{ReplaceFile, RuntimeFiles};
+use rad_writer::{LedgerDisk, RuntimeDisk};
+use std::alloc::{AllocGlobal, Global};
+use std::fs::{Files, OpenFile};
+use std::io::{self, Write};
+use std::net::Net;
+use std::random::RandomSource;
+use std::rt::Runtime;
+use std::sync::Wait;
+use std::thread::Threads;
+
+/// A runtime that has all that the program needs of the system.
+pub trait Host: Runtime
+    + AllocGlobal
+    + Net
+    + RandomSource
+    + Threads
+    + Wait
+    + Sync
+    + Copy
+    + Send
+    + 'static {}
+
+impl<R> Host for R
+where
+    R: Runtime + AllocGlobal + Net + RandomSource + Threads + Wait + Sync + Copy + Send + 'static,
+{}
+
+/// A machine, of which other threads read, and on which they write. What a thread writes with is made by `main`'s own
+/// types, since no thread may be given what rests on the files of a [`Host`].
+pub trait Machine: LocalAddresses + UdpSockets + Sync {
+    /// What replaces the file of the counters.
+    type Files: ReplaceFile + Drop + Send + 'static;
+
+    /// What keeps the files of a ledger.
+    type Disk: LedgerDisk + Drop + Send + 'static;
+
+    fn files(&self) -> Self::Files;
+
+    fn disk(&self) -> Self::Disk;
+}
 
 /// The machine of a runtime.
 #[derive(Drop)]
-pub struct Machine<R> {
+pub struct RuntimeMachine<R> {
     rt: R,
 }
 
-impl<R> Machine<R> {
-    pub fn new(rt: R) -> Machine<R> {
-        Machine { rt }
+impl<R> RuntimeMachine<R> {
+    pub fn new(rt: R) -> RuntimeMachine<R> {
+        RuntimeMachine { rt }
     }
 }
 
-impl<R: Files> LocalAddresses for Machine<R>
+impl<R, F> Machine for RuntimeMachine<R>
+where
+    R: Files<File = F> + AllocGlobal + RandomSource + Sync + Copy + Send + 'static,
+    F: Write + OpenFile + Drop + Send + 'static,
+{
+    type Files = RuntimeFiles<R>;
+
+    type Disk = RuntimeDisk<R, F>;
+
+    fn files(&self) -> RuntimeFiles<R> {
+        RuntimeFiles::new(self.rt)
+    }
+
+    fn disk(&self) -> RuntimeDisk<R, F> {
+        RuntimeDisk::new(self.rt)
+    }
+}
+
+impl<R: Files> LocalAddresses for RuntimeMachine<R>
 where
     R::File: Drop,
 {
@@ -28,7 +84,7 @@ where
     }
 }
 
-impl<R: Files> UdpSockets for Machine<R>
+impl<R: Files> UdpSockets for RuntimeMachine<R>
 where
     R::File: Drop,
 {

@@ -22,10 +22,7 @@ pub enum Task {
 ///
 /// `Usage` for words of any other form, `Memory` if a growth is refused.
 pub fn read_words(alloc: Global, words: &[String]) -> Result<Task, Fault> {
-    let Ok(command) = command(alloc) else {
-        return Err(Fault::Memory);
-    };
-    let matches = match command.try_get_matches_from(words) {
+    let matches = match command(alloc)?.try_get_matches_from(words) {
         Ok(matches) => matches,
         Err(error) => {
             return match error.kind() {
@@ -51,10 +48,7 @@ fn read_file_word(alloc: Global, matches: &ArgMatches) -> Result<String, Fault> 
     let Some(file) = matches.get_str("FILE") else {
         return Err(Fault::Usage);
     };
-    match String::from_str(alloc, file) {
-        Ok(file) => Ok(file),
-        Err(_) => Err(Fault::Memory),
-    }
+    Ok(String::from_str(alloc, file)?)
 }
 
 /// Returns the words that the program takes.
