@@ -9,7 +9,7 @@ use log::span::Spans;
 use log::{Level, LevelFilter, Log, Logged, Metadata, Record};
 use std::alloc::{AllocError, Global};
 use std::env::Env;
-use std::fmt::{self, Display};
+use std::fmt::Display;
 use std::sync::{Arc, Wait};
 use std::thread::{self, Threads};
 use std::time::{Clock, Duration, Instant};
@@ -72,37 +72,15 @@ impl Log for ErrorLines {
     }
 
     fn log<D: Display, K: Source, S: Spans>(&self, record: &Record<'_, D, K, S>) {
-        let line = LevelLine {
-            level: record.level(),
-            text: record.args(),
-        };
-        self.queue.put(&line);
+        let level = level_name(record.level());
+        let text = record.args();
+        self.queue.put(&format_args!("level={level} {text}"));
     }
 
     fn flush(&self) {}
 
     fn target(&self) -> &str {
         ""
-    }
-}
-
-/// A log line: its level and its text.
-struct LevelLine<'a, D> {
-    level: Level,
-    text: &'a D,
-}
-
-impl<D> Drop for LevelLine<'_, D> {
-    fn drop(self) {
-        let LevelLine { level: _, text: _ } = self;
-    }
-}
-
-impl<D: Display> Display for LevelLine<'_, D> {
-    fn fmt<W: fmt::Write>(&self, f: &mut fmt::Formatter<W>) -> fmt::Result {
-        let level = level_name(self.level);
-        let text = self.text;
-        write!(f, "level={level} {text}")
     }
 }
 

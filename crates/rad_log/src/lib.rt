@@ -1,8 +1,8 @@
 //! The log of the program: lines on standard error, each with a level.
 //!
 //! [`open_log`] opens the log at the level that the environment names. A thread that logs only puts its line into a
-//! buffer of fixed size, [`LineRoom`], and waits for nothing. One thread writes the lines, with a [`LineWriter`]. A line
-//! that finds no room is dropped, and the number of dropped lines is written before the next line.
+//! buffer of fixed size, [`LineRoom`], and waits for nothing. One thread writes the lines. A line that finds no room is
+//! dropped, and the number of dropped lines is written before the next line.
 //!
 //! The contract to read first is that of [`LineRoom::put`]: it says which lines find room. What is written is behind a
 //! lock, so no contract says it; tests check that.
@@ -20,11 +20,8 @@ mod told_stream;
 mod writer_state;
 
 pub use error_lines::{ErrorLines, open_log};
-pub use levels::{level_of, read_level};
 pub use line_room::LineRoom;
-pub use line_writer::{LineOutput, LineWriter};
 pub use log::kv::Source;
-pub use log::sink::Discard;
 pub use log::span::Spans;
 pub use log::{Level, LevelFilter, Log, Logged, Metadata, Record};
 pub use telling::{

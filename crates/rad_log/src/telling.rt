@@ -6,7 +6,7 @@ use libc::{STDERR_FILENO, isatty};
 use log::{Level, LevelFilter, Log, Logged, log, log_enabled};
 use std::alloc::{AllocError, Global};
 use std::env::Env;
-use std::fmt::{self, Display};
+use std::fmt::Display;
 
 /// Logs a text at a level. All lines are logged here, so that what a macro of `log` writes is proved once.
 pub fn tell<L: Log, D: Display>(log: &L, level: Level, text: &D) {
@@ -46,33 +46,10 @@ pub fn open_log_if_asked<E: Env>(
 
 /// Logs at `error` an event of this name, which has only a reason.
 pub fn tell_reason<L: Log, D: Display>(log: &L, event: &str, reason: &D) {
-    tell_error(log, &ReasonLine { event, reason });
+    tell_error(log, &format_args!("event={event} reason=\"{reason}\""));
 }
 
 /// Logs at `warn` an event of this name, which has only a reason.
 pub fn warn_of_reason<L: Log, D: Display>(log: &L, event: &str, reason: &D) {
-    tell_warning(log, &ReasonLine { event, reason });
-}
-
-/// The log line of an event that has only a reason.
-struct ReasonLine<'a, D> {
-    event: &'a str,
-    reason: &'a D,
-}
-
-impl<D> Drop for ReasonLine<'_, D> {
-    fn drop(self) {
-        let ReasonLine {
-            event: _,
-            reason: _,
-        } = self;
-    }
-}
-
-impl<D: Display> Display for ReasonLine<'_, D> {
-    fn fmt<W: fmt::Write>(&self, f: &mut fmt::Formatter<W>) -> fmt::Result {
-        let event = self.event;
-        let reason = self.reason;
-        write!(f, "event={event} reason=\"{reason}\"")
-    }
+    tell_warning(log, &format_args!("event={event} reason=\"{reason}\""));
 }

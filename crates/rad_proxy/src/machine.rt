@@ -7,16 +7,15 @@ use rad_writer::{LedgerDisk, RuntimeDisk};
 use std::alloc::{AllocGlobal, Global};
 use std::fs::{Files, OpenFile};
 use std::io::{self, Write};
-use std::net::Net;
 use std::random::RandomSource;
 use std::rt::Runtime;
 use std::sync::Wait;
 use std::thread::Threads;
 
-/// A runtime that has all that the program needs of the system.
+/// A runtime that the program runs on. `Net` is no part of it, so each function that serves names it too: nothing that
+/// has its sockets by way of another trait can be given to a thread.
 pub trait Host: Runtime
     + AllocGlobal
-    + Net
     + RandomSource
     + Threads
     + Wait
@@ -27,11 +26,11 @@ pub trait Host: Runtime
 
 impl<R> Host for R
 where
-    R: Runtime + AllocGlobal + Net + RandomSource + Threads + Wait + Sync + Copy + Send + 'static,
+    R: Runtime + AllocGlobal + RandomSource + Threads + Wait + Sync + Copy + Send + 'static,
 {}
 
-/// A machine, of which other threads read, and on which they write. What a thread writes with is made by `main`'s own
-/// types, since no thread may be given what rests on the files of a [`Host`].
+/// A machine of which threads read, and on which they write. They write with types that are known in `main`, since nothing
+/// that has its files by way of a bound can be given to a thread.
 pub trait Machine: LocalAddresses + UdpSockets + Sync {
     /// What replaces the file of the counters.
     type Files: ReplaceFile + Drop + Send + 'static;

@@ -24,6 +24,7 @@ use run_command::serve_file;
 use std::alloc::{AllocGlobal, Global};
 use std::env::{self, Env};
 use std::io::{self, ErrorKind};
+use std::net::Net;
 use std::os::fd::IntoRawFd;
 use std::process::ExitCode;
 use words::{Task, read_words};
@@ -45,7 +46,7 @@ fn main(rt: HostRuntime) -> ExitCode {
 }
 
 /// Does what the words of the command line ask for, and returns the status.
-fn obey_words<H: Host, M: Machine>(rt: &H, machine: &M) -> Result<u8, Fault>
+fn obey_words<H: Host + Net, M: Machine>(rt: &H, machine: &M) -> Result<u8, Fault>
 where
     H::File: IntoRawFd,
 {

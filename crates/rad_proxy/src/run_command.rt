@@ -18,6 +18,7 @@ use rad_telemetry::{
 use rad_writer::{LedgerInlet, StartedLedger, find_folder, open_ledger};
 use std::alloc::{AllocError, Global};
 use std::io::{self, Error};
+use std::net::Net;
 use std::sync::{Arc, Wait};
 use std::thread;
 use std::time::{Clock, Duration, Instant};
@@ -44,7 +45,7 @@ const NO_WAIT: &str = "the system can't wait for it";
 ///
 /// Those of [`load`] and of [`run_with`]; `Threads` if a thread that reports or writes can't be started, or if the system
 /// allows too small a stack.
-pub fn serve_file<H: Host, M: Machine>(
+pub fn serve_file<H: Host + Net, M: Machine>(
     rt: &H,
     machine: &M,
     alloc: Global,
@@ -114,7 +115,7 @@ impl<H, M> Clone for Service<'_, H, M> {
 
 impl<H, M> Copy for Service<'_, H, M> {}
 
-impl<'a, H: Host, M: Machine> Service<'a, H, M> {
+impl<'a, H: Host + Net, M: Machine> Service<'a, H, M> {
     /// Starts the threads that write the log and the file of the counters, if there is one.
     fn start_writers(self, file: Option<CounterFile>) -> Result<(), Fault> {
         if let Some(file) = file

@@ -14,7 +14,6 @@
 
 mod counts;
 mod entry_buffer;
-mod faults;
 mod filling;
 mod inlet;
 mod lines;

@@ -5,7 +5,6 @@ ghost use Rattle.ledger_files.specs.Batches.{HoldsLines};
 
 use crate::counts::TakenCounts;
 use crate::entry_buffer::EntryBuffer;
-use crate::faults::ledger_fault;
 use crate::filling::fill;
 use crate::inlet::time_since_1970;
 use crate::lines::{begin_line, end_line};
@@ -362,5 +361,15 @@ impl<R: Clock, D: LedgerDisk + Drop> Session<'_, R, D> {
         }
         self.synced = now;
         self.files.sync().map_err(ledger_fault)
+    }
+}
+
+/// Returns the fault of the ledger that a fault of its disk is.
+fn ledger_fault(fault: DiskFault) -> LedgerFault {
+    match fault {
+        DiskFault::Gone => LedgerFault::Gone,
+        DiskFault::Create(number) => LedgerFault::Create(number),
+        DiskFault::Write(number) => LedgerFault::Write(number),
+        DiskFault::Sync(number) => LedgerFault::Sync(number),
     }
 }
