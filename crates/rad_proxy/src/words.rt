@@ -58,24 +58,15 @@ fn command<'a>(alloc: Global) -> Result<Command<'a>, AllocError> {
     with_file(alloc, program, "run")
 }
 
-/// Adds a command of this name, with the word FILE after it, to a program.
+/// Adds a command of this name to a program, with the word FILE after it, which is required.
 fn with_file<'a>(
     alloc: Global,
     program: Command<'a>,
     name: &'a str,
 ) -> Result<Command<'a>, AllocError> {
-    let command = command_of_file(alloc, name)?;
-    program.subcommand(command)
-}
-
-/// Returns a command of this name, with the word FILE after it.
-fn command_of_file<'a>(alloc: Global, name: &'a str) -> Result<Command<'a>, AllocError> {
-    Command::new(alloc, name).arg(file(alloc))
-}
-
-/// Returns the word FILE, which is required.
-fn file<'a>(alloc: Global) -> Arg<'a> {
-    Arg::new(alloc, "FILE")
+    let file = Arg::new(alloc, "FILE")
         .required(true)
-        .action(ArgAction::Set)
+        .action(ArgAction::Set);
+    let command = Command::new(alloc, name).arg(file)?;
+    program.subcommand(command)
 }
