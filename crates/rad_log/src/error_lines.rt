@@ -2,7 +2,6 @@
 
 use crate::levels::read_level;
 use crate::line_queue::LineQueue;
-use crate::line_writer::StandardError;
 use crate::telling::tell_warning;
 use log::kv::Source;
 use log::span::Spans;
@@ -24,7 +23,7 @@ const NO_SUCH_LEVEL: &str =
 /// is dropped. The number of dropped lines is written before the next line.
 #[derive(Drop)]
 pub struct ErrorLines {
-    queue: Arc<LineQueue<StandardError>>,
+    queue: Arc<LineQueue>,
 }
 
 impl ErrorLines {
@@ -34,9 +33,8 @@ impl ErrorLines {
     ///
     /// `AllocError` if memory is refused.
     pub fn new(alloc: Global) -> Result<ErrorLines, AllocError> {
-        let queue = LineQueue::new(alloc, StandardError)?;
         Ok(ErrorLines {
-            queue: Arc::new(alloc, queue)?,
+            queue: Arc::new(alloc, LineQueue::new(alloc)?)?,
         })
     }
 

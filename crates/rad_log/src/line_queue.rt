@@ -1,7 +1,7 @@
 //! Log lines on their way from the threads that log to the one thread that writes them.
 
 use crate::line_room::LineRoom;
-use crate::line_writer::{LineOutput, LineWriter, line_in};
+use crate::line_writer::{LineWriter, line_in};
 use crate::writer_state::WriterState;
 use std::alloc::{AllocError, Global};
 use std::fmt::Display;
@@ -24,34 +24,34 @@ const TRIES: u32 = 2000;
 /// Lines that wait, in the order in which they came. Until there is a thread that writes them, the thread that logs a
 /// line also writes it.
 #[derive(Drop)]
-pub struct LineQueue<O> {
+pub struct LineQueue {
     room: Mutex<LineRoom>,
     /// How many lines did not get into the buffer, since they were too long or others held the buffer for too long.
     missed: AtomicU64,
-    outlet: Mutex<Outlet<O>>,
+    outlet: Mutex<Outlet>,
     /// The state of the thread that writes the lines, once there is one.
     state: WriterState,
 }
 
-/// The output and the lines for it. The thread that writes holds its lock.
+/// What writes to standard error, and the lines for it. The thread that writes holds its lock.
 #[derive(Drop)]
-struct Outlet<O> {
-    writer: LineWriter<O>,
+struct Outlet {
+    writer: LineWriter,
     /// The lines that are being written.
     batch: LineRoom,
 }
 
-impl<O: LineOutput + Drop> LineQueue<O> {
+impl LineQueue {
     /// Makes an empty queue. It takes no more memory later.
     ///
     /// # Errors
     ///
     /// `AllocError` if memory is refused.
-    pub fn new(alloc: Global, output: O) -> Result<LineQueue<O>, AllocError> {
+    pub fn new(alloc: Global) -> Result<LineQueue, AllocError> {
         let room = LineRoom::new(alloc, ROOM)?;
         let batch = LineRoom::new(alloc, ROOM)?;
         let outlet = Outlet {
-            writer: LineWriter::new(output),
+            writer: LineWriter::new(),
             batch,
         };
         Ok(LineQueue {
@@ -96,7 +96,7 @@ impl<O: LineOutput + Drop> LineQueue<O> {
         None
     }
 
-    /// Writes the lines that wait, if the output accepts them at once.
+    /// Writes the lines that wait, if standard error accepts them at once.
     fn write_now(&self) {
         if let Some(mut outlet) = self.outlet.try_lock() {
             if let Some(mut room) = self.hold() {
@@ -132,7 +132,7 @@ impl<O: LineOutput + Drop> LineQueue<O> {
     }
 
     /// Writes the lines that were taken, and how many were dropped after them.
-    fn write_taken(&self, outlet: &mut Outlet<O>, is_patient: bool) {
+    fn write_taken(&self, outlet: &mut Outlet, is_patient: bool) {
         let missed = self.missed.swap(0, Ordering::SeqCst);
         let Outlet { writer, batch } = outlet;
         batch.drop_more(missed);
@@ -147,7 +147,7 @@ impl<O: LineOutput + Drop> LineQueue<O> {
     }
 }
 
-impl<O: LineOutput> Outlet<O> {
+impl Outlet {
     /// Takes the lines of a buffer, which is empty then.
     fn take(&mut self, room: &mut LineRoom) {
         self.batch.clear();

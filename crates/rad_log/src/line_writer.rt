@@ -13,40 +13,26 @@ const MOST: usize = 4096;
 /// The octets of room for the line that says how many lines were lost. The longest one has 58.
 const LOST_LINE: usize = 64;
 
-/// An output for lines.
-pub trait LineOutput {
-    /// Returns whether the output accepts octets. If `is_patient` is set, it waits until the output does.
-    fn is_ready(&mut self, is_patient: bool) -> bool;
-
-    /// Writes the first of these octets, and returns how many; 0 if that failed.
-    fn take(&mut self, octets: &[u8]) -> usize;
+/// Returns whether standard error accepts octets. If `is_patient` is set, it waits until it does.
+fn is_ready(is_patient: bool) -> bool {
+    let mut ends = [pollfd {
+        fd: STDERR_FILENO,
+        events: POLLOUT,
+        revents: 0,
+    }];
+    let wait = if is_patient { -1 } else { 0 };
+    poll(&mut ends, wait) == 1 && ends[0].revents & POLLOUT != 0
 }
 
-/// Standard error.
-#[derive(Drop)]
-pub struct StandardError;
-
-impl LineOutput for StandardError {
-    fn is_ready(&mut self, is_patient: bool) -> bool {
-        let mut ends = [pollfd {
-            fd: STDERR_FILENO,
-            events: POLLOUT,
-            revents: 0,
-        }];
-        let wait = if is_patient { -1 } else { 0 };
-        poll(&mut ends, wait) == 1 && ends[0].revents & POLLOUT != 0
-    }
-
-    fn take(&mut self, octets: &[u8]) -> usize {
-        usize::try_from(libc::write(STDERR_FILENO, octets)).unwrap_or(0)
-    }
+/// Writes the first of these octets to standard error, and returns how many; 0 if that failed.
+fn take(octets: &[u8]) -> usize {
+    usize::try_from(libc::write(STDERR_FILENO, octets)).unwrap_or(0)
 }
 
-/// Writes lines. If a write fails, the rest of the lines is lost. Before the next line it then writes a line end, if
+/// Writes lines to standard error. If a write fails, the rest of the lines is lost. Before the next line it then writes a line end, if
 /// a part of a line was written last, and how many lines were lost.
 #[derive(Drop)]
-pub struct LineWriter<O> {
-    output: O,
+pub struct LineWriter {
     /// Whether a part of a line was written last.
     is_inside: bool,
     /// How many lines were lost since their number was last written.
@@ -57,18 +43,17 @@ pub struct LineWriter<O> {
 #[derive(Clone, Copy)]
 struct LostLine(u64);
 
-impl<O: LineOutput> LineWriter<O> {
+impl LineWriter {
     /// Makes a writer that has written nothing yet.
-    pub fn new(output: O) -> LineWriter<O> {
+    pub fn new() -> LineWriter {
         LineWriter {
-            output,
             is_inside: false,
             lost: 0,
         }
     }
 
     /// Writes the lines of a buffer, and then how many were dropped after them. If `is_patient` is set, it waits
-    /// while the output accepts nothing; otherwise the lines are lost.
+    /// while standard error accepts nothing; otherwise the lines are lost.
     pub fn write(&mut self, room: &LineRoom, is_patient: bool) {
         self.write_all(room.lines(), is_patient);
         self.lost = self.lost.saturating_add(room.dropped());
@@ -114,16 +99,16 @@ impl<O: LineOutput> LineWriter<O> {
         }
     }
 
-    /// Writes octets as far as the output accepts them, and returns how many.
+    /// Writes octets as far as standard error accepts them, and returns how many.
     fn put(&mut self, octets: &[u8], is_patient: bool) -> usize {
         let mut taken = 0;
         for _ in 0..octets.len() {
             let rest = octets.get(taken..).unwrap_or(&[]);
             let next = rest.get(..MOST).unwrap_or(rest);
-            if next.is_empty() || !self.output.is_ready(is_patient) {
+            if next.is_empty() || !is_ready(is_patient) {
                 return taken;
             }
-            let count = self.output.take(next).min(next.len());
+            let count = take(next).min(next.len());
             if count == 0 {
                 return taken;
             }

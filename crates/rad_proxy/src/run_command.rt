@@ -15,7 +15,7 @@ use rad_telemetry::{
     CounterFile, CounterTexts, LedgerState, StopFlag, Telemetry, find_counter_file, log_fault,
     report, start_texts,
 };
-use rad_writer::{LedgerInlet, StartedLedger, find_folder, open_ledger};
+use rad_writer::{LedgerInlet, OpenedLedger, find_folder, open_ledger, start_writer};
 use std::alloc::{AllocError, Global};
 use std::io::{self, Error};
 use std::net::Net;
@@ -71,7 +71,7 @@ pub fn serve_file<H: Host + Net, M: Machine>(
     };
     service.start_writers(file)?;
     let outcome = match service.start_ledger() {
-        Ok(Some(StartedLedger { inlet, state })) => {
+        Ok(Some((inlet, state))) => {
             let outcome = service.serve(Some(inlet), Some(&*state));
             state.tell_left(&log);
             outcome
@@ -147,15 +147,19 @@ impl<'a, H: Host + Net, M: Machine> Service<'a, H, M> {
     }
 
     /// Opens the ledger, if there is to be one, and starts the thread that writes it.
-    fn start_ledger(self) -> Result<Option<StartedLedger<'a, H>>, Fault> {
+    fn start_ledger(self) -> Result<Option<(LedgerInlet<'a, H>, Arc<LedgerState>)>, Fault> {
         let Some(folder) = find_folder(self.rt, self.log)? else {
             return Ok(None);
         };
-        let opened = open_ledger(self.rt, self.alloc, folder, self.config)?;
-        match opened.start(self.rt, self.alloc, self.machine.disk()) {
-            Some(ledger) => Ok(Some(ledger)),
-            None => Err(self.tell(ServeFault::Threads)),
+        let OpenedLedger {
+            inlet,
+            writer,
+            state,
+        } = open_ledger(self.rt, self.alloc, folder, self.config)?;
+        if !start_writer(self.rt, self.alloc, writer, self.machine.disk()) {
+            return Err(self.tell(ServeFault::Threads));
         }
+        Ok(Some((inlet, state)))
     }
 
     /// Serves over the standard streams, while a thread of its own reports the counters. Logs the fault that ends it.

@@ -26,6 +26,6 @@ mod writer;
 pub use counts::TakenCounts;
 pub use inlet::LedgerInlet;
 pub use ledger_files::LedgerDisk;
-pub use opening::{OpenedLedger, StartedLedger, find_folder, open_ledger};
+pub use opening::{OpenedLedger, find_folder, open_ledger, start_writer};
 pub use runtime_disk::RuntimeDisk;
 pub use writer::LedgerWriter;

@@ -37,13 +37,6 @@ pub struct OpenedLedger<'a, R> {
     pub state: Arc<LedgerState>,
 }
 
-/// A ledger whose thread writes it: the front's end, and what it shares with the reporter.
-#[derive(Drop)]
-pub struct StartedLedger<'a, R> {
-    pub inlet: LedgerInlet<'a, R>,
-    pub state: Arc<LedgerState>,
-}
-
 /// Returns the folder that `RAD_PROXY_LEDGER` names in the environment, if any; an empty value names none. If the value
 /// is not UTF-8, it logs `event=ledger-fault` and returns none.
 ///
@@ -187,27 +180,13 @@ fn draw_name<R: Clock + RandomSource>(rt: &R) -> u64 {
     }
 }
 
-impl<'a, R> OpenedLedger<'a, R> {
-    ghost use Rattle.std.specs.Prelude.{◌≡◌, IfSome};
-
-    /// Starts the thread that writes to this disk, and returns what the others have of the ledger, or nothing if the thread
-    /// can't be started. No thread joins it: it ends with the program.
-    pub fn start<T, D>(self, rt: &T, alloc: Global, disk: D) -> Option<StartedLedger<'a, R>>
-    where
-        T: Clock + Threads + Wait + Copy + Send + 'static,
-        D: LedgerDisk + Drop + Send + 'static,
-        ensures { IfSome result (λ started. (started.inlet ≡ self.entry.inlet) × (started.state ≡ self.entry.state)) }
-    {
-        let OpenedLedger {
-            inlet,
-            writer,
-            state,
-        } = self;
-        let own = *rt;
-        state.start();
-        if thread::spawn(rt, move || writer.write_all(&own, alloc, disk)).is_err() {
-            return None;
-        }
-        Some(StartedLedger { inlet, state })
-    }
+/// Starts the thread that writes to this disk, and returns whether that succeeded. No thread joins it: it ends with the program.
+pub fn start_writer<R, D>(rt: &R, alloc: Global, writer: LedgerWriter, disk: D) -> bool
+where
+    R: Clock + Threads + Wait + Copy + Send + 'static,
+    D: LedgerDisk + Drop + Send + 'static,
+{
+    let own = *rt;
+    writer.source.state.start();
+    thread::spawn(rt, move || writer.write_all(&own, alloc, disk)).is_ok()
 }
