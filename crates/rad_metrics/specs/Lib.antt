@@ -1,13 +1,9 @@
 pub mod Families
 pub mod Values
-pub mod ProgramNumbers
-pub mod LimitNumbers
-pub mod ClientEvents
-pub mod HomeNumbers
-pub mod Samples
 pub mod Buckets
-pub mod SocketNumbers
-pub mod LedgerNumbers
-pub mod LedgerText
+pub mod Reasons
+pub mod Samples
+pub mod Events
+pub mod Metrics
 pub mod LedgerFaults
 pub mod LedgerLines

@@ -1,58 +1,39 @@
--- Samples in Prometheus' text format, without the line feeds (own).
-use Rattle.std.specs.Prelude.{ℕ, List, ◌++◌, codes}
+-- Samples in Prometheus' text format (own).
+use Rattle.std.specs.Prelude.{ℕ, List, ◌++◌, codes, Option, Some, None}
 use Rattle.std.specs.Fmt.{decimal}
 use Rattle.rad_realms.specs.Printed.{address_text, endpoint_text}
-use Rattle.rad_desk.specs.declared.gate.UpReason.{UpReason}
-use Rattle.rad_desk.specs.declared.gate.UpReason.TheVariants as reason
+use Rattle.rad_metrics.specs.Buckets.{bound_text}
+use Rattle.rad_metrics.specs.Reasons.{reason_name}
 use Rattle.rad_metrics.specs.Values.{value_text}
-use Rattle.rad_metrics.specs.ClientEvents.{reason_label}
-use Rattle.rad_metrics.specs.declared.sample.Labels.{Labels}
-use Rattle.rad_metrics.specs.declared.sample.Labels.TheVariants as labels
-use Rattle.rad_metrics.specs.declared.sample.Sample.{Sample}
-use Rattle.rad_metrics.specs.declared.sample.HomeMore.{HomeMore}
-use Rattle.rad_metrics.specs.declared.sample.HomeMore.TheVariants as more
+use Rattle.rad_metrics.specs.declared.label.Label.{Label}
+use Rattle.rad_metrics.specs.declared.label.Label.TheVariants as label
+use Rattle.rad_metrics.specs.declared.reason.Reason.{Reason}
+use Rattle.rad_metrics.specs.declared.reason.Reason.TheVariants as reason
+use Rattle.rad_metrics.specs.declared.value.Value.{Value}
 
--- The label of a client: its address.
-abbrev pub client_label : List ℕ → List ℕ
-client_label address = codes "client=\"" ++ address_text address ++ codes "\""
+-- The key of a reason's label.
+abbrev pub reason_key : Reason → List ℕ
+reason_key (reason.Repeat why) = codes "repeat"
+reason_key why = codes "reason"
 
--- The labels of a lane: its number and its home server's name.
-abbrev pub home_labels : ℕ → List ℕ → List ℕ
-home_labels lane home = codes "lane=\"" ++ decimal lane ++ codes "\",home=\"" ++ home ++ codes "\""
+-- A label; a lane's are its number and its home server's name.
+abbrev pub label_text : Label → List ℕ
+label_text (label.Version version) = codes "version=\"" ++ version.now ++ codes "\""
+label_text label.Clients = codes "side=\"clients\""
+label_text (label.Client address) = codes "client=\"" ++ address_text address ++ codes "\""
+label_text (label.Home lane home) = codes "lane=\"" ++ decimal lane ++ codes "\",home=\"" ++ home.now ++ codes "\""
+label_text (label.Reason why) = reason_key why ++ codes "=\"" ++ reason_name why ++ codes "\""
+label_text (label.Bound bucket) = codes "le=\"" ++ bound_text bucket ++ codes "\""
+label_text (label.Port place) = codes "port=\"" ++ decimal place ++ codes "\""
+label_text (label.Socket at) = codes "socket=\"" ++ endpoint_text at ++ codes "\""
 
--- Why a home server was marked up.
-abbrev pub up_text : UpReason → List ℕ
-up_text reason.Answered = codes "answered"
-up_text reason.ProbeAnswered = codes "probe answered"
-up_text reason.DownWaitOver = codes "down_wait over"
+-- The labels of a sample, its owner's and another one: in braces, with a comma between two, and nothing where it has none.
+abbrev pub labels_text : Option Label → Option Label → List ℕ
+labels_text None None = codes ""
+labels_text (Some owner) None = codes "{" ++ label_text owner ++ codes "}"
+labels_text None (Some label) = codes "{" ++ label_text label ++ codes "}"
+labels_text (Some owner) (Some label) = codes "{" ++ label_text owner ++ codes "," ++ label_text label ++ codes "}"
 
--- One more label of a home server.
-abbrev pub more_text : HomeMore → List ℕ
-more_text (more.Reason why) = codes "reason=\"" ++ up_text why ++ codes "\""
-more_text (more.Bound bound) = codes "le=\"" ++ bound.now ++ codes "\""
-more_text (more.Port place) = codes "port=\"" ++ decimal place ++ codes "\""
-
--- The labels of a lane, and one more.
-abbrev pub home_and : ℕ → List ℕ → HomeMore → List ℕ
-home_and lane home label = home_labels lane home ++ codes "," ++ more_text label
-
--- The labels of a sample without their braces.
-abbrev pub inside_text : Labels → List ℕ
-inside_text labels.None = codes ""
-inside_text (labels.Version version) = codes "version=\"" ++ version.now ++ codes "\""
-inside_text (labels.Client address) = client_label address
-inside_text (labels.ClientReason address event) = client_label address ++ codes "," ++ reason_label event
-inside_text (labels.Home lane home) = home_labels lane home.now
-inside_text (labels.HomeUp lane home why) = home_and lane home.now (more.Reason why)
-inside_text (labels.HomeBound lane home bound) = home_and lane home.now (more.Bound bound)
-inside_text (labels.Socket at) = codes "side=\"clients\",socket=\"" ++ endpoint_text at ++ codes "\""
-inside_text (labels.HomeSocket lane home place) = home_and lane home.now (more.Port place)
-
--- The labels of a sample, in braces; nothing where it has none.
-abbrev pub labels_text : Labels → List ℕ
-labels_text labels.None = codes ""
-labels_text labels = codes "{" ++ inside_text labels ++ codes "}"
-
--- A sample: its name, its labels and its value.
-abbrev pub sample_line : Sample → List ℕ
-sample_line sample = codes "rad_proxy_" ++ sample.name.now ++ labels_text sample.labels ++ codes " " ++ value_text sample.value
+-- The line of a sample: its name, its labels and its value.
+abbrev pub sample_text : List ℕ → List ℕ → Value → List ℕ
+sample_text name labels value = codes "rad_proxy_" ++ name ++ labels ++ codes " " ++ value_text value ++ codes "\n"

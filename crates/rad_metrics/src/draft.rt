@@ -1,10 +1,11 @@
 //! The text of the metrics while it is made.
 
+use crate::home_metric::Reading;
+use crate::ledger_metrics::LedgerReading;
 use crate::numbers::Numbers;
-use crate::reading::Reading;
 use crate::socket_numbers::SocketReading;
 use crate::udp_sockets::UdpSockets;
-use crate::writing::write_numbers;
+use crate::writing::{Known, write_metrics};
 use rad_realms::Config;
 use std::alloc::{AllocError, Global};
 use std::io;
@@ -43,35 +44,38 @@ impl Draft {
         sockets: &U,
         numbers: &Numbers<'_, R>,
     ) -> Result<(), AllocError> {
-        numbers.read_each(rt, &mut self.readings)?;
+        self.readings.clear();
+        for home in numbers.homes() {
+            self.readings.push(home.reading(rt))?;
+        }
         sockets.read(&mut self.table);
         let table = str::from_utf8(self.table.as_slice()).unwrap_or("");
-        numbers.read_sockets(rt, table, &mut self.sockets)
+        numbers.sockets().read(rt, table, &mut self.sockets)
     }
 
-    /// Begins a text, and returns it empty.
-    pub fn begin(&mut self) -> &mut Vec<u8> {
-        self.text.clear();
-        &mut self.text
-    }
-
-    /// Writes all metrics after what the text already has.
+    /// Makes a text of all metrics, of what was read, and of the ledger if there is one.
     ///
     /// # Errors
     ///
     /// `OutOfMemory` if memory is refused.
-    pub fn finish<R: Clock>(
+    pub fn write<R: Clock>(
         &mut self,
         config: &Config,
         numbers: &Numbers<'_, R>,
+        ledger: Option<LedgerReading>,
     ) -> io::Result<()> {
-        write_numbers(
-            &mut self.text,
-            config,
-            numbers,
-            self.readings.as_slice(),
-            self.sockets.as_slice(),
-        )
+        self.text.clear();
+        let known = Known {
+            clients: config.clients(),
+            homes: config.homes(),
+            counts: numbers.counts(),
+            cells: numbers.homes(),
+            program: numbers.program(),
+            readings: self.readings.as_slice(),
+            sockets: self.sockets.as_slice(),
+            ledger,
+        };
+        write_metrics(&mut self.text, &known)
     }
 
     /// Returns the text.

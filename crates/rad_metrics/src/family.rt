@@ -1,8 +1,5 @@
 //! Families of metrics: what precedes the samples of one name.
 
-ghost use Rattle.std.specs.Prelude.{◌≡◌};
-ghost use Rattle.rad_metrics.specs.declared.family.Kind.TheVariants.{Counter as counting, Gauge as standing};
-
 use std::fmt;
 
 /// The kind of a metric.
@@ -16,7 +13,7 @@ pub enum Kind {
     Histogram,
 }
 
-/// A family: the metrics of one name.
+/// A family: the metrics of one name. It is printed as the two lines that precede its samples.
 #[derive(Clone, Copy)]
 pub struct Family {
     /// The name after the prefix `rad_proxy_`.
@@ -28,39 +25,22 @@ pub struct Family {
 
 /// The first line of a family: its help text.
 #[derive(Clone, Copy)]
-pub struct HelpLine(pub Family);
+struct HelpLine(Family);
 
 /// The second line of a family: its kind.
 #[derive(Clone, Copy)]
-pub struct TypeLine(pub Family);
+struct TypeLine(Family);
 
-impl Family {
-    /// Makes a family of counters.
-    pub(crate) fn counter(name: &'static str, help: &'static str) -> Family
-        ensures name { result.name.now ≡ name.now }
-        ensures kind { result.kind ≡ counting }
-        ensures help { result.help.now ≡ help.now }
-    {
-        Family {
-            name,
-            kind: Kind::Counter,
-            help,
+/// Makes the family of a metric by a table, which has the kind, the name and the help text of each.
+macro_rules! families {
+    ($metric:expr; $($case:pat => $kind:ident($name:literal, $help:literal),)+) => {
+        match $metric {
+            $($case => Family { name: $name, kind: Kind::$kind, help: $help },)+
         }
-    }
-
-    /// Makes a family of gauges.
-    pub(crate) fn gauge(name: &'static str, help: &'static str) -> Family
-        ensures name { result.name.now ≡ name.now }
-        ensures kind { result.kind ≡ standing }
-        ensures help { result.help.now ≡ help.now }
-    {
-        Family {
-            name,
-            kind: Kind::Gauge,
-            help,
-        }
-    }
+    };
 }
+
+pub(crate) use families;
 
 impl fmt::Display for Kind {
     ghost use Rattle.std.specs.Prelude.{Some};
@@ -77,15 +57,29 @@ impl fmt::Display for Kind {
     }
 }
 
+impl fmt::Display for Family {
+    ghost use Rattle.std.specs.Prelude.{Some};
+    ghost use Rattle.rad_metrics.specs.Families.{described_by, head_text};
+
+    ghost output = { λ family. Some (head_text (described_by family)) };
+
+    fn fmt<W: fmt::Write>(&self, f: &mut fmt::Formatter<W>) -> fmt::Result {
+        let help = HelpLine(*self);
+        let kind = TypeLine(*self);
+        write!(f, "{help}{kind}")
+    }
+}
+
 impl fmt::Display for HelpLine {
     ghost use Rattle.std.specs.Prelude.{Some};
     ghost use Rattle.rad_metrics.specs.Families.{help_line};
 
-    ghost output = { λ line. Some (help_line line.0) };
+    ghost output = { λ line. Some (help_line line.0.name.now line.0.help.now) };
 
+    #[tactic(auto, unfolding(crate::specs::Families::help_line))]
     fn fmt<W: fmt::Write>(&self, f: &mut fmt::Formatter<W>) -> fmt::Result {
         let Family { name, help, .. } = self.0;
-        write!(f, "# HELP rad_proxy_{name} {help}")
+        write!(f, "# HELP rad_proxy_{name} {help}\n")
     }
 }
 
@@ -93,10 +87,11 @@ impl fmt::Display for TypeLine {
     ghost use Rattle.std.specs.Prelude.{Some};
     ghost use Rattle.rad_metrics.specs.Families.{type_line};
 
-    ghost output = { λ line. Some (type_line line.0) };
+    ghost output = { λ line. Some (type_line line.0.name.now line.0.kind) };
 
+    #[tactic(auto, unfolding(crate::specs::Families::type_line))]
     fn fmt<W: fmt::Write>(&self, f: &mut fmt::Formatter<W>) -> fmt::Result {
         let Family { name, kind, .. } = self.0;
-        write!(f, "# TYPE rad_proxy_{name} {kind}")
+        write!(f, "# TYPE rad_proxy_{name} {kind}\n")
     }
 }

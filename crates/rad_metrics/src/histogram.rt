@@ -3,6 +3,8 @@
 ghost use Rattle.std.specs.Prelude.{◌≡◌, ◌<◌, ◌≤◌, ◌-◌};
 ghost use Rattle.rad_metrics.specs.Buckets.{bound_of, bound_text};
 
+use crate::counts::atomics;
+use std::alloc::{AllocError, Global};
 use std::sync::atomic::{AtomicU64, Ordering};
 
 /// The number of buckets: one for each bound, and one for what took longer than all of them.
@@ -11,42 +13,30 @@ pub(crate) const BUCKETS: usize = 18;
 /// How often something took how long. Counting takes no lock and no memory.
 #[derive(Drop)]
 pub(crate) struct Histogram {
-    counts: [AtomicU64; BUCKETS],
+    /// How many are in each bucket.
+    counts: Vec<AtomicU64>,
     /// The sum of all durations, in microseconds.
     sum: AtomicU64,
 }
 
 impl Histogram {
     /// Makes a histogram without any duration.
-    pub(crate) fn new() -> Histogram {
-        Histogram {
-            counts: [
-                AtomicU64::new(0),
-                AtomicU64::new(0),
-                AtomicU64::new(0),
-                AtomicU64::new(0),
-                AtomicU64::new(0),
-                AtomicU64::new(0),
-                AtomicU64::new(0),
-                AtomicU64::new(0),
-                AtomicU64::new(0),
-                AtomicU64::new(0),
-                AtomicU64::new(0),
-                AtomicU64::new(0),
-                AtomicU64::new(0),
-                AtomicU64::new(0),
-                AtomicU64::new(0),
-                AtomicU64::new(0),
-                AtomicU64::new(0),
-                AtomicU64::new(0),
-            ],
+    ///
+    /// # Errors
+    ///
+    /// `AllocError` if memory is refused.
+    pub(crate) fn new(alloc: Global) -> Result<Histogram, AllocError> {
+        Ok(Histogram {
+            counts: atomics(alloc, BUCKETS, 0)?,
             sum: AtomicU64::new(0),
-        }
+        })
     }
 
     /// Counts a duration of `microseconds` microseconds.
     pub(crate) fn count(&self, microseconds: u64) {
-        self.counts[bucket_of(microseconds)].fetch_add(1, Ordering::SeqCst);
+        if let Some(count) = self.counts.get(bucket_of(microseconds)) {
+            count.fetch_add(1, Ordering::SeqCst);
+        }
         self.sum.fetch_add(microseconds, Ordering::SeqCst);
     }
 

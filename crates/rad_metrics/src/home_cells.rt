@@ -1,33 +1,28 @@
 //! What the workers reported of each home server.
 
-ghost use Rattle.std.specs.Prelude.{◌<◌};
-
+use crate::home_metric::Reading;
 use crate::home_times::HomeTimes;
-use crate::reading::Reading;
-use rad_desk::{Standing, UpReason};
+use rad_desk::{Standing, WorkerReport};
 use rad_lane::Counts;
-use rad_realms::Home;
+use rad_realms::{Home, LimitNumbers};
 use rad_tables::Moment;
 use std::alloc::{AllocError, Global};
 use std::sync::atomic::{AtomicBool, AtomicU64, Ordering};
 use std::sync::{Mutex, Wait};
-
-/// The number of reasons for which a home server is marked up.
-const REASONS: usize = 3;
 
 /// What is known of a home server. Only its worker writes it, except for the times and for whether the worker is asked.
 #[derive(Drop)]
 pub(crate) struct HomeCell {
     /// Whether its worker is to report the standing of its lane.
     is_asked: AtomicBool,
-    /// When its worker's turn began, in microseconds since the start.
-    turn: AtomicU64,
     /// Since when it is marked up or down.
     since: AtomicU64,
     /// When it last answered; 0 before its first answer.
     last_answer: AtomicU64,
-    /// How often it was marked up for each reason.
-    ups: [AtomicU64; REASONS],
+    /// When the program started, in milliseconds since 1970.
+    started: u64,
+    /// The limits of its lane.
+    limits: LimitNumbers,
     times: HomeTimes,
     reading: Mutex<Reading>,
 }
@@ -40,26 +35,50 @@ impl HomeCell {
     ///
     /// `AllocError` if memory is refused.
     fn new(alloc: Global, home: &Home, start: u64) -> Result<HomeCell, AllocError> {
-        let times = HomeTimes::new(alloc, home.limits().numbers())?;
+        let limits = home.limits().numbers();
+        let times = HomeTimes::new(alloc, limits)?;
         Ok(HomeCell {
             is_asked: AtomicBool::new(false),
-            turn: AtomicU64::new(0),
             since: AtomicU64::new(start),
             last_answer: AtomicU64::new(0),
-            ups: [AtomicU64::new(0), AtomicU64::new(0), AtomicU64::new(0)],
+            started: start,
+            limits,
             times,
-            reading: Mutex::new(first_reading(start)),
+            reading: Mutex::new(first_reading(limits, start)),
         })
     }
 
-    /// Records that its worker's turn began `turn` microseconds after the start.
-    pub(crate) fn set_turn(&self, turn: u64) {
-        self.turn.store(turn, Ordering::SeqCst);
-    }
-
-    /// Returns when its worker's turn began.
-    pub(crate) fn turn(&self) -> u64 {
-        self.turn.load(Ordering::SeqCst)
+    /// Records what its worker reports of it, or the front. The front's turn began `front` microseconds after the start, that
+    /// of its worker `turn` microseconds after it, and this number of Accounting-Requests were sent to it.
+    pub(crate) fn report(&self, report: &WorkerReport<'_>, front: u64, turn: u64, sent: u64) {
+        let time = self.started.saturating_add(turn / 1000);
+        match *report {
+            WorkerReport::Accepted { number, .. } => self.times.was_accepted(number, front),
+            WorkerReport::FirstSent { number, slot } => {
+                self.times.first_sent(number, slot, front, turn);
+            }
+            WorkerReport::Answered { serial, slot } => {
+                self.times.replied(serial, slot, turn);
+                self.last_answer.store(time, Ordering::SeqCst);
+            }
+            WorkerReport::Took { serial, .. } => self.times.left(serial, front),
+            WorkerReport::WentDown(_) | WorkerReport::WentUp(_) => {
+                self.since.store(time, Ordering::SeqCst);
+            }
+            WorkerReport::Stands { moment, standing } => {
+                self.set_standing(Reading {
+                    limits: self.limits,
+                    standing,
+                    moment,
+                    told: time,
+                    since: self.since.load(Ordering::SeqCst),
+                    last_answer: self.last_answer.load(Ordering::SeqCst),
+                    sent,
+                    oldest_outstanding: self.times.oldest(turn),
+                });
+            }
+            _ => {}
+        }
     }
 
     /// Asks its worker to report the standing of its lane.
@@ -72,49 +91,19 @@ impl HomeCell {
         self.is_asked.load(Ordering::SeqCst)
     }
 
-    /// Records that it was marked up or down at this time.
-    pub(crate) fn set_since(&self, time: u64) {
-        self.since.store(time, Ordering::SeqCst);
-    }
-
-    /// Records that it answered at this time.
-    pub(crate) fn set_last_answer(&self, time: u64) {
-        self.last_answer.store(time, Ordering::SeqCst);
-    }
-
-    /// Counts that it was marked up for this reason.
-    pub(crate) fn count_up(&self, reason: UpReason) {
-        self.ups[place_of(reason)].fetch_add(1, Ordering::SeqCst);
-    }
-
-    /// Returns how often it was marked up for this reason.
-    pub(crate) fn ups(&self, reason: UpReason) -> u64 {
-        self.ups[place_of(reason)].load(Ordering::SeqCst)
-    }
-
     /// Returns the times of its requests.
     pub(crate) fn times(&self) -> &HomeTimes {
         &self.times
     }
 
-    /// Records the standing of its lane at this moment and time, and how many Accounting-Requests were sent to it. If
-    /// the reading before is being read, nothing is recorded, and its worker is asked again.
-    pub(crate) fn set_standing(&self, standing: Standing, moment: Moment, told: u64, sent: u64) {
-        let oldest_outstanding = self.times.oldest(self.turn());
-        let Some(mut reading) = self.reading.try_lock() else {
-            return;
-        };
-        *reading = Reading {
-            standing,
-            moment,
-            told,
-            since: self.since.load(Ordering::SeqCst),
-            last_answer: self.last_answer.load(Ordering::SeqCst),
-            sent,
-            oldest_outstanding,
-        };
-        drop(reading);
-        self.is_asked.store(false, Ordering::SeqCst);
+    /// Records what was read of its lane. If the reading before is being read, nothing is recorded, and its worker is asked
+    /// again.
+    fn set_standing(&self, read: Reading) {
+        if let Some(mut reading) = self.reading.try_lock() {
+            *reading = read;
+            drop(reading);
+            self.is_asked.store(false, Ordering::SeqCst);
+        }
     }
 
     /// Returns what was last reported.
@@ -141,19 +130,10 @@ pub(crate) fn home_cells(
     Ok(cells)
 }
 
-fn place_of(reason: UpReason) -> usize
-    ensures { result < 3 }
-{
-    match reason {
-        UpReason::Answered => 0,
-        UpReason::ProbeAnswered => 1,
-        UpReason::DownWaitOver => 2,
-    }
-}
-
 /// Returns the reading before a worker reported anything.
-fn first_reading(start: u64) -> Reading {
+fn first_reading(limits: LimitNumbers, start: u64) -> Reading {
     Reading {
+        limits,
         standing: Standing {
             counts: Counts {
                 opening: 0,

@@ -1,10 +1,12 @@
 //! How long the requests of a home server take: when each was accepted and first sent, until it is answered.
 
-ghost use Rattle.std.specs.Prelude.{◌≡◌, ◌+◌, ◌*◌, ◌%◌, ◌^◌};
+ghost use Rattle.std.specs.Prelude.{◌≡◌, ◌+◌, ◌*◌, ◌-◌, ◌/◌, ◌%◌, ◌^◌, ◌==◌, Some, None, if◌then◌else◌};
+ghost use Rattle.rad_metrics.specs.Families.{described_by};
+ghost use Rattle.rad_metrics.specs.Metrics.{timed_family};
 
-use crate::atomics::atomics;
+use crate::counts::atomics;
+use crate::family::{Family, Kind, families};
 use crate::histogram::Histogram;
-use crate::timed_word::{passed, time_in, word_of};
 use rad_realms::LimitNumbers;
 use rad_tables::Slot;
 use std::alloc::{AllocError, Global};
@@ -23,13 +25,19 @@ const SERIALS: u64 = 1 << 23;
 /// The content of a place that was not written yet. No number that is reported there first matches it.
 const UNTOLD: u64 = u64::MAX;
 
-/// The side that reports a time of a response.
+/// How many numbers a word distinguishes.
+const NUMBERS: u64 = 1 << 24;
+
+/// How many microseconds a word distinguishes: those of twelve days.
+const TIMES: u64 = 1 << 40;
+
+/// What the histograms of the home servers are of.
 #[derive(Clone, Copy)]
-enum Teller {
-    /// The lane's worker, which reports when the request was accepted.
-    Lane,
-    /// The front, which reports when the response is sent.
-    Front,
+pub enum Timed {
+    /// How long the home servers take to reply.
+    Replies,
+    /// How long the clients wait for their responses.
+    Responses,
 }
 
 /// The times of a home server's unanswered requests, and how long the others took.
@@ -66,8 +74,8 @@ impl HomeTimes {
             accepted: atomics(alloc, pairs, 0)?,
             sent: atomics(alloc, pairs, 0)?,
             leaving: atomics(alloc, leaving, UNTOLD)?,
-            replies: Histogram::new(),
-            responses: Histogram::new(),
+            replies: Histogram::new(alloc)?,
+            responses: Histogram::new(alloc)?,
         })
     }
 
@@ -96,7 +104,8 @@ impl HomeTimes {
         if sent != 0 {
             self.replies.count(now.saturating_sub(sent));
             let accepted = load(&self.accepted, slot);
-            if let Some(left) = self.tell(Teller::Lane, serial, accepted) {
+            let tag = serial % SERIALS * 2;
+            if let Some(left) = self.tell(serial, tag, tag + 1, accepted) {
                 self.responses.count(passed(accepted, left));
             }
         }
@@ -104,14 +113,15 @@ impl HomeTimes {
 
     /// Records that the response of this serial is sent at this time.
     pub(crate) fn left(&self, serial: u64, time: u64) {
-        if let Some(accepted) = self.tell(Teller::Front, serial, time) {
+        let tag = serial % SERIALS * 2;
+        if let Some(accepted) = self.tell(serial, tag + 1, tag, time) {
             self.responses.count(passed(accepted, time));
         }
     }
 
-    /// Keeps what a side reports of a response, and returns what the other side reported of it, if that came first.
-    fn tell(&self, teller: Teller, serial: u64, time: u64) -> Option<u64> {
-        let (own, others) = tags_of(teller, serial);
+    /// Keeps the time that a side reports of a response, under its own tag, and returns what the other side reported under
+    /// the other tag, if that came first. A lane's worker has the even tags, and the front the odd ones.
+    fn tell(&self, serial: u64, own: u64, others: u64, time: u64) -> Option<u64> {
         let place = place_by(&self.leaving, serial)?;
         time_in(place.swap(word_of(own, time), Ordering::SeqCst), others)
     }
@@ -128,14 +138,25 @@ impl HomeTimes {
         now.saturating_sub(oldest) / 1000
     }
 
-    /// Returns the times from the first sending of each request to its reply.
-    pub(crate) fn replies(&self) -> &Histogram {
-        &self.replies
+    /// Returns a histogram.
+    pub(crate) fn histogram(&self, timed: Timed) -> &Histogram {
+        match timed {
+            Timed::Replies => &self.replies,
+            Timed::Responses => &self.responses,
+        }
     }
+}
 
-    /// Returns the times from the acceptance of each request to its response.
-    pub(crate) fn responses(&self) -> &Histogram {
-        &self.responses
+impl Timed {
+    /// Returns the name, the kind and the help text of the family, which precede its samples.
+    pub fn family(self) -> Family
+        ensures { described_by result ≡ timed_family self }
+    {
+        families! {
+            self;
+            Timed::Replies => Histogram("reply_seconds", "From the first sending of a request to the home server's reply."),
+            Timed::Responses => Histogram("response_seconds", "From the acceptance of a request to the response to the client."),
+        }
     }
 }
 
@@ -168,11 +189,27 @@ fn place_in(slot: Slot) -> usize
     usize::from(slot.port) * 256 + usize::from(slot.identifier)
 }
 
-/// Returns the tag under which a side reports a serial, and the tag of the other side.
-fn tags_of(teller: Teller, serial: u64) -> (u64, u64) {
-    let even = serial % SERIALS * 2;
-    match teller {
-        Teller::Lane => (even, even + 1),
-        Teller::Front => (even + 1, even),
+/// Returns the word of a number and a time in microseconds.
+fn word_of(number: u64, time: u64) -> u64
+    ensures { result ≡ number % 2 ^ 24 * 2 ^ 40 + time % 2 ^ 40 }
+{
+    number % NUMBERS * TIMES + time % TIMES
+}
+
+/// Returns the time of a word, if the word has this number.
+fn time_in(word: u64, number: u64) -> Option<u64>
+    ensures { result ≡ (if word / 2 ^ 40 == number % 2 ^ 24 then Some (word % 2 ^ 40) else None) }
+{
+    if word / TIMES == number % NUMBERS {
+        Some(word % TIMES)
+    } else {
+        None
     }
+}
+
+/// Returns how many microseconds lie between two times as words have them, of which `to` is the later one.
+fn passed(from: u64, to: u64) -> u64
+    ensures { result ≡ (to % 2 ^ 40 + 2 ^ 40 - from % 2 ^ 40) % 2 ^ 40 }
+{
+    (to % TIMES + TIMES - from % TIMES) % TIMES
 }

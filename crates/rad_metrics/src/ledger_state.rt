@@ -2,7 +2,7 @@
 
 use crate::ledger_fault::LedgerFault;
 use crate::ledger_lines::LedgerLine;
-use crate::ledger_reading::LedgerReading;
+use crate::ledger_metrics::LedgerReading;
 use rad_log::{Level, Log, WriterState, tell};
 use std::sync::Wait;
 use std::sync::atomic::{AtomicU64, Ordering};
@@ -146,7 +146,9 @@ impl LedgerState {
 
     /// Logs what is not logged yet: a fault, that entries are written again, and how many were dropped.
     pub fn tell<L: Log>(&self, log: &L) {
-        self.tell_fault(log);
+        if let Some(fault) = LedgerFault::of_number(self.fault.swap(0, Ordering::SeqCst)) {
+            log_ledger_fault(log, fault);
+        }
         if self.is_back.swap(0, Ordering::SeqCst) != 0 {
             tell(log, Level::Info, &LedgerLine::Back);
         }
@@ -154,13 +156,6 @@ impl LedgerState {
         let count = dropped.saturating_sub(self.told.swap(dropped, Ordering::SeqCst));
         if count != 0 {
             tell(log, Level::Error, &LedgerLine::Dropped(count));
-        }
-    }
-
-    /// Logs the fault that is to be logged.
-    fn tell_fault<L: Log>(&self, log: &L) {
-        if let Some(fault) = LedgerFault::of_number(self.fault.swap(0, Ordering::SeqCst)) {
-            log_ledger_fault(log, fault);
         }
     }
 

@@ -5,60 +5,56 @@
 //! lock, by the lane's worker, when it is asked for them. All labels come from the configuration, from the program and
 //! from its sockets, whoever sends. [`LedgerState`] keeps what the thread that writes the ledger reports, and logs it.
 //!
+//! What is counted is an [`Event`]: the metric that counts it, [`Counted`], and a [`Reason`], whose place and name are
+//! those of the enum of reasons that it has. A new reason is added there alone.
+//!
 //! Contracts say what each family is called, what its help text is and how each line is printed, which part of its
-//! [`Reading`] each metric of a home server is, as which event of a client a note is counted, and which text the
-//! ledger's metrics have. No contract covers what is behind a lock or in an atomic, such as a count: tests check it. The
-//! definitions are in `specs`: `Families` and `Samples` define the lines, `ProgramNumbers`, `LimitNumbers`,
-//! `ClientEvents`, `HomeNumbers`, `SocketNumbers` and `LedgerNumbers` the metrics of each, `LedgerText` the text of the
-//! ledger's, `LedgerFaults` the reasons for which the ledger is not written, `LedgerLines` its log lines, and `Buckets`
+//! [`Reading`] each metric of a home server is, as which event a report is counted, and which text the metrics of the
+//! program and of the ledger have. No contract covers what is behind a lock or in an atomic, such as a count: tests check
+//! it. The definitions are in `specs`: `Metrics` has the name, the kind and the help text of each metric, `Families`,
+//! `Samples` and `Values` how they are printed, `Reasons` the places and names of reasons, `Events` which events are
+//! counted, `LedgerFaults` the reasons for which the ledger is not written, `LedgerLines` its log lines, and `Buckets`
 //! the bounds of a histogram.
 #![tactic(auto)]
 
-mod atomics;
-mod client_event;
-mod client_numbers;
+mod counted;
+mod counts;
 mod draft;
+mod event;
 mod family;
 mod histogram;
 mod home_cells;
-mod home_family;
-mod home_number;
+mod home_metric;
 mod home_times;
+mod label;
 mod ledger_fault;
 mod ledger_lines;
-mod ledger_number;
-mod ledger_reading;
+mod ledger_metrics;
 mod ledger_state;
-mod ledger_text;
-mod limit_number;
+mod metric;
 mod numbers;
-mod program_number;
-mod reading;
+mod program_metrics;
+mod reason;
 mod sample;
-mod socket_number;
+mod socket_metric;
 mod socket_numbers;
-mod timed_word;
 mod udp_sockets;
-mod udp_table;
 mod value;
 mod writing;
 
-pub use client_event::{CLIENT_EVENTS, ClientEvent, ClientFamily};
+pub use counted::Counted;
+pub use counts::Counts;
 pub use draft::Draft;
+pub use event::{Event, report_peer, report_row, worker_row};
 pub use family::{Family, Kind};
-pub use home_number::HomeNumber;
+pub use home_metric::{HomeMetric, Reading};
 pub use ledger_fault::{LedgerFault, system_number};
-pub use ledger_number::LedgerNumber;
-pub use ledger_reading::LedgerReading;
+pub use ledger_metrics::{LedgerMetric, LedgerReading};
 pub use ledger_state::{LedgerState, log_ledger_fault};
-pub use ledger_text::write_ledger;
-pub use limit_number::LimitNumber;
 pub use numbers::Numbers;
-pub use program_number::ProgramNumber;
-pub use reading::Reading;
-pub use sample::{Labels, Sample};
-pub use socket_number::SocketNumber;
+pub use program_metrics::{ProgramMetric, ProgramReading, VERSION};
+pub use reason::Reason;
+pub use socket_metric::SocketMetric;
 pub use socket_numbers::SocketReading;
 pub use udp_sockets::{UdpSockets, read_udp_sockets};
 pub use value::Value;
-pub use writing::{VERSION, write_head, write_numbers};

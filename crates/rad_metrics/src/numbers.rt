@@ -1,15 +1,15 @@
 //! All metrics of a running proxy.
 
-use crate::client_event::ClientEvent;
-use crate::client_numbers::ClientNumbers;
+use crate::counted::Counted;
+use crate::counts::{Counts, atomics};
+use crate::event::{Event, report_peer, report_row};
 use crate::home_cells::{HomeCell, home_cells};
-use crate::reading::Reading;
-use crate::socket_numbers::{SocketNumbers, SocketReading};
-use rad_desk::{Note, Repeat, Standing, UpReason, Worker};
+use crate::program_metrics::ProgramReading;
+use crate::socket_numbers::SocketNumbers;
+use rad_desk::{Worker, WorkerReport};
 use rad_realms::{Config, Endpoint};
-use rad_tables::{Moment, Slot};
 use std::alloc::{AllocError, Global};
-use std::sync::Wait;
+use std::collections::BTreeMap;
 use std::sync::atomic::{AtomicU64, Ordering};
 use std::time::{Clock, Instant, SystemTime, UNIX_EPOCH};
 
@@ -22,9 +22,13 @@ pub struct Numbers<'a, R> {
     start: Option<Instant>,
     /// The same in milliseconds since 1970.
     started: u64,
-    clients: ClientNumbers,
-    /// When the front's turn began, in microseconds since the start.
-    front: AtomicU64,
+    /// The row of each client's address.
+    clients: BTreeMap<[u8; 4], usize>,
+    counts: Counts,
+    /// The number of datagrams that came from senders that are not clients.
+    strangers: AtomicU64,
+    /// When the turn of each worker began, in microseconds since the start: the front's, then those of the lanes in order.
+    turns: Vec<AtomicU64>,
     /// The home servers, in order.
     homes: Vec<HomeCell>,
     sockets: SocketNumbers,
@@ -38,35 +42,58 @@ impl<'a, R: Clock> Numbers<'a, R> {
     /// `AllocError` if memory is refused.
     pub fn new(alloc: Global, rt: &'a R, config: &Config) -> Result<Numbers<'a, R>, AllocError> {
         let started = time_since_1970(rt);
+        let lanes = config.homes().len();
+        let counts = Counts::new(alloc, lanes, config.clients().len())?;
+        let turns = atomics(alloc, lanes.saturating_add(1), 0)?;
+        let clients = rows_of(alloc, config)?;
+        let homes = home_cells(alloc, config.homes(), started)?;
         Ok(Numbers {
             rt,
             start: Instant::now(rt).ok(),
             started,
-            clients: ClientNumbers::new(alloc, config)?,
-            front: AtomicU64::new(0),
-            homes: home_cells(alloc, config.homes(), started)?,
+            clients,
+            counts,
+            strangers: AtomicU64::new(0),
+            turns,
+            homes,
             sockets: SocketNumbers::new(alloc),
         })
     }
 
-    /// Records that a worker's receive returned, with a datagram or without one: its turn begins.
-    pub fn woke(&self, worker: Worker) {
-        let now = self.microseconds();
-        match worker {
-            Worker::Front => self.front.store(now, Ordering::SeqCst),
-            Worker::Lane(lane) => self.woke_for(lane, now),
+    /// Records what a worker reports.
+    pub fn report(&self, worker: Worker, report: &WorkerReport<'_>) {
+        let row = report_row(worker, report);
+        self.count(row, report);
+        if worker == Worker::Front {
+            self.count_of_client(report);
+        }
+        if let WorkerReport::Woke = *report {
+            self.begin_turn(row);
+        }
+        if let Some(home) = row.checked_sub(1).and_then(|lane| self.homes.get(lane)) {
+            let sent = self.counts.get(row, Event::plain(Counted::Sent));
+            home.report(report, self.turn(0), self.turn(row), sent);
         }
     }
 
-    fn woke_for(&self, lane: u16, now: u64) {
-        if let Some(home) = self.home(lane) {
-            home.set_turn(now);
+    fn begin_turn(&self, row: usize) {
+        if let Some(turn) = self.turns.get(row) {
+            turn.store(self.microseconds(), Ordering::SeqCst);
         }
     }
 
     /// Returns the time now, in milliseconds since 1970.
     pub fn now(&self) -> u64 {
         time_since_1970(self.rt)
+    }
+
+    /// Returns what is known of the program now.
+    pub(crate) fn program(&self) -> ProgramReading {
+        ProgramReading {
+            started: self.started,
+            asked: self.now(),
+            strangers: self.strangers.load(Ordering::SeqCst),
+        }
     }
 
     /// Returns how many microseconds the program has run.
@@ -82,90 +109,34 @@ impl<'a, R: Clock> Numbers<'a, R> {
 }
 
 impl<R> Numbers<'_, R> {
-    fn home(&self, lane: u16) -> Option<&HomeCell> {
-        self.homes.get(usize::from(lane))
-    }
-
-    /// Returns the time `microseconds` microseconds after the start, in milliseconds since 1970.
-    fn time_at(&self, microseconds: u64) -> u64 {
-        self.started.saturating_add(microseconds / 1000)
-    }
-
-    /// Records that the front received a datagram from this address and port.
-    pub fn received(&self, from: Endpoint) {
-        self.clients.received(from.address);
-    }
-
-    /// Records a note of the front about the datagram that it received last.
-    pub fn noted(&self, note: Note) {
-        if let Some(event) = ClientEvent::of(note) {
-            self.clients.count(event);
+    /// Returns when the turn of the worker in a row began.
+    fn turn(&self, row: usize) -> u64 {
+        match self.turns.get(row) {
+            Some(turn) => turn.load(Ordering::SeqCst),
+            None => 0,
         }
     }
 
-    /// Records that the request that the front received last was accepted by a lane, under this number.
-    pub fn accepted(&self, lane: u16, number: u64) {
-        self.clients.count(ClientEvent::Accepted);
-        if let Some(home) = self.home(lane) {
-            home.times().was_accepted(number, self.front_turn());
+    /// Counts the event of a report of the worker or lane in a row.
+    fn count(&self, row: usize, report: &WorkerReport<'_>) {
+        if let Some(event) = Event::of(report) {
+            let times = match *report {
+                WorkerReport::Cut(requests) => requests,
+                _ => 1,
+            };
+            self.counts.add(row, event, times);
         }
     }
 
-    /// Returns when the front's turn began.
-    fn front_turn(&self) -> u64 {
-        self.front.load(Ordering::SeqCst)
-    }
-
-    /// Records that the request that the front received last is a repeat.
-    pub fn repeated(&self, repeat: Repeat) {
-        self.clients.count(ClientEvent::of_repeat(repeat));
-    }
-
-    /// Records that a response is sent to this address and port.
-    pub fn responds(&self, to: Endpoint) {
-        self.clients.responded(to.address);
-    }
-
-    /// Records that a lane is about to send the request of this number for the first time, under this pair.
-    pub fn first_sent(&self, lane: u16, number: u64, slot: Slot) {
-        if let Some(home) = self.home(lane) {
-            home.times()
-                .first_sent(number, slot, self.front_turn(), home.turn());
-        }
-    }
-
-    /// Records that a lane's request that is outstanding under this pair is answered, by the response of this serial.
-    pub fn replied(&self, lane: u16, serial: u64, slot: Slot) {
-        if let Some(home) = self.home(lane) {
-            home.times().replied(serial, slot, home.turn());
-        }
-    }
-
-    /// Records that a lane's response of this serial was sent.
-    pub fn left(&self, lane: u16, serial: u64) {
-        if let Some(home) = self.home(lane) {
-            home.times().left(serial, self.front_turn());
-        }
-    }
-
-    /// Records that a home server answered a request.
-    pub fn answered(&self, lane: u16) {
-        if let Some(home) = self.home(lane) {
-            home.set_last_answer(self.time_at(home.turn()));
-        }
-    }
-
-    /// Records that a home server is marked up or down from now on.
-    pub fn turned(&self, lane: u16) {
-        if let Some(home) = self.home(lane) {
-            home.set_since(self.time_at(home.turn()));
-        }
-    }
-
-    /// Records why a home server is marked up.
-    pub fn went_up(&self, lane: u16, reason: UpReason) {
-        if let Some(home) = self.home(lane) {
-            home.count_up(reason);
+    /// Counts the event of a report of the front, of the client that it is about.
+    fn count_of_client(&self, report: &WorkerReport<'_>) {
+        let (Some(event), Some(peer)) = (Event::of_client(report), report_peer(report)) else {
+            return;
+        };
+        if let Some(row) = self.clients.get(&peer.address) {
+            self.counts.add(*row, event, 1);
+        } else if event.metric == Counted::ClientReceived {
+            self.strangers.fetch_add(1, Ordering::SeqCst);
         }
     }
 
@@ -178,16 +149,9 @@ impl<R> Numbers<'_, R> {
 
     /// Returns whether the worker of a lane is to report the lane's standing.
     pub fn asks(&self, lane: u16) -> bool {
-        match self.home(lane) {
+        match self.homes.get(usize::from(lane)) {
             Some(home) => home.is_asked(),
             None => false,
-        }
-    }
-
-    /// Records the standing of a lane at this moment, and how many Accounting-Requests were sent to its home server.
-    pub fn stands(&self, lane: u16, moment: Moment, standing: Standing, sent: u64) {
-        if let Some(home) = self.home(lane) {
-            home.set_standing(standing, moment, self.time_at(home.turn()), sent);
         }
     }
 
@@ -196,51 +160,33 @@ impl<R> Numbers<'_, R> {
         self.sockets.bound(worker, at, buffer);
     }
 
-    /// Replaces `readings` with those of all sockets, with what a table of /proc/self/net/udp reports of each.
-    ///
-    /// # Errors
-    ///
-    /// `AllocError` if memory is refused.
-    pub fn read_sockets<S: Wait>(
-        &self,
-        rt: &S,
-        table: &str,
-        readings: &mut Vec<SocketReading>,
-    ) -> Result<(), AllocError> {
-        self.sockets.read(rt, table, readings)
+    /// Returns what is known of the sockets.
+    pub(crate) fn sockets(&self) -> &SocketNumbers {
+        &self.sockets
     }
 
-    /// Returns the counts of the clients' events.
-    pub(crate) fn clients(&self) -> &ClientNumbers {
-        &self.clients
+    /// Returns what is counted.
+    pub fn counts(&self) -> &Counts {
+        &self.counts
     }
 
     /// Returns what is known of each home server, in order.
     pub(crate) fn homes(&self) -> &[HomeCell] {
         self.homes.as_slice()
     }
+}
 
-    /// Replaces `readings` with what was last reported of each lane, in order.
-    ///
-    /// # Errors
-    ///
-    /// `AllocError` if memory is refused.
-    pub fn read_each<S: Wait>(
-        &self,
-        rt: &S,
-        readings: &mut Vec<Reading>,
-    ) -> Result<(), AllocError> {
-        readings.clear();
-        for home in &self.homes {
-            readings.push(home.reading(rt))?;
-        }
-        Ok(())
+/// Returns the row of each client's address.
+///
+/// # Errors
+///
+/// `AllocError` if memory is refused.
+fn rows_of(alloc: Global, config: &Config) -> Result<BTreeMap<[u8; 4], usize>, AllocError> {
+    let mut rows = BTreeMap::new(alloc);
+    for (row, client) in config.clients().iter().enumerate() {
+        rows.insert(client.address(), row)?;
     }
-
-    /// Returns when the program started, in milliseconds since 1970.
-    pub fn started(&self) -> u64 {
-        self.started
-    }
+    Ok(rows)
 }
 
 /// Returns the time, in milliseconds since 1970; 0 if there is none.

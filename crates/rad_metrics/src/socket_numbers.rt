@@ -1,7 +1,7 @@
 //! The sockets of the workers: the receive buffer that the system granted each, and how many datagrams it dropped
 //! because that was full.
 
-use crate::udp_table::dropped_at;
+use crate::udp_sockets::dropped_at;
 use rad_desk::Worker;
 use rad_realms::Endpoint;
 use std::alloc::{AllocError, Global};

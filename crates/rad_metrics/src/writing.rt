@@ -1,299 +1,192 @@
 //! The text of all metrics, one family after the other.
 
-use crate::client_event::{CLIENT_EVENTS, CLIENT_FAMILIES, ClientEvent, ClientFamily};
-use crate::client_numbers::ClientNumbers;
-use crate::family::{Family, HelpLine, TypeLine};
-use crate::histogram::{BUCKETS, Histogram, bound_label};
+use crate::counted::Counted;
+use crate::counts::Counts;
+use crate::event::Event;
+use crate::family::Family;
+use crate::histogram::{BUCKETS, Histogram};
 use crate::home_cells::HomeCell;
-use crate::home_family::{HOME_FAMILIES, HomeFamily, Timed, TimedNames, UPS};
-use crate::home_number::HomeNumber;
-use crate::numbers::Numbers;
-use crate::program_number::ProgramNumber;
-use crate::reading::Reading;
-use crate::sample::{Labels, Sample};
-use crate::socket_number::{SOCKET_NUMBERS, SocketNumber};
+use crate::home_metric::{HomeMetric, Reading};
+use crate::home_times::Timed;
+use crate::label::{Label, Labels};
+use crate::ledger_metrics::{LedgerReading, write_ledger};
+use crate::metric::{METRICS, Metric};
+use crate::program_metrics::{ProgramMetric, ProgramReading, VERSION};
+use crate::sample::Sample;
+use crate::socket_metric::SocketMetric;
 use crate::socket_numbers::SocketReading;
 use crate::value::Value;
-use rad_desk::{UpReason, Worker};
-use rad_realms::{Config, Home};
+use rad_desk::Worker;
+use rad_realms::{Client, Home};
 use std::io::{self, Write};
-use std::time::Clock;
 
-/// The version of the program.
-pub const VERSION: &str = "0.1.0";
-
-/// What is known of the home servers.
+/// What is written: what was reported so far, and what was read.
 #[derive(Clone, Copy)]
-struct Known<'a> {
-    homes: &'a [Home],
-    /// What was read of each lane.
-    readings: &'a [Reading],
-    /// What was reported of each lane.
-    cells: &'a [HomeCell],
+pub(crate) struct Known<'a> {
+    pub(crate) clients: &'a [Client],
+    pub(crate) homes: &'a [Home],
+    pub(crate) counts: &'a Counts,
+    pub(crate) cells: &'a [HomeCell],
+    pub(crate) program: ProgramReading,
+    pub(crate) readings: &'a [Reading],
+    pub(crate) sockets: &'a [SocketReading],
+    pub(crate) ledger: Option<LedgerReading>,
 }
 
-/// Why a home server is marked up.
-const UP_REASONS: &[UpReason] = &[
-    UpReason::Answered,
-    UpReason::ProbeAnswered,
-    UpReason::DownWaitOver,
-];
-
-/// Writes all metrics: those reported so far, and what was read of each lane and each socket.
+/// Writes all metrics.
 ///
 /// # Errors
 ///
 /// `OutOfMemory` if memory is refused.
-pub fn write_numbers<R: Clock>(
-    text: &mut Vec<u8>,
-    config: &Config,
-    numbers: &Numbers<'_, R>,
-    readings: &[Reading],
-    sockets: &[SocketReading],
-) -> io::Result<()> {
-    write_program(text, numbers.started(), numbers.now())?;
-    write_clients(text, config, numbers.clients())?;
-    let known = Known {
-        homes: config.homes(),
-        readings,
-        cells: numbers.homes(),
-    };
-    write_homes(text, known)?;
-    write_sockets(text, known.homes, sockets)
+pub(crate) fn write_metrics(text: &mut Vec<u8>, known: &Known<'_>) -> io::Result<()> {
+    for metric in METRICS {
+        write_metric(text, *metric, known)?;
+    }
+    Ok(())
+}
+
+fn write_metric(text: &mut Vec<u8>, metric: Metric, known: &Known<'_>) -> io::Result<()> {
+    match metric {
+        Metric::Program(metric) => write_program(text, metric, &known.program),
+        Metric::Ledger => write_ledger(text, known.ledger),
+        Metric::Counted(metric) if metric.is_of_clients() => write_clients(text, metric, known),
+        Metric::Counted(metric) => write_workers(text, metric, known),
+        Metric::Home(metric) => write_homes(text, metric, known),
+        Metric::Timed(timed) => write_times(text, timed, known),
+        Metric::Socket(metric) => write_sockets(text, metric, known),
+    }
 }
 
 /// Writes the lines that precede the samples of a family.
-///
-/// # Errors
-///
-/// `OutOfMemory` if memory is refused.
-pub fn write_head(text: &mut Vec<u8>, family: Family) -> io::Result<()> {
-    let help = HelpLine(family);
-    let kind = TypeLine(family);
-    write!(text, "{help}\n{kind}\n")
+fn write_head(text: &mut Vec<u8>, family: Family) -> io::Result<()> {
+    write!(text, "{family}")
 }
 
-/// Writes a sample with this name.
+/// Writes a sample of a family, with this suffix to its name.
 fn write_sample(
     text: &mut Vec<u8>,
-    name: &'static str,
+    family: Family,
+    suffix: &'static str,
     labels: Labels<'_>,
     value: Value,
 ) -> io::Result<()> {
     let sample = Sample {
-        name,
+        name: family.name,
+        suffix,
         labels,
         value,
     };
-    writeln!(text, "{sample}")
+    write!(text, "{sample}")
 }
 
-/// Writes a family of one sample.
-fn write_one(
+/// Writes a metric of the program.
+fn write_program(
     text: &mut Vec<u8>,
-    number: ProgramNumber,
-    labels: Labels<'_>,
-    value: Value,
+    metric: ProgramMetric,
+    program: &ProgramReading,
 ) -> io::Result<()> {
-    let family = number.family();
+    let label = match metric {
+        ProgramMetric::BuildInfo => Some(Label::Version(VERSION)),
+        _ => None,
+    };
+    write_head(text, metric.family())?;
+    let labels = Labels(label, None);
+    write_sample(text, metric.family(), "", labels, metric.value(program))
+}
+
+/// Writes what a metric counts of the front, and then of the lanes in order. Only a metric that both sides have says of
+/// which side it is.
+fn write_workers(text: &mut Vec<u8>, metric: Counted, known: &Known<'_>) -> io::Result<()> {
+    write_head(text, metric.family())?;
+    if metric.is_of_front() {
+        let side = metric.is_of_lanes().then_some(Label::Clients);
+        write_row(text, metric, side, 0, known.counts)?;
+    }
+    if metric.is_of_lanes() {
+        for (lane, home) in known.homes.iter().enumerate() {
+            let owner = Some(Label::Home(lane, home.name()));
+            write_row(text, metric, owner, lane.saturating_add(1), known.counts)?;
+        }
+    }
+    Ok(())
+}
+
+/// Writes what a metric counts of the clients, in the order of the configuration.
+fn write_clients(text: &mut Vec<u8>, metric: Counted, known: &Known<'_>) -> io::Result<()> {
+    write_head(text, metric.family())?;
+    for (row, client) in known.clients.iter().enumerate() {
+        let owner = Some(Label::Client(client.address()));
+        write_row(text, metric, owner, row, known.counts)?;
+    }
+    Ok(())
+}
+
+/// Writes what a metric counts in a row, for each of its reasons.
+fn write_row(
+    text: &mut Vec<u8>,
+    metric: Counted,
+    owner: Option<Label<'_>>,
+    row: usize,
+    counts: &Counts,
+) -> io::Result<()> {
+    for place in 0..metric.width() {
+        if let Some(reason) = metric.reason_at(place) {
+            let labels = Labels(owner, reason.label());
+            let count = counts.get(row, Event { metric, reason });
+            write_sample(text, metric.family(), "", labels, Value::Count(count))?;
+        }
+    }
+    Ok(())
+}
+
+/// Writes a metric of each home server of which something was read.
+fn write_homes(text: &mut Vec<u8>, metric: HomeMetric, known: &Known<'_>) -> io::Result<()> {
+    let family = metric.family();
     write_head(text, family)?;
-    write_sample(text, family.name, labels, value)
-}
-
-/// Writes the metrics of the program, which started at `started` and is asked at `now`.
-fn write_program(text: &mut Vec<u8>, started: u64, now: u64) -> io::Result<()> {
-    let labels = Labels::Version(VERSION);
-    write_one(text, ProgramNumber::BuildInfo, labels, Value::Count(1))?;
-    write_time(text, ProgramNumber::Start, started)?;
-    write_time(text, ProgramNumber::Report, now)
-}
-
-fn write_time(text: &mut Vec<u8>, number: ProgramNumber, time: u64) -> io::Result<()> {
-    write_one(text, number, Labels::None, Value::Milliseconds(time))
-}
-
-/// Writes the metrics of all clients, and of senders that are not clients.
-fn write_clients(text: &mut Vec<u8>, config: &Config, clients: &ClientNumbers) -> io::Result<()> {
-    let strangers = Value::Count(clients.strangers());
-    write_one(text, ProgramNumber::Strangers, Labels::None, strangers)?;
-    for family in CLIENT_FAMILIES {
-        write_client_family(text, *family, config, clients)?;
+    for (lane, (home, reading)) in known.homes.iter().zip(known.readings).enumerate() {
+        let labels = Labels(Some(Label::Home(lane, home.name())), None);
+        write_sample(text, family, "", labels, metric.value(reading))?;
     }
     Ok(())
 }
 
-/// Writes a family of the clients, in the order of the configuration.
-fn write_client_family(
-    text: &mut Vec<u8>,
-    family: ClientFamily,
-    config: &Config,
-    clients: &ClientNumbers,
-) -> io::Result<()> {
-    write_head(text, family.family())?;
-    for (place, client) in config.clients().iter().enumerate() {
-        write_client(text, family, place, client.address(), clients)?;
+/// Writes a histogram of each home server.
+fn write_times(text: &mut Vec<u8>, timed: Timed, known: &Known<'_>) -> io::Result<()> {
+    let family = timed.family();
+    write_head(text, family)?;
+    for (lane, (home, cell)) in known.homes.iter().zip(known.cells).enumerate() {
+        let owner = Label::Home(lane, home.name());
+        write_histogram(text, family, owner, cell.times().histogram(timed))?;
     }
     Ok(())
-}
-
-/// Writes the samples of a family for a client.
-fn write_client(
-    text: &mut Vec<u8>,
-    family: ClientFamily,
-    place: usize,
-    address: [u8; 4],
-    clients: &ClientNumbers,
-) -> io::Result<()> {
-    for event in CLIENT_EVENTS {
-        if event.family() == family {
-            let labels = labels_of(address, *event);
-            let value = Value::Count(clients.get(place, *event));
-            write_sample(text, family.family().name, labels, value)?;
-        }
-    }
-    Ok(())
-}
-
-/// Returns the labels of an event of a client. The event of a family of one kind has no reason.
-fn labels_of<'a>(address: [u8; 4], event: ClientEvent) -> Labels<'a> {
-    match event {
-        ClientEvent::Received | ClientEvent::Accepted | ClientEvent::Responded => {
-            Labels::Client(address)
-        }
-        ClientEvent::Waiting
-        | ClientEvent::Again
-        | ClientEvent::Unread
-        | ClientEvent::Dropped(_)
-        | ClientEvent::Refused(_) => Labels::ClientReason(address, event),
-    }
-}
-
-/// Writes all families of the home servers.
-fn write_homes(text: &mut Vec<u8>, known: Known<'_>) -> io::Result<()> {
-    for family in HOME_FAMILIES {
-        write_home_family(text, *family, known)?;
-    }
-    Ok(())
-}
-
-/// Writes a family of the home servers, in the order of the configuration.
-fn write_home_family(text: &mut Vec<u8>, family: HomeFamily, known: Known<'_>) -> io::Result<()> {
-    write_head(text, family.family())?;
-    for (lane, home) in known.homes.iter().enumerate() {
-        write_home(text, family, lane, home, known)?;
-    }
-    Ok(())
-}
-
-/// Writes the samples of a family for a home server.
-fn write_home(
-    text: &mut Vec<u8>,
-    family: HomeFamily,
-    lane: usize,
-    home: &Home,
-    known: Known<'_>,
-) -> io::Result<()> {
-    let name = home.name();
-    match family {
-        HomeFamily::Limit(limit) => {
-            let value = limit.value(home.limits().numbers());
-            write_sample(text, limit.family().name, Labels::Home(lane, name), value)
-        }
-        HomeFamily::Number(number) => write_reading(text, number, lane, name, known.readings),
-        HomeFamily::Ups => write_ups(text, lane, name, known.cells),
-        HomeFamily::Times(timed) => write_times(text, timed, lane, name, known.cells),
-    }
-}
-
-/// Writes a number of a home server, if something was read of it.
-fn write_reading(
-    text: &mut Vec<u8>,
-    number: HomeNumber,
-    lane: usize,
-    home: &str,
-    readings: &[Reading],
-) -> io::Result<()> {
-    match readings.get(lane) {
-        Some(reading) => {
-            let labels = Labels::Home(lane, home);
-            write_sample(text, number.family().name, labels, reading.value(number))
-        }
-        None => Ok(()),
-    }
-}
-
-/// Writes how often a home server was marked up for each reason.
-fn write_ups(text: &mut Vec<u8>, lane: usize, home: &str, cells: &[HomeCell]) -> io::Result<()> {
-    for reason in UP_REASONS {
-        let labels = Labels::HomeUp(lane, home, *reason);
-        let ups = Value::Count(ups_of(cells, lane, *reason));
-        write_sample(text, UPS.name, labels, ups)?;
-    }
-    Ok(())
-}
-
-/// Returns how often a lane's home server was marked up for a reason.
-fn ups_of(cells: &[HomeCell], lane: usize, reason: UpReason) -> u64 {
-    match cells.get(lane) {
-        Some(cell) => cell.ups(reason),
-        None => 0,
-    }
-}
-
-/// Writes the histogram of a home server.
-fn write_times(
-    text: &mut Vec<u8>,
-    timed: Timed,
-    lane: usize,
-    home: &str,
-    cells: &[HomeCell],
-) -> io::Result<()> {
-    match cells.get(lane) {
-        Some(cell) => write_histogram(text, timed.names(), lane, home, timed.of(cell.times())),
-        None => Ok(()),
-    }
 }
 
 /// Writes how often something took no longer than each bound, the sum of all durations, and their number.
 fn write_histogram(
     text: &mut Vec<u8>,
-    names: TimedNames,
-    lane: usize,
-    home: &str,
+    family: Family,
+    owner: Label<'_>,
     histogram: &Histogram,
 ) -> io::Result<()> {
     let mut count = 0_u64;
     for bucket in 0..BUCKETS {
         count = count.saturating_add(histogram.get(bucket));
-        let labels = Labels::HomeBound(lane, home, bound_label(bucket));
-        write_sample(text, names.bucket, labels, Value::Count(count))?;
+        let labels = Labels(Some(owner), Some(Label::Bound(bucket)));
+        write_sample(text, family, "_bucket", labels, Value::Count(count))?;
     }
-    let labels = Labels::Home(lane, home);
+    let labels = Labels(Some(owner), None);
     let sum = Value::Microseconds(histogram.sum());
-    write_sample(text, names.sum, labels, sum)?;
-    write_sample(text, names.count, labels, Value::Count(count))
+    write_sample(text, family, "_sum", labels, sum)?;
+    write_sample(text, family, "_count", labels, Value::Count(count))
 }
 
-/// Writes the metrics of the sockets, in the order in which they were bound.
-fn write_sockets(text: &mut Vec<u8>, homes: &[Home], sockets: &[SocketReading]) -> io::Result<()> {
-    for number in SOCKET_NUMBERS {
-        write_socket_number(text, *number, homes, sockets)?;
-    }
-    Ok(())
-}
-
-/// Writes a number of each socket.
-fn write_socket_number(
-    text: &mut Vec<u8>,
-    number: SocketNumber,
-    homes: &[Home],
-    sockets: &[SocketReading],
-) -> io::Result<()> {
-    let family = number.family();
+/// Writes a metric of the sockets, in the order in which they were bound.
+fn write_sockets(text: &mut Vec<u8>, metric: SocketMetric, known: &Known<'_>) -> io::Result<()> {
+    let family = metric.family();
     write_head(text, family)?;
-    for socket in sockets {
-        let labels = socket_labels(homes, socket);
-        write_sample(text, family.name, labels, number.value(socket))?;
+    for socket in known.sockets {
+        let labels = socket_labels(known.homes, socket);
+        write_sample(text, family, "", labels, metric.value(socket))?;
     }
     Ok(())
 }
@@ -301,15 +194,16 @@ fn write_socket_number(
 /// Returns the labels of a socket. A lane's socket is labelled by its index, since its port is another one at each
 /// start.
 fn socket_labels<'a>(homes: &'a [Home], socket: &SocketReading) -> Labels<'a> {
-    match socket.worker {
-        Worker::Front => Labels::Socket(socket.at),
+    let (owner, label) = match socket.worker {
+        Worker::Front => (Label::Clients, Label::Socket(socket.at)),
         Worker::Lane(lane) => {
             let lane = usize::from(lane);
-            let home = match homes.get(lane) {
+            let name = match homes.get(lane) {
                 Some(home) => home.name(),
                 None => "none",
             };
-            Labels::HomeSocket(lane, home, socket.place)
+            (Label::Home(lane, name), Label::Port(socket.place))
         }
-    }
+    };
+    Labels(Some(owner), Some(label))
 }

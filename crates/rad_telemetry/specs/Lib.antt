@@ -1,6 +1,3 @@
-pub mod EventKinds
 pub mod Workers
-pub mod DeltaLines
-pub mod MetricLines
-pub mod WatchLines
+pub mod Lines
 pub mod FileFaults

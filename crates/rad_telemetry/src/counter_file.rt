@@ -1,7 +1,7 @@
 //! The file that the counters are written to, and how it is replaced.
 
 use rad_log::{Log, warn_of_reason};
-use std::alloc::{AllocError, AllocGlobal, Global};
+use std::alloc::{AllocError, AllocGlobal};
 use std::env::{self, Env, VarError};
 use std::fmt::{self, Display};
 use std::fs::{self, Files, Metadata, OpenFile, OpenOptions, Permissions};
@@ -135,33 +135,20 @@ where
     }
 }
 
-/// Returns a name in the directory of a path, which nobody can know before.
+/// Returns a name in the directory of a path, which nobody can know before: the path, with a number and `.new` after it.
 fn new_name<R: AllocGlobal + RandomSource>(rt: &R, path: &str) -> Result<String, FileFault> {
     let mut random = [0; 8];
     if rt.fill_bytes(&mut random).is_err() {
         return Err(FileFault::NotWritten);
     }
-    match name_with(rt.alloc(), path, u64::from_be_bytes(random)) {
-        Ok(name) => Ok(name),
-        Err(AllocError) => Err(FileFault::NotWritten),
+    let number = u64::from_be_bytes(random);
+    let Ok(mut name) = String::from_str(rt.alloc(), path) else {
+        return Err(FileFault::NotWritten);
+    };
+    match fmt::Write::write_fmt(&mut name, format_args!(".{number:016x}.new")) {
+        Ok(()) => Ok(name),
+        Err(_) => Err(FileFault::NotWritten),
     }
-}
-
-/// Returns a path with a number and `.new` after it.
-fn name_with(alloc: Global, path: &str, number: u64) -> Result<String, AllocError> {
-    let mut name = String::from_str(alloc, path)?;
-    push_number(&mut name, number)?;
-    Ok(name)
-}
-
-/// Adds a number and `.new` to a path.
-fn push_number(name: &mut String, number: u64) -> Result<(), AllocError> {
-    name.push('.')?;
-    for place in 0..16u32 {
-        let digit = number >> (60 - 4 * place) & 0xf;
-        name.push(char::from_digit(digit as u32, 16).unwrap_or('0'))?;
-    }
-    name.push_str(".new")
 }
 
 /// Creates a file of this name, which must not exist yet. Returns which file it is, if it then has the text and its mode,

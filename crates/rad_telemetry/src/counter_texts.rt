@@ -63,7 +63,7 @@ impl CounterTexts {
         let mut text = Vec::new(alloc);
         for _ in rt.forever() {
             let is_last = self.state.begin_round();
-            if self.take(rt, &mut text) {
+            if self.next.lock(rt).take(&mut text) {
                 let outcome = file.replace(&mut files, text.as_slice());
                 self.next.lock(rt).set_fault(outcome.err());
             }
@@ -83,12 +83,6 @@ impl CounterTexts {
     /// Waits until the thread, if there is one, has written the last text, at most until `longest` after `start`.
     pub fn wait<R: Clock + Wait>(&self, rt: &R, start: Instant, longest: Duration) {
         self.state.wait(rt, start, longest);
-    }
-
-    /// Takes the next text, and returns whether there was one.
-    fn take<R: Wait>(&self, rt: &R, text: &mut Vec<u8>) -> bool {
-        let mut next = self.next.lock(rt);
-        next.take(text)
     }
 }
 
@@ -122,6 +116,7 @@ impl NextText {
         self.is_new = true;
     }
 
+    /// Takes the text, and returns whether there was one.
     fn take(&mut self, text: &mut Vec<u8>) -> bool {
         let is_new = self.is_new;
         if is_new {

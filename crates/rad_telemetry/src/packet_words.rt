@@ -6,7 +6,7 @@ ghost use Rattle.rad_realms.specs.Realm.{realm_of_packet as the_realm};
 ghost use Rattle.rad_lane.specs.Session.{session_id};
 
 use rad_lane::session_of;
-use rad_packet::{PacketRef, ReadFault, read};
+use rad_packet::{PacketRef, read};
 use rad_realms::realm_of_packet;
 use std::fmt;
 
@@ -23,6 +23,10 @@ pub struct PacketWords<'a> {
 /// one.
 #[derive(Clone, Copy)]
 pub struct DatagramWords<'a>(pub &'a [u8]);
+
+/// The packet words of a datagram, or nothing if it is not a packet.
+#[derive(Clone, Copy)]
+pub struct WordsOf<'a>(pub &'a [u8]);
 
 /// A key and its text, with a space before them, if there is such a text.
 #[derive(Clone, Copy)]
@@ -73,7 +77,19 @@ impl fmt::Display for DatagramWords<'_> {
     fn fmt<W: fmt::Write>(&self, f: &mut fmt::Formatter<W>) -> fmt::Result {
         match read(self.0) {
             Ok(packet) => write_packet(f, &packet),
-            Err(fault) => write_unread(f, self.0.len(), fault),
+            Err(fault) => {
+                let count = self.0.len();
+                write!(f, "octets={count} reason=\"Unread {fault}\"")
+            }
+        }
+    }
+}
+
+impl fmt::Display for WordsOf<'_> {
+    fn fmt<W: fmt::Write>(&self, f: &mut fmt::Formatter<W>) -> fmt::Result {
+        match read(self.0) {
+            Ok(packet) => PacketWords::of(&packet).fmt(f),
+            Err(_) => Ok(()),
         }
     }
 }
@@ -84,15 +100,6 @@ fn write_packet<W: fmt::Write>(f: &mut fmt::Formatter<W>, packet: &PacketRef<'_>
     let length = packet.octets().len();
     let words = PacketWords::of(packet);
     write!(f, "code={code} length={length}{words}")
-}
-
-/// Writes the words of a datagram of `count` octets that is not a packet.
-fn write_unread<W: fmt::Write>(
-    f: &mut fmt::Formatter<W>,
-    count: usize,
-    fault: ReadFault,
-) -> fmt::Result {
-    write!(f, "octets={count} reason=\"Unread {fault}\"")
 }
 
 impl fmt::Display for Escaped<'_> {

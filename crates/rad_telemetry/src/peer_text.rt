@@ -17,7 +17,7 @@ struct ClientPort(u16);
 
 impl fmt::Display for PeerText {
     ghost use Rattle.std.specs.Prelude.{Some};
-    ghost use Rattle.rad_telemetry.specs.DeltaLines.{peer_text};
+    ghost use Rattle.rad_telemetry.specs.Lines.{peer_text};
 
     ghost output = { λ peer. Some (peer_text peer.0) };
 
@@ -30,7 +30,7 @@ impl fmt::Display for PeerText {
 
 impl fmt::Display for ClientText {
     ghost use Rattle.std.specs.Prelude.{Some};
-    ghost use Rattle.rad_telemetry.specs.DeltaLines.{client_text};
+    ghost use Rattle.rad_telemetry.specs.Lines.{client_text};
 
     ghost output = { λ client. Some (client_text client.0) };
 
@@ -43,11 +43,11 @@ impl fmt::Display for ClientText {
 
 impl fmt::Display for ClientPort {
     ghost use Rattle.std.specs.Prelude.{Some};
-    ghost use Rattle.rad_telemetry.specs.DeltaLines.{client_port_text};
+    ghost use Rattle.rad_telemetry.specs.Lines.{client_port_text};
 
     ghost output = { λ port. Some (client_port_text port.0) };
 
-    #[tactic(auto, unfolding(crate::specs::DeltaLines::client_port_text))]
+    #[tactic(auto, unfolding(crate::specs::Lines::client_port_text))]
     fn fmt<W: fmt::Write>(&self, f: &mut fmt::Formatter<W>) -> fmt::Result {
         let port = self.0;
         write!(f, "client_port={port}")

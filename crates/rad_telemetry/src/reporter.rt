@@ -2,20 +2,16 @@
 //! counters for a file.
 
 use crate::counter_file::log_fault;
-use crate::counter_text::write_counters;
 use crate::counter_texts::CounterTexts;
-use crate::counters::Counters;
-use crate::delta_log::log_deltas_of;
-use crate::stop_flag::StopFlag;
-use crate::workers::worker_of_lane;
-use rad_desk::Worker;
-use rad_log::Log;
-use rad_metrics::{Draft, LedgerReading, LedgerState, Numbers, UdpSockets, write_ledger};
+use crate::sums::Sums;
+use rad_log::{Log, wait_until_set};
+use rad_metrics::{Draft, LedgerState, Numbers, UdpSockets};
 use rad_realms::Config;
 use std::alloc::{AllocError, Global};
 use std::io;
+use std::sync::atomic::{AtomicU64, Ordering};
 use std::sync::{Wait, WaitMethods};
-use std::time::Clock;
+use std::time::{Clock, Duration, Instant};
 
 /// The time from one report to the next, in milliseconds.
 const PERIOD: u64 = 1000;
@@ -24,11 +20,42 @@ const PERIOD: u64 = 1000;
 /// waits this long for them at most. Each worker checks at least every 20 milliseconds whether it is asked.
 const ASKED: u64 = 40;
 
+/// Whether a reporter is to stop. The reporter shares the flag with other threads.
+#[derive(Drop)]
+pub struct StopFlag {
+    is_set: AtomicU64,
+}
+
+impl StopFlag {
+    pub fn new() -> StopFlag {
+        StopFlag {
+            is_set: AtomicU64::new(0),
+        }
+    }
+
+    /// Makes the reporter report once more and stop.
+    pub fn set(&self) {
+        self.is_set.store(1, Ordering::SeqCst);
+        self.is_set.wake_all();
+    }
+
+    pub(crate) fn is_set(&self) -> bool {
+        self.is_set.load(Ordering::SeqCst) != 0
+    }
+
+    /// Waits for `milliseconds`, or until the flag is set.
+    pub(crate) fn wait<R: Clock + Wait>(&self, rt: &R, milliseconds: u64) {
+        if let Ok(start) = Instant::now(rt) {
+            wait_until_set(rt, &self.is_set, start, Duration::from_millis(milliseconds));
+        }
+    }
+}
+
 /// What is reported, and where it goes.
 pub struct Reporter<'a, L, R> {
     pub(crate) config: &'a Config,
-    pub(crate) counters: &'a Counters,
     pub(crate) numbers: &'a Numbers<'a, R>,
+    pub(crate) sums: &'a Sums,
     pub(crate) log: &'a L,
     /// What takes the texts of the counters, if they go to a file.
     pub(crate) texts: Option<&'a CounterTexts>,
@@ -93,8 +120,7 @@ where
         reporter.ask();
         stop.wait(rt, ASKED);
     }
-    reporter.log_deltas();
-    reporter.log_ledger();
+    reporter.log_sums();
     reporter.leave_text(rt, sockets, draft);
     is_last
 }
@@ -107,17 +133,10 @@ impl<L: Log, R> Reporter<'_, L, R> {
         }
     }
 
-    /// Logs what was counted since the last call: one line for each worker and each kind of which there was any. What
-    /// is sent, and home servers that are marked down or up, have no such line.
-    pub fn log_deltas(&self) {
-        log_deltas_of(self.log, self.config, self.counters, Worker::Front);
-        for lane in 0..self.config.homes().len() {
-            log_deltas_of(self.log, self.config, self.counters, worker_of_lane(lane));
-        }
-    }
-
-    /// Logs what went wrong with the ledger since the last call.
-    fn log_ledger(&self) {
+    /// Logs what was counted since the last call, and what went wrong with the ledger.
+    fn log_sums(&self) {
+        let counts = self.numbers.counts();
+        self.sums.log(self.log, self.config, counts);
         if let Some(ledger) = self.ledger {
             ledger.tell(self.log);
         }
@@ -129,41 +148,27 @@ impl<L: Log, R> Reporter<'_, L, R> {
             log_fault(self.log, fault);
         }
     }
-
-    /// Writes all counters, one metric after the other.
-    ///
-    /// # Errors
-    ///
-    /// `OutOfMemory` if memory is refused.
-    pub fn write(&self, text: &mut Vec<u8>) -> io::Result<()> {
-        write_counters(text, self.config, self.counters)
-    }
 }
 
 impl<L: Log, R: Clock> Reporter<'_, L, R> {
     /// Leaves a text of all numbers to the thread that writes it to their file, if there is one. It also logs, once,
     /// why an earlier text was not written.
-    pub fn leave_text<S: Wait, U: UdpSockets>(&self, rt: &S, sockets: &U, draft: &mut Draft) {
+    fn leave_text<S: Wait, U: UdpSockets>(&self, rt: &S, sockets: &U, draft: &mut Draft) {
         let Some(texts) = self.texts else {
             return;
         };
         self.log_fault(rt, texts);
-        if draft.read(rt, sockets, self.numbers).is_ok() && self.write_all(draft).is_ok() {
+        if draft.read(rt, sockets, self.numbers).is_ok() && self.write(draft).is_ok() {
             texts.leave(rt, draft.text());
         }
     }
 
-    /// Returns the counts of the ledger, if there is one.
-    fn ledger_reading(&self) -> Option<LedgerReading> {
-        let ledger = self.ledger?;
-        Some(ledger.reading(self.numbers.now()))
-    }
-
-    /// Writes all counters, then all numbers of the clients, the home servers and the sockets, and then those of the
-    /// ledger, if there is one.
-    fn write_all(&self, draft: &mut Draft) -> io::Result<()> {
-        self.write(draft.begin())?;
-        draft.finish(self.config, self.numbers)?;
-        write_ledger(draft.text(), self.ledger_reading())
+    /// Writes all metrics, and those of the ledger if there is one.
+    fn write(&self, draft: &mut Draft) -> io::Result<()> {
+        let ledger = match self.ledger {
+            Some(ledger) => Some(ledger.reading(self.numbers.now())),
+            None => None,
+        };
+        draft.write(self.config, self.numbers, ledger)
     }
 }

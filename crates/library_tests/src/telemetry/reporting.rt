@@ -1,5 +1,5 @@
 //! A test of what no run of the program shows of reports: of a worker that ends by itself, of a lane that is not there, of a full ring
-//! before any datagram, and of a datagram that is no packet and is sent; and of when a lane is asked for its standing.
+//! over an empty datagram, and of a datagram that is no packet and is sent; and of when a lane is asked for its standing.
 
 use crate::comparing::holds;
 use crate::configured::configured;
@@ -7,9 +7,10 @@ use crate::telemetry::logs::{MemoryLog, has_logged, log_up_to};
 use rad_desk::{DeskFault, Gate, Standing, Worker, WorkerReport};
 use rad_lane::Counts;
 use rad_log::LevelFilter;
+use rad_metrics::{Counted, Event, Reason};
 use rad_realms::{Config, Endpoint};
 use rad_tables::Moment;
-use rad_telemetry::{EventKind, Telemetry};
+use rad_telemetry::Telemetry;
 use std::alloc::{AllocError, Global};
 use std::test::Fail;
 use std::time::Clock;
@@ -52,8 +53,11 @@ const EMPTY: Standing = Standing {
     last_answered: None,
 };
 
-/// The kind of a home server's datagram for which the ring is full.
-const RING_FULL: EventKind = EventKind::Unheard(DeskFault::RingFull);
+/// What is counted of a home server's datagram for which the ring is full.
+const RING_FULL: Event = Event {
+    metric: Counted::Unheard,
+    reason: Reason::Unheard(DeskFault::RingFull),
+};
 
 /// The lines of the reports.
 const LINES: &str = "event=stopped worker=front reason=\"ended by itself\"\n\
@@ -69,33 +73,35 @@ const ERRORS: &str = "event=stopped worker=front reason=\"ended by itself\"\n\
 fn report<R: Clock>(telemetry: &Telemetry<'_, MemoryLog, R>) -> bool {
     telemetry.tell_end(Worker::Front);
     telemetry.tell_end(Worker::Lane(1));
-    let unheard = WorkerReport::Unheard {
-        fault: DeskFault::RingFull,
-        octets: &[4, 7, 0],
-    };
-    telemetry.report(Worker::Lane(1), &unheard);
+    telemetry.report(
+        Worker::Lane(1),
+        &WorkerReport::Unheard {
+            fault: DeskFault::RingFull,
+            octets: &[],
+        },
+    );
     telemetry.report(Worker::Lane(2), &WorkerReport::WentDown(None));
-    let sends = WorkerReport::Sends {
-        to: HOME,
-        octets: &[4, 7, 0],
-    };
-    telemetry.report(Worker::Lane(1), &sends);
-    let counters = telemetry.counters();
-    counters.get(Worker::Front, RING_FULL) == 0
-        && counters.get(Worker::Lane(0), RING_FULL) == 0
-        && counters.get(Worker::Lane(1), RING_FULL) == 1
-        && counters.get(Worker::Lane(2), EventKind::WentDown) == 0
+    telemetry.report(
+        Worker::Lane(1),
+        &WorkerReport::Sends {
+            to: HOME,
+            octets: &[4, 7, 0],
+        },
+    );
+    let counts = telemetry.numbers().counts();
+    counts.get(0, RING_FULL) == 0
+        && counts.get(1, RING_FULL) == 0
+        && counts.get(2, RING_FULL) == 1
+        && counts.get(3, Event::plain(Counted::WentDown)) == 0
 }
 
 /// Returns whether a lane is asked for its standing once all are, until it has told it.
 fn asks_until_told<R: Clock>(telemetry: &Telemetry<'_, MemoryLog, R>) -> bool {
     let before = telemetry.asks(0);
     telemetry.numbers().ask_each();
-    let stands = WorkerReport::Stands {
-        moment: Moment::new(5067).unwrap(),
-        standing: EMPTY,
-    };
-    telemetry.report(Worker::Lane(0), &stands);
+    let moment = Moment::new(5067).unwrap();
+    let standing = EMPTY;
+    telemetry.report(Worker::Lane(0), &WorkerReport::Stands { moment, standing });
     !before && !telemetry.asks(0) && telemetry.asks(1) && !telemetry.asks(2)
 }
 

@@ -1,0 +1,144 @@
+//! The metrics of a home server and of the limits of its lane, and what they are read of.
+
+ghost use Rattle.std.specs.Prelude.{◌≡◌, ◌-◌};
+ghost use Rattle.rad_metrics.specs.Families.{described_by};
+ghost use Rattle.rad_metrics.specs.Metrics.{home_family, home_value, age_at, resent};
+
+use crate::family::{Family, Kind, families};
+use crate::value::Value;
+use rad_desk::Standing;
+use rad_realms::LimitNumbers;
+use rad_tables::Moment;
+
+/// What was last reported of a home server, all of it under one hold of its lane's lock. Its times are in milliseconds since 1970, except for those of the lane.
+#[derive(Clone, Copy)]
+pub struct Reading {
+    /// The limits of its lane.
+    pub limits: LimitNumbers,
+    /// The standing of its lane.
+    pub standing: Standing,
+    /// The lane's moment at that time.
+    pub moment: Moment,
+    /// When that was reported.
+    pub told: u64,
+    /// Since when the home server is marked up or down.
+    pub since: u64,
+    /// When it last answered; 0 if it never did.
+    pub last_answer: u64,
+    /// How many Accounting-Requests were sent to it.
+    pub sent: u64,
+    /// The longest time since the first sending of an outstanding request, in milliseconds.
+    pub oldest_outstanding: u64,
+}
+
+/// A metric of a home server or of its lane.
+#[derive(Clone, Copy)]
+pub enum HomeMetric {
+    BookLimit,
+    QueueLimit,
+    WindowLimit,
+    RingLimit,
+    Span,
+    /// Whether it is marked up.
+    Up,
+    /// Since when it is marked up or down.
+    Since,
+    /// When its metrics were reported.
+    Told,
+    /// Whether its lane is drained.
+    Draining,
+    Accepted,
+    Answered,
+    Queued,
+    Outstanding,
+    /// How many requests the book holds.
+    Held,
+    /// How many sendings were not the first of their request.
+    Resent,
+    OldestQueued,
+    OldestOutstanding,
+    OldestHeld,
+    LastAnswer,
+}
+
+impl HomeMetric {
+    /// Returns the name, the kind and the help text of the family, which precede its samples.
+    pub fn family(self) -> Family
+        ensures { described_by result ≡ home_family self }
+    {
+        families! {
+            self;
+            HomeMetric::BookLimit => Gauge("book_limit", "The most requests that the book may hold."),
+            HomeMetric::QueueLimit => Gauge("queue_limit", "The most requests that may wait to be sent."),
+            HomeMetric::WindowLimit => Gauge("window_limit", "The most requests that may be outstanding."),
+            HomeMetric::RingLimit => Gauge("ring_limit", "The most responses that the ring may hold."),
+            HomeMetric::Span => Gauge("span_seconds", "How long after its answer a retransmitted request is answered again."),
+            HomeMetric::Up => Gauge("home_up", "Whether the home server is marked up."),
+            HomeMetric::Since => Gauge("home_since_time_seconds", "Since when the home server is marked up or down, in seconds since 1970."),
+            HomeMetric::Told => Gauge("home_report_time_seconds", "When the lane reported these metrics, in seconds since 1970."),
+            HomeMetric::Draining => Gauge("draining", "Whether the lane accepts no new requests."),
+            HomeMetric::Accepted => Counter("accepted_total", "Requests accepted since the start."),
+            HomeMetric::Answered => Counter("answered_total", "Requests answered by the home server since the start."),
+            HomeMetric::Queued => Gauge("queued", "Requests that wait to be sent."),
+            HomeMetric::Outstanding => Gauge("outstanding", "Requests sent and not answered."),
+            HomeMetric::Held => Gauge("book", "Requests that the book holds."),
+            HomeMetric::Resent => Counter("resent_total", "Accounting-Requests sent to the home server again."),
+            HomeMetric::OldestQueued => Gauge("oldest_queued_age_seconds", "How long the first request of the queue has waited."),
+            HomeMetric::OldestOutstanding => Gauge("oldest_outstanding_age_seconds", "How long ago the first request that is not answered was sent."),
+            HomeMetric::OldestHeld => Gauge("oldest_held_age_seconds", "How long ago the first request in the book was accepted."),
+            HomeMetric::LastAnswer => Gauge("last_answer_time_seconds", "When the home server last answered a request, in seconds since 1970, and 0 before that."),
+        }
+    }
+
+    /// Returns the value of the metric, by what was read of the lane.
+    pub fn value(self, reading: &Reading) -> Value
+        ensures { result ≡ home_value self reading.now }
+    {
+        let limits = reading.limits;
+        let counts = reading.standing.counts;
+        match self {
+            HomeMetric::BookLimit => Value::Count(u64::from(limits.book)),
+            HomeMetric::QueueLimit => Value::Count(u64::from(limits.queue)),
+            HomeMetric::WindowLimit => Value::Count(u64::from(limits.window)),
+            HomeMetric::RingLimit => Value::Count(u64::from(limits.ring)),
+            HomeMetric::Span => Value::Milliseconds(u64::from(limits.span)),
+            HomeMetric::Up => Value::of_bool(counts.up),
+            HomeMetric::Since => Value::Milliseconds(reading.since),
+            HomeMetric::Told => Value::Milliseconds(reading.told),
+            HomeMetric::Draining => Value::of_bool(counts.draining),
+            HomeMetric::Accepted => Value::Count(counts.accepted),
+            HomeMetric::Answered => Value::Count(counts.answered),
+            HomeMetric::Queued => Value::Count(counts.queued as u64),
+            HomeMetric::Outstanding => Value::Count(counts.outstanding as u64),
+            HomeMetric::Held => Value::Count(counts.accepted.saturating_sub(counts.opening)),
+            HomeMetric::Resent => Value::Count(resent_of(reading)),
+            HomeMetric::OldestQueued => {
+                Value::Milliseconds(age_of(reading.standing.first_queued, reading.moment))
+            }
+            HomeMetric::OldestOutstanding => Value::Milliseconds(reading.oldest_outstanding),
+            HomeMetric::OldestHeld => {
+                Value::Milliseconds(age_of(reading.standing.first_held, reading.moment))
+            }
+            HomeMetric::LastAnswer => Value::Milliseconds(reading.last_answer),
+        }
+    }
+}
+
+/// Returns how many of the sendings were not the first of their request.
+fn resent_of(reading: &Reading) -> u64
+    ensures { result ≡ resent reading.now }
+{
+    let counts = reading.standing.counts;
+    let first = counts.accepted.saturating_sub(counts.queued as u64);
+    reading.sent.saturating_sub(first)
+}
+
+/// Returns how many milliseconds lie between `first` and a moment; 0 if there is no `first`.
+fn age_of(first: Option<Moment>, moment: Moment) -> u64
+    ensures { result ≡ age_at first moment }
+{
+    match first {
+        Some(first) => moment.get().saturating_sub(first.get()),
+        None => 0,
+    }
+}

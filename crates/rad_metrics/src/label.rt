@@ -1,0 +1,89 @@
+//! Labels: whose a sample is, and by what else it differs from the others of its name.
+
+ghost use Rattle.std.specs.Prelude.{◌≡◌};
+ghost use Rattle.rad_metrics.specs.Samples.{reason_key};
+
+use crate::histogram::bound_label;
+use crate::reason::Reason;
+use rad_realms::{AddressText, Endpoint};
+use std::fmt;
+
+/// A label of a sample.
+#[derive(Clone, Copy)]
+pub enum Label<'a> {
+    /// The version of the program.
+    Version(&'a str),
+    /// The clients' side.
+    Clients,
+    /// A client, by its address.
+    Client([u8; 4]),
+    /// A lane, and its home server's name. These are two labels.
+    Home(usize, &'a str),
+    /// Why, or what is repeated.
+    Reason(Reason),
+    /// The bound of this bucket, in seconds.
+    Bound(usize),
+    /// The index of a socket among those of its lane.
+    Port(usize),
+    /// The address and port to which a socket is bound.
+    Socket(Endpoint),
+}
+
+/// The labels of a sample: its owner's, and another one.
+#[derive(Clone, Copy)]
+pub struct Labels<'a>(pub Option<Label<'a>>, pub Option<Label<'a>>);
+
+impl fmt::Display for Label<'_> {
+    ghost use Rattle.std.specs.Prelude.{Some};
+    ghost use Rattle.rad_metrics.specs.Samples.{label_text};
+
+    ghost output = { λ label. Some (label_text label) };
+
+    fn fmt<W: fmt::Write>(&self, f: &mut fmt::Formatter<W>) -> fmt::Result {
+        match *self {
+            Label::Version(version) => write!(f, "version=\"{version}\""),
+            Label::Clients => f.write_str("side=\"clients\""),
+            Label::Client(address) => {
+                let address = AddressText(address);
+                write!(f, "client=\"{address}\"")
+            }
+            Label::Home(lane, home) => write!(f, "lane=\"{lane}\",home=\"{home}\""),
+            Label::Reason(reason) => {
+                let key = key_of(reason);
+                let name = reason.name();
+                write!(f, "{key}=\"{name}\"")
+            }
+            Label::Bound(bucket) => {
+                let bound = bound_label(bucket);
+                write!(f, "le=\"{bound}\"")
+            }
+            Label::Port(place) => write!(f, "port=\"{place}\""),
+            Label::Socket(at) => write!(f, "socket=\"{at}\""),
+        }
+    }
+}
+
+/// Returns the key of a reason's label.
+fn key_of(reason: Reason) -> &'static str
+    ensures { result.now ≡ reason_key reason }
+{
+    match reason {
+        Reason::Repeat(_) => "repeat",
+        _ => "reason",
+    }
+}
+
+impl fmt::Display for Labels<'_> {
+    ghost use Rattle.std.specs.Prelude.{Some};
+    ghost use Rattle.rad_metrics.specs.Samples.{labels_text};
+
+    ghost output = { λ labels. Some (labels_text labels.0 labels.1) };
+
+    fn fmt<W: fmt::Write>(&self, f: &mut fmt::Formatter<W>) -> fmt::Result {
+        match *self {
+            Labels(None, None) => Ok(()),
+            Labels(Some(label), None) | Labels(None, Some(label)) => write!(f, "{{{label}}}"),
+            Labels(Some(owner), Some(label)) => write!(f, "{{{owner},{label}}}"),
+        }
+    }
+}

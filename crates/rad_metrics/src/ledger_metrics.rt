@@ -1,0 +1,122 @@
+//! The metrics of the ledger.
+
+ghost use Rattle.std.specs.Prelude.{◌≡◌, OnOk};
+ghost use Rattle.std.specs.Io.KnownBytes.{Appends};
+ghost use Rattle.rad_metrics.specs.Families.{described_by};
+ghost use Rattle.rad_metrics.specs.Metrics.{ledger_family, ledger_value, ledger_metric_text, ledger_text};
+
+use crate::family::{Family, Kind, families};
+use crate::label::Labels;
+use crate::sample::Sample;
+use crate::value::Value;
+use std::fmt;
+use std::io::{self, Write};
+
+/// What is known of a ledger at one moment.
+#[derive(Clone, Copy)]
+pub struct LedgerReading {
+    /// How many entries were written.
+    pub written: u64,
+    /// How many entries wait to be written.
+    pub waiting: u64,
+    /// How many entries were dropped, since too many waited.
+    pub dropped: u64,
+    /// How many milliseconds ago the oldest entry was handed over that waits.
+    pub age: u64,
+}
+
+/// A metric of the ledger.
+#[derive(Clone, Copy)]
+pub enum LedgerMetric {
+    Written,
+    Waiting,
+    Dropped,
+    /// How long the oldest entry that waits has waited.
+    Age,
+}
+
+/// The lines of a metric of the ledger, with what is known of it.
+#[derive(Clone, Copy)]
+struct MetricLines(LedgerMetric, LedgerReading);
+
+/// The lines of all metrics of the ledger, if there is one.
+#[derive(Clone, Copy)]
+struct LedgerMetrics(Option<LedgerReading>);
+
+impl LedgerMetric {
+    /// Returns the name, the kind and the help text of the family, which precede its sample.
+    pub fn family(self) -> Family
+        ensures { described_by result ≡ ledger_family self }
+    {
+        families! {
+            self;
+            LedgerMetric::Written => Counter("ledger_written_total", "Entries that were written to the ledger."),
+            LedgerMetric::Waiting => Gauge("ledger_waiting", "Entries that wait to be written to the ledger."),
+            LedgerMetric::Dropped => Counter("ledger_dropped_total", "Entries that are missing from the ledger because too many waited."),
+            LedgerMetric::Age => Gauge("ledger_oldest_waiting_seconds", "The age of the oldest entry that waits."),
+        }
+    }
+
+    /// Returns the value of the metric.
+    pub fn value(self, reading: &LedgerReading) -> Value
+        ensures { result ≡ ledger_value self reading.now }
+    {
+        match self {
+            LedgerMetric::Written => Value::Count(reading.written),
+            LedgerMetric::Waiting => Value::Count(reading.waiting),
+            LedgerMetric::Dropped => Value::Count(reading.dropped),
+            LedgerMetric::Age => Value::Milliseconds(reading.age),
+        }
+    }
+}
+
+/// Writes the metrics of the ledger, if there is one.
+///
+/// # Errors
+///
+/// The writer's own error.
+pub(crate) fn write_ledger<W: Write>(
+    writer: &mut W,
+    reading: Option<LedgerReading>,
+) -> io::Result<()>
+    ensures { OnOk result (Appends (W.contents writer.old) (W.contents writer.new) (ledger_text reading)) }
+{
+    let metrics = LedgerMetrics(reading);
+    write!(writer, "{metrics}")
+}
+
+impl fmt::Display for MetricLines {
+    ghost use Rattle.std.specs.Prelude.{Some};
+
+    ghost output = { λ lines. Some (ledger_metric_text lines.0 lines.1) };
+
+    #[tactic(auto, unfolding(crate::specs::Metrics::ledger_metric_text))]
+    fn fmt<W: fmt::Write>(&self, f: &mut fmt::Formatter<W>) -> fmt::Result {
+        let MetricLines(metric, reading) = *self;
+        let family = metric.family();
+        let sample = Sample {
+            name: family.name,
+            suffix: "",
+            labels: Labels(None, None),
+            value: metric.value(&reading),
+        };
+        write!(f, "{family}{sample}")
+    }
+}
+
+impl fmt::Display for LedgerMetrics {
+    ghost use Rattle.std.specs.Prelude.{Some};
+
+    ghost output = { λ metrics. Some (ledger_text metrics.0) };
+
+    fn fmt<W: fmt::Write>(&self, f: &mut fmt::Formatter<W>) -> fmt::Result {
+        let Some(reading) = self.0 else {
+            return Ok(());
+        };
+        let written = MetricLines(LedgerMetric::Written, reading);
+        let waiting = MetricLines(LedgerMetric::Waiting, reading);
+        let dropped = MetricLines(LedgerMetric::Dropped, reading);
+        let age = MetricLines(LedgerMetric::Age, reading);
+        write!(f, "{written}{waiting}{dropped}{age}")
+    }
+}
