@@ -6,6 +6,8 @@ PROGRAM = crates/rad_proxy/out/rad_proxy
 AUDITOR = crates/rad_audit/out/rad_audit
 SIMULATION = crates/rad_simulation/out/rad_simulation
 EXAMPLE = examples/one-request-answered.replay
+# What runs a script of tests/, before its place: `$(TESTS).rows.run` runs tests/rows/run.py.
+TESTS = python3 -m tests
 
 # The crates whose wrong bodies `make edits` tries; none named: all of them.
 CRATES ?=
@@ -34,56 +36,54 @@ IS_BUILT = test -x $(PROGRAM) && $(IS_NEW)
 # example.
 build:
 	@mkdir -p out && touch out/rad_proxy.begun
-	@cd crates/rad_proxy && python3 ../../tests/progress.py ../../out/build.txt $(RT) run < stdin
-	@cd crates/rad_audit && python3 ../../tests/progress.py ../../out/build-audit.txt $(RT) run -- ../../examples/one-home.toml ../../examples/one-home.jsonl
+	@$(TESTS).gate.progress out/build.txt crates/rad_proxy $(RT) run < crates/rad_proxy/stdin
+	@$(TESTS).gate.progress out/build-audit.txt crates/rad_audit $(RT) run -- ../../examples/one-home.toml ../../examples/one-home.jsonl
 	@mv out/rad_proxy.begun $(STAMP)
 
 # Shows how the example's request is answered: by the program, where it is built, and else by a run that is not proved.
 run:
 	@if $(IS_BUILT); then program="$(PROGRAM)"; else \
-		program=tests/unproved; \
+		program=tests/gate/unproved; \
 		echo "The program is not built: this run is not proved. 'make build' proves it, and leaves it at $(PROGRAM)."; \
 	fi; \
 	cat $(EXAMPLE); \
 	echo "--- $(PROGRAM) replay < $(EXAMPLE)"; \
 	$$program replay < $(EXAMPLE)
 
-# The whole gate: all proofs from nothing, the edits of must-fail/, the tests, the stored runs; then that each wrong body can be
-# applied, and the octets that the tests expect; a thousand seeds of the simulation; and the program that was built: the rows,
-# the examples, other configurations, growths refused in turn, spoiled datagrams, home servers that are killed, UDP over a
-# network that loses, and memory over two equal loads. The last line counts it all.
+# The whole gate: all proofs from nothing, the edits of must-fail/, the tests, the stored runs; and then each script that
+# tests/gate/scripts.py lists. The last line counts it all.
 test:
-	@python3 tests/gate.py $(PROGRAM)
+	@$(TESTS).gate.run $(PROGRAM)
 
 # The wrong bodies that the gate leaves out: the prover has to refuse each one. ALONE=1 tries each by itself.
 edits:
-	@python3 tests/edits.py $(if $(ALONE),--alone) $(CRATES)
+	@$(TESTS).gate.edits $(if $(ALONE),--alone) $(CRATES)
 
 # The simulation of the whole proxy, run with so many seeds. Where the gate did not leave it, it is proved and built first.
 simulate:
 	@mkdir -p out
 	@if ! { test -x $(SIMULATION) && $(IS_NEW); }; then \
-		cd crates/rad_simulation && python3 ../../tests/progress.py ../../out/simulation.txt $(RT) run -- $(FIRST) 1; \
+		$(TESTS).gate.progress out/simulation.txt crates/rad_simulation $(RT) run -- $(FIRST) 1; \
 	fi
-	@python3 tests/hostile/simulate.py $(SIMULATION) $(SEEDS) $(FIRST)
+	@$(TESTS).models.simulations $(SIMULATION) $(SEEDS) $(FIRST)
 
 # Each growth refused in turn, in the program that was built and in the tests that were; the gate does it in the program.
 growths:
-	@python3 tests/hostile/growths.py $(PROGRAM) $(wildcard crates/*/out/*_tests)
+	@$(TESTS).faults.growths $(PROGRAM) $(wildcard crates/*/out/*_tests)
 
 # Spoiled datagrams by chance, over the program that was built; the gate has a shorter run of a fixed chance.
 spoiled:
-	@python3 tests/hostile/mutations.py $(PROGRAM) $(DATAGRAMS) $(SEED)
+	@$(TESTS).models.mutations $(PROGRAM) $(DATAGRAMS) $(SEED)
 
 # The program over UDP and a network that loses, for SECONDS, and then, for as long, whether its memory grows under a load
 # that does not; the gate has short runs of a fixed count of requests. Then fifty runs that are killed at random moments, and a
 # disk that takes ten seconds for each write, whose ledgers are compared with what was acknowledged.
 soak:
 	@status=0; \
-	python3 tests/hostile/soak.py $(PROGRAM) --seconds $(SECONDS) $(SEED) || status=1; \
-	python3 tests/hostile/memory.py $(PROGRAM) --seconds $(SECONDS) || status=1; \
-	python3 tests/hostile/soak.py $(PROGRAM) --kills 50 $(SEED) || status=1; \
-	python3 tests/hostile/ledger_files.py $(PROGRAM) --long || status=1; \
+	$(TESTS).network.soak $(PROGRAM) --seconds $(SECONDS) $(SEED) || status=1; \
+	$(TESTS).faults.memory $(PROGRAM) --seconds $(SECONDS) || status=1; \
+	$(TESTS).network.soak $(PROGRAM) --kills 50 $(SEED) || status=1; \
+	$(TESTS).ledger.files $(PROGRAM) --long || status=1; \
 	exit $$status
 
 # Measures the program that was built, a bare relay, and radsecproxy and FreeRADIUS where they are installed; docs/performance.md
@@ -95,12 +95,12 @@ bench: OCTETS = 60
 bench: PORT = 23000
 bench:
 	@test -x $(PROGRAM) || { echo "there is no $(PROGRAM): run make build first" >&2; exit 1; }
-	@python3 bench/run.py $(PROGRAM) --rounds $(ROUNDS) --seconds $(SECONDS) --rate $(RATE) --octets $(OCTETS) --port $(PORT) \
+	@python3 -m bench.run $(PROGRAM) --rounds $(ROUNDS) --seconds $(SECONDS) --rate $(RATE) --octets $(OCTETS) --port $(PORT) \
 		$(if $(LONG),--long $(LONG)) $(if $(ONLY),--only "$(ONLY)") $(if $(SUBJECTS),--subjects "$(SUBJECTS)")
 
 # Puts the figures of the last `make bench` into docs/performance.md.
 figures:
-	@python3 bench/page.py out/bench
+	@python3 -m bench.page out/bench
 
 # What a push and a pop of the chain of blocks cost beside those of std's `VecDeque`, and what memory a long queue takes.
 bench-queue:
@@ -164,12 +164,11 @@ uninstall:
 	rm -f $(DESTDIR)$(MANDIR)/man8/rad_proxyctl.8 $(DESTDIR)$(MANDIR)/man5/rad_proxy.toml.5 $(DESTDIR)$(MANDIR)/man1/rad_audit.1
 	rm -rf $(DESTDIR)$(LIBEXECDIR)/rad_proxy $(DESTDIR)$(DOCDIR)
 
-# Looks at the manual and at the scripts of packaging/: mandoc and shellcheck have to find nothing.
+# Looks at the manual and at the scripts of the shell: mandoc and shellcheck have to find nothing.
 manual:
 	mandoc -T lint -W warning man/man8/rad_proxy.8 man/man8/rad_proxyctl.8 man/man5/rad_proxy.toml.5 man/man1/rad_audit.1
-	shellcheck packaging/serve.in packaging/rad_proxyctl.in packaging/deb packaging/try-deb packaging/try-deb-inside \
-		packaging/try-alerts packaging/try-alerts-inside packaging/try-package packaging/try-service \
-		packaging/debian/postinst packaging/debian/prerm packaging/debian/postrm
+	shellcheck packaging/serve.in packaging/rad_proxyctl.in packaging/deb packaging/debian/postinst packaging/debian/prerm \
+		packaging/debian/postrm tests/packaging/* tests/gate/unproved
 
 # A Debian package of the programs that `make build` left, in out/.
 deb:
@@ -177,5 +176,6 @@ deb:
 
 # Tries the installed scripts and the program over UDP on this machine's own address: as they are used, and as they are misused.
 service:
-	@packaging/try-service
-	@python3 tests/service/run.py $(PROGRAM)
+	@tests/packaging/try-service
+	@$(TESTS).service.run $(PROGRAM)
+	@$(TESTS).service.names $(PROGRAM)

@@ -9,22 +9,20 @@
     growth      time a request of the program, as its book fills to 1,000,000
     steady      how long an answer takes second by second, in a long run at one rate
 """
-import hashlib
-import hmac
 import itertools
 import json
 import os
 import pathlib
-import socket
-import struct
 import subprocess
 import tempfile
 import time
 from contextlib import ExitStack, contextmanager
 
-import readings
-from proxies import (CLIENT_SECRET, HOME_SECRET, Direct, FreeRadius, RadProxy, Radsecproxy, Relay, Setting, SingleRelay, WaitsAlone,
-                     WithLedger, end, end_with_parent)
+from bench import readings
+from bench.proxies import (CLIENT_SECRET, HOME_SECRET, SECONDS_TO_ANSWER, Direct, FreeRadius, RadProxy, Radsecproxy, Relay, Setting,
+                           SingleRelay, WaitsAlone, WithLedger, status_server, wait_until_it_answers)
+from tests.lib import started
+from tests.lib.loads import generator
 
 WINDOWS, RATES = [1, 4, 16, 64, 256], [1000, 5000, 10_000, 20_000, 40_000]
 MANY_HOMES, MANY_WINDOW = 4, 256
@@ -33,19 +31,12 @@ IDLE_HOMES = [4, 64]
 IDENTIFIERS_A_SOCKET, SOCKETS_OF_A_RATE = 128, 16
 MOST_REQUESTS = 900_000
 WARMING = {"window": 16, "count": 500, "seconds": 10}
-SECONDS_TO_ANSWER, SECONDS_OF_A_HOME, SECONDS_BUSY = 15, 3600, 600
+SECONDS_OF_A_HOME, SECONDS_BUSY = 3600, 600
 REMEMBERED = 100_000
 LARGE = {"homes": 64, "clients": 256, "realms": 256}
 BOOK, BOOK_BEGINS, BOOK_STEP, GROWTH_WINDOW, GROWTH_ROUNDS = 1_000_000, 1000, 9990, 64, 3
 SPAN_A_SECOND_OF_RUN = 100
-STATUS_SERVER, MESSAGE_AUTHENTICATOR = 12, 80
 ONLY_IF_NAMED = {SingleRelay.name, WithLedger.name}
-
-
-def status_server(identifier):
-    """A Status-Server (RFC 5997 section 3) of a client."""
-    head = struct.pack("!BBH", STATUS_SERVER, identifier, 38) + bytes(range(16)) + bytes([MESSAGE_AUTHENTICATOR, 18])
-    return head + hmac.new(CLIENT_SECRET.encode(), head + bytes(16), hashlib.md5).digest()
 
 
 class Bench:
@@ -79,29 +70,20 @@ class Bench:
         return [self.plan.port + 1 + number for number in range(count)]
 
     @contextmanager
-    def started(self, words, **pipes):
-        """A process, which is ended whatever happens."""
-        process = subprocess.Popen(words, preexec_fn=end_with_parent, **pipes)
-        try:
-            yield process
-        finally:
-            end(process)
-
-    @contextmanager
     def serving(self, subject, homes=1, **lane):
         """A proxy before its home servers, once it answers and is warm; its process, None where there is no proxy."""
         setting = Setting(self.plan.port, self.homes(homes), homes, lane=lane if isinstance(subject, RadProxy) else {})
         with ExitStack() as stack, tempfile.TemporaryDirectory(dir=self.work) as folder:
             for port in setting.homes:
                 limit = str(SECONDS_OF_A_HOME + self.plan.seconds + self.plan.long)
-                home = self.started([self.work / "home", str(port), HOME_SECRET, limit], stdout=subprocess.DEVNULL)
+                home = started([self.work / "home", str(port), HOME_SECRET, limit], stdout=subprocess.DEVNULL)
                 wait_until_it_answers(stack.enter_context(home), port)
             process = None
             if subject.is_proxy:
                 log = stack.enter_context((pathlib.Path(folder) / "output").open("wb"))
                 pipes = {"stdin": subprocess.PIPE if isinstance(subject, RadProxy) else subprocess.DEVNULL}
                 words = subject.words(pathlib.Path(folder), setting)
-                process = stack.enter_context(self.started(words, stdout=log, stderr=log, **pipes))
+                process = stack.enter_context(started(words, stdout=log, stderr=log, **pipes))
                 wait_until_it_answers(process, self.plan.port)
             yield process
 
@@ -110,10 +92,7 @@ class Bench:
         port, secret = (self.plan.port, CLIENT_SECRET) if subject.is_proxy else (self.plan.port + 1, HOME_SECRET)
         options = {"count": MOST_REQUESTS, "seconds": self.plan.seconds, "octets": self.plan.octets} | options
         options |= {"port": port, "secret": secret, "realms": homes, "series": next(self.series)}
-        words = [str(self.work / "generator")]
-        for name, value in options.items():
-            words += ["--by-second"] if name == "by_second" else [f"--{name}", str(value)]
-        with self.started(words, stdout=subprocess.PIPE, text=True) as process:
+        with started(generator(self.work, **options), stdout=subprocess.PIPE, text=True) as process:
             told = [json.loads(line) for line in process.stdout]
         if not told or (warming and told[-1]["answered"] < options["count"]):
             raise RuntimeError(f"{subject.name}: the generator's requests were not answered: {told[-1:]}")
@@ -143,7 +122,7 @@ class Bench:
     def busy(self, subject, number):
         with ExitStack() as stack:
             for _ in range(BUSY_PROCESSORS):
-                stack.enter_context(self.started([self.work / "spin", str(SECONDS_BUSY + self.plan.seconds)]))
+                stack.enter_context(started([self.work / "spin", str(SECONDS_BUSY + self.plan.seconds)]))
             process = stack.enter_context(self.serving(subject))
             told = self.load(subject, process, window=BUSY_WINDOW)
         self.keep("busy", subject.name, round=number, window=BUSY_WINDOW, processors=BUSY_PROCESSORS, **told)
@@ -167,7 +146,7 @@ class Bench:
         with tempfile.TemporaryDirectory(dir=self.work) as folder:
             words = subject.words(pathlib.Path(folder), setting)
             asked = [self.plan.port, status_server(0).hex(), SECONDS_TO_ANSWER]
-            with self.started([self.work / "launch", *map(str, asked), *words], stdout=subprocess.PIPE) as process:
+            with started([self.work / "launch", *map(str, asked), *words], stdout=subprocess.PIPE) as process:
                 line = process.stdout.read()
         if not line:
             raise RuntimeError(f"{subject.name} does not answer")
@@ -177,7 +156,7 @@ class Bench:
     def resting(self, subject, homes):
         """A proxy that has served some requests, or the threads that only wait."""
         if isinstance(subject, WaitsAlone):
-            with self.started(subject.words(homes)) as process:
+            with started(subject.words(homes)) as process:
                 yield process
             return
         with self.serving(subject, homes) as process:
@@ -256,22 +235,3 @@ class Bench:
                     measure(subject, number)
                 except RuntimeError as trouble:
                     print(f"no figure: {trouble}", flush=True)
-
-
-def wait_until_it_answers(process, port):
-    """Asks by Status-Server until a proxy answers."""
-    until = time.monotonic() + SECONDS_TO_ANSWER
-    with socket.socket(socket.AF_INET, socket.SOCK_DGRAM) as asking:
-        asking.connect(("127.0.0.1", port))
-        asking.settimeout(0.02)
-        for identifier in itertools.cycle(range(256)):
-            if process.poll() is not None or time.monotonic() > until:
-                raise RuntimeError(f"{process.args[0]} does not answer on port {port}")
-            try:
-                asking.send(status_server(identifier))
-                asking.recv(4096)
-                return
-            except ConnectionRefusedError:
-                time.sleep(0.02)
-            except TimeoutError:
-                pass

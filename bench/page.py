@@ -1,8 +1,7 @@
-#!/usr/bin/env python3
 """Puts the figures of a run into docs/performance.md: each table between the marks that name it, with its picture where there
 is one, and the pictures into the folder beside it.
 
-usage: page.py FOLDER        the folder that `make bench` wrote
+usage: python3 -m bench.page FOLDER        the folder that `make bench` wrote
 
 A table that the run has no figures for stays as it is.
 """
@@ -11,10 +10,8 @@ import pathlib
 import re
 import sys
 
-sys.dont_write_bytecode = True
-
-import tables
-from pictures import draw
+from bench import tables
+from bench.pictures import draw
 
 DOCS = pathlib.Path(__file__).parent.parent / "docs"
 PAGE, PICTURES = DOCS / "performance.md", DOCS / "performance"

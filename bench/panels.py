@@ -1,7 +1,6 @@
-#!/usr/bin/env python3
 """Draws panels of examples/grafana-dashboard.json as SVG, over what a Prometheus scraped.
 
-usage: panels.py URL SECONDS FILE TITLE..      the Prometheus, how far to look back, the picture, and titles of panels
+usage: python3 -m bench.panels URL SECONDS FILE TITLE..      the Prometheus, how far to look back, the picture, and titles of panels
 """
 import json
 import pathlib
@@ -11,9 +10,7 @@ import time
 import urllib.parse
 import urllib.request
 
-sys.dont_write_bytecode = True
-
-import pictures
+from bench import pictures
 
 DASHBOARD = pathlib.Path(__file__).parent.parent / "examples" / "grafana-dashboard.json"
 STEP, INTERVAL = 5, "1m"

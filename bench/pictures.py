@@ -3,7 +3,7 @@ import math
 from dataclasses import dataclass
 from html import escape
 
-from tables import NAMES, TIMES, Figures, lost_share
+from bench.tables import NAMES, TIMES, Figures, lost_share
 
 COLOURS = dict(zip(NAMES, ["#8a8a8a", "#7a3fa0", "#0060a8", "#d35400", "#1b8a5a", "#b8860b"]))
 DASHES = dict(zip(NAMES, ["2 4", "4 2", "", "8 4", "12 3 2 3", "1 2"]))

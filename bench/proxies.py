@@ -1,21 +1,16 @@
 """The proxies that are measured: how each is told the same configuration, how it is started, and how it is ended."""
-import ctypes
+import itertools
 import pathlib
 import shutil
-import signal
+import socket
 import subprocess
+import time
 from dataclasses import dataclass, field
 
+from tests.lib import HERE, Server, configured, status
+
 CLIENT_SECRET, HOME_SECRET = "bench-client-secret", "bench-home-secret"
-SECONDS_TO_END = 10
-DEATH_OF_PARENT = 1
-
-libc = ctypes.CDLL(None, use_errno=True)
-
-
-def end_with_parent():
-    """Has the process that is being started end when this one does, however that ends."""
-    libc.prctl(DEATH_OF_PARENT, signal.SIGTERM)
+SECONDS_TO_ANSWER = 15
 
 
 @dataclass
@@ -109,13 +104,11 @@ class RadProxy:
 
     def words(self, folder, setting):
         lane = "".join(f"{key} = {value}\n" for key, value in (self.LANE | setting.lane).items())
-        parts = [f'listen = "127.0.0.1:{setting.listen}"\n']
-        parts += [f'[[client]]\naddress = "{address}"\nsecret = "{CLIENT_SECRET}"\n' for address in setting.addresses()]
-        parts += [f'[[home]]\nname = "h{number}"\naddress = "127.0.0.1:{port}"\nsecret = "{HOME_SECRET}"\n{lane}'
-                  for number, port in enumerate(setting.homes)]
-        parts += [f'[[realm]]\nname = "{realm}"\nhome = "h{home}"\n' for realm, home in setting.led()]
+        servers = [Server(f"h{number}", port, lane, secret=HOME_SECRET) for number, port in enumerate(setting.homes)]
+        text = configured(f"{HERE}:{setting.listen}", servers, setting.addresses(), CLIENT_SECRET, linger=None)
+        text += "".join(f'[[realm]]\nname = "{realm}"\nhome = "h{home}"\n' for realm, home in setting.led())
         file = folder / "rad_proxy.toml"
-        file.write_text("\n".join(parts))
+        file.write_text(text)
         return [str(self.program), "run", str(file)]
 
 
@@ -235,16 +228,25 @@ def first_line(words):
     return ((ran.stdout + ran.stderr).strip().splitlines() or ["unknown"])[0].strip()
 
 
-def end(process):
-    """Ends a process that was started here: its input, then by asking it, and at last without."""
-    if process.stdin:
-        process.stdin.close()
-    else:
-        process.terminate()
-    for asked in (process.terminate, process.kill, None):
-        try:
-            return process.wait(SECONDS_TO_END)
-        except subprocess.TimeoutExpired:
-            if asked:
-                asked()
-    return None
+def status_server(identifier, secret=CLIENT_SECRET.encode()):
+    """A Status-Server of a client."""
+    return status(identifier, bytes(range(16)), b"", b"", secret)
+
+
+def wait_until_it_answers(process, port, secret=CLIENT_SECRET.encode()):
+    """Asks by Status-Server until a proxy answers."""
+    until = time.monotonic() + SECONDS_TO_ANSWER
+    with socket.socket(socket.AF_INET, socket.SOCK_DGRAM) as asking:
+        asking.connect(("127.0.0.1", port))
+        asking.settimeout(0.02)
+        for identifier in itertools.cycle(range(256)):
+            if process.poll() is not None or time.monotonic() > until:
+                raise RuntimeError(f"{process.args[0]} does not answer on port {port}")
+            try:
+                asking.send(status_server(identifier, secret))
+                asking.recv(4096)
+                return
+            except ConnectionRefusedError:
+                time.sleep(0.02)
+            except TimeoutError:
+                pass

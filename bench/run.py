@@ -1,8 +1,7 @@
-#!/usr/bin/env python3
 """Measures the program that was built, a bare relay, and radsecproxy and FreeRADIUS where they are installed, in turns.
 
-usage: run.py PROGRAM [--rounds N] [--seconds N] [--long N] [--rate N] [--octets N] [--port N] [--only MEASURE,..]
-                      [--subjects NAME,..] [--out FOLDER]
+usage: python3 -m bench.run PROGRAM [--rounds N] [--seconds N] [--long N] [--rate N] [--octets N] [--port N] [--only MEASURE,..]
+                            [--subjects NAME,..] [--out FOLDER]
 
 measuring.py tells the measures. A round measures each subject in turn, the first one another each time. All traffic is on
 127.0.0.1, from --port up. Each measurement starts its proxy and its home servers anew, and ends them. It writes what it
@@ -15,13 +14,10 @@ import subprocess
 import sys
 import tempfile
 
-sys.dont_write_bytecode = True
-
-import selftest
-import tables
-from compiling import compile_all
-from measuring import Bench
-from pictures import draw
+from bench import selftest, tables
+from bench.compiling import compile_all
+from bench.measuring import Bench
+from bench.pictures import draw
 
 
 def read_plan():

@@ -1,7 +1,6 @@
-#!/usr/bin/env python3
 """Tries the scripts of the service, `serve` and `rad_proxyctl`, over a program that is built, as an operator would misuse them.
 
-usage: run.py PROGRAM [--moments N] [NAME ..]
+usage: python3 -m tests.service.run PROGRAM [--moments N] [NAME ..]
 
 Each test is a function below, and its first line tells what holds. Names choose tests; N is how many moments are tried at which
 `serve` gets SIGTERM. It wants no right of root and no systemd, and uses loopback alone; what needs another user is tried where
@@ -29,22 +28,14 @@ import urllib.parse
 import urllib.request
 from concurrent.futures import ThreadPoolExecutor
 
-sys.dont_write_bytecode = True
-
-HERE = pathlib.Path(__file__).resolve().parent.parent.parent
-sys.path.append(str(HERE / "tests" / "hostile"))
-
-from packets import answered, request  # noqa: E402
-from starting import built  # noqa: E402
-from trying import LeftOut, hope, try_named  # noqa: E402
-from waiting import bound, free_ports, until  # noqa: E402
+from tests.lib import (HERE, NOTHING_LEFT, TOP, LeftOut, answered, bound, built, configuration, free_port, free_ports, hope, is_so,
+                       request_of_nas, try_named, until)
 
 PATIENCE = 30
 # At how many moments `serve` gets SIGTERM, how many run at once, and how many seconds one has to end on a machine that is busy.
 MOMENTS, AT_ONCE, LATEST = 150, 4, 8
 STRANGER = 65534
 LINE = "lane 0 h1 up open accepted 0 queued 0 outstanding 0 answered 0 opening 0\n"
-NOTHING_LEFT = "end: queued 0 outstanding 0 untaken 0"
 
 
 class Service:
@@ -52,11 +43,10 @@ class Service:
 
     def __init__(self, program, room):
         self.program, self.room, self.run = program, room, room / "run"
-        subprocess.run(["make", "-s", "install", f"DESTDIR={room}", "PREFIX=/usr", f"PROGRAM={program}"], cwd=HERE, check=True)
+        subprocess.run(["make", "-s", "install", f"DESTDIR={room}", "PREFIX=/usr", f"PROGRAM={program}"], cwd=TOP, check=True)
         self.serve, self.ctl = room / "usr/libexec/rad_proxy/serve", room / "usr/sbin/rad_proxyctl"
         self.home, self.nas = bound(), bound()
-        with bound() as free:
-            self.port = free.getsockname()[1]
+        self.port = free_port()
         self.file = room / "one.toml"
         self.configure()
         installed = str(room / "usr/sbin/rad_proxy")
@@ -66,10 +56,7 @@ class Service:
         self.started = []
 
     def configure(self, linger=5000):
-        self.file.write_text(
-            f'listen = "127.0.0.1:{self.port}"\nlinger = {linger}\n[[client]]\naddress = "127.0.0.1"\nsecret = "nas-secret"\n'
-            f'[[home]]\nname = "h1"\naddress = "127.0.0.1:{self.home.getsockname()[1]}"\nsecret = "home-secret"\n'
-            '[[realm]]\nname = "example.org"\nhome = "h1"\n')
+        self.file.write_text(configuration(self.port, client=HERE, home_port=self.home.getsockname()[1], linger=linger))
 
     def start(self, **options):
         """Starts the service in a process group of its own, and waits until it listens."""
@@ -115,19 +102,23 @@ class Service:
 
     def wait_for_group(self, group):
         """Waits until a group that was killed has no process left, which could still write into the folder."""
-        for _ in range(100):
-            try:
-                os.killpg(group, 0)
-            except ProcessLookupError:
-                return
-            time.sleep(0.05)
+        is_so(lambda: is_gone(group), 5, 0.05)
+
+
+def is_gone(group):
+    """Whether no process is left in a group."""
+    try:
+        os.killpg(group, 0)
+    except ProcessLookupError:
+        return True
+    return False
 
 
 def drains_where_its_group_gets_the_signal(service):
     """TERM, INT, HUP and QUIT to the whole process group: the request that waits is answered, and the status is 0."""
     for number in (signal.SIGTERM, signal.SIGINT, signal.SIGHUP, signal.SIGQUIT):
         process = service.start()
-        service.send(request())
+        service.send(request_of_nas())
         octets, proxy = service.home.recvfrom(4096)
         os.killpg(process.pid, number)
         time.sleep(0.3)
@@ -149,7 +140,7 @@ def drains_where_its_terminal_is_closed(service):
     service.started.append(process)
     os.close(theirs)
     until("it listens", lambda: b"listening" in os.read(ours, 4096))
-    service.send(request())
+    service.send(request_of_nas())
     octets, proxy = service.home.recvfrom(4096)
     os.close(ours)
     time.sleep(0.3)
@@ -226,7 +217,7 @@ def a_limit_on_the_size_of_files_ends_nothing(service):
     program = until("program", lambda: [pid for pid, name in service.children(process) if name == "rad_proxy"])[0]
 
     def is_answered():
-        service.send(request())
+        service.send(request_of_nas())
         octets, proxy = service.home.recvfrom(4096)
         service.home.sendto(answered(octets), proxy)
         return service.nas.recv(4096)[0] == 5
@@ -291,7 +282,7 @@ def the_lock_outlives_a_serve_that_was_killed(service):
     """While the program of a serve that was killed still drains, the folder stays its own."""
     service.configure(linger=3000)
     first = service.start()
-    service.send(request())
+    service.send(request_of_nas())
     service.home.recvfrom(4096)
     first.kill()
     first.wait()
@@ -402,7 +393,7 @@ def nobody_reads_its_output(service):
         subprocess.run(["sh", "-c", "echo nonsense 1<>commands"], cwd=service.run, check=True)
         time.sleep(0.3)
     service.state_is()
-    service.send(request())
+    service.send(request_of_nas())
     octets, proxy = service.home.recvfrom(4096)
     process.terminate()
     time.sleep(0.3)
@@ -424,7 +415,7 @@ def its_output_is_full(service):
     os.close(writing)
     until("it answers", lambda: (service.run / "lines").exists() and service.ask("state").stdout == LINE)
     subprocess.run(["sh", "-c", "echo nonsense 1<>commands"], cwd=service.run, check=True)
-    service.send(request())
+    service.send(request_of_nas())
     octets, proxy = service.home.recvfrom(4096)
     process.terminate()
     time.sleep(0.3)
@@ -440,7 +431,7 @@ def what_is_left_over_is_a_warning(service):
         service.configure(linger=200)
         service.environment["RAD_PROXY_LOG"] = level
         process = service.start()
-        service.send(request())
+        service.send(request_of_nas())
         service.home.recvfrom(4096)
         process.terminate()
         hope("status", process.wait(PATIENCE), 3)
@@ -708,7 +699,7 @@ def alerts_fire_where_they_should(service):
     """Each alert of examples/alerts.yml fires over series that ask for it, and over no others, as promtool reads them."""
     if shutil.which("promtool") is None:
         raise LeftOut("promtool of Prometheus is not here")
-    for file in (HERE / "examples" / "alerts.yml", HERE / "tests" / "service" / "alerts-test.yml"):
+    for file in (TOP / "examples" / "alerts.yml", TOP / "tests" / "service" / "alerts-test.yml"):
         shutil.copy(file, service.room)
     done = subprocess.run(["promtool", "test", "rules", "alerts-test.yml"], cwd=service.room, capture_output=True, text=True)
     hope("promtool", (done.returncode, done.stderr), (0, ""))
@@ -722,17 +713,15 @@ def each_panel_of_the_dashboard_draws(service):
         raise LeftOut("Prometheus is not here")
     service.start()
     until("counters", (service.run / "counters").exists)
-    panels = json.loads((HERE / "examples" / "grafana-dashboard.json").read_text())["panels"]
+    panels = json.loads((TOP / "examples" / "grafana-dashboard.json").read_text())["panels"]
     asked = {target["expr"].replace("$__rate_interval", "8s") for panel in panels for target in panel["targets"]}
     sender = subprocess.Popen(
-        [sys.executable, "-c", NASES, str(service.port), str(service.home.fileno())], pass_fds=[service.home.fileno()])
+        [sys.executable, "-c", NASES, str(service.port), str(service.home.fileno())], cwd=TOP, pass_fds=[service.home.fileno()])
     try:
         with answering(service) as port, prometheus(service, port) as has_numbers:
-            last = time.monotonic() + 2 * PATIENCE
-            while time.monotonic() < last and asked:
-                time.sleep(1)
-                asked = {each for each in asked if not has_numbers(each)}
-            hope("without numbers", asked, set())
+            without = lambda: {each for each in asked if not has_numbers(each)}
+            is_so(lambda: not without(), 2 * PATIENCE, 1)
+            hope("without numbers", without(), set())
     finally:
         sender.kill()
         sender.wait()
@@ -757,9 +746,7 @@ def answering(service):
 @contextlib.contextmanager
 def prometheus(service, port):
     """A Prometheus that scrapes this port, and whether it has numbers of an expression."""
-    with socket.socket() as free:
-        free.bind(("127.0.0.1", 0))
-        own = free.getsockname()[1]
+    own = free_port()
     file, kept = service.room / "prometheus.yml", service.room / f"prometheus{own}"
     file.write_text("scrape_configs: [{job_name: rad_proxy, scrape_interval: 2s, scrape_timeout: 2s, "
                     f"static_configs: [{{targets: ['127.0.0.1:{port}']}}]}}]\n")
@@ -790,9 +777,7 @@ def sent_again_is_never_less_than_nothing(service):
 
 def counters_that_are_written_late_are_waited_for(service):
     """The same where the counters are written half a second after they were read."""
-    library, slow = service.room / "slow.so", service.room / "slow/rad_proxy"
-    compiler = os.environ.get("CC", "cc").split()
-    subprocess.run([*compiler, "-O2", "-shared", "-fPIC", "-o", library, HERE / "tests/hostile/slow.c"], check=True)
+    library, slow = built(service.room, "slow"), service.room / "slow/rad_proxy"
     slow.parent.mkdir()
     variables = f"LD_PRELOAD={library} SLOW_PATH={service.run} SLOW_OPEN=500"
     slow.write_text(f"#!/bin/sh\n{variables} exec {service.environment['RAD_PROXY_PROGRAM']} \"$@\"\n")
@@ -806,7 +791,7 @@ def counters_that_are_written_late_are_waited_for(service):
 def see_sent_again(service):
     """What `metrics` tells of a service, several times, while requests come."""
     sender = subprocess.Popen(
-        [sys.executable, "-c", NASES, str(service.port), str(service.home.fileno())], pass_fds=[service.home.fileno()])
+        [sys.executable, "-c", NASES, str(service.port), str(service.home.fileno())], cwd=TOP, pass_fds=[service.home.fileno()])
     try:
         until("requests come", lambda: re.search("^rad_proxy_accepted_total{.*} [1-9]", service.ask("metrics").stdout, re.M))
         for _ in range(4):
@@ -821,20 +806,18 @@ def see_sent_again(service):
 
 
 # Sends requests and answers them, some hundred a second, until it is killed.
-NASES = f"""
+NASES = """
 import select, socket, sys
-sys.dont_write_bytecode = True
-sys.path.insert(0, {str(HERE / "tests" / "hostile")!r})
-import packets, waiting
+from tests.lib import answered, bound, request_of_nas
 home = socket.socket(fileno=int(sys.argv[2]))
-ports, count = [waiting.bound() for _ in range(32)], 0
+ports, count = [bound() for _ in range(32)], 0
 while True:
     nas = ports[count // 256 % 32]
-    nas.sendto(packets.request(count % 256), ("127.0.0.1", int(sys.argv[1])))
+    nas.sendto(request_of_nas(count % 256), ("127.0.0.1", int(sys.argv[1])))
     count += 1
     while select.select([home], [], [], 0.001)[0]:
         octets, proxy = home.recvfrom(4096)
-        home.sendto(packets.answered(octets), proxy)
+        home.sendto(answered(octets), proxy)
 """
 
 
@@ -851,7 +834,7 @@ def memory_is_refused_and_nothing_ends(service):
 
     def refused():
         for identifier in range(256):
-            service.send(request(identifier, filling + b"\x2c\x04" + os.urandom(2)))
+            service.send(request_of_nas(identifier, filling + b"\x2c\x04" + os.urandom(2)))
         time.sleep(0.5)
         return 'reason="OutOfMemory"' in service.log.read_text()
 
@@ -994,7 +977,7 @@ def a_purge_leaves_no_link(service):
     for name in made + others:
         (links / name).parent.mkdir(parents=True, exist_ok=True)
         (links / name).symlink_to(f"/lib/systemd/system/{pathlib.Path(name).name}")
-    script = (HERE / "packaging/debian/postrm").read_text()
+    script = (TOP / "packaging/debian/postrm").read_text()
     script = re.sub("(?<= )/(?=etc/|var/|run/)", f"{service.room}/", script)
     subprocess.run(["sh", "-s", "purge"], input=script, text=True, check=True)
     hope("links", sorted(str(path.relative_to(links)) for path in links.glob("*/*")), others)
@@ -1006,7 +989,7 @@ def node_exporter_reads_the_counters(service):
     """Debian's node exporter, as its own user, has the metrics by a link in its folder, where they are written as the unit's lines say."""
     if os.getuid() != 0 or shutil.which("prometheus-node-exporter") is None:
         raise LeftOut("it wants root and Debian's prometheus-node-exporter")
-    lines = re.findall("^#(CacheDirectory.*|Environment=RAD_PROXY_COUNTERS.*)", (HERE / "packaging/rad_proxy.service.in").read_text(), re.M)
+    lines = re.findall("^#(CacheDirectory.*|Environment=RAD_PROXY_COUNTERS.*)", (TOP / "packaging/rad_proxy.service.in").read_text(), re.M)
     hope("the unit's lines", lines, ["CacheDirectory=@runtime@", "CacheDirectoryMode=0755",
                                      "Environment=RAD_PROXY_COUNTERS=/var/cache/@runtime@/counters.prom"])
     service.room.chmod(0o755)
@@ -1021,9 +1004,7 @@ def node_exporter_reads_the_counters(service):
     service.environment["RAD_PROXY_COUNTERS"] = str(cache / "counters.prom")
     process = service.start(user=STRANGER, group=STRANGER, extra_groups=[], preexec_fn=lambda: os.umask(0o077))
     until("counters", (cache / "counters.prom").exists)
-    with socket.socket() as free:
-        free.bind(("127.0.0.1", 0))
-        port = free.getsockname()[1]
+    port = free_port()
     words = ["prometheus-node-exporter", f"--web.listen-address=127.0.0.1:{port}", "--collector.disable-defaults",
              "--collector.textfile", f"--collector.textfile.directory={collected}"]
     own = pwd.getpwnam("prometheus")

@@ -1,4 +1,4 @@
-//! Packets that are sent to a home server under `home-secret`, and its replies, as `tests/vectors.py` makes them.
+//! Packets that are sent to a home server under `home-secret`, and its replies, as `tests/models/vectors.py` makes them.
 
 /// `nas::REQUEST` as it is forwarded, with Identifier 0 and the mark with number 0.
 pub const FORWARDED: [u8; 64] = [

@@ -1,4 +1,4 @@
-//! Packets that a NAS sends under `nas-secret`, and the answers to them, as `tests/vectors.py` makes them.
+//! Packets that a NAS sends under `nas-secret`, and the answers to them, as `tests/models/vectors.py` makes them.
 
 /// An Accounting-Request with Identifier 7 of `bob@example.org`.
 pub const SEVENTH: [u8; 47] = [

@@ -1,4 +1,4 @@
-//! Lines of a ledger, as `tests/vectors.py` makes them.
+//! Lines of a ledger, as `tests/models/vectors.py` makes them.
 
 /// A run's first line, entries with a realm, a session and a status, and with octets that are no text, and the run's last
 /// line; entries with the least and with the greatest numbers; lines without lanes and with several; and entries with each

@@ -1,0 +1,111 @@
+"""Writes the list of the scripts in docs/working.md, by the first line of each.
+
+usage: python3 -m tests.gate.pages            writes it, between its two marks
+       python3 -m tests.gate.pages --check    compares it, and looks that the gate runs each script of the other folders
+
+What a script says of itself is the first line of its docstring, or of the comment that it begins with; the words that it is called
+with are those of its first line of usage. The last line of --check is `N passed, M failed`.
+"""
+import re
+import sys
+
+from tests.lib import TOP, conclude, rows
+from tests.gate.scripts import SCRIPTS
+
+PAGE = TOP / "docs" / "working.md"
+BEGIN, END = "<!-- scripts: begin -->\n", "<!-- scripts: end -->\n"
+FOLDERS = {
+    "gate": "the gate, and what else is run of the repository itself",
+    "models": "second implementations, and the program beside them",
+    "rows": "scripted conversations with the built program, in folders by topic",
+    "configuration": "what is read, and what is said of it",
+    "network": "the program at its sockets, between access servers and home servers",
+    "timing": "when it does what it has to do",
+    "faults": "memory, files, descriptors, inputs and outputs that fail",
+    "ledger": "the ledger, and the auditor over ledgers",
+    "service": "`serve` and `rad_proxyctl`",
+    "packaging": "the package and the service in a clean system",
+    "preload": "libraries that are loaded into the program before its own, by `LD_PRELOAD`",
+    "lib": "what the others share",
+}
+MOST_OF_A_FOLDER = 15
+
+
+def first_line(file):
+    """What a file says of itself, in one sentence or more."""
+    lines = file.read_text("utf-8").splitlines()
+    found = next(line for line in lines if not line.startswith("#!") and line != "/*")
+    return re.sub(r'^("""|# | \* )|"""$', "", found)
+
+
+def usage(file):
+    """The words that a script is called with, where it says that it is."""
+    found = re.search(rf"^(?:# )?usage: (?:python3 -m )?\S*\b{file.stem}(?:\.py)?((?: \S+)*)", file.read_text("utf-8"), re.M)
+    return found and found[1]
+
+
+def shown(file):
+    """The name of a file as it is called, with its words: a module without `tests.`, or the path of a script of the shell."""
+    words, place = usage(file), f"{file.parent.name}/{file.name}"
+    if not file.suffix:
+        called = f"tests/{place}{words or ''}"
+    elif words is not None and file.parent.name != "lib":
+        called = f"{file.parent.name}.{file.stem}{words}"
+    else:
+        called = place
+    return f"`{called}`"
+
+
+def files_of(folder):
+    """The scripts of a folder."""
+    found = (file for file in (TOP / "tests" / folder).iterdir() if file.is_file() and file.name != "__init__.py")
+    return sorted(file for file in found if file.suffix in ("", ".py", ".c"))
+
+
+def text():
+    """The list."""
+    parts = []
+    for folder, title in FOLDERS.items():
+        parts += [f"`tests/{folder}/`: {title}.", "", *(f"* {shown(file)}: {first_line(file)}" for file in files_of(folder)), ""]
+    return "\n".join(parts[:-1] + [""])
+
+
+def is_whole(line):
+    return line.endswith(".") and not line.endswith("..")
+
+
+def faults():
+    """What is not as it should be, of all that is looked at."""
+    page = PAGE.read_text("utf-8")
+    found = page.partition(BEGIN)[2].partition(END)[0]
+    if found != text():
+        yield "\n".join([f"{PAGE}: the list is not what the scripts say:", *rows.difference(text().encode(), found.encode())])
+    folders = {file.parent.name for file in (TOP / "tests").glob("*/*.py")} | {"packaging", "preload"}
+    yield from (f"tests/{name}: the list has no such folder" for name in folders - FOLDERS.keys())
+    for folder in FOLDERS:
+        files = files_of(folder)
+        if len(files) > MOST_OF_A_FOLDER:
+            yield f"tests/{folder}: {len(files)} scripts, and at most {MOST_OF_A_FOLDER} may be in a folder"
+        yield from (f"{file}: its first line is no whole sentence" for file in files if not is_whole(first_line(file)))
+        if folder not in ("gate", "lib"):
+            run = {script.file for script in SCRIPTS}
+            yield from (f"{file}: the gate does not run it" for file in files if file.suffix == ".py" and file not in run)
+    yield from (f"{script.file}: there is no such script" for script in SCRIPTS if not script.file.is_file())
+
+
+def main():
+    if sys.argv[1:] not in ([], ["--check"]):
+        sys.exit(__doc__)
+    if sys.argv[1:]:
+        told = list(faults())
+        print(*told, sep="\n", end="\n" if told else "")
+        conclude(int(not told), len(told))
+    before, begin, rest = PAGE.read_text("utf-8").partition(BEGIN)
+    _, end, after = rest.partition(END)
+    if not begin or not end:
+        sys.exit(f"{PAGE} has no two marks")
+    PAGE.write_text(before + begin + text() + end + after, "utf-8")
+
+
+if __name__ == "__main__":
+    main()

@@ -1,0 +1,295 @@
+#!/usr/bin/env python3
+"""What `rad_audit` answers, written a second time: from docs/formats.md, by Python's json, hashlib and tomllib.
+
+usage: audit_model.py CONFIG FILE..    audits as the program does
+
+Of a configuration it looks at the addresses, names and secrets alone.
+"""
+import hashlib
+import json
+import pathlib
+import re
+import sys
+import tomllib
+
+MOST_CONFIG, MOST_LINE = 1_048_576, 65_536
+REQUEST, RESPONSE, PROXY_STATE, MESSAGE_AUTHENTICATOR = 4, 5, 33, 80
+USAGE = "usage: rad_audit CONFIG FILE.."
+OCTETS, ADDRESS = re.compile(r"([0-9a-fA-F]{2})*"), re.compile(r"(0|[1-9][0-9]{0,2})(\.(0|[1-9][0-9]{0,2})){3}")
+TIME = re.compile(r"[0-9]{4}-[0-9]{2}-[0-9]{2}T[0-9]{2}:[0-9]{2}:[0-9]{2}\.[0-9]{3}Z")
+HEAD = {"type", "run", "time"}
+ENTRY = HEAD | {"home", "lane", "serial", "record", "client", "port", "identifier", "authenticator", "sent", "reply", "response"}
+OPTIONAL = {"realm", "realm_octets", "session", "session_octets", "status"}
+LIMITS = {"lane": 2**16, "serial": 2**63, "record": 2**64, "port": 2**16, "identifier": 2**8, "status": 2**32, "file": 2**64, "entries": 2**64}
+
+
+class Ends(Exception):
+    """The program ends early: with this line on standard error, and this status."""
+
+
+class NoLine(Exception):
+    """It is no line of a ledger."""
+
+
+def need(fact):
+    if not fact:
+        raise NoLine
+
+
+def shown(word):
+    """A word as it is printed: each octet of a control character as `%` and two digits."""
+    is_control = lambda character: ord(character) < 32 or 127 <= ord(character) < 160
+    return "".join("".join(f"%{octet:02x}" for octet in c.encode()) if is_control(c) else c for c in word)
+
+
+# Lines.
+
+
+def members(pairs):
+    need(len({key for key, _ in pairs}) == len(pairs))
+    return dict(pairs)
+
+
+def no_number(text):
+    raise NoLine
+
+
+def whole(text):
+    """A number without sign: `-0` is none."""
+    need(not text.startswith("-"))
+    return int(text)
+
+
+def are_right(keys, line):
+    """Whether the members at these keys have their forms."""
+    for key in keys:
+        value, limit = line[key], LIMITS.get(key)
+        need(type(value) is str if limit is None else type(value) is int and 0 <= value < limit)
+        if key in ("sent", "reply", "response", "realm_octets", "session_octets"):
+            need(OCTETS.fullmatch(value))
+
+
+def read_lanes(line, keys):
+    need(type(line["lanes"]) is list)
+    for lane in line["lanes"]:
+        need(type(lane) is dict and set(lane) == keys)
+        are_right(keys, lane)
+
+
+def read_line(octets):
+    """The members of a line."""
+    need(len(octets) <= MOST_LINE)
+    try:
+        line = json.loads(octets.decode("utf-8"), object_pairs_hook=members, parse_int=whole, parse_float=no_number, parse_constant=no_number)
+    except (ValueError, RecursionError):
+        raise NoLine from None
+    need(type(line) is dict and HEAD <= set(line))
+    are_right(HEAD, line)
+    need(re.fullmatch("[0-9a-fA-F]{16}", line["run"]) and TIME.fullmatch(line["time"]))
+    keys, kind = set(line), line["type"]
+    need(kind in ("begin", "entry", "end"))
+    if kind == "begin":
+        need(keys == HEAD | {"version", "file", "lanes"})
+        are_right({"version", "file"}, line)
+        read_lanes(line, {"lane", "home", "serial"})
+    elif kind == "end":
+        need(keys == HEAD | {"lanes"})
+        read_lanes(line, {"lane", "entries"})
+    else:
+        need(ENTRY <= keys <= ENTRY | OPTIONAL)
+        need(not {"realm", "realm_octets"} <= keys and not {"session", "session_octets"} <= keys)
+        are_right(keys, line)
+        need(ADDRESS.fullmatch(line["client"]) and all(int(number) < 256 for number in line["client"].split(".")))
+        need(re.fullmatch("[0-9a-fA-F]{32}", line["authenticator"]))
+    return line
+
+
+# Packets.
+
+
+def attributes(packet):
+    """The attributes' texts; None where they are none."""
+    found, at = [], 20
+    while at < len(packet):
+        length = packet[at + 1] if at + 1 < len(packet) else 0
+        if length < 2 or at + length > len(packet):
+            return None
+        found.append(packet[at : at + length])
+        at += length
+    return found
+
+
+def is_packet(octets):
+    return 20 <= len(octets) <= 4096 and int.from_bytes(octets[2:4], "big") == len(octets) and attributes(octets) is not None
+
+
+def is_right(packet, authenticator, secret):
+    return packet[4:20] == hashlib.md5(packet[:4] + authenticator + packet[20:] + secret).digest()
+
+
+def last_proxy_state(found):
+    places = [at for at, attribute in enumerate(found) if attribute[0] == PROXY_STATE]
+    return places[-1] if places else None
+
+
+class Audit:
+    """What is known of the runs, and what was printed."""
+
+    def __init__(self, config):
+        self.homes = {home["name"]: home["secret"].encode() for home in config["home"]}
+        self.clients = {client["address"]: client["secret"].encode() for client in config["client"]}
+        self.runs, self.printed, self.wrong, self.gap = {}, [], False, False
+
+    def is_wrong(self, place, reason):
+        self.printed.append(f"{place}: {reason}")
+        self.wrong = True
+
+    def lacks(self, place, name, first, last):
+        self.printed.append(f"{place}: {name} gap {first} to {last}")
+        self.gap = True
+
+    def lane(self, run, number):
+        return next((lane for lane in self.runs.get(run, []) if lane["lane"] == number), None)
+
+    def packets(self, entry):
+        """What is wrong with the packets of an entry."""
+        sent, reply, response = (bytes.fromhex(entry[key]) for key in ("sent", "reply", "response"))
+        if not all(map(is_packet, (sent, reply, response))):
+            return "NoPacket"
+        home, client = self.homes.get(entry["home"]), self.clients.get(entry["client"])
+        if home is None:
+            return None
+        mark = bytes([PROXY_STATE, 12]) + entry["lane"].to_bytes(2, "big") + entry["record"].to_bytes(8, "big")
+        if sent[0] != REQUEST or not is_right(sent, bytes(16), home) or attributes(sent)[-1:] != [mark]:
+            return "WrongSent"
+        found = attributes(reply)
+        at = last_proxy_state(found)
+        is_reply = reply[0] == RESPONSE and reply[1] == sent[1] and is_right(reply, sent[4:20], home)
+        is_plain = not any(attribute[0] == MESSAGE_AUTHENTICATOR for attribute in found)
+        if not (is_reply and is_plain and at is not None and found[at] == mark):
+            return "WrongReply"
+        if client is None:
+            return None
+        others = b"".join(found[:at] + found[at + 1 :])
+        is_its = response[0] == RESPONSE and response[1] == entry["identifier"] and response[20:] == others
+        return None if is_its and is_right(response, bytes.fromhex(entry["authenticator"]), client) else "WrongResponse"
+
+    def take_entry(self, place, entry):
+        run = entry["run"].lower()
+        lane = self.lane(run, entry["lane"])
+        lane = lane if lane and lane["home"] == entry["home"] else None
+        reason = self.packets(entry) or ("UnknownLane" if lane is None else None)
+        if reason is None and entry["serial"] < lane["next"]:
+            reason = "SerialNotAbove"
+        if reason is not None:
+            return self.is_wrong(place, reason)
+        lane["not judged"] += entry["home"] not in self.homes
+        if lane["next"] < entry["serial"]:
+            gap = lane["next"], entry["serial"] - 1
+            lane["gap"] = lane["gap"] or gap
+            self.lacks(place, named(run, lane), *gap)
+        lane["next"], lane["entries"] = entry["serial"] + 1, lane["entries"] + 1
+
+    def take_end(self, place, end):
+        run = end["run"].lower()
+        for count in end["lanes"]:
+            lane = self.lane(run, count["lane"])
+            if lane is None:
+                self.is_wrong(place, "UnknownLane")
+                continue
+            lane["end"] = count["entries"]
+            if lane["next"] < lane["end"]:
+                self.lacks(place, named(run, lane), lane["next"], lane["end"] - 1)
+
+    def take(self, place, line):
+        if line["type"] == "entry":
+            self.take_entry(place, line)
+        elif line["type"] == "end":
+            self.take_end(place, line)
+        else:
+            fresh = {"gap": None, "end": None, "entries": 0, "not judged": 0}
+            lanes = [{**lane, **fresh, "next": lane["serial"]} for lane in line["lanes"]]
+            self.runs.setdefault(line["run"].lower(), lanes)
+
+    def read(self, file, octets):
+        """Reads the lines of a file."""
+        *lines, last = octets.split(b"\n")
+        followers = [*lines[1:], last]
+        for number, (line, behind) in enumerate(zip(lines, followers), 1):
+            place = f"{shown(file)}:{number}"
+            try:
+                self.take(place, read_line(line))
+            except NoLine:
+                if len(line) <= MOST_LINE and len(line) < len(behind) and behind.startswith(line):
+                    self.printed.append(f"{place}: torn")
+                else:
+                    self.is_wrong(place, "NotEntry")
+        if last:
+            self.printed.append(f"{shown(file)}:{len(lines) + 1}: torn")
+
+    def end(self):
+        """Tells of each lane, and gives the status."""
+        for run, lanes in self.runs.items():
+            for lane in lanes:
+                gap = lane["gap"]
+                if gap is None and lane["end"] is not None and lane["next"] < lane["end"]:
+                    gap = lane["next"], lane["end"] - 1
+                self.gap = self.gap or gap is not None
+                verdict = f"gap {gap[0]} to {gap[1]}" if gap else "whole" if lane["end"] == lane["next"] else "open"
+                counts = f"from {lane['serial']} entries {lane['entries']} not judged {lane['not judged']}"
+                self.printed.append(f"{named(run, lane)} {counts} {verdict}")
+        return 5 if self.wrong else 3 if self.gap else 0
+
+
+def named(run, lane):
+    return f"run {run} lane {lane['lane']} {shown(lane['home'])}"
+
+
+def read_file(path, most=None):
+    try:
+        octets = pathlib.Path(path).read_bytes()
+    except OSError:
+        octets = None
+    if octets is None or most is not None and len(octets) > most:
+        raise Ends(f"file: {shown(path)}", 4)
+    return octets
+
+
+def configured(path):
+    octets = read_file(path, MOST_CONFIG)
+    try:
+        config = tomllib.loads(octets.decode("utf-8"))
+    except ValueError:
+        raise Ends("configuration: Toml", 2) from None
+    if type(config.get("listen")) is not str:
+        raise Ends("configuration: ..", 2)
+    return config
+
+
+def main(words):
+    """Audits, and gives the status."""
+    if len(words) < 2 or any(word.startswith("-") for word in words):
+        print(USAGE, file=sys.stderr)
+        return 1
+    audit, fault = None, None
+    try:
+        audit = Audit(configured(words[0]))
+        for path in words[1:]:
+            audit.read(path, read_file(path))
+        status = audit.end()
+    except Ends as ended:
+        fault, status = ended.args
+    try:
+        for line in audit.printed if audit else []:
+            print(line)
+        sys.stdout.flush()
+    except OSError:
+        sys.stdout = None
+        return 4
+    if fault is not None:
+        print(fault, file=sys.stderr)
+    return status
+
+
+if __name__ == "__main__":
+    sys.exit(main(sys.argv[1:]))

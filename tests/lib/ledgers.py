@@ -1,0 +1,97 @@
+"""Makes the lines of ledgers, by Python's hashlib and json alone."""
+import json
+
+from tests.lib import packets
+from tests.lib.packets import ACCT_SESSION_ID, ACCT_STATUS_TYPE, CLASS, attribute, mark
+from tests.lib.starting import TOP
+
+
+class Lane:
+    """A lane of a run: its number, the home server's name and secret, and how many responses and requests it had."""
+
+    def __init__(self, number, home, secret, serial=0, record=None):
+        self.number, self.home, self.secret, self.serial = number, home, secret, serial
+        self.record = serial if record is None else record
+
+
+class Run:
+    """A run: what names it, when it began, and its lanes."""
+
+    def __init__(self, run, lanes, moment=0, version="0.1.0"):
+        self.run, self.lanes, self.moment, self.version, self.file = run, lanes, moment, version, 0
+
+    def head(self, kind):
+        """The keys that each line begins with. A line is written 250 ms after the one before it."""
+        self.moment += 250
+        seconds, rest = divmod(self.moment, 1000)
+        time = f"2026-01-31T{seconds // 3600:02}:{seconds // 60 % 60:02}:{seconds % 60:02}.{rest:03}Z"
+        return {"type": kind, "run": f"{self.run:016x}", "time": time}
+
+    def begin(self):
+        lanes = [{"lane": lane.number, "home": lane.home, "serial": lane.serial} for lane in self.lanes]
+        line = {**self.head("begin"), "version": self.version, "file": self.file, "lanes": lanes}
+        self.file += 1
+        return line
+
+    def end(self):
+        lanes = [{"lane": lane.number, "entries": lane.serial} for lane in self.lanes]
+        return {**self.head("end"), "lanes": lanes}
+
+    def entry(self, place=0, client=("192.0.2.10", b"nas-secret"), user=b"bob@example.org", session=b"S1", status=1, more=b""):
+        """The next response of the lane at this place."""
+        lane, (address, secret) = self.lanes[place], client
+        attributes = (packets.user_name(user) if user else b"") + (attribute(ACCT_SESSION_ID, session) if session else b"")
+        attributes += attribute(ACCT_STATUS_TYPE, status.to_bytes(4, "big")) if status is not None else b""
+        its_mark, identifier = mark(lane.number, lane.record), lane.record * 7 % 256
+        asked = packets.request(identifier, attributes + more, secret)
+        sent = packets.request(lane.record % 256, attributes + more + its_mark, lane.secret)
+        passed_on = attribute(CLASS, b"CLS")
+        reply = packets.answer(sent, sent[1], more + its_mark + passed_on, lane.secret)
+        response = packets.answer(asked, identifier, more + passed_on, secret)
+        line = {
+            **self.head("entry"),
+            "home": lane.home,
+            "lane": lane.number,
+            "serial": lane.serial,
+            "record": lane.record,
+            "client": address,
+            "port": 40000 + lane.record % 1000,
+            "identifier": identifier,
+            "authenticator": asked[4:20].hex(),
+        }
+        line.update(worded("realm", user.rpartition(b"@")[2] if b"@" in user else None))
+        line.update(worded("session", session or None))
+        if status is not None:
+            line["status"] = status
+        lane.serial, lane.record = lane.serial + 1, lane.record + 1
+        return {**line, "sent": sent.hex(), "reply": reply.hex(), "response": response.hex()}
+
+
+def worded(key, octets):
+    """A realm or a session: under its key where it is UTF-8, and else as digits."""
+    if octets is None:
+        return {}
+    try:
+        return {key: octets.decode("utf-8")}
+    except UnicodeDecodeError:
+        return {f"{key}_octets": octets.hex()}
+
+
+def text(lines):
+    """Lines as they stand in a file: without spaces, with the shortest escapes, and with characters beyond ASCII as they are."""
+    how = {"separators": (",", ":"), "ensure_ascii": False}
+    return "".join(f"{line if isinstance(line, str) else json.dumps(line, **how)}\n" for line in lines)
+
+
+EXAMPLE = TOP / "examples" / "one-home.jsonl"
+CLIENT = "192.0.2.10", b"one long random text for this NAS"
+SECRET = b"one long random text for this home server"
+
+
+def example():
+    """A run of one lane: a session that starts, goes on and stops, and one of octets that are no text."""
+    run = Run(0x0123456789ABCDEF, [Lane(0, "billing", SECRET)])
+    lines = [run.begin()]
+    lines += [run.entry(client=CLIENT, session=b"4f2a", status=status) for status in (1, 3, 2)]
+    lines += [run.entry(client=CLIENT, session=b"\xff\x00", user=b"bob", more=attribute(packets.PROXY_STATE, b"abc"))]
+    return text([*lines, run.end()])

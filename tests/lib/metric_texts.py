@@ -1,0 +1,113 @@
+"""The text of all metrics of a program that keeps no ledger, written out by the rules of docs/formats.md.
+
+`text_of` makes it of the numbers that are known. A metric whose value depends on the time has a word in its place: TIME for a moment,
+AGE for a time that has passed, SECONDS for the sum of a histogram and SOME for what it counts up to a bound.
+"""
+import pathlib
+import re
+
+from tests.lib.starting import TOP
+
+COUNTER, GAUGE, HISTOGRAM = "counter", "gauge", "histogram"
+DROPS = ["UnknownClient", "Unread", "WrongCode", "BadAuthenticator", "BadMessageAuthenticator", "MessageAuthenticatorHere", "NoRealm"]
+REFUSALS = ["Draining", "BookFull", "QueueFull", "TooLong", "OutOfMemory", "WrongLane"]
+UNHEARD = ["NotHome", "RingFull", "Unread", "WrongCode", "Unknown", "BadAuthenticator", "MessageAuthenticatorHere", "NoProxyState",
+           "OutOfMemory"]
+UPS = ["answered", "probe answered", "down_wait over"]
+BOUNDS = ["0.00025", "0.0005", "0.001", "0.0025", "0.005", "0.01", "0.025", "0.05", "0.1", "0.25", "0.5", "1", "2.5", "5", "10", "30",
+          "60"]
+LARGEST_BUFFER = 1 << 20
+# Of whom a metric is: the program, all clients, both sides, each client, each home server, or the sockets.
+PROGRAM, CLIENTS, SIDES, CLIENT, HOME, SOCKET = range(6)
+# Each metric: its name, kind and help text, of whom it is, the reasons or the like that it is told apart by, and its value where none
+# is known.
+METRICS = [
+    ("dropped_total", COUNTER, "Datagrams at the clients' sockets that were dropped.", CLIENTS, ("reason", DROPS), "0"),
+    ("refused_total", COUNTER, "Requests that were refused.", CLIENTS, ("reason", REFUSALS), "0"),
+    ("unheard_total", COUNTER, "Datagrams at a home server's sockets that were dropped.", HOME, ("reason", UNHEARD), "0"),
+    ("send_faults_total", COUNTER, "Sends that failed.", SIDES, None, "0"),
+    ("receive_faults_total", COUNTER, "Receives that failed.", SIDES, None, "0"),
+    ("downs_total", COUNTER, "How often the home server was marked down.", HOME, None, "0"),
+    ("sent_total", COUNTER, "Accounting-Requests sent to the home server, for the first time and again.", HOME, None, "0"),
+    ("probes_total", COUNTER, "Status-Servers sent to the home server.", HOME, None, "0"),
+    ("cut_total", COUNTER, "Answered requests that were removed from the book.", HOME, None, "0"),
+    ("marked_total", COUNTER, "Requests for the home server that arrived with a Proxy-State of this proxy's form.", HOME, None, "0"),
+    ("build_info", GAUGE, "The version of the running program.", PROGRAM, ("version", None), "1"),
+    ("start_time_seconds", GAUGE, "When the program started, in seconds since 1970.", PROGRAM, None, "TIME"),
+    ("report_time_seconds", GAUGE, "When these metrics were collected, in seconds since 1970.", PROGRAM, None, "TIME"),
+    ("strangers_total", COUNTER, "Datagrams from senders that are not clients.", PROGRAM, None, "0"),
+    ("client_received_total", COUNTER, "Datagrams received from the client.", CLIENT, None, "0"),
+    ("client_accepted_total", COUNTER, "New requests from the client that were accepted.", CLIENT, None, "0"),
+    ("client_repeats_total", COUNTER, "Retransmitted requests from the client: unanswered, or answered less than a span ago.", CLIENT,
+     ("repeat", ["waiting", "again"]), "0"),
+    ("client_responses_total", COUNTER, "Responses sent to the client, including those to repeats and to Status-Servers.", CLIENT, None,
+     "0"),
+    ("client_refused_total", COUNTER, "New requests from the client that were refused.", CLIENT, ("reason", REFUSALS), "0"),
+    ("client_dropped_total", COUNTER, "Datagrams from the client that were dropped.", CLIENT, ("reason", DROPS[1:]), "0"),
+    ("book_limit", GAUGE, "The most requests that the book may hold.", HOME, None, "100000"),
+    ("queue_limit", GAUGE, "The most requests that may wait to be sent.", HOME, None, "4096"),
+    ("window_limit", GAUGE, "The most requests that may be outstanding.", HOME, None, "64"),
+    ("ring_limit", GAUGE, "The most responses that the ring may hold.", HOME, None, "256"),
+    ("span_seconds", GAUGE, "How long after its answer a retransmitted request is answered again.", HOME, None, "30.000"),
+    ("home_up", GAUGE, "Whether the home server is marked up.", HOME, None, "0"),
+    ("home_since_time_seconds", GAUGE, "Since when the home server is marked up or down, in seconds since 1970.", HOME, None, "TIME"),
+    ("home_report_time_seconds", GAUGE, "When the lane reported these metrics, in seconds since 1970.", HOME, None, "TIME"),
+    ("draining", GAUGE, "Whether the lane accepts no new requests.", HOME, None, "0"),
+    ("accepted_total", COUNTER, "Requests accepted since the start.", HOME, None, "0"),
+    ("answered_total", COUNTER, "Requests answered by the home server since the start.", HOME, None, "0"),
+    ("queued", GAUGE, "Requests that wait to be sent.", HOME, None, "0"),
+    ("outstanding", GAUGE, "Requests sent and not answered.", HOME, None, "0"),
+    ("book", GAUGE, "Requests that the book holds.", HOME, None, "0"),
+    ("resent_total", COUNTER, "Accounting-Requests sent to the home server again.", HOME, None, "0"),
+    ("oldest_queued_age_seconds", GAUGE, "How long the first request of the queue has waited.", HOME, None, "0.000"),
+    ("oldest_outstanding_age_seconds", GAUGE, "How long ago the first request that is not answered was sent.", HOME, None, "0.000"),
+    ("oldest_held_age_seconds", GAUGE, "How long ago the first request in the book was accepted.", HOME, None, "AGE"),
+    ("last_answer_time_seconds", GAUGE, "When the home server last answered a request, in seconds since 1970, and 0 before that.", HOME,
+     None, "TIME"),
+    ("ups_total", COUNTER, "How often the home server was marked up again.", HOME, ("reason", UPS), "0"),
+    ("reply_seconds", HISTOGRAM, "From the first sending of a request to the home server's reply.", HOME, None, "0"),
+    ("response_seconds", HISTOGRAM, "From the acceptance of a request to the response to the client.", HOME, None, "0"),
+    ("socket_buffer_bytes", GAUGE, "The receive buffer that the system granted to the socket.", SOCKET, None, None),
+    ("socket_drops_total", COUNTER, "Datagrams that the system dropped because the socket's receive buffer was full.", SOCKET, None, "0"),
+]
+
+
+def version():
+    """The version that the Makefile has."""
+    return re.search(r"^VERSION = (.*)$", (TOP / "Makefile").read_text("utf-8"), re.M)[1]
+
+
+def buffer():
+    """The receive buffer that the system grants."""
+    return str(min(int(pathlib.Path("/proc/sys/net/core/rmem_max").read_text("utf-8")), LARGEST_BUFFER))
+
+
+def labels_of(whose, apart, client, homes, socket):
+    """The labels of each line of a metric, in order."""
+    owners = {PROGRAM: [""], CLIENTS: [""], SIDES: ['side="clients"', *homes], CLIENT: [f'client="{client}"'], HOME: homes,
+              SOCKET: [f'side="clients",socket="{socket}"', *(f'{home},port="0"' for home in homes)]}[whose]
+    if apart is None:
+        return owners
+    name, values = apart
+    return [",".join(filter(None, [owner, f'{name}="{value}"'])) for owner in owners for value in values or [version()]]
+
+
+def names_of(name, kind, labels):
+    """The name of each line of a metric with these labels, and the value of a histogram's where none is known."""
+    if kind != HISTOGRAM:
+        return [(f"{name}{{{labels}}}" if labels else name, None)]
+    buckets = [(f'{name}_bucket{{{labels},le="{bound}"}}', "SOME") for bound in BOUNDS]
+    last = f'{name}_bucket{{{labels},le="+Inf"}}'
+    return [*buckets, (last, None), (f"{name}_sum{{{labels}}}", "SECONDS"), (f"{name}_count{{{labels}}}", None)]
+
+
+def text_of(numbers, client, homes, socket):
+    """The lines of all metrics, where these numbers are known, by their names and labels: of this client, of the home servers with
+    these labels, and of the clients' socket at this address."""
+    lines = []
+    for name, kind, about, whose, apart, value in METRICS:
+        lines += [f"# HELP rad_proxy_{name} {about}", f"# TYPE rad_proxy_{name} {kind}"]
+        for labels in labels_of(whose, apart, client, homes, socket):
+            for each, word in names_of(name, kind, labels):
+                lines.append(f"rad_proxy_{each} {numbers.get(each, word or value or buffer())}")
+    return lines

@@ -1,0 +1,223 @@
+"""The program under `run`, the NAS and the home servers at its sides, and a stage that has all of them."""
+import contextlib
+import pathlib
+import re
+import select
+import subprocess
+import time
+
+from tests.lib.model import read
+from tests.lib.packets import ACCOUNTING_REQUEST, STATUS_SERVER, answer, reply, request, status, user_name
+from tests.lib.starting import Server, configured, environment
+from tests.lib.trying import need
+from tests.lib.waiting import HERE, PATIENCE, bound, free_port, is_so, until
+
+SECRET = b"one secret for all"
+VALUE = re.compile(r'(\S+?)=("[^"]*"|\S*)')
+NOTHING_LEFT = "end: queued 0 outstanding 0 untaken 0"
+
+
+def pairs_of(line):
+    """The keys and values of a log line, those without their quotes."""
+    return {key: value.strip('"') for key, value in VALUE.findall(line)}
+
+
+class Home:
+    """A home server: it keeps what comes, and answers what it is told to."""
+
+    def __init__(self):
+        self.ear = bound()
+        self.port = self.ear.getsockname()[1]
+        self.came = []
+
+    def hear(self, wait=0.0):
+        """Keeps what has come, each with its sender."""
+        while select.select([self.ear], [], [], wait)[0]:
+            octets, sender = self.ear.recvfrom(4096)
+            self.came.append((read(octets), sender))
+            wait = 0.0
+
+    def requests(self):
+        """The requests that came, each once."""
+        self.hear()
+        first = {}
+        for packet, sender in self.came:
+            if packet.code == ACCOUNTING_REQUEST:
+                first.setdefault(packet.octets, (packet, sender))
+        return list(first.values())
+
+    def answer(self, packet, sender):
+        self.ear.sendto(reply(packet, SECRET), sender)
+
+    def answers_a_probe(self):
+        """Answers the last probe, where one came."""
+        self.hear()
+        probes = [each for each in self.came if each[0].code == STATUS_SERVER]
+        for packet, sender in probes[-1:]:
+            self.ear.sendto(answer(packet.octets, packet.identifier, b"", SECRET), sender)
+        return bool(probes)
+
+
+class Proxy:
+    """The program under `run`, in a folder that has its configuration, its log, its counters, and what it prints to a file."""
+
+    def __init__(self, program, folder, text, listen, name="proxy"):
+        self.program, self.listen, self.ran = program, listen, None
+        self.file, self.log, self.printed, self.counters = (pathlib.Path(folder, f"{name}.{end}") for end in ("toml", "log", "out", "prom"))
+        self.file.write_text(text, "utf-8")
+        self.log.write_text("")
+
+    @classmethod
+    def serving(cls, program, folder, name, homes, port=None, default=None, level="info", linger=0, variables=(), errors=None):
+        """One that listens, for whoever is here: with these home servers, each with its port here, or its whole address, and its limits."""
+        listen, secret = (HERE, port or free_port()), SECRET.decode()
+        servers = [Server(home, place, keys, f"{home}.example", secret) for home, (place, keys) in homes.items()]
+        made = cls(program, folder, configured(f"{HERE}:{listen[1]}", servers, secret=secret, linger=linger, default=default), listen, name)
+        more = {} if errors is None else {"stderr": errors}
+        made.start(env=environment(level) | {"RAD_PROXY_COUNTERS": str(made.counters)} | dict(variables), **more)
+        made.listens()
+        return made
+
+    def start(self, before=(), **options):
+        """Starts it, with words before its own. It has pipes, and its log, where these options of a process do not say otherwise."""
+        given = {"stdin": subprocess.PIPE, "stdout": subprocess.PIPE, "env": environment()} | options
+        with self.log.open("ab") as log:
+            self.ran = subprocess.Popen([*before, self.program, "run", self.file], **({"stderr": log} | given))
+        return self.ran
+
+    def listens(self):
+        """Waits for the line that says where it listens, and gives that."""
+        if not select.select([self.ran.stdout], [], [], PATIENCE)[0]:
+            self.kill()
+            raise OSError("it does not begin to listen")
+        return self.ran.stdout.readline()
+
+    def start_printing(self, variables, **options):
+        """Starts it so that it prints to a file, in an environment of these variables, and waits until it listens."""
+        with self.printed.open("wb") as out:
+            self.start(stdout=out, env=variables, **options)
+        until("it listens", lambda: "listening" in self.printed.read_text())
+
+    def lines(self, event, home=None):
+        """The lines of an event, as keys and values."""
+        told = map(pairs_of, self.log.read_text("utf-8", "replace").splitlines())
+        return [pairs for pairs in told if pairs.get("event") == event and home in (None, pairs.get("home"))]
+
+    def counter(self, name):
+        """The sum of a counter over all its labels."""
+        lines = self.counters.read_text("utf-8").splitlines()
+        return sum(int(line.rsplit(" ", 1)[1]) for line in lines if line.startswith(f"rad_proxy_{name}{{"))
+
+    def end(self):
+        """Ends the program, and gives how it ended."""
+        self.ran.communicate()
+        return self.ran.returncode
+
+    def kill(self):
+        """Kills it, where it runs."""
+        if self.ran is not None:
+            self.ran.kill()
+            self.ran.wait()
+            for pipe in filter(None, (self.ran.stdin, self.ran.stdout)):
+                with contextlib.suppress(OSError):
+                    pipe.close()
+
+
+class Nas:
+    """An access server: each request that it sends is a new one."""
+
+    def __init__(self, proxy):
+        self.socket, self.proxy, self.asked = bound(), proxy, 0
+        self.socket.settimeout(PATIENCE)
+
+    def ask(self, home="h0"):
+        self.asked += 1
+        name = f"user{self.asked}@{home}.example".encode()
+        octets = request(self.asked % 256, user_name(name), SECRET)
+        self.socket.sendto(octets, self.proxy.listen)
+        return octets
+
+    def ask_status(self, identifier=1):
+        """A Status-Server to the proxy itself."""
+        self.socket.sendto(status(identifier, bytes(16), b"", b"", SECRET), self.proxy.listen)
+
+    def is_answered(self, asked):
+        """Whether what comes next is the response to this request."""
+        return self.socket.recv(4096) == answer(asked, asked[1], b"", SECRET)
+
+
+class Stage:
+    """A program, its home servers, which are named h0, h1 and so on, and its NAS."""
+
+    def __init__(self, program, folder, limits="", count=1, addresses=(), **more):
+        self.homes = [Home() for _ in range(count)]
+        for home in self.homes:
+            home.ear.settimeout(PATIENCE)
+        places = [home.port for home in self.homes] + list(addresses)
+        homes = {f"h{lane}": (place, limits) for lane, place in enumerate(places)}
+        self.proxy = Proxy.serving(program, folder, "proxy", homes, **more)
+        self.nas = Nas(self.proxy)
+
+    def __enter__(self):
+        return self
+
+    def __exit__(self, *_):
+        self.proxy.kill()
+        for one in (self.nas.socket, *(home.ear for home in self.homes)):
+            one.close()
+
+    def came(self, lane=0):
+        """What comes next to a home server, and from where."""
+        octets, sender = self.homes[lane].ear.recvfrom(4096)
+        return read(octets), sender
+
+    def round_trip(self, lane=0):
+        """A request is sent and answered: how long that took."""
+        begun = time.monotonic()
+        asked = self.nas.ask(f"h{lane}")
+        self.homes[lane].answer(*self.came(lane))
+        need(self.nas.is_answered(asked), "another response came")
+        return time.monotonic() - begun
+
+    def is_answered_in_the_end(self, asked, lane):
+        """Whether a request is answered, which the NAS sends again until it is, while the home server answers what comes."""
+
+        def comes():
+            home = self.homes[lane]
+            before = len(home.came)
+            home.hear(0.1)
+            for packet, sender in home.came[before:]:
+                home.answer(packet, sender)
+            if select.select([self.nas.socket], [], [], 0.2)[0]:
+                return self.nas.is_answered(asked)
+            self.nas.socket.sendto(asked, self.proxy.listen)
+            return False
+
+        return is_so(comes)
+
+    def say(self, command, lines):
+        """A command to the program, and so many lines of its answer."""
+        self.proxy.ran.stdin.write(command + b"\n")
+        self.proxy.ran.stdin.flush()
+        return [self.proxy.ran.stdout.readline().decode().rstrip("\n") for _ in range(lines)]
+
+    def counters(self):
+        """Each counter, by its name and labels, once there are some."""
+        need(is_so(self.proxy.counters.exists), "there is no file of counters")
+        lines = self.proxy.counters.read_text("utf-8").splitlines()
+        pairs = [line.rsplit(" ", 1) for line in lines if not line.startswith("#")]
+        found = {name: float(count) if "." in count else int(count) for name, count in pairs}
+        need(len(found) == len(pairs), "a counter stands there twice")
+        return found
+
+    def next_report(self):
+        """Waits until the file of the counters is replaced."""
+        need(is_so(self.proxy.counters.exists), "there is no file of counters")
+        before = self.proxy.counters.stat().st_ino, self.proxy.counters.stat().st_mtime_ns
+        need(is_so(lambda: (self.proxy.counters.stat().st_ino, self.proxy.counters.stat().st_mtime_ns) != before), "no report comes")
+
+    def ends(self):
+        """Has the input end: how long the program took from then on, its last line and its status."""
+        begun = time.monotonic()
+        printed, _ = self.proxy.ran.communicate(timeout=PATIENCE)
+        return time.monotonic() - begun, printed.decode().splitlines()[-1], self.proxy.ran.returncode

@@ -1,0 +1,143 @@
+"""What runs the tests of a script and counts them: tests that are functions, and trials that look at one thing after the other."""
+import pathlib
+import subprocess
+import sys
+import tempfile
+
+# Of a bound of time the best of so many tries counts, since a machine may have much else to do.
+TRIES = 5
+
+
+class LeftOut(Exception):
+    """The test wants what is not here."""
+
+
+def hope(text, found, wanted):
+    """Fails a test, where what was found is not what was wanted."""
+    if found != wanted:
+        raise AssertionError(f"{text}: {found!r}, and not {wanted!r}")
+
+
+def need(is_right, *told):
+    """Fails a test, where something is not right, and tells this."""
+    if not is_right:
+        raise AssertionError(" ".join(map(str, told)))
+
+
+def best(tried, is_kept):
+    """Tries something until a bound of time is kept, TRIES times at most."""
+    seen = []
+    while not seen or not is_kept(seen[-1]):
+        if len(seen) == TRIES:
+            raise AssertionError(f"not in {TRIES} tries: {seen}")
+        seen.append(tried())
+
+
+def conclude(passed, failed):
+    """Ends the script. The last line is `N passed, M failed`."""
+    print(f"{passed} passed, {failed} failed")
+    sys.exit(1 if failed else 0)
+
+
+def outcome(test, fault_on):
+    """What became of a test: a word, and what there is to say."""
+    try:
+        fault = fault_on(test)
+    except LeftOut as reason:
+        return "left out", str(reason)
+    return ("passed", "") if fault is None else ("failed", fault)
+
+
+def try_each(tests, fault_on):
+    """Tells of each test that has a fault or is left out, counts the others, and ends the script."""
+    words = []
+    for test in tests:
+        word, text = outcome(test, fault_on)
+        words.append(word)
+        if word != "passed":
+            print(f"{word}: {test.__name__}: {text}", flush=True)
+    conclude(words.count("passed"), words.count("failed"))
+
+
+def fault_of(test, *given):
+    """What is wrong with a test, where something is, by the exception that it ends with."""
+    try:
+        test(*given)
+    except (AssertionError, KeyError, OSError, ValueError, subprocess.SubprocessError) as fault:
+        return f"{type(fault).__name__}: {fault}"
+    return None
+
+
+def chosen(tests, usage):
+    """The program that the script is given, and the tests that it is given the names of behind it, or all."""
+    if len(sys.argv) < 2:
+        sys.exit(usage)
+    names = sys.argv[2:]
+    return pathlib.Path(sys.argv[1]).resolve(), [test for test in tests if not names or test.__name__ in names]
+
+
+def try_named(tests, stage_of, usage):
+    """Tries the tests that are chosen, over what `stage_of` makes for each of the program, in a folder of its own, and ends the script."""
+    program, tests = chosen(tests, usage)
+
+    def fault_on(test):
+        with tempfile.TemporaryDirectory() as folder:
+            stage = stage_of(program, pathlib.Path(folder))
+            try:
+                return fault_of(test, stage)
+            finally:
+                stage.stop()
+
+    try_each(tests, fault_on)
+
+
+def try_in_folders(tests, usage):
+    """Tries the tests that are chosen, each with the program and a folder of its own, and ends the script."""
+    program, tests = chosen(tests, usage)
+
+    def fault_in(test):
+        with tempfile.TemporaryDirectory() as folder:
+            return fault_of(test, program, pathlib.Path(folder))
+
+    try_each(tests, fault_in)
+
+
+class Trial:
+    """What is looked at of a program, in a folder: what is so is counted, and what is not is counted and told."""
+
+    def __init__(self, program, folder):
+        self.program, self.folder = program, pathlib.Path(folder)
+        self.passed, self.failed = 0, 0
+
+    def see(self, what, is_right, found=None):
+        """Counts whether something is so, and where it is not tells what was found."""
+        self.passed += bool(is_right)
+        self.failed += not is_right
+        if not is_right:
+            print(f"not so: {what}" if found is None else f"not so: {what}: {found}", flush=True)
+
+    def compare(self, what, found, wanted):
+        """The same of what has to be what is wanted."""
+        self.see(what, found == wanted, f"{found!r}, and not {wanted!r}")
+
+    def write(self, name, text):
+        """The path of a new file of the folder."""
+        path = self.folder / name
+        path.write_text(text, "utf-8")
+        return str(path)
+
+    def stop(self):
+        """Ends whatever is left running, of which there is nothing here."""
+
+
+def run_trial(trial_of, usage):
+    """Runs a trial of the program that the script is given, and ends the script."""
+    if len(sys.argv) != 2:
+        sys.exit(usage)
+    with tempfile.TemporaryDirectory() as folder:
+        trial = trial_of(str(pathlib.Path(sys.argv[1]).resolve()), folder)
+        try:
+            trial.run()
+        finally:
+            trial.stop()
+    conclude(trial.passed, trial.failed)

@@ -1,0 +1,98 @@
+"""UDP sockets, and waits for what has to come."""
+import contextlib
+import ctypes
+import os
+import pathlib
+import signal
+import socket
+import time
+
+HERE = "127.0.0.1"
+# How many seconds are waited for what has to come, since a slow machine is no fault of the program, and how many from look to look.
+PATIENCE, APART = 40, 0.02
+
+# The number of a system call; and what Linux says of the receive buffer and the send buffer of a socket of which a mebibyte was asked.
+PIDFD_GETFD = 438
+BUFFERS = tuple(2 * min(1 << 20, int(pathlib.Path("/proc/sys/net/core", name).read_text())) for name in ("rmem_max", "wmem_max"))
+
+
+def bound(address=HERE, port=0, patience=PATIENCE):
+    """A UDP socket that waits so many seconds for a datagram."""
+    made = socket.socket(socket.AF_INET, socket.SOCK_DGRAM)
+    made.bind((address, port))
+    made.settimeout(patience)
+    return made
+
+
+def free_ports(count):
+    """Ports of loopback that nobody has."""
+    tried = [bound() for _ in range(count)]
+    ports = [each.getsockname()[1] for each in tried]
+    for each in tried:
+        each.close()
+    return ports
+
+
+def free_port():
+    """A port of loopback that nobody has."""
+    (port,) = free_ports(1)
+    return port
+
+
+@contextlib.contextmanager
+def flooded(*places, source=HERE, count=3):
+    """Has so many processes send garbage to these addresses and ports without end."""
+    children = [flooding(places, source) for _ in range(count)]
+    try:
+        yield
+    finally:
+        for child in children:
+            os.kill(child, signal.SIGKILL)
+            os.waitpid(child, 0)
+
+
+def flooding(places, source):
+    """A process that does so."""
+    child = os.fork()
+    if child:
+        return child
+    with contextlib.suppress(BaseException), bound(source) as stranger:
+        while True:
+            for place in places:
+                with contextlib.suppress(OSError):
+                    stranger.sendto(bytes(20), place)
+    os._exit(0)
+
+
+def awaited(test, patience, apart):
+    """What a test answers once it answers something, and its last answer where it never does."""
+    last = time.monotonic() + patience
+    while not (found := test()) and time.monotonic() < last:
+        time.sleep(apart)
+    return found
+
+
+def is_so(test, patience=PATIENCE, apart=APART):
+    """Whether something is so before too long."""
+    return bool(awaited(test, patience, apart))
+
+
+def until(text, test, patience=PATIENCE, apart=APART):
+    """Waits until a test answers something, and answers that."""
+    found = awaited(test, patience, apart)
+    if not found:
+        raise AssertionError(f"never: {text}")
+    return found
+
+
+def buffers_of(process):
+    """What Linux says of the receive buffer and the send buffer of each socket of a process."""
+    numbers = [int(entry.name) for entry in pathlib.Path(f"/proc/{process}/fd").iterdir() if os.readlink(entry).startswith("socket:")]
+    held = os.pidfd_open(process)
+    copies = [ctypes.CDLL(None).syscall(PIDFD_GETFD, held, number, 0) for number in numbers]
+    os.close(held)
+    sockets = [socket.socket(fileno=copy) for copy in copies]
+    found = [tuple(made.getsockopt(socket.SOL_SOCKET, name) for name in (socket.SO_RCVBUF, socket.SO_SNDBUF)) for made in sockets]
+    for made in sockets:
+        made.close()
+    return found
