@@ -1,0 +1,523 @@
+#!/usr/bin/env python3
+"""Has `rad_trial judge` read captures: made octet by octet, with faults that are planted, damaged ones, and those that tcpdump makes
+of radsecproxy, FreeRADIUS and the program under losses.
+
+usage: python3 -m tests.tools.judge PROGRAM [NAME ..]
+
+Names choose tests. Each test is a line, and the last line is `N passed, M failed`. Those with proxies want root, `unshare`, tcpdump
+and the proxy, and tell where one is left out for want of them.
+"""
+import contextlib
+import io
+import os
+import pathlib
+import random
+import re
+import struct
+import subprocess
+import sys
+import time
+
+sys.dont_write_bytecode = True
+
+from tests.tools import capturing
+from tests.tools.capturing import COOKED, COOKED_2, ETHERNET, RAW, START, framed, ipv4, pcap, pcapng, udp
+from tests.tools.running import TOOL, hope, run_tests, tool
+from tests.vectors import ACCT_SESSION_ID, ACCT_STATUS_TYPE, CLASS, PROXY_STATE, answer, attribute, mark, request, status, user_name
+
+NAS, PROXY, OUT, HOME = ("192.0.2.10", 40000), ("192.0.2.1", 1813), ("192.0.2.1", 50000), ("198.51.100.20", 1813)
+NAS_SECRET, HOME_SECRET = b"nas-secret", b"home-secret"
+CONFIG = f"""listen = "0.0.0.0:1813"
+[[client]]
+address = "{NAS[0]}"
+secret = "nas-secret"
+[[home]]
+name = "billing"
+address = "{HOME[0]}:{HOME[1]}"
+secret = "home-secret"
+[[realm]]
+name = "example.org"
+home = "billing"
+"""
+KINDS = {
+    "never": "requests that were never answered",
+    "early": "answers to a NAS before a home server answered",
+    "wrong": "answers to a NAS that answer another request (wrong Response Authenticator)",
+    "wrong home": "answers of a home server that answer another request (wrong Response Authenticator)",
+    "twice": "records at a home server under several Identifiers, Authenticators or ports, more than their NAS sent them under",
+    "overtaken": "records that a later record of their session overtook on the way to a home server",
+}
+DELAY_TIME = 41
+
+
+def record(session=b"S1", kind=1, user=b"bob@example.org", more=b""):
+    """The attributes of a record."""
+    return user_name(user) + attribute(ACCT_STATUS_TYPE, bytes([0, 0, 0, kind])) + attribute(ACCT_SESSION_ID, session) + more
+
+
+class Scene:
+    """What a capture sees of a NAS, a proxy and a home server."""
+
+    def __init__(self):
+        self.seen, self.time, self.number = [], START, 0
+
+    def pass_by(self, source, target, octets, seconds=0.001):
+        self.seen.append((self.time, source, target, octets))
+        self.time += seconds
+        return octets
+
+    def wait(self, seconds):
+        self.time += seconds
+
+    def asks(self, identifier, attributes):
+        return self.pass_by(NAS, PROXY, request(identifier, attributes, NAS_SECRET))
+
+    def again(self, asked):
+        return self.pass_by(NAS, PROXY, asked)
+
+    def sends(self, identifier, attributes, out=OUT):
+        """The proxy sends on, with a Proxy-State of its own."""
+        self.number += 1
+        return self.pass_by(out, HOME, request(identifier, attributes + mark(0, self.number), HOME_SECRET))
+
+    def replies(self, sent, out=OUT, answered=None):
+        return self.pass_by(HOME, out, answer(answered or sent, sent[1], sent[-12:], HOME_SECRET))
+
+    def answers(self, asked, answered=None):
+        return self.pass_by(PROXY, NAS, answer(answered or asked, asked[1], b"", NAS_SECRET))
+
+    def whole(self, identifier, attributes):
+        """A request that is answered as it should be."""
+        asked = self.asks(identifier, attributes)
+        self.replies(self.sends(identifier + 100, attributes))
+        self.answers(asked)
+
+    def frames(self, link=ETHERNET, **more):
+        return [(time, framed(link, ipv4(source, target, udp(source, target, octets)), **more)) for time, source, target, octets in self.seen]
+
+
+def clean(scene):
+    for number in range(5):
+        scene.whole(number, record(b"S%d" % number))
+        scene.whole(number + 20, record(b"S%d" % number, 2))
+    asked = scene.pass_by(NAS, PROXY, status(7, bytes(16), b"", b"", NAS_SECRET))
+    scene.answers(asked)
+
+
+def is_repeated(scene):
+    """A NAS sends again, and is answered twice; the proxy sends again, and the home server answers twice."""
+    asked = scene.asks(1, record(b"S9"))
+    sent = scene.sends(9, record(b"S9"))
+    scene.again(asked)
+    scene.pass_by(OUT, HOME, sent)
+    scene.replies(sent)
+    scene.answers(asked)
+    scene.replies(sent)
+    scene.again(asked)
+    scene.answers(asked)
+
+
+def is_never_answered(scene):
+    scene.asks(1, record(b"S9"))
+    scene.sends(8, record(b"S9"))
+    scene.wait(60)
+
+
+def is_open(scene):
+    """The last request has no answer in the capture: that is no fault."""
+    scene.wait(1)
+    scene.asks(1, record(b"S9"))
+
+
+def is_answered_early(scene):
+    asked = scene.asks(1, record(b"S9"))
+    sent = scene.sends(8, record(b"S9"))
+    scene.answers(asked)
+    scene.replies(sent)
+
+
+def is_answered_by_the_proxy(scene):
+    scene.answers(scene.asks(1, record(b"S9")))
+
+
+def has_two_identifiers(scene):
+    asked = scene.asks(1, record(b"S9"))
+    scene.sends(8, record(b"S9"))
+    scene.replies(scene.sends(9, record(b"S9")))
+    scene.answers(asked)
+
+
+def has_two_authenticators(scene):
+    """The Identifier and the port are the same, the Proxy-State is another."""
+    asked = scene.asks(1, record(b"S9"))
+    scene.sends(8, record(b"S9"))
+    scene.replies(scene.sends(8, record(b"S9")))
+    scene.answers(asked)
+
+
+def has_two_of_the_nas(scene):
+    """The NAS itself sends the record anew, under another Identifier and with an Acct-Delay-Time."""
+    first, second = record(b"S9"), record(b"S9", more=attribute(DELAY_TIME, bytes([0, 0, 0, 5])))
+    before = scene.asks(1, first)
+    scene.sends(8, first)
+    scene.wait(5)
+    asked = scene.asks(2, second)
+    scene.replies(scene.sends(9, second))
+    scene.answers(asked)
+    scene.answers(before)
+
+
+def is_overtaken(scene):
+    start, stop = scene.asks(1, record(b"S9", 1)), scene.asks(2, record(b"S9", 2))
+    for asked, kind in ((stop, 2), (start, 1)):
+        scene.replies(scene.sends(kind, record(b"S9", kind)))
+        scene.answers(asked)
+
+
+def other_sessions_overtake(scene):
+    """Records of different sessions have no order."""
+    first, second = scene.asks(1, record(b"S9")), scene.asks(2, record(b"S8"))
+    for asked, session in ((second, b"S8"), (first, b"S9")):
+        scene.replies(scene.sends(asked[1], record(session)))
+        scene.answers(asked)
+
+
+def answers_another_request(scene):
+    first, second = scene.asks(1, record(b"S8")), scene.asks(2, record(b"S9"))
+    scene.replies(scene.sends(8, record(b"S8")))
+    scene.replies(scene.sends(9, record(b"S9")))
+    scene.answers(second, first)
+    scene.answers(second)
+    scene.answers(first)
+
+
+def home_answers_another_request(scene):
+    asked = scene.asks(1, record(b"S9"))
+    other = scene.sends(7, record(b"S0"))
+    sent = scene.sends(8, record(b"S9"))
+    scene.replies(sent, answered=other)
+    scene.replies(sent)
+    scene.answers(asked)
+
+
+def leaves_the_identifier_to_the_next(scene):
+    """An Identifier goes from request to request, and late answers are right for the request that they are for."""
+    first = scene.asks(1, record(b"S8"))
+    scene.replies(scene.sends(8, record(b"S8")))
+    second = scene.asks(1, record(b"S9"))
+    scene.replies(scene.sends(8, record(b"S9")))
+    scene.answers(first)
+    scene.answers(second)
+
+
+def has_its_realm_off(scene):
+    """The proxy takes the realm off."""
+    asked = scene.asks(1, record(b"S9"))
+    scene.replies(scene.sends(8, record(b"S9", user=b"bob")))
+    scene.answers(asked)
+
+
+PLANTED = {
+    clean: {}, is_repeated: {}, is_never_answered: {"never": 1}, is_open: {}, is_answered_early: {"early": 1},
+    is_answered_by_the_proxy: {"early": 1}, has_two_identifiers: {"twice": 1}, has_two_authenticators: {"twice": 1},
+    has_two_of_the_nas: {}, is_overtaken: {"overtaken": 1}, other_sessions_overtake: {}, answers_another_request: {"wrong": 1},
+    home_answers_another_request: {"wrong home": 1}, leaves_the_identifier_to_the_next: {}, has_its_realm_off: {},
+}
+
+
+def scene_of(*parts):
+    scene = Scene()
+    for part in parts:
+        part(scene)
+    return scene
+
+
+def counted(text):
+    """What a report has of each kind, where it is not nothing."""
+    found = {kind: re.search(rf"^(\d+) {re.escape(words)}$", text, re.MULTILINE) for kind, words in KINDS.items()}
+    hope("kinds", [kind for kind, it in found.items() if not it], [])
+    return {kind: int(it[1]) for kind, it in found.items() if int(it[1])}
+
+
+class Files:
+    """A folder with the configuration, in which captures are judged."""
+
+    def __init__(self, folder, config=CONFIG):
+        self.folder = pathlib.Path(folder)
+        self.config = self.write("rad_proxy.toml", config.encode())
+
+    def write(self, name, octets):
+        path = os.path.join(os.fsencode(self.folder), os.fsencode(name))
+        pathlib.Path(os.fsdecode(path)).write_bytes(octets)
+        return os.fsdecode(path)
+
+    def judged(self, *captures, words=(), status=None):
+        """The report of captures."""
+        paths = [self.write(f"capture-{at}", it) if isinstance(it, bytes) else it for at, it in enumerate(captures)]
+        ran = tool("judge", *words, self.config, *paths)
+        text = ran.stdout.decode("ascii", "backslashreplace")
+        hope(f"status: {ran.stderr!r} {text}", ran.returncode, (3 if counted(text) else 0) if status is None else status)
+        hope("standard error", ran.stderr, b"")
+        return text
+
+
+def see(files, wanted, *captures, **more):
+    text = files.judged(*captures, **more)
+    if counted(text) != wanted:
+        raise AssertionError(f"{counted(text)}, and not {wanted}: {text}")
+    return text
+
+
+def each_fault_is_told(program, folder):
+    """Each planted fault is told beside a clean conversation, and nothing else is."""
+    files = Files(folder)
+    for part, wanted in PLANTED.items():
+        try:
+            see(files, wanted, pcap(scene_of(*{clean: 0, part: 0}).frames()))
+        except AssertionError as fault:
+            raise AssertionError(f"{part.__name__}: {fault}") from None
+
+
+def all_faults_are_told_together(program, folder):
+    """One capture with all faults has each of them as often as it was planted. What was open is now unanswered."""
+    text = see(Files(folder), {kind: 1 for kind in KINDS} | {"never": 2, "early": 2, "twice": 2}, all_in_one())
+    hope("what names the one that was never answered", "session S-is_never_answered realm example.org" in text, True)
+
+
+def all_in_one():
+    frames, at = [], 0.0
+    for part in PLANTED:
+        frames += [(time + at, frame) for time, frame in Named(part).frames()]
+        at = frames[-1][0] - START + 100
+    return pcap(frames)
+
+
+class Named(Scene):
+    """A scene whose sessions have the name of its part, and whose Identifiers are used by no other."""
+
+    def __init__(self, part):
+        super().__init__()
+        self.part = part.__name__.encode()
+        part(self)
+
+    def named(self, attributes):
+        at = attributes.index(bytes([ACCT_SESSION_ID]), 2 + attributes[1])
+        return attributes[:at] + attribute(ACCT_SESSION_ID, b"S-" + self.part + attributes[at + 3 : at + 4].replace(b"9", b"")) + attributes[at + attributes[at + 1] :]
+
+    def asks(self, identifier, attributes):
+        return super().asks(identifier, self.named(attributes))
+
+    def sends(self, identifier, attributes, out=OUT):
+        return super().sends(identifier, self.named(attributes), out)
+
+
+def each_form_is_read(program, folder):
+    """Link types, tags, orders of octets and resolutions of times make no difference."""
+    files, scene = Files(folder), scene_of(clean, has_two_identifiers)
+    right = see(files, {"twice": 1}, pcap(scene.frames()))
+    forms = {
+        "raw": pcap(scene.frames(RAW), RAW), "cooked": pcap(scene.frames(COOKED), COOKED), "cooked 2": pcap(scene.frames(COOKED_2), COOKED_2),
+        "vlan": pcap(scene.frames(tags=(7,))), "two tags": pcap(scene.frames(tags=(7, 8))), "vlan cooked": pcap(scene.frames(COOKED, tags=(7,)), COOKED),
+        "vlan cooked 2": pcap(scene.frames(COOKED_2, tags=(7, 9)), COOKED_2), "big": pcap(scene.frames(), order=">"),
+        "nanoseconds": pcap(scene.frames(), nanoseconds=True), "pcapng": pcapng(scene.frames()), "pcapng big": pcapng(scene.frames(), order=">"),
+        "pcapng nanoseconds": pcapng(scene.frames(), resolution=9),
+        "two interfaces": pcapng([(*it, at % 2) for at, it in enumerate(scene.frames())], (ETHERNET, ETHERNET)),
+    }
+    for name, octets in forms.items():
+        text = files.judged(octets)
+        if text != right:
+            raise AssertionError(f"{name}: {text}, and not {right}")
+
+
+def fragments_are_put_together(program, folder):
+    """In order, in reverse, and between others; one that is missing is told."""
+    files, scene = Files(folder), Scene()
+    more = b"".join(attribute(CLASS, bytes([number]) * 200) for number in range(15))
+    scene.whole(1, record(b"S1", more=more))
+    scene.whole(2, record(b"S2", more=more))
+    for turned in (False, True):
+        frames = []
+        for identity, (moment, source, target, octets) in enumerate(scene.seen):
+            parts = list(capturing.fragments(source, target, octets, 800, identity))
+            frames += [(moment, framed(ETHERNET, part)) for part in (reversed(parts) if turned else parts)]
+        see(files, {}, pcap(frames))
+        text = files.judged(pcap(frames[:-5] + frames[-4:]))
+        hope("a lost fragment", "left out: 1 datagrams of which a fragment is missing" in text, True)
+
+
+def copies_are_left_out(program, folder):
+    """What two interfaces or two files saw is one datagram; what one saw twice is two."""
+    files, scene = Files(folder), scene_of(clean, has_two_identifiers)
+    right = files.judged(pcap(scene.frames()))
+    twice = [(moment, framed(COOKED_2, ipv4(a, b, udp(a, b, octets)), interface=place)) for moment, a, b, octets in scene.seen for place in (2, 3)]
+    left_out = f"left out: {len(scene.seen)} copies of a datagram that another interface or file has too\n"
+    for captures in ([pcap(twice, COOKED_2)], [pcap(scene.frames()), pcap(scene.frames(COOKED), COOKED)]):
+        text = files.judged(*captures)
+        hope("the copies", left_out in text, True)
+        hope("the report", text.replace(left_out, ""), right)
+    frames = [it for it in scene.frames() for _ in range(2)]
+    hope("seen twice at one interface", " retransmissions" in files.judged(pcap(frames)) and "copies" not in files.judged(pcap(frames)), True)
+
+
+def what_is_no_radius_is_left_out(program, folder):
+    """Other traffic, IPv6, packets that are cut by the snap length, and frames of another kind."""
+    files, scene = Files(folder), scene_of(clean)
+    frames = scene.frames()
+    other = framed(ETHERNET, ipv4(NAS, PROXY, udp(NAS, PROXY, b"hello")))
+    tcp = framed(ETHERNET, ipv4(NAS, PROXY, bytes(40), protocol=6))
+    six = framed(ETHERNET, bytes([0x60, 0, 0, 0, 0, 8, 17, 1]) + bytes(40), kind=0x86DD)
+    text = see(files, {}, pcap(frames + [(START + 5, it) for it in (other, tcp, six, b"", b"\0" * 13, framed(ETHERNET, b"", kind=0x0806))]))
+    hope("no packet", "\n1 datagrams that are no RADIUS packet\n" in text, True)
+    hope("IPv6", "left out: 1 UDP over IPv6" in text, True)
+    ran = tool("judge", files.config, files.write("snap", pcap(frames, snap=60)))
+    hope("all cut", (ran.returncode, b"no datagram" in ran.stderr), (4, True))
+    text = files.judged(pcapng(frames, lost=12))
+    hope("lost", "it says itself that it lost 12 frames" in text, True)
+
+
+def faults_of(path, config):
+    """What the tool's judge says of a capture, in this process: its lines, or its fault in words."""
+    from trial.faults import Fault
+    from trial.judge import Judge, findings
+    from trial.settings import read_settings
+
+    try:
+        made = Judge(read_settings(config), [path], None, set(), 5)
+        made.read()
+        return [*findings(made)], [*made.reader.notes()]
+    except Fault as fault:
+        return str(fault), []
+
+
+def cut_anywhere_it_is_right_or_refused(program, folder):
+    """A capture that is cut after any octet gives what its whole frames give, and says that it was cut; or it is refused in words."""
+    sys.path.insert(0, str(TOOL.parent))
+    files, frames = Files(folder), scene_of(has_two_identifiers, is_overtaken, answers_another_request).frames()
+    for make, least in ((pcap, 24), (pcapng, 28)):
+        whole = make(frames)
+        ends = {len(make(frames[:count])): count for count in range(len(frames) + 1)}
+        right = {}
+        for length in range(len(whole) + 1):
+            count = max((it for end, it in ends.items() if end <= length), default=0)
+            if count not in right:
+                right[count] = faults_of(files.write("part", make(frames[:count])), files.config)[0]
+            lines, notes = faults_of(files.write("cut", whole[:length]), files.config)
+            told = isinstance(lines, str) or length in ends or any("cut short after" in it for it in notes) or make is pcapng and length < ends_of_heads(make)
+            if not told or not (isinstance(lines, str) or lines == right[count]):
+                raise AssertionError(f"{make.__name__} cut after {length} octets: {lines} {notes}, and not {right[count]}")
+
+
+def ends_of_heads(make):
+    return len(make([]))
+
+
+def spoiled_anywhere_it_ends_in_words(program, folder):
+    """Octets that are turned anywhere give a report or one line, and no traceback."""
+    sys.path.insert(0, str(TOOL.parent))
+    files, chance = Files(folder), random.Random(1)
+    frames = scene_of(clean, has_two_identifiers, is_overtaken).frames()
+    for made in (pcap(frames), pcapng(frames)):
+        for _ in range(1500):
+            octets = bytearray(made)
+            for _ in range(chance.choice((1, 1, 3))):
+                at = chance.randrange(len(octets)) if chance.random() < 0.7 else chance.randrange(120)
+                octets[at] = chance.choice((octets[at] ^ 1 << chance.randrange(8), 0, 255))
+            found, _ = faults_of(files.write("spoiled", bytes(octets)), files.config)
+            hope("a fault of one line", isinstance(found, str) and ("\n" in found or not found), False)
+    for octets in (b"", b"\n", b"nothing", made[:3], bytes(100), b"\x0a\x0d\x0d\x0a" + bytes(100)):
+        ran = tool("judge", files.config, files.write("other", octets))
+        hope("status", (ran.returncode, ran.stdout, ran.stderr.count(b"\n"), b"Traceback" in ran.stderr), (4, b"", 1, False))
+
+
+def names_are_printed_in_ascii(program, folder):
+    """Control characters and octets that are not UTF-8, in names of users, realms, sessions and files."""
+    files, scene = Files(folder), Scene()
+    scene.asks(1, record(b"S\n\x1b[2J\xff\x00", user=b"b\xc3\xa9b@\xff\nexample.org"))
+    scene.wait(60)
+    scene.whole(2, record(b"S2"))
+    path = files.write(b"na\nme\xff\x1b", pcap(scene.frames())[:-1])
+    ran = tool("judge", files.config, path)
+    hope("the status", ran.returncode, 3)
+    text = ran.stdout.decode("utf-8")
+    hope("not printable", [it for it in text if not it.isprintable() and it != "\n"], [])
+    hope("the session", "session S%0A%1B[2J%FF%00 realm %FF%0Aexample.org; at no home server" in text, True)
+    hope("the file", "na%0Ame%FF%1B: cut short" in text, True)
+    ran = tool("judge", files.config, path + "x")
+    hope("a file that is not there", ran.stderr.count(b"\n"), 1)
+
+
+def secrets_are_judged(program, folder):
+    """Under another secret of a client or a home server it says that the Authenticators are wrong."""
+    files, capture = Files(folder, CONFIG.replace("nas-secret", "other")), pcap(scene_of(clean).frames())
+    hope("a client's", "10 requests with a wrong Request Authenticator under the client's secret" in files.judged(capture), True)
+    files = Files(folder, CONFIG.replace("home-secret", "other"))
+    text = files.judged(capture)
+    hope("a home server's", "10 requests to a home server with a wrong Request Authenticator under its secret" in text, True)
+
+
+def another_port_is_named(program, folder):
+    """The proxy of today may listen elsewhere."""
+    files = Files(folder, CONFIG.replace("0.0.0.0:1813", "192.0.2.77:1899"))
+    capture = pcap(scene_of(clean, is_overtaken).frames())
+    see(files, {"overtaken": 1}, capture, words=("--proxy", f"{PROXY[0]}:{PROXY[1]}"))
+
+
+def errors_are_one_line(program, folder):
+    """Calls and configurations that are wrong."""
+    files, capture = Files(folder), pcap(scene_of(clean).frames())
+    path, other = files.write("capture", capture), files.write("other.toml", b"listen = 3\n")
+    calls = [
+        ((), 1), (("judge",), 1), (("judge", files.config), 1), (("judge", "--no", files.config, path), 1), (("judge", "--ignore", "x", files.config, path), 1),
+        (("judge", "--proxy", "here", files.config, path), 1), (("judge", other, path), 2), (("judge", path, path), 2), (("judge", folder, path), 4),
+        (("judge", files.config, folder), 4), (("judge", files.config, "/nowhere"), 4), (("judge", "/nowhere", path), 4), (("judge", files.config, files.config), 4),
+    ]
+    for words, status in calls:
+        ran = tool(*words)
+        hope(f"{words}: {ran.stderr}", (ran.returncode, ran.stdout, ran.stderr.count(b"\n"), b"Traceback" in ran.stderr), (status, b"", 1, False))
+    for word in ("--help", "--version"):
+        ran = tool(word)
+        hope(word, (ran.returncode, ran.stderr, b"rad_trial" in ran.stdout), (0, b"", True))
+
+
+def long_captures_take_bounded_time_and_memory(program, folder):
+    """300,000 requests, each answered, at 2000 a second, from eight NASes' ports."""
+    files, count = Files(folder), 300_000
+    path = files.folder / "long"
+    with path.open("wb") as file:
+        file.write(pcap([]))
+        for at in range(count):
+            file.write(conversation(at))
+    began = time.monotonic()
+    ran = subprocess.run(["/usr/bin/env", "python3", "-c", MEASURED, str(TOOL), "judge", files.config, str(path)], capture_output=True, check=False)
+    text, memory = ran.stdout.decode(), int(ran.stderr.split()[-1])
+    print(f"300,000 requests, {path.stat().st_size / 1e6:.0f} MB: {time.monotonic() - began:.0f} s, {memory / 1024:.0f} MiB", flush=True)
+    hope("its requests", f"{count} requests of NASes and 0 retransmissions, {count} answers" in text, True)
+    hope("findings", counted(text), {})
+    hope("memory below 600 MiB", memory < 600 * 1024, True)
+
+
+MEASURED = "import resource, subprocess, sys; subprocess.run(sys.argv[1:]); print(resource.getrusage(resource.RUSAGE_CHILDREN).ru_maxrss, file=sys.stderr)"
+
+
+def conversation(at):
+    """The four frames of a request, in a file."""
+    moment, port, identifier = START + at / 2000, 40000 + at % 8, at // 8 % 256
+    attributes = record(b"%08x" % at, user=b"user%d@example.org" % (at % 5000), more=attribute(CLASS, bytes(100)))
+    asked, out = request(identifier, attributes, NAS_SECRET), ("192.0.2.1", 50000 + at % 4)
+    sent = request(at // 4 % 256, attributes + mark(0, at), HOME_SECRET)
+    passed = (((NAS[0], port), PROXY, asked), (out, HOME, sent), (HOME, out, answer(sent, sent[1], mark(0, at), HOME_SECRET)),
+              (PROXY, (NAS[0], port), answer(asked, identifier, b"", NAS_SECRET)))
+    made = b""
+    for step, (source, target, octets) in enumerate(passed):
+        frame, whole = framed(ETHERNET, ipv4(source, target, udp(source, target, octets))), round((moment + step / 10000) * 1e6)
+        made += struct.pack("<IIII", whole // 10**6, whole % 10**6, len(frame), len(frame)) + frame
+    return made
+
+
+TESTS = [each_fault_is_told, all_faults_are_told_together, each_form_is_read, fragments_are_put_together, copies_are_left_out,
+         what_is_no_radius_is_left_out, cut_anywhere_it_is_right_or_refused, spoiled_anywhere_it_ends_in_words, names_are_printed_in_ascii,
+         secrets_are_judged, another_port_is_named, errors_are_one_line, long_captures_take_bounded_time_and_memory]
+
+
+if __name__ == "__main__":
+    run_tests(TESTS, __doc__)

@@ -1,0 +1,29 @@
+"""Errors that end the tool, each one line and a status; and how foreign octets are printed."""
+import os
+
+USAGE, CONFIGURATION, FOUND, FAILED = 1, 2, 3, 4
+
+
+class Fault(Exception):
+    """Ends the tool with a line and a status."""
+
+    def __init__(self, text, status=FAILED):
+        super().__init__(text)
+        self.status = status
+
+
+def shown(octets):
+    """Octets as the program's log prints them: no space, no control character, nothing that is not printable ASCII."""
+    return "".join(chr(octet) if 0x20 < octet < 0x7F and octet not in b'%"=' else f"%{octet:02X}" for octet in octets)
+
+
+def shown_path(path):
+    """A file's name, of which each control character and each octet that is not UTF-8 is printed as `%` and two digits."""
+    octets = os.fsencode(path)
+    text = octets.decode("utf-8", "surrogateescape")
+    return "".join(one if one.isprintable() else "".join(f"%{octet:02X}" for octet in os.fsencode(one)) for one in text)
+
+
+def told_by(error):
+    """What the system says of an error."""
+    return error.strerror or type(error).__name__
