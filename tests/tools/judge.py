@@ -7,12 +7,12 @@ usage: python3 -m tests.tools.judge PROGRAM [NAME ..]
 Names choose tests. Each test is a line, and the last line is `N passed, M failed`. Those with proxies want root, `unshare`, tcpdump
 and the proxy, and tell where one is left out for want of them.
 """
-import contextlib
-import io
+import json
 import os
 import pathlib
 import random
 import re
+import shutil
 import struct
 import subprocess
 import sys
@@ -22,7 +22,7 @@ sys.dont_write_bytecode = True
 
 from tests.tools import capturing
 from tests.tools.capturing import COOKED, COOKED_2, ETHERNET, RAW, START, framed, ipv4, pcap, pcapng, udp
-from tests.tools.running import TOOL, hope, run_tests, tool
+from tests.tools.running import TOOL, LeftOut, hope, run_tests, tool
 from tests.vectors import ACCT_SESSION_ID, ACCT_STATUS_TYPE, CLASS, PROXY_STATE, answer, attribute, mark, request, status, user_name
 
 NAS, PROXY, OUT, HOME = ("192.0.2.10", 40000), ("192.0.2.1", 1813), ("192.0.2.1", 50000), ("198.51.100.20", 1813)
@@ -193,7 +193,7 @@ def answers_another_request(scene):
 
 def home_answers_another_request(scene):
     asked = scene.asks(1, record(b"S9"))
-    other = scene.sends(7, record(b"S0"))
+    other = scene.sends(7, record(b"S7"))
     sent = scene.sends(8, record(b"S9"))
     scene.replies(sent, answered=other)
     scene.replies(sent)
@@ -273,7 +273,7 @@ def each_fault_is_told(program, folder):
     files = Files(folder)
     for part, wanted in PLANTED.items():
         try:
-            see(files, wanted, pcap(scene_of(*{clean: 0, part: 0}).frames()))
+            see(files, wanted, pcap(scene_of(*{part: 0, clean: 0}).frames()))
         except AssertionError as fault:
             raise AssertionError(f"{part.__name__}: {fault}") from None
 
@@ -496,6 +496,56 @@ def long_captures_take_bounded_time_and_memory(program, folder):
     hope("memory below 600 MiB", memory < 600 * 1024, True)
 
 
+def losses(program, folder, name, *words):
+    """A proxy under losses, captured by tcpdump: the judge finds what both sides know, in number."""
+    if os.geteuid() or not all(map(shutil.which, ("unshare", "ip", "tcpdump", *({name.lower()} - {"rad_proxy"})))):
+        raise LeftOut(f"it wants root, unshare, ip, tcpdump and {name}")
+    subprocess.run(["unshare", "--net", sys.executable, "-m", "tests.tools.losses", name, program, folder, *words], check=True, timeout=300)
+    truth = json.loads(pathlib.Path(folder, "truth").read_text())
+    ran = tool("judge", os.path.join(folder, "rad_proxy.toml"), os.path.join(folder, "capture"))
+    text, counts = ran.stdout.decode(), truth["counts"]
+    wanted = (f"{counts['requests']} requests of NASes and {counts['again']} retransmissions, {counts['answers']} answers; "
+              f"{counts['home']} requests to home servers ")
+    hope("the first line", text[: len(wanted)], wanted)
+    hope(text, counted(text), truth["found"])
+    hope("the status", ran.returncode, 3 if truth["found"] else 0)
+    return truth["found"]
+
+
+def the_program_loses_nothing(program, folder):
+    """The program under losses, captured at all interfaces: nothing is found."""
+    hope("findings", losses(program, folder, "rad_proxy", "-i", "any"), {})
+
+
+def radsecproxy_is_judged_right(program, folder):
+    """radsecproxy under losses, captured at all interfaces in the older cooked form."""
+    losses(program, folder, "radsecproxy", "-i", "any", "-y", "LINUX_SLL")
+
+
+def freeradius_is_judged_right(program, folder):
+    """FreeRADIUS under losses, captured at an interface."""
+    losses(program, folder, "FreeRADIUS", "-i", "lo")
+
+
+def dpkt_reads_the_same(program, folder):
+    """Debian's python3-dpkt reads the same datagrams out of captures, and what it writes as pcapng is read."""
+    if subprocess.run(["/usr/bin/python3", "-c", "import dpkt"], stderr=subprocess.DEVNULL, check=False).returncode:
+        raise LeftOut("it wants python3-dpkt")
+    files, scene = Files(folder), scene_of(clean, has_two_identifiers)
+    written, path = files.folder / "written", files.write("read", pcap(scene.frames(tags=(7,))))
+    ran = subprocess.run(["/usr/bin/python3", "-c", WITH_DPKT, path, written], capture_output=True, check=True)
+    hope("the datagrams", ran.stdout.decode().split(), [octets.hex() for _, _, _, octets in scene.seen])
+    hope("the report", files.judged(str(written)), files.judged(path))
+
+
+WITH_DPKT = """
+import dpkt, sys
+with open(sys.argv[1], "rb") as read, open(sys.argv[2], "wb") as write:
+    writer = dpkt.pcapng.Writer(write)
+    for time, octets in dpkt.pcap.Reader(read):
+        print(dpkt.ethernet.Ethernet(octets).ip.data.data.hex())
+        writer.writepkt(octets, time)
+"""
 MEASURED = "import resource, subprocess, sys; subprocess.run(sys.argv[1:]); print(resource.getrusage(resource.RUSAGE_CHILDREN).ru_maxrss, file=sys.stderr)"
 
 
@@ -516,7 +566,8 @@ def conversation(at):
 
 TESTS = [each_fault_is_told, all_faults_are_told_together, each_form_is_read, fragments_are_put_together, copies_are_left_out,
          what_is_no_radius_is_left_out, cut_anywhere_it_is_right_or_refused, spoiled_anywhere_it_ends_in_words, names_are_printed_in_ascii,
-         secrets_are_judged, another_port_is_named, errors_are_one_line, long_captures_take_bounded_time_and_memory]
+         secrets_are_judged, another_port_is_named, errors_are_one_line, dpkt_reads_the_same, the_program_loses_nothing,
+         radsecproxy_is_judged_right, freeradius_is_judged_right, long_captures_take_bounded_time_and_memory]
 
 
 if __name__ == "__main__":

@@ -88,18 +88,18 @@ class Fragments:
 
 
 class Reader:
-    """Reads captures. `left_out` counts what no datagram was made of, by why."""
+    """Reads captures. `left_out` counts what no datagram was made of, by why. `first` is when the first datagram was seen that is
+    wanted, and `last` when the last frame was."""
 
     def __init__(self, paths, is_wanted):
         self.captures, self.is_wanted = [Capture(path) for path in paths], is_wanted
-        self.left_out, self.first, self.last = Counter(), None, None
+        self.left_out, self.first, self.last = Counter(), None, 0
         self.recent = {}
 
     def datagrams(self):
         """Those that are wanted, of all files, in the order of their times; copies that another place saw too are left out."""
         streams = [self.in_order(number, capture) for number, capture in enumerate(self.captures)]
         for datagram in streams[0] if len(streams) == 1 else heapq.merge(*streams, key=lambda it: it.time):
-            self.last = datagram.time
             if self.first is None:
                 self.first = datagram.time
             if not self.is_copy(datagram):
@@ -132,6 +132,8 @@ class Reader:
     def of_file(self, number, capture):
         fragments, left_out = Fragments(), self.left_out
         for frame in capture.frames():
+            if frame.time > self.last:
+                self.last = frame.time
             kind, at, place = inside(frame)
             if kind == IPV4:
                 datagram = self.of_packet(frame, at, (number, place), fragments)

@@ -88,9 +88,9 @@ class Capture:
             yield Frame(seconds * SECOND + parts * unit, link, 0, self.take(kept), max(kept, length))
 
     def pcapng(self):
-        self.file.seek(0)
         self.order, self.interfaces = "<", []
-        while head := self.file.read(8):
+        head = SECTION.to_bytes(4, "big") + self.take(4)
+        while head:
             if len(head) < 8:
                 raise Cut
             kind, body = self.block(head)
@@ -102,6 +102,7 @@ class Capture:
                 yield self.packet(kind, body)
             elif kind == SIMPLE_PACKET:
                 raise Fault(f"{self}: it has packets without a time")
+            head = self.file.read(8)
 
     def block(self, head):
         """The kind and the body of the block that begins with these octets."""

@@ -376,7 +376,7 @@ def judge(words):
 
     made = Judge(read_settings(words.config), words.captures, words.proxy, words.ignore, max(words.show, 0))
     made.read()
-    if made.reader.last is None:
+    if made.reader.first is None:
         raise Fault("no datagram of a proxy or a home server of the configuration in the captures")
     yield from report(made)
     if any(made.counts[kind] for kind in WORDS):

@@ -57,12 +57,12 @@ class Metrics:
         return Counter({found["reason"]: int(value) for found, value in self.all(name, **labels) if value})
 
     def longest(self, name, home):
-        """The bound of a histogram below which all are, in words."""
-        buckets = sorted((float(found["le"]), value) for found, value in self.all(f"{name}_bucket", home=home))
-        if not buckets or not buckets[-1][1]:
+        """The bounds between which the longest of a histogram is, in words."""
+        buckets = [(0.0, 0), *sorted((float(found["le"]), value) for found, value in self.all(f"{name}_bucket", home=home))]
+        if not buckets[-1][1]:
             return "none"
         at = next(at for at, (_, value) in enumerate(buckets) if value == buckets[-1][1])
-        return f"at most {buckets[at][0]:g} s" if at < len(buckets) - 1 else f"more than {buckets[at - 1][0]:g} s"
+        return f"{buckets[at - 1][0]:g} to {buckets[at][0]:g} s" if at < len(buckets) - 1 else f"more than {buckets[at - 1][0]:g} s"
 
 
 def told(reasons):
@@ -70,12 +70,13 @@ def told(reasons):
     return ", ".join(f"{reason} {count}" for reason, count in reasons.most_common())
 
 
-ROW = "{:<15}  {:<24}  {:>8}  {:>8}  {:>8}  {:>8}  {:>8}  {}"
+COLUMNS = ("came", "accepted", "repeated", "status", "refused", "dropped")
+ROW = "{:<15}  {:<24}" + "  {:>8}" * len(COLUMNS) + "  {}"
 
 
 def rows_of_clients(settings, metrics, log):
     """A row for each client, by the metrics, and below it one for each of its realms, by the log."""
-    yield ROW.format("CLIENT", "REALM", "CAME", "ACCEPTED", "REPEATED", "REFUSED", "DROPPED", "WHY").rstrip()
+    yield ROW.format("CLIENT", "REALM", *map(str.upper, COLUMNS), "WHY").rstrip()
     silent, of = 0, {}
     for (client, realm), counts in log.counts.items():
         of.setdefault(client, []).append((realm, counts))
@@ -85,12 +86,14 @@ def rows_of_clients(settings, metrics, log):
             silent += 1
             continue
         refused, dropped = (metrics.reasons(f"client_{word}_total", client=client) for word in ("refused", "dropped"))
-        counts = metrics.of("client_accepted_total", client=client), metrics.of("client_repeats_total", client=client)
-        yield ROW.format(client, "all", came, *counts, refused.total(), dropped.total(), told(refused + dropped)).rstrip()
+        accepted, repeated = metrics.of("client_accepted_total", client=client), metrics.of("client_repeats_total", client=client)
+        status = came - accepted - repeated - refused.total() - dropped.total()
+        counts = came, accepted, repeated, status, refused.total(), dropped.total()
+        yield ROW.format(client, "all", *counts, told(refused + dropped)).rstrip()
         rows = sorted(of.get(client, []), key=lambda row: -row[1]["came"])
         for realm, counts in rows[:MOST_ROWS]:
             why = told(log.why.get((client, realm), Counter()))
-            yield ROW.format(client, realm, *(counts[word] for word in ("came", "accepted", "repeated", "refused", "dropped")), why).rstrip()
+            yield ROW.format(client, realm, *(counts[word] for word in COLUMNS), why).rstrip()
         if len(rows) > MOST_ROWS:
             yield f"{client}: {len(rows) - MOST_ROWS} realms more"
     strangers = metrics.of("strangers_total")
