@@ -28,24 +28,64 @@ WORDS = {
 }
 
 
-class Record:
-    """An accounting record, whatever requests carry it."""
+class Kept:
+    """What is kept until it was not seen for a while. `queued` is when it was seen as it was put into the queue."""
 
-    __slots__ = ("seen", "number", "session", "asked", "homes", "replied", "acknowledged", "words")
+    __slots__ = ("seen", "queued")
 
-    def __init__(self, seen, number):
-        self.seen, self.number, self.session = seen, number, None
-        self.asked, self.homes, self.replied, self.acknowledged, self.words = 0, None, None, False, ""
+    def __init__(self, seen):
+        self.seen = self.queued = seen
 
 
-class Asked:
-    """A request, at a NAS or on the way to a home server: what it came under, when it was sent, and when it was answered."""
+class Record(Kept):
+    """An accounting record, whatever requests carry it: its number in the order of the NASes, how many requests of NASes had it,
+    how many requests to one home server, and to others, and when the first answer of a home server came."""
 
-    __slots__ = ("authenticator", "record", "first", "seen", "answered", "who", "is_right")
+    __slots__ = ("key", "number", "session", "realm", "last", "asked", "place", "count", "others", "replied", "is_acknowledged")
 
-    def __init__(self, authenticator, record, first, who, is_right):
-        self.authenticator, self.record, self.first, self.seen = authenticator, record, first, first
-        self.answered, self.who, self.is_right = None, who, is_right
+    def __init__(self, key, seen, number):
+        super().__init__(seen)
+        self.key, self.number, self.session, self.realm, self.last = key, number, None, None, None
+        self.asked, self.place, self.count, self.others, self.replied, self.is_acknowledged = 0, None, 0, None, None, False
+
+    def arrives(self, place):
+        """Counts a request to a home server, and gives how many that one had before."""
+        if self.place in (None, place):
+            self.place, self.count = place, self.count + 1
+            return self.count - 1
+        self.others = self.others or Counter()
+        self.others[place] += 1
+        return self.others[place] - 1
+
+    def counts(self):
+        """How many requests each home server had."""
+        return [(self.place, self.count), *(self.others or {}).items()] if self.place else []
+
+    def __str__(self):
+        """What names it: the last request of a NAS that had it."""
+        return self.named(self.last) if self.last else "a record of no NAS"
+
+    def named(self, key):
+        """The same of the request of a NAS with this key."""
+        source, port, identifier = key
+        words = [f"client {address(source)} port {port} identifier {identifier}"]
+        words += [f"session {shown(self.session[1])}"] if self.session else []
+        return " ".join(words + ([f"realm {shown(self.realm)}"] if self.realm is not None else []))
+
+
+class Asked(Kept):
+    """A request, at a NAS or on the way to a home server: what it came under, when it was sent first, and whether it was answered.
+    One without a record is a Status-Server. At a NAS the key is an address, a port and an Identifier; on the way to a home server
+    it begins with that one's place."""
+
+    __slots__ = ("side", "key", "authenticator", "record", "first", "is_answered")
+
+    def __init__(self, side, key, authenticator, record, first):
+        super().__init__(first)
+        self.side, self.key, self.authenticator, self.record, self.first, self.is_answered = side, key, authenticator, record, first, False
+
+    def __str__(self):
+        return self.record.named(self.key) if self.record and len(self.key) == 3 else str(self.record or "a Status-Server")
 
 
 class Side:
@@ -57,18 +97,18 @@ class Side:
     def find(self, key, authenticator):
         return next((it for it in self.asked.get(key, ()) if it.authenticator == authenticator), None)
 
-    def add(self, key, asked):
-        known = self.asked.setdefault(key, [])
+    def add(self, asked):
+        known = self.asked.setdefault(asked.key, [])
         known.append(asked)
         del known[:-CANDIDATES]
-        self.recent.setdefault(key[0], deque(maxlen=RECENT)).append(asked)
+        self.recent.setdefault(asked.key[0], deque(maxlen=RECENT)).append(asked)
 
-    def forget(self, key, asked):
-        known = self.asked.get(key, ())
+    def forget(self, asked):
+        known = self.asked.get(asked.key, ())
         if asked in known:
             known.remove(asked)
         if not known:
-            self.asked.pop(key, None)
+            self.asked.pop(asked.key, None)
 
     def answered_by(self, key, packet, secret):
         """Which request a packet answers; nothing if it is none of those under its Identifier."""
@@ -147,23 +187,26 @@ class Judge:
         key = hashlib.blake2b(b"".join(bytes([kind, len(value)]) + value for kind, value in kept), digest_size=12).digest()
         record = self.records.get(key)
         if record is None:
-            record = self.records[key] = Record(when, self.numbers)
-            self.numbers += 1
-            self.queue.append((when, self.records, key, None))
+            record = self.records[key] = Record(key, when, self.next_number())
+            self.queue.append(record)
         record.seen = when
         return record
 
-    def ask(self, side, key, it, packet, record, who, is_right):
-        """A request, new or again. Gives it where it is new."""
+    def next_number(self):
+        self.numbers += 1
+        return self.numbers
+
+    def ask(self, side, key, it, packet, record):
+        """A request. Says whether it is new."""
         authenticator = packet[4:20]
         asked = side.find(key, authenticator)
         if asked:
             asked.seen = it.time
-            return None
-        asked = Asked(authenticator, record, it.time, who, is_right)
-        side.add(key, asked)
-        self.queue.append((it.time, side, key, asked))
-        return asked
+            return False
+        asked = Asked(side, key, authenticator, record, it.time)
+        side.add(asked)
+        self.queue.append(asked)
+        return True
 
     def from_nas(self, it, packet, attributes):
         key, secret = (it.source, it.source_port, packet[1]), self.settings.clients.get(it.source)
@@ -172,31 +215,21 @@ class Judge:
             return
         if packet[0] == STATUS:
             self.counts["Status-Servers of NASes"] += 1
-            self.ask(self.nases, key, it, packet, None, "", False)
+            self.ask(self.nases, key, it, packet, None)
             return
         if not is_signed(packet, secret):
             self.counts["requests with a wrong Request Authenticator under the client's secret"] += 1
             return
         record = self.record_of(attributes, it.time)
-        session = first_of(attributes, SESSION_ID)
-        asked = self.ask(self.nases, key, it, packet, record, self.who(it, packet, attributes, session), True)
-        if asked is None:
+        if not self.ask(self.nases, key, it, packet, record):
             self.counts["again"] += 1
             return
         self.counts["requests"] += 1
         record.asked += 1
-        record.words = asked.who
+        record.last, record.realm = key, realm_of(attributes)
+        session = first_of(attributes, SESSION_ID)
         if session is not None and record.session is None:
-            record.session = it.source, session
-            record.number = self.numbers
-            self.numbers += 1
-
-    def who(self, it, packet, attributes, session):
-        """What names a request."""
-        realm = realm_of(attributes)
-        words = [f"client {address(it.source)} port {it.source_port} identifier {packet[1]}"]
-        words += [f"session {shown(session)}"] if session is not None else []
-        return " ".join(words + ([f"realm {shown(realm)}"] if realm is not None else []))
+            record.session, record.number = (it.source, session), self.next_number()
 
     def to_nas(self, it, packet):
         key, secret = (it.target, it.target_port, packet[1]), self.settings.clients.get(it.target)
@@ -210,16 +243,14 @@ class Judge:
         self.counts["answers to NASes"] += 1
         record = asked.record
         if record is None:
-            asked.answered = it.time
             return
         if record.replied is None:
-            where = "" if record.homes else "; it was sent to no home server before"
-            self.tell(EARLY, it.time, asked.who + where)
-        elif asked.answered is None:
+            self.tell(EARLY, it.time, f"{record}" + ("" if record.place else "; it was sent to no home server before"))
+        elif not asked.is_answered:
             self.transit.append((it.time - record.replied) / SECOND)
-        if asked.answered is None:
+        if not asked.is_answered:
             self.nases.times.append((it.time - asked.first) / SECOND)
-        asked.answered, record.acknowledged = it.time, True
+        asked.is_answered = record.is_acknowledged = True
 
     def misses(self, side, key, it, packet, secret, kind, who):
         """An answer that answers no request under its Identifier."""
@@ -229,39 +260,36 @@ class Judge:
         other = self.counts[kind] < MOST_LOOKED_FOR and side.other(key, packet, secret)
         text = f"{who} identifier {packet[1]}"
         if other:
-            text += f"; it answers the request of {moment(other.first)}: {other.who or 'a Status-Server'}"
+            text += f"; it answers the request of {moment(other.first)}: {other}"
         self.tell(kind, it.time, text)
 
     def to_home(self, it, packet, attributes, place):
         homes = self.homes[place]
         key = place, it.source, it.source_port, packet[1]
         if packet[0] == STATUS:
-            self.ask(self.sent, key, it, packet, None, "", False)
+            self.ask(self.sent, key, it, packet, None)
             return
         if not any(is_signed(packet, home.secret) for home in homes):
             self.counts["requests to a home server with a wrong Request Authenticator under its secret"] += 1
             return
         record = self.record_of(attributes, it.time)
-        if self.ask(self.sent, key, it, packet, record, f"home {homes[0].name}: {record.words or 'a record of no NAS'}", True) is None:
+        if not self.ask(self.sent, key, it, packet, record):
             self.counts["again at home servers"] += 1
             return
         self.counts["requests to home servers"] += 1
-        self.arrives(it, record, place, homes[0].name)
-
-    def arrives(self, it, record, place, name):
-        """A record at a home server, under what it was not there before."""
         if not record.asked:
             self.counts["requests to a home server whose record no NAS sent in the capture"] += 1
-        before = record.homes.get(place, 0) if record.homes else 0
-        record.homes = (record.homes or {}) | {place: before + 1}
-        if not before and record.session:
-            session = place, record.session
-            last = self.sessions.get(session)
-            if last is None:
-                self.queue.append((it.time, self.sessions, session, None))
-            if last and record.number < last[0]:
-                self.tell(OVERTAKEN, it.time, f"home {name}: {record.words}")
-            self.sessions[session] = max(record.number, last[0] if last else 0), it.time
+        if not record.arrives(place) and record.session:
+            self.passes(it, record, place, homes[0].name)
+
+    def passes(self, it, record, place, name):
+        """A record of a session at a home server, for the first time."""
+        session = place, record.session
+        latest = self.sessions.get(session)
+        if latest and record.number < latest.number:
+            self.tell(OVERTAKEN, it.time, f"home {name}: {record}")
+        else:
+            self.sessions[session] = record
 
     def from_home(self, it, packet, place):
         key = place, it.target, it.target_port, packet[1]
@@ -275,52 +303,52 @@ class Judge:
         if asked.record is None:
             return
         self.counts["answers of home servers"] += 1
-        if asked.answered is None:
+        if not asked.is_answered:
             self.sent.times.append((it.time - asked.first) / SECOND)
-        asked.answered = it.time
+        asked.is_answered = True
         if asked.record.replied is None:
             asked.record.replied = it.time
 
     def forget(self, before):
-        """Takes what was last seen before a moment out of all lists, and judges it. None: all of it."""
+        """Judges what was last seen before a moment, and forgets it. None: all."""
         queue = self.queue
-        while queue and (before is None or queue[0][0] < before):
-            _, where, key, asked = queue.popleft()
-            seen = asked.seen if asked else where[key][1] if where is self.sessions else where[key].seen
-            if before is not None and seen >= before:
-                queue.append((seen, where, key, asked))
-            elif asked:
-                self.forget_asked(where, key, asked)
+        while queue and (before is None or queue[0].queued < before):
+            it = queue.popleft()
+            if before is not None and it.seen >= before:
+                it.queued = it.seen
+                queue.append(it)
+            elif isinstance(it, Asked):
+                it.side.forget(it)
+                if it.side is self.nases and it.record and not it.is_answered:
+                    self.judge_unanswered(it)
             else:
-                gone = where.pop(key)
-                if where is self.records:
-                    self.judge(gone)
-
-    def forget_asked(self, side, key, asked):
-        if side is self.nases and asked.record and asked.answered is None:
-            self.judge_unanswered(asked)
-        side.forget(key, asked)
+                self.forget_record(it)
 
     def judge_unanswered(self, asked):
         """A request that no answer came to."""
+        record = asked.record
         if asked.seen > self.reader.last - AT_THE_END:
             self.counts["open"] += 1
             return
-        where = "at no home server" if not asked.record.homes else "answered by a home server" if asked.record.replied else "not answered by a home server"
-        if asked.record.acknowledged:
+        if record.is_acknowledged:
             where = "its record was answered under another Identifier or Authenticator"
-            self.counts["answered otherwise"] += 1
-        self.tell(NEVER, asked.first, f"{asked.who}; {where}")
+        else:
+            where = "answered by a home server" if record.replied else "not answered by a home server" if record.place else "at no home server"
+        self.tell(NEVER, asked.first, f"{asked}; {where}")
 
-    def judge(self, record):
+    def forget_record(self, record):
         """A record of which no more is expected."""
-        for place, count in (record.homes or {}).items():
-            if count < 2:
-                continue
-            self.counts["several"] += 1
-            self.counts["several times"] += count
+        del self.records[record.key]
+        for place, count in record.counts():
+            session = place, record.session
+            if self.sessions.get(session) is record:
+                del self.sessions[session]
+            if count > 1:
+                self.counts["several"] += 1
+                self.counts["several times"] += count
             if count > max(record.asked, 1):
-                self.tell(TWICE, record.seen, f"home {self.homes[place][0].name}: {count} times, from its NAS {record.asked}: {record.words}")
+                name = self.homes[place][0].name
+                self.tell(TWICE, record.seen, f"home {name}: {count} times, from its NAS {record.asked}: {record}")
 
 
 def findings(judge):
@@ -357,7 +385,7 @@ def report(judge):
            f"{counts['answers of home servers']} answers")
     yield from judge.reader.notes()
     known = {"requests", "again", "answers to NASes", "requests to home servers", "again at home servers", "answers of home servers",
-             "open", "several", "several times", "answered otherwise", *WORDS}
+             "open", "several", "several times", *WORDS}
     yield from (f"{count} {words}" for words, count in sorted(counts.items()) if words not in known)
     if not counts["requests to home servers"]:
         yield "no request to a home server of the configuration: the capture has not both sides, or the secrets or addresses differ"
