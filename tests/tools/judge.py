@@ -23,7 +23,7 @@ sys.dont_write_bytecode = True
 from tests.tools import capturing
 from tests.tools.capturing import COOKED, COOKED_2, ETHERNET, RAW, START, framed, ipv4, pcap, pcapng, udp
 from tests.tools.running import TOOL, LeftOut, hope, run_tests, tool
-from tests.vectors import ACCT_SESSION_ID, ACCT_STATUS_TYPE, CLASS, PROXY_STATE, answer, attribute, mark, request, status, user_name
+from tests.vectors import ACCT_SESSION_ID, ACCT_STATUS_TYPE, CLASS, answer, attribute, mark, request, status, user_name
 
 NAS, PROXY, OUT, HOME = ("192.0.2.10", 40000), ("192.0.2.1", 1813), ("192.0.2.1", 50000), ("198.51.100.20", 1813)
 NAS_SECRET, HOME_SECRET = b"nas-secret", b"home-secret"
@@ -424,7 +424,8 @@ def spoiled_anywhere_it_ends_in_words(program, folder):
                 octets[at] = chance.choice((octets[at] ^ 1 << chance.randrange(8), 0, 255))
             found, _ = faults_of(files.write("spoiled", bytes(octets)), files.config)
             hope("a fault of one line", isinstance(found, str) and ("\n" in found or not found), False)
-    for octets in (b"", b"\n", b"nothing", made[:3], bytes(100), b"\x0a\x0d\x0d\x0a" + bytes(100)):
+    late = pcapng([(2**60, frames[0][1])], resolution=0)
+    for octets in (b"", b"\n", b"nothing", made[:3], bytes(100), b"\x0a\x0d\x0d\x0a" + bytes(100), late):
         ran = tool("judge", files.config, files.write("other", octets))
         hope("status", (ran.returncode, ran.stdout, ran.stderr.count(b"\n"), b"Traceback" in ran.stderr), (4, b"", 1, False))
 
@@ -453,6 +454,28 @@ def secrets_are_judged(program, folder):
     files = Files(folder, CONFIG.replace("home-secret", "other"))
     text = files.judged(capture)
     hope("a home server's", "10 requests to a home server with a wrong Request Authenticator under its secret" in text, True)
+
+
+def attributes_are_ignored(program, folder):
+    """An attribute that the proxy adds makes another record of each, until it is left out."""
+    files, scene = Files(folder), Scene()
+    for number in range(3):
+        asked, attributes = scene.asks(number, record(b"S%d" % number)), record(b"S%d" % number, more=attribute(CLASS, b"added"))
+        scene.replies(scene.sends(number, attributes))
+        scene.answers(asked)
+    text = see(files, {"early": 3}, pcap(scene.frames()))
+    hope("a hint", "--ignore TYPE,.. leaves attributes out" in text, True)
+    see(files, {}, pcap(scene.frames()), words=("--ignore", f"99,{CLASS}"))
+
+
+def one_side_is_not_enough(program, folder):
+    """Of a capture of one side it says so."""
+    files, scene = Files(folder), scene_of(clean)
+    for places in ((NAS, PROXY), (OUT, HOME)):
+        part = Scene()
+        part.seen = [it for it in scene.seen if it[1] in places and it[2] in places]
+        text = tool("judge", files.config, files.write("part", pcap(part.frames()))).stdout.decode()
+        hope(text, "the capture has not both sides" in text or "the capture lost requests" in text, True)
 
 
 def another_port_is_named(program, folder):
@@ -569,7 +592,7 @@ def conversation(at):
 
 TESTS = [each_fault_is_told, all_faults_are_told_together, each_form_is_read, fragments_are_put_together, copies_are_left_out,
          what_is_no_radius_is_left_out, cut_anywhere_it_is_right_or_refused, spoiled_anywhere_it_ends_in_words, names_are_printed_in_ascii,
-         secrets_are_judged, another_port_is_named, errors_are_one_line, dpkt_reads_the_same, the_program_loses_nothing,
+         secrets_are_judged, attributes_are_ignored, one_side_is_not_enough, another_port_is_named, errors_are_one_line, dpkt_reads_the_same, the_program_loses_nothing,
          radsecproxy_is_judged_right, freeradius_is_judged_right, long_captures_take_bounded_time_and_memory]
 
 

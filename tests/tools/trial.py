@@ -21,12 +21,11 @@ sys.dont_write_bytecode = True
 
 from tests.tools.capturing import COOKED_2, ETHERNET, START, fragments, framed, ipv4, pcap, pcapng, udp
 from tests.tools.running import TOOL, LeftOut, hope, run_tests, tool
-from tests.vectors import ACCT_SESSION_ID, ACCT_STATUS_TYPE, CLASS, answer, attribute, mark, packet, request, signed, status, user_name
+from tests.vectors import ACCT_SESSION_ID, ACCT_STATUS_TYPE, CLASS, answer, attribute, mark, packet, request, status, user_name
 
 PROXY, SECRET = ("192.0.2.1", 1813), b"nas-secret"
 FIRST, SECOND, STRANGER, SILENT = "192.0.2.10", "192.0.2.11", "203.0.113.9", "192.0.2.12"
 HOME = ("198.51.100.20", 1813)
-LIMITS = ""
 NOBODY = 65534
 
 
@@ -284,7 +283,7 @@ def a_script_has_the_same(program, folder):
     hope(ran.stderr, (ran.returncode, ran.stderr), (0, b""))
     hope("what it can't show", b"can't show" in ran.stdout, True)
     hope("who may read it", path.stat().st_mode & 0o777, 0o600)
-    lines = subprocess.run([program, "replay"], stdin=path.open(), capture_output=True, check=True).stdout.decode().splitlines() if False else replayed(program, path)
+    lines = replayed(program, path)
     found = Counter(" ".join(line.split(" ")[1:3 if "dropped" in line or "refused" in line else 2]) for line in lines if line.startswith("nas: "))
     wanted = Counter()
     for key, counts in traffic.wanted.items():
@@ -372,7 +371,6 @@ def is_alive(process):
 def faults_are_one_line(program, folder):
     """Programs that do not start, configurations with a fault, captures without requests, and calls that are wrong."""
     trial, capture = Trial(program, folder), pcap(mixed().frames())
-    right = trial.config
     for name, text, status in (("sleeps", "sleep 1", 4), ("fails", "echo clients; test $1 = check || { echo 'socket: here' >&2; exit 4; }", 4)):
         trial.program = trial.write(name, f"#!/bin/sh\n{text}\n".encode())
         os.chmod(trial.program, 0o755)
@@ -385,12 +383,9 @@ def faults_are_one_line(program, folder):
     trial.refused(4, capture, words=["--proxy", "192.0.2.1:9"])
     for words in (["--speed", "0"], ["--speed", "x"], ["--answer", "-1"], ["--outage", "inf"], ["--proxy", "a:1"], ["--spee", "3"]):
         trial.refused(1, capture, words=words)
-    trial.config = trial.write("loop.toml", configuration(listen="198.51.100.20:1813").encode())
-    trial.refused(2, pcap([(START, framed(ETHERNET, ipv4((FIRST, 9), HOME, udp((FIRST, 9), HOME, b"x"))))]), words=["--proxy", "198.51.100.21:1813"]) if False else None
-    trial.config = trial.write("none.toml", configuration(second_home=("224.0.0.1", 9)).encode())
-    ran = tool(*trial.words([capture], []))
-    hope(ran.stderr, (ran.returncode, ran.stderr.count(b"\n")), (2, 1))
-    trial.config = right
+    for text, proxy in ((configuration(listen="198.51.100.20:1813"), f"{PROXY[0]}:1813"), (configuration(second_home=("224.0.0.1", 9)), "0.0.0.0:1813")):
+        trial.config = trial.write("wrong.toml", text.encode())
+        trial.refused(2, capture, words=["--proxy", proxy])
 
 
 WRONG = [

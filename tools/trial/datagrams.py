@@ -13,7 +13,7 @@ FAMILIES_6 = (10, 24, 28, 30)
 VLANS = (0x8100, 0x88A8, 0x9100)
 IPV4, IPV6, UDP = 0x0800, 0x86DD, 17
 # How many frames may be out of the order of their times; how many fragments wait for others; and for how long a copy is one.
-OUT_OF_ORDER, FRAGMENTS, COPIES_WITHIN = 1024, 4096, SECOND // 20
+OUT_OF_ORDER, FRAGMENTS, COPIES_WITHIN = 1024, 1024, SECOND // 20
 
 
 class Datagram(NamedTuple):

@@ -11,16 +11,16 @@ TIME_UNIT, TIME_OFFSET, LOST = 9, 14, 5
 # No frame has more octets than this in a file that tcpdump or dumpcap wrote.
 MOST_OCTETS, MOST_OF_BLOCK = 262_144, 16_777_216
 SECOND = 1_000_000_000
+LATEST = 2**63
 
 
 class Frame(NamedTuple):
-    """A frame: when it was seen, in nanoseconds since 1970; its link type; where it was seen; what of it is in the file, and its length."""
+    """A frame: when it was seen, in nanoseconds since 1970; its link type; where it was seen; and what of it is in the file."""
 
     time: int
     link: int
     place: int
     octets: bytes
-    length: int
 
 
 class Cut(Exception):
@@ -82,10 +82,10 @@ class Capture:
         while head := read(16):
             if len(head) < 16:
                 raise Cut
-            seconds, parts, kept, length = header.unpack(head)
+            seconds, parts, kept, _ = header.unpack(head)
             if kept > MOST_OCTETS or parts >= most:
                 raise self.damaged("no header of a frame")
-            yield Frame(seconds * SECOND + parts * unit, link, 0, self.take(kept), max(kept, length))
+            yield Frame(seconds * SECOND + parts * unit, link, 0, self.take(kept))
 
     def pcapng(self):
         self.order, self.interfaces = "<", []
@@ -148,11 +148,13 @@ class Capture:
     def packet(self, kind, body):
         if len(body) < 20:
             raise self.damaged("no packet")
-        place, high, low, kept, length = struct.unpack_from(self.order + "IIIII", body)
+        place, high, low, kept = struct.unpack_from(self.order + "IIII", body)
         if kind == OLD_PACKET:
             (place,) = struct.unpack_from(self.order + "H", body)
         if place >= len(self.interfaces) or kept > len(body) - 20:
             raise self.damaged("no packet of an interface")
         link, units, offset = self.interfaces[place]
         time = ((high << 32) + low) * SECOND // units + offset * SECOND
-        return Frame(time, link, place, body[20 : 20 + kept], max(kept, length))
+        if not 0 <= time < LATEST:
+            raise self.damaged("no time")
+        return Frame(time, link, place, body[20 : 20 + kept])

@@ -65,6 +65,7 @@ class Log:
     def other(self, line):
         if b" event=lines-dropped " in line:
             self.missing += int(words_of(line)["count"])
+            self.pending = None
         self.last.append(line.decode("utf-8", "replace"))
 
 

@@ -1,5 +1,5 @@
 """What NASes sent to the proxy of today, out of captures."""
-from collections import Counter, defaultdict
+from collections import Counter
 
 from .datagrams import Reader, address
 from .faults import Fault
@@ -21,6 +21,7 @@ class Requests:
                 self.kept.append(datagram)
             else:
                 self.beyond += 1
+        self.kept.sort(key=lambda it: it.time)
         self.choose()
         if not self.kept:
             raise Fault(f"no datagram to a proxy at {address(self.proxy[0])}:{self.proxy[1]} in {len(paths)} captures; --proxy ADDRESS:PORT names another")

@@ -39,7 +39,7 @@ def listens(settings, requests):
 
 
 class Metrics:
-    """The program's last metrics, by name and labels."""
+    """The program's metrics, by name and labels."""
 
     def __init__(self, values):
         self.values = {}
@@ -159,7 +159,7 @@ class Played:
                 ran.begin()
                 self.play(words, ran, listen, began)
                 self.end = ran.end()
-                self.log, self.metrics, self.lanes = ran.log(), Metrics(ran.metrics()), ran.lanes
+                self.log, self.lanes = ran.log(), ran.lanes
             finally:
                 ran.kill()
                 servers.terminate()
@@ -173,7 +173,7 @@ class Played:
         time.sleep(3 * stage.APART)
         while time.monotonic() < last and not ran.is_done():
             time.sleep(stage.APART)
-        ran.await_reports()
+        self.metrics = Metrics(ran.reported())
 
 
 def report(settings, played):
@@ -184,9 +184,10 @@ def report(settings, played):
     yield from requests.notes()
     if played.nases.unsent:
         yield f"left out: {played.nases.unsent} datagrams that the system does not send from their address and port"
-    lost = metrics.of("socket_drops_total", side="clients")
+    lost = len(requests.kept) - played.nases.unsent - metrics.of("client_received_total") - metrics.of("strangers_total")
     if lost:
-        yield f"lost: {lost} datagrams, since the receive buffer of the clients' socket was full (net.core.rmem_max)"
+        full = metrics.of("socket_drops_total", side="clients")
+        yield f"lost: {lost} datagrams before the program, {full} of them since the receive buffer of the clients' socket was full (net.core.rmem_max)"
     if log.missing:
         yield f"missing: {log.missing} lines of the log; what stands of realms is less than what was"
     yield ""

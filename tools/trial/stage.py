@@ -47,8 +47,8 @@ def enter_namespaces(ports):
             raise Fault(f"ip: {told_by(error)}") from None
         if ran.returncode:
             raise Fault(f"ip {words}: {ran.stderr.strip()}")
-    if len(ports) <= MOST_RESERVED:
-        RESERVED.write_text(",".join(map(str, sorted(ports))) + "\n")
+    with contextlib.suppress(OSError):
+        RESERVED.write_text(",".join(map(str, sorted(ports)[:MOST_RESERVED])) + "\n")
 
 
 @contextlib.contextmanager
@@ -182,17 +182,18 @@ class Program:
         self.ear.join()
         return found
 
-    def await_reports(self):
-        """Waits until its metrics have what is so now: each lane reports once a second."""
+    def reported(self):
+        """Its metrics, once they have what is so now: each lane reports once a second."""
         now, last = time.time(), time.monotonic() + REPORTS_WITHIN
         while time.monotonic() < last and not self.has_ended:
             reports = [value for name, value in self.metrics().items() if name.startswith("rad_proxy_home_report_time_seconds")]
             if reports and min(reports) > now:
-                return
+                break
             time.sleep(APART)
+        return self.metrics()
 
     def metrics(self):
-        """Its last metrics: each value by its name with its labels."""
+        """Its metrics: each value by its name with its labels."""
         lines = self.counters.read_text("utf-8", "replace").splitlines()
         return {name: float(value) for name, _, value in (line.rpartition(" ") for line in lines if not line.startswith("#"))}
 
