@@ -1,5 +1,4 @@
 """Files of captures, made octet by octet: pcap and pcapng, Ethernet and cooked, VLAN tags and fragments."""
-import itertools
 import socket
 import struct
 
@@ -72,15 +71,6 @@ def pcapng(frames, links=(ETHERNET,), order="<", resolution=6, lost=0):
         head = struct.pack(order + "IIIII", interface, whole >> 32, whole & 0xFFFFFFFF, len(frame), len(frame))
         made += block(order, 6, head + frame)
     if lost:
-        made += block(order, 5, struct.pack(order + "III", 0, 0, 0) + option(order, 5, struct.pack(order + "Q", lost)) + option(order, 0, b""))
+        counted = option(order, 5, struct.pack(order + "Q", lost)) + option(order, 0, b"")
+        made += block(order, 5, struct.pack(order + "III", 0, 0, 0) + counted)
     return made
-
-
-class Clock:
-    """Moments, each a millisecond behind the one before."""
-
-    def __init__(self):
-        self.ticks = itertools.count()
-
-    def next(self):
-        return START + next(self.ticks) / 1000

@@ -12,9 +12,9 @@ SECONDS = 900
 __all__ = ["LeftOut", "hope", "TOOL", "tool", "run_tests"]
 
 
-def tool(*words, **more):
+def tool(*words):
     """Runs the tool, and gives what became of it."""
-    return subprocess.run([sys.executable, TOOL, *words], capture_output=True, timeout=SECONDS, check=False, stdin=subprocess.DEVNULL, **more)
+    return subprocess.run([sys.executable, TOOL, *words], capture_output=True, timeout=SECONDS, stdin=subprocess.DEVNULL, check=False)
 
 
 def outcome(test, program):

@@ -151,11 +151,10 @@ def see_rows(text, traffic):
 def home_rows(text, name):
     """What a report has of a home server."""
     first = re.search(rf"^home {name} queue (\d+) of (\d+) book (\d+) of (\d+) window (\d+) of (\d+)$", text, re.MULTILINE)
-    second = re.search(rf"^home {name} accepted (\d+) answered (\d+) resent (\d+) marked down (\d+) times, left (\d+), longest reply (.*), longest response (.*)$",
-                       text, re.MULTILINE)
-    names = ("queue", "of queue", "book", "of book", "window", "of window")
-    return dict(zip(names, map(int, first.groups()))) | dict(zip(("accepted", "answered", "resent", "downs", "left"), map(int, second.groups()[:5]))) | {
-        "reply": second[6], "response": second[7]}
+    second = re.search(rf"^home {name} accepted (\d+) answered (\d+) resent (\d+) marked down (\d+) times, left (\d+), "
+                       r"longest reply (.*), longest response (.*)$", text, re.MULTILINE)
+    names = ("queue", "of queue", "book", "of book", "window", "of window", "accepted", "answered", "resent", "downs", "left")
+    return dict(zip(names, map(int, first.groups() + second.groups()[:5]))) | {"reply": second[6], "response": second[7]}
 
 
 def each_fate_is_counted(program, folder):
@@ -171,7 +170,8 @@ def each_fate_is_counted(program, folder):
     drops = text.partition("most drops and refusals, of 3 senders that had any:\n")[2].splitlines()
     if "missing: " not in text:
         hope("the most drops", [line.split(":")[0] for line in drops[:3]], [f"{FIRST} 11", f"{SECOND} 3", f"{STRANGER} 3"])
-        hope("why", reasons(drops[0].split(": ")[1]), traffic.why[FIRST, "-"] + traffic.why[FIRST, "example.org"] + traffic.why[FIRST, "nowhere.example"])
+        why = sum((traffic.why[FIRST, realm] for realm in ("-", "example.org", "nowhere.example")), Counter())
+        hope("why", reasons(drops[0].split(": ")[1]), why)
     hope("the end", text.endswith("end: queued 0 outstanding 0 untaken 0\n"), True)
 
 
@@ -196,13 +196,15 @@ def both_sides_are_in_the_capture(program, folder):
         traffic.send(octets, FIRST, "example.org")
         passed = ((nas, PROXY, octets), (PROXY, HOME, sent), (HOME, PROXY, answer(sent, number, mark(0, number), b"h1-secret")),
                   (PROXY, nas, answer(octets, number, b"", SECRET)))
-        frames += [(START + number / 100 + step / 1000, framed(ETHERNET, ipv4(a, b, udp(a, b, it)))) for step, (a, b, it) in enumerate(passed)]
+        frames += [(START + number / 100 + step / 1000, framed(ETHERNET, ipv4(a, b, udp(a, b, it))))
+                   for step, (a, b, it) in enumerate(passed)]
     see_rows(trial.played(pcap(frames)), traffic)
 
 
 def an_outage_fills_the_queue(program, folder):
     """While home servers are silent, the window and the queue fill, and then requests are refused."""
-    trial, traffic = Trial(program, folder, configuration("queue = 50\nwindow = 10\nfirst_wait = 500\ndown_wait = 1000\nprobe_every = 1000")), Traffic(0.01)
+    limits = "queue = 50\nwindow = 10\nfirst_wait = 500\ndown_wait = 1000\nprobe_every = 1000"
+    trial, traffic = Trial(program, folder, configuration(limits)), Traffic(0.01)
     for number in range(100):
         fate = ("accepted", None) if number < 60 else ("refused", "QueueFull")
         traffic.ask(fate=fate[0], why=fate[1])
@@ -284,7 +286,8 @@ def a_script_has_the_same(program, folder):
     hope("what it can't show", b"can't show" in ran.stdout, True)
     hope("who may read it", path.stat().st_mode & 0o777, 0o600)
     lines = replayed(program, path)
-    found = Counter(" ".join(line.split(" ")[1:3 if "dropped" in line or "refused" in line else 2]) for line in lines if line.startswith("nas: "))
+    words = [line.split(" ")[1:3] for line in lines if line.startswith("nas: ")]
+    found = Counter(" ".join(it if it[0] in ("dropped", "refused") else it[:1]) for it in words)
     wanted = Counter()
     for key, counts in traffic.wanted.items():
         wanted.update({"new": counts["accepted"], "waiting": counts["repeated"], "status": counts["status"]})
@@ -317,7 +320,8 @@ def a_script_is_never_too_long(program, folder):
 
 def snapshot():
     """What a trial may not change: addresses, routes, mounts, and what is in the folder of temporary files."""
-    told = [subprocess.run(["ip", *words.split()], capture_output=True, check=False).stdout for words in ("-o address", "route show table all", "-o link")]
+    told = [subprocess.run(["ip", *words.split()], capture_output=True, check=False).stdout
+            for words in ("-o address", "route show table all", "-o link")]
     return told, pathlib.Path("/proc/self/mountinfo").read_text(), sorted(it for it in os.listdir("/tmp") if it.startswith("rad_trial"))
 
 
@@ -330,9 +334,7 @@ def nothing_else_is_touched(program, folder):
     for _ in range(40):
         traffic.ask()
     for number in (signal.SIGTERM, signal.SIGINT):
-        ran = subprocess.Popen([sys.executable, TOOL, *trial.words([pcap(traffic.frames())], [])], stdout=subprocess.PIPE, stderr=subprocess.PIPE)
-        time.sleep(3)
-        children = family(ran.pid)
+        ran, children = begun(trial, traffic)
         ran.send_signal(number)
         out, error = ran.communicate(timeout=20)
         hope("how it ended", (ran.returncode, out, error), (130, b"", b"rad_trial: stopped\n"))
@@ -340,9 +342,12 @@ def nothing_else_is_touched(program, folder):
         hope("processes", [it for it in children if os.path.exists(f"/proc/{it}")], [])
 
 
-def family(process):
-    """The processes that a process has started."""
-    return [int(it) for it in pathlib.Path(f"/proc/{process}/task/{process}/children").read_text().split()]
+def begun(trial, traffic):
+    """A trial that was begun a while ago, and the processes that it has started."""
+    words = trial.words([pcap(traffic.frames())], [])
+    ran = subprocess.Popen([sys.executable, TOOL, *words], stdout=subprocess.PIPE, stderr=subprocess.PIPE)
+    time.sleep(3)
+    return ran, [int(it) for it in pathlib.Path(f"/proc/{ran.pid}/task/{ran.pid}/children").read_text().split()]
 
 
 def nothing_is_left_after_a_kill(program, folder):
@@ -350,9 +355,7 @@ def nothing_is_left_after_a_kill(program, folder):
     trial, traffic = Trial(program, folder), Traffic(0.5)
     for _ in range(40):
         traffic.ask()
-    ran = subprocess.Popen([sys.executable, TOOL, *trial.words([pcap(traffic.frames())], [])], stdout=subprocess.PIPE, stderr=subprocess.PIPE)
-    time.sleep(3)
-    children = family(ran.pid)
+    ran, children = begun(trial, traffic)
     ran.kill()
     ran.wait()
     end = time.monotonic() + 10
@@ -371,10 +374,10 @@ def is_alive(process):
 def faults_are_one_line(program, folder):
     """Programs that do not start, configurations with a fault, captures without requests, and calls that are wrong."""
     trial, capture = Trial(program, folder), pcap(mixed().frames())
-    for name, text, status in (("sleeps", "sleep 1", 4), ("fails", "echo clients; test $1 = check || { echo 'socket: here' >&2; exit 4; }", 4)):
+    for name, text in (("sleeps", "sleep 1"), ("fails", "echo clients; test $1 = check || { echo 'socket: here' >&2; exit 4; }")):
         trial.program = trial.write(name, f"#!/bin/sh\n{text}\n".encode())
         os.chmod(trial.program, 0o755)
-        trial.refused(status, capture)
+        trial.refused(4, capture)
     trial.program = "/nowhere"
     hope("no program", trial.refused(4, capture), "rad_trial: no program /nowhere: --program PATH names one")
     trial.program = program
@@ -383,25 +386,30 @@ def faults_are_one_line(program, folder):
     trial.refused(4, capture, words=["--proxy", "192.0.2.1:9"])
     for words in (["--speed", "0"], ["--speed", "x"], ["--answer", "-1"], ["--outage", "inf"], ["--proxy", "a:1"], ["--spee", "3"]):
         trial.refused(1, capture, words=words)
-    for text, proxy in ((configuration(listen="198.51.100.20:1813"), f"{PROXY[0]}:1813"), (configuration(second_home=("224.0.0.1", 9)), "0.0.0.0:1813")):
+    for text in (configuration(listen="198.51.100.20:1813"), configuration(second_home=("224.0.0.1", 9))):
         trial.config = trial.write("wrong.toml", text.encode())
-        trial.refused(2, capture, words=["--proxy", proxy])
+        trial.refused(2, capture, words=["--proxy", f"{PROXY[0]}:1813"])
 
 
 WRONG = [
-    "", "listen = 3", 'listen = "1.2.3.4"', "x = ", 'listen = "01.2.3.4:5"', 'default_home = 3\nLISTEN', 'linger = 600001\nLISTEN', 'linger = true\nLISTEN',
-    "LISTEN", "LISTEN\nclient = []", "LISTEN\nclient = 3", "LISTEN\n[client]\naddress = 3", "LISTEN\nclient = [3]", "LISTEN\n[[client]]\nsecret = 'x'",
-    "LISTEN\n[[client]]\naddress = '1.2.3.256'", "LISTEN\n[[client]]\naddress = '1.2.3.4'\nsecret = ''", "CLIENT\nCLIENTS", "CLIENT",
-    "CLIENT\n[[home]]\nname = ''", "CLIENT\n[[home]]\nname = 'a b'", "CLIENT\n[[home]]\nname = 'h'\naddress = '1.2.3.4:0'",
-    "HOME\nwindow = 255", "HOME\nwindow = 0", "HOME\nwindow = 5000000000", "HOME\nports = 5\nwindow = 2000", "HOME\nspan = '3'", "HOME\nspan = 3.0",
-    "HOME\nwindow = 600\nports = 2", "HOMES", "HOME\n[[realm]]", "HOME\n[[realm]]\nname = 'a@b'", "HOME\n[[realm]]\nname = ''\nhome = 'h'",
-    "HOME\n[[realm]]\nname = 'a'\nhome = 'g'", "HOME\n[[realm]]\nname = 'a'\nhome = 3", "HOME\n[[realm]]\nname = 'a'\nhome = 'h'\n[[realm]]\nname = 'A'\nhome = 'h'",
-    "default_home = 'g'\nHOME", "HOME\n[[realm]]\nname = '" + "a" * 253 + "'\nhome = 'h'", "HOME\nsecret = 'x'", "HOME\n[realm]", "\udcff", "LISTEN\n" * 2,
-    "HOME\ntries = 11", "HOME\nfirst_wait = 99", "HOME\nring = 4097", "HOME\nqueue = 65537", "HOME\nbook = 1000001", "CLIENT\nhome = 'x'",
+    "", "listen = 3", 'listen = "1.2.3.4"', "x = ", 'listen = "01.2.3.4:5"', "default_home = 3\nLISTEN", "linger = 600001\nLISTEN",
+    "linger = true\nLISTEN", "LISTEN", "LISTEN\nclient = []", "LISTEN\nclient = 3", "LISTEN\n[client]\naddress = 3",
+    "LISTEN\nclient = [3]", "LISTEN\n[[client]]\nsecret = 'x'", "LISTEN\n[[client]]\naddress = '1.2.3.256'",
+    "LISTEN\n[[client]]\naddress = '1.2.3.4'\nsecret = ''", "CLIENT\nCLIENTS", "CLIENT", "CLIENT\n[[home]]\nname = ''",
+    "CLIENT\n[[home]]\nname = 'a b'", "CLIENT\n[[home]]\nname = 'h'\naddress = '1.2.3.4:0'", "HOME\nwindow = 255", "HOME\nwindow = 0",
+    "HOME\nwindow = 5000000000", "HOME\nports = 5\nwindow = 2000", "HOME\nspan = '3'", "HOME\nspan = 3.0",
+    "HOME\nwindow = 600\nports = 2", "HOMES", "HOME\n[[realm]]", "HOME\n[[realm]]\nname = 'a@b'",
+    "HOME\n[[realm]]\nname = ''\nhome = 'h'", "HOME\n[[realm]]\nname = 'a'\nhome = 'g'", "HOME\n[[realm]]\nname = 'a'\nhome = 3",
+    "HOME\n[[realm]]\nname = 'a'\nhome = 'h'\n[[realm]]\nname = 'A'\nhome = 'h'", "default_home = 'g'\nHOME",
+    "HOME\n[[realm]]\nname = '" + "a" * 253 + "'\nhome = 'h'", "HOME\nsecret = 'x'", "HOME\n[realm]", "\udcff", "LISTEN\nLISTEN\n",
+    "HOME\ntries = 11", "HOME\nfirst_wait = 99", "HOME\nring = 4097", "HOME\nqueue = 65537", "HOME\nbook = 1000001",
+    "CLIENT\nhome = 'x'",
 ]
 PARTS = {
-    "HOMES": "HOME\n[[home]]\nname = 'h'\naddress = '1.2.3.4:5'\nsecret = 'x'", "HOME": "CLIENT\n[[home]]\nname = 'h'\naddress = '1.2.3.4:5'\nsecret = 'x'",
-    "CLIENTS": "[[client]]\naddress = '1.2.3.4'\nsecret = 'y'", "CLIENT": "LISTEN\n[[client]]\naddress = '1.2.3.4'\nsecret = 'y'",
+    "HOMES": "HOME\n[[home]]\nname = 'h'\naddress = '1.2.3.4:5'\nsecret = 'x'",
+    "HOME": "CLIENT\n[[home]]\nname = 'h'\naddress = '1.2.3.4:5'\nsecret = 'x'",
+    "CLIENTS": "[[client]]\naddress = '1.2.3.4'\nsecret = 'y'",
+    "CLIENT": "LISTEN\n[[client]]\naddress = '1.2.3.4'\nsecret = 'y'",
     "LISTEN": "listen = '0.0.0.0:1813'",
 }
 
@@ -424,7 +432,8 @@ def users_are_told_of_root(program, folder):
     """Without root a trial is refused in words."""
     if os.geteuid() or not shutil.which("setpriv"):
         raise LeftOut("it wants root and setpriv")
-    ran = subprocess.run(["setpriv", f"--reuid={NOBODY}", "--clear-groups", sys.executable, TOOL, "/dev/null", "/dev/null"], capture_output=True, check=False)
+    nobody = ["setpriv", f"--reuid={NOBODY}", "--clear-groups"]
+    ran = subprocess.run([*nobody, sys.executable, TOOL, "/dev/null", "/dev/null"], capture_output=True, check=False)
     hope(ran.stderr, (ran.returncode, ran.stderr.count(b"\n"), b"wants root" in ran.stderr), (4, 1, True))
 
 
@@ -432,7 +441,8 @@ def a_capture_of_a_proxy_is_played(program, folder):
     """What tcpdump saw of NASes of radsecproxy, with their retransmissions: each request is accepted once."""
     if os.geteuid() or not all(map(shutil.which, ("unshare", "ip", "tcpdump", "radsecproxy"))):
         raise LeftOut("it wants root, unshare, ip, tcpdump and radsecproxy")
-    subprocess.run(["unshare", "--net", sys.executable, "-m", "tests.tools.losses", "radsecproxy", program, folder, "-i", "any"], check=True, timeout=300)
+    losses = [sys.executable, "-m", "tests.tools.losses"]
+    subprocess.run(["unshare", "--net", *losses, "radsecproxy", program, folder, "-i", "any"], check=True, timeout=300)
     trial = Trial(program, folder, pathlib.Path(folder, "rad_proxy.toml").read_text())
     text = trial.played(os.path.join(folder, "capture"), words=["--speed", "10"])
     judged = tool("judge", trial.config, os.path.join(folder, "capture")).stdout.decode()
@@ -446,8 +456,8 @@ def many_requests_take_bounded_time_and_memory(program, folder):
     count, rate = 300_000, 6000
     clients = [f"10.0.{number // 250}.{number % 250 + 1}" for number in range(40)]
     config = (f'listen = "{PROXY[0]}:1813"\n' + "".join(f'[[client]]\naddress = "{it}"\nsecret = "nas-secret"\n' for it in clients)
-              + f'[[home]]\nname = "h1"\naddress = "{HOME[0]}:{HOME[1]}"\nsecret = "x"\nwindow = 1000\nports = 4\nqueue = 65536\nbook = 1000000\nring = 4096\n'
-              + '[[realm]]\nname = "example.org"\nhome = "h1"\n')
+              + f'[[home]]\nname = "h1"\naddress = "{HOME[0]}:{HOME[1]}"\nsecret = "x"\n'
+              + 'window = 1000\nports = 4\nqueue = 65536\nbook = 1000000\nring = 4096\n[[realm]]\nname = "example.org"\nhome = "h1"\n')
     trial, path = Trial(program, folder, config), pathlib.Path(folder, "long")
     with path.open("wb") as file:
         file.write(pcap([]))
@@ -455,13 +465,13 @@ def many_requests_take_bounded_time_and_memory(program, folder):
             source = clients[number % 40], 40000 + number // 40 // 250 % 20
             octets = request(number // 40 % 250, record(number, more=attribute(CLASS, bytes(100))), SECRET)
             file.write(pcap([(START + number / rate, framed(ETHERNET, ipv4(source, PROXY, udp(source, PROXY, octets))))])[24:])
-    before, began = resource.getrusage(resource.RUSAGE_CHILDREN).ru_maxrss, time.monotonic()
+    began = time.monotonic()
     text = trial.played(str(path))
-    memory = resource.getrusage(resource.RUSAGE_CHILDREN).ru_maxrss
-    late = re.search(r"at most ([\d.]+) s late", text)[1]
-    print(f"{count} requests, {rate} a second: {time.monotonic() - began:.0f} s, {memory / 1024:.0f} MiB (before {before / 1024:.0f}), {late} s late", flush=True)
+    seconds, memory = time.monotonic() - began, resource.getrusage(resource.RUSAGE_CHILDREN).ru_maxrss // 1024
+    print(f"{count} requests, {rate} a second: {seconds:.0f} s, {memory} MiB; {text.splitlines()[0]}", flush=True)
     lost = re.search(r"^lost: (\d+) datagrams", text, re.MULTILINE)
     found = [it for (_, realm), (it, _) in rows(text).items() if realm == "all"]
+    hope("memory below 400 MiB, and two minutes", (memory < 400, seconds < 120), (True, True))
     hope("the rest", "\nleft out: 100 datagrams behind the first 300000\n" in text, True)
     hope(text, sum(it["came"] for it in found) + int(lost[1] if lost else 0), count)
     home = home_rows(text, "h1")
@@ -470,8 +480,9 @@ def many_requests_take_bounded_time_and_memory(program, folder):
 
 TESTS = [each_fate_is_counted, each_form_is_played, both_sides_are_in_the_capture, an_outage_fills_the_queue, an_outage_may_come_later,
          answers_take_their_time, odd_names_are_played, warnings_are_told, two_homes_of_one_address_are_two, a_script_has_the_same,
-         a_script_is_never_too_long, nothing_else_is_touched, nothing_is_left_after_a_kill, faults_are_one_line, configurations_are_read_alike,
-         users_are_told_of_root, a_capture_of_a_proxy_is_played, many_requests_take_bounded_time_and_memory]
+         a_script_is_never_too_long, nothing_else_is_touched, nothing_is_left_after_a_kill, faults_are_one_line,
+         configurations_are_read_alike, users_are_told_of_root, a_capture_of_a_proxy_is_played,
+         many_requests_take_bounded_time_and_memory]
 
 
 if __name__ == "__main__":

@@ -17,11 +17,14 @@ def shown(octets):
     return "".join(chr(octet) if 0x20 < octet < 0x7F and octet not in b'%"=' else f"%{octet:02X}" for octet in octets)
 
 
-def shown_path(path):
-    """A file's name, of which each control character and each octet that is not UTF-8 is printed as `%` and two digits."""
-    octets = os.fsencode(path)
-    text = octets.decode("utf-8", "surrogateescape")
+def printable(text):
+    """A text of which each control character, and each octet that is not UTF-8, is printed as `%` and two digits."""
     return "".join(one if one.isprintable() else "".join(f"%{octet:02X}" for octet in os.fsencode(one)) for one in text)
+
+
+def shown_path(path):
+    """A file's name."""
+    return printable(os.fsencode(path).decode("utf-8", "surrogateescape"))
 
 
 def told_by(error):

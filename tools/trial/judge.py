@@ -61,6 +61,12 @@ class Record(Kept):
         """How many requests each home server had."""
         return [(self.place, self.count), *(self.others or {}).items()] if self.place else []
 
+    def came_to(self):
+        """How far it came, where a request with it was not answered."""
+        if self.is_acknowledged:
+            return "its record was answered under another Identifier or Authenticator"
+        return "answered by a home server" if self.replied else "not answered by a home server" if self.place else "at no home server"
+
     def __str__(self):
         """What names it: the last request of a NAS that had it."""
         return self.named(self.last) if self.last else "a record of no NAS"
@@ -330,11 +336,7 @@ class Judge:
         if asked.seen > self.reader.last - AT_THE_END:
             self.counts["open"] += 1
             return
-        if record.is_acknowledged:
-            where = "its record was answered under another Identifier or Authenticator"
-        else:
-            where = "answered by a home server" if record.replied else "not answered by a home server" if record.place else "at no home server"
-        self.tell(NEVER, asked.first, f"{asked}; {where}")
+        self.tell(NEVER, asked.first, f"{asked}; {record.came_to()}")
 
     def forget_record(self, record):
         """A record of which no more is expected."""

@@ -24,7 +24,8 @@ class Requests:
         self.kept.sort(key=lambda it: it.time)
         self.choose()
         if not self.kept:
-            raise Fault(f"no datagram to a proxy at {address(self.proxy[0])}:{self.proxy[1]} in {len(paths)} captures; --proxy ADDRESS:PORT names another")
+            place = f"{address(self.proxy[0])}:{self.proxy[1]}"
+            raise Fault(f"no datagram to a proxy at {place} in the captures; --proxy ADDRESS:PORT names another")
 
     def is_for_proxy(self, it):
         """Whether a datagram may be one to the proxy of today."""

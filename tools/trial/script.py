@@ -36,7 +36,8 @@ def script(words):
         lines.append(line)
         empty += not line
     write(words.script, "".join(lines))
-    yield f"{len(lines) - 1 - empty} of {len(requests.kept)} datagrams are in {shown_path(words.script)}, with the secrets: rad_proxy replay < {shown_path(words.script)}"
+    name = shown_path(words.script)
+    yield f"{len(lines) - 1 - empty} of {len(requests.kept)} datagrams are in {name}, with the secrets: rad_proxy replay < {name}"
     if empty:
         yield f"left out: {empty} datagrams without an octet, which a script cannot have"
     yield from requests.notes()

@@ -39,10 +39,6 @@ class Settings:
     homes: list
     realms: dict
 
-    def home_of(self, realm):
-        """The name of the home server of a realm, or of requests without one; nothing if there is none."""
-        return self.default_home if realm is None else self.realms.get(realm.lower())
-
 
 def fault(kind, place):
     return Fault(f"configuration: {kind} at {place}", CONFIGURATION)

@@ -246,14 +246,19 @@ class Nases:
         return time.monotonic() - began
 
 
-def home_process(settings, manner, began):
-    """A process of the home servers, which ends with this one."""
+@contextlib.contextmanager
+def home_servers(settings, manner, began):
+    """A process of the home servers."""
     servers = homes.Homes(settings, manner, began)
     made = multiprocessing.Process(target=lambda: (as_child(), servers.serve()), daemon=True)
     made.start()
     for socket_of_home, _ in servers.sockets.values():
         socket_of_home.close()
-    return made
+    try:
+        yield
+    finally:
+        made.terminate()
+        made.join()
 
 
 def write_configuration(room, settings, listen):
