@@ -322,7 +322,8 @@ def snapshot():
     """What a trial may not change: addresses, routes, mounts, and what is in the folder of temporary files."""
     told = [subprocess.run(["ip", *words.split()], capture_output=True, check=False).stdout
             for words in ("-o address", "route show table all", "-o link")]
-    return told, pathlib.Path("/proc/self/mountinfo").read_text(), sorted(it for it in os.listdir("/tmp") if it.startswith("rad_trial"))
+    folders = [sorted(os.listdir(it)) for it in ("/mnt", "/media", "/srv", "/opt", "/run")]
+    return told, pathlib.Path("/proc/self/mountinfo").read_text(), folders, [it for it in os.listdir("/tmp") if "rad_trial" in it]
 
 
 def nothing_else_is_touched(program, folder):
@@ -351,7 +352,8 @@ def begun(trial, traffic):
 
 
 def nothing_is_left_after_a_kill(program, folder):
-    """A trial that is killed leaves no process."""
+    """A trial that is killed leaves no process, and nothing else."""
+    before = snapshot()
     trial, traffic = Trial(program, folder), Traffic(0.5)
     for _ in range(40):
         traffic.ask()
@@ -362,6 +364,7 @@ def nothing_is_left_after_a_kill(program, folder):
     while time.monotonic() < end and any(is_alive(it) for it in children):
         time.sleep(0.1)
     hope("processes", (len(children) >= 3, [it for it in children if is_alive(it)]), (True, []))
+    hope("after it was killed", snapshot(), before)
 
 
 def is_alive(process):

@@ -75,7 +75,8 @@ def play(words, settings, requests, program):
     """Plays a trial in namespaces of its own."""
     listen, began = listens(settings, requests), multiprocessing.Value("d", 0.0)
     stage.enter_namespaces({it.source_port for it in requests.kept} | {listen[1]} | {home.port for home in settings.homes})
-    with stage.folder() as room, stage.home_servers(settings, manner_of(words), began):
+    room = stage.folder(program)
+    with stage.home_servers(settings, manner_of(words), began):
         ran = stage.Program(program, stage.write_configuration(room, settings, listen), room / "counters", settings)
         try:
             ran.begin()

@@ -10,7 +10,7 @@ import resource
 import signal
 import socket
 import subprocess
-import tempfile
+import sys
 import threading
 import time
 
@@ -19,7 +19,8 @@ from .datagrams import address
 from .faults import CONFIGURATION, Fault, shown_path, told_by
 from .settings import written
 
-NEW_MOUNTS, NEW_NETWORK, PRIVATE, DETACH = 0x20000, 0x40000000, 0x44000, 2
+NEW_MOUNTS, NEW_NETWORK, PRIVATE, NO_PROGRAMS = 0x20000, 0x40000000, 0x44000, 14
+COVERED = ("/mnt", "/media", "/srv", "/opt", "/home")
 STATE = re.compile(rb"lane \d+ (\S+) (up|down) \w+ accepted (\d+) queued (\d+) outstanding (\d+) answered (\d+) opening (\d+)\n")
 LISTENS_WITHIN, APART, REPORTS_WITHIN = 20, 0.1, 5
 # How much of the log may wait until it is read.
@@ -51,16 +52,14 @@ def enter_namespaces(ports):
         RESERVED.write_text(",".join(map(str, sorted(ports)[:MOST_RESERVED])) + "\n")
 
 
-@contextlib.contextmanager
-def folder():
-    """A folder in memory, which nobody else sees."""
-    path = tempfile.mkdtemp(prefix="rad_trial-")
-    try:
-        call("mount", b"none", os.fsencode(path), b"tmpfs", 6, b"size=64m,mode=0700")
-        yield pathlib.Path(path)
-    finally:
-        ctypes.CDLL(None).umount2(os.fsencode(path), DETACH)
-        os.rmdir(path)
+def folder(program):
+    """A folder in memory, which nobody else sees. Here it covers a folder that nothing of the trial is in."""
+    needed = [os.path.realpath(it) for it in (program, sys.prefix, __file__)]
+    place = next((it for it in COVERED if os.path.isdir(it) and not any(path.startswith(f"{it}/") for path in needed)), None)
+    if place is None:
+        raise Fault(f"none of {' '.join(COVERED)} can be covered by a folder in memory")
+    call("mount", b"none", place.encode(), b"tmpfs", NO_PROGRAMS, b"size=64m,mode=0700")
+    return pathlib.Path(place)
 
 
 def environment(**more):
