@@ -6,6 +6,7 @@ usage: python3 -m tests.tools.trial PROGRAM [NAME ..]
 Names choose tests. Each test is a line, and the last line is `N passed, M failed`. It wants root and `ip`; some tests want `setpriv`,
 `unshare` or tcpdump, and tell where they are left out for want of them.
 """
+import functools
 import os
 import pathlib
 import re
@@ -238,8 +239,8 @@ def answers_take_their_time(program, folder):
     text = trial.played(pcap(traffic.frames()), words=["--speed", "10", "--answer", "300"])
     hope("in 3.9 s, played in", re.search(r"in 3\.9 s, played in 0\.[345]", text) is not None or text, True)
     hope("all of it in ten seconds", time.monotonic() - began < 30, True)
-    low, high = map(float, re.fullmatch(r"([\d.]+) to ([\d.]+) s", home_rows(text, "h1")["reply"]).groups())
-    hope("a bucket of 300 ms", low <= 0.4 and high >= 0.3, True)
+    low = float(re.fullmatch(r"([\d.]+) to [\d.]+ s", home_rows(text, "h1")["reply"])[1])
+    hope("not less than the bucket of 300 ms", low >= 0.25, True)
 
 
 def odd_names_are_played(program, folder):
@@ -322,10 +323,26 @@ def snapshot():
     """What a trial may not change: addresses, routes, mounts, and what is in the folder of temporary files."""
     told = [subprocess.run(["ip", *words.split()], capture_output=True, check=False).stdout
             for words in ("-o address", "route show table all", "-o link")]
-    folders = [sorted(os.listdir(it)) for it in ("/mnt", "/media", "/srv", "/opt", "/run")]
+    folders = [sorted(os.listdir(it)) for it in ("/mnt", "/media", "/srv", "/opt", "/home") if os.path.isdir(it)]
     return told, pathlib.Path("/proc/self/mountinfo").read_text(), folders, [it for it in os.listdir("/tmp") if "rad_trial" in it]
 
 
+def alone(test):
+    """Runs a test in a network and with mounts of its own, where nobody else changes anything. Mounts below it would be seen."""
+
+    @functools.wraps(test)
+    def run(program, folder):
+        if os.environ.get("ALONE") or os.geteuid() or not shutil.which("unshare"):
+            return test(program, folder)
+        words = [sys.executable, "-m", "tests.tools.trial", program, test.__name__]
+        inside = ["unshare", "--net", "--mount", "sh", "-c", 'mount --make-rshared / && exec "$@"', "sh", *words]
+        ran = subprocess.run(inside, env=os.environ | {"ALONE": "1"}, capture_output=True, text=True, check=False)
+        hope(ran.stdout + ran.stderr, ran.returncode, 0)
+
+    return run
+
+
+@alone
 def nothing_else_is_touched(program, folder):
     """Addresses, routes, mounts and files are as before: after a trial, and after one that was stopped."""
     trial, traffic = Trial(program, folder), Traffic(0.5)
@@ -351,6 +368,7 @@ def begun(trial, traffic):
     return ran, [int(it) for it in pathlib.Path(f"/proc/{ran.pid}/task/{ran.pid}/children").read_text().split()]
 
 
+@alone
 def nothing_is_left_after_a_kill(program, folder):
     """A trial that is killed leaves no process, and nothing else."""
     before = snapshot()
