@@ -6,11 +6,21 @@ use crate::metric::{METRICS, Metric};
 use std::alloc::{AllocError, Global};
 use std::sync::atomic::{AtomicU64, Ordering};
 
-/// A word for each event: in a table for each metric, with a row for each worker or client. All are 0 at first.
+/// How many words keep what one worker writes apart from what another one reads: those of two lines of a processor's cache.
+/// So no worker waits for the words of another one.
+pub(crate) const APART: usize = 16;
+
+/// A word for each event, in a row for each worker and each client. All are 0 at first.
 #[derive(Drop)]
 pub struct Counts {
-    /// The words of each metric, in the order of [`Counted`], row by row.
-    tables: Vec<Vec<AtomicU64>>,
+    /// The rows of the workers.
+    workers: Vec<AtomicU64>,
+    /// The rows of the clients.
+    clients: Vec<AtomicU64>,
+    /// The place of the first word of each metric in a row, in the order of [`Counted`].
+    firsts: Vec<usize>,
+    /// How many words a row has.
+    width: usize,
 }
 
 impl Counts {
@@ -20,26 +30,33 @@ impl Counts {
     ///
     /// `AllocError` if memory is refused.
     pub fn new(alloc: Global, lanes: usize, clients: usize) -> Result<Counts, AllocError> {
-        let mut tables = Vec::new(alloc);
-        let workers = lanes.saturating_add(1);
+        let mut firsts = Vec::new(alloc);
+        let mut width = APART;
         for metric in METRICS {
             if let Metric::Counted(metric) = *metric {
-                let rows = match metric.is_of_clients() {
-                    true => clients,
-                    false => workers,
-                };
-                let words = rows.saturating_mul(metric.width());
-                tables.push(atomics(alloc, words, 0)?)?;
+                firsts.push(width)?;
+                width = width.saturating_add(metric.width());
             }
         }
-        Ok(Counts { tables })
+        let workers = lanes.saturating_add(1);
+        Ok(Counts {
+            workers: atomics(alloc, workers.saturating_mul(width), 0)?,
+            clients: atomics(alloc, clients.saturating_mul(width), 0)?,
+            firsts,
+            width,
+        })
     }
 
     /// Returns the word of an event in a row.
     pub fn word(&self, row: usize, event: Event) -> Option<&AtomicU64> {
-        let table = self.tables.get(event.metric as usize)?;
-        let first = row.checked_mul(event.metric.width())?;
-        table.get(first.checked_add(event.reason.place())?)
+        let rows = if event.metric.is_of_clients() {
+            &self.clients
+        } else {
+            &self.workers
+        };
+        let first = *self.firsts.get(event.metric as usize)?;
+        let place = row.checked_mul(self.width)?.checked_add(first)?;
+        rows.get(place.checked_add(event.reason.place())?)
     }
 
     /// Adds `times` to the word of an event in a row.

@@ -113,6 +113,20 @@ impl HomeCell {
     }
 }
 
+/// Returns whether the cell of a home server records this report.
+pub(crate) fn is_of_home(report: &WorkerReport<'_>) -> bool {
+    matches!(
+        report,
+        WorkerReport::Accepted { .. }
+            | WorkerReport::FirstSent { .. }
+            | WorkerReport::Answered { .. }
+            | WorkerReport::Took { .. }
+            | WorkerReport::WentDown(_)
+            | WorkerReport::WentUp(_)
+            | WorkerReport::Stands { .. }
+    )
+}
+
 /// Makes a cell for each of these home servers.
 ///
 /// # Errors

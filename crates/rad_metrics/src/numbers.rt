@@ -1,9 +1,9 @@
 //! All metrics of a running proxy.
 
 use crate::counted::Counted;
-use crate::counts::{Counts, atomics};
+use crate::counts::{APART, Counts, atomics};
 use crate::event::{Event, report_peer, report_row};
-use crate::home_cells::{HomeCell, home_cells};
+use crate::home_cells::{HomeCell, home_cells, is_of_home};
 use crate::program_metrics::ProgramReading;
 use crate::socket_numbers::SocketNumbers;
 use rad_desk::{Worker, WorkerReport};
@@ -27,7 +27,8 @@ pub struct Numbers<'a, R> {
     counts: Counts,
     /// The number of datagrams that came from senders that are not clients.
     strangers: AtomicU64,
-    /// When the turn of each worker began, in microseconds since the start: the front's, then those of the lanes in order.
+    /// When the turn of each worker began, in microseconds since the start: the front's, then those of the lanes in order,
+    /// `APART` words from one to the next.
     turns: Vec<AtomicU64>,
     /// The home servers, in order.
     homes: Vec<HomeCell>,
@@ -44,7 +45,8 @@ impl<'a, R: Clock> Numbers<'a, R> {
         let started = time_since_1970(rt);
         let lanes = config.homes().len();
         let counts = Counts::new(alloc, lanes, config.clients().len())?;
-        let turns = atomics(alloc, lanes.saturating_add(1), 0)?;
+        let turns = lanes.saturating_add(1).saturating_mul(APART);
+        let turns = atomics(alloc, turns, 0)?;
         let clients = rows_of(alloc, config)?;
         let homes = home_cells(alloc, config.homes(), started)?;
         Ok(Numbers {
@@ -70,6 +72,9 @@ impl<'a, R: Clock> Numbers<'a, R> {
         if let WorkerReport::Woke = *report {
             self.begin_turn(row);
         }
+        if !is_of_home(report) {
+            return;
+        }
         if let Some(home) = row.checked_sub(1).and_then(|lane| self.homes.get(lane)) {
             let sent = self.counts.get(row, Event::plain(Counted::Sent));
             home.report(report, self.turn(0), self.turn(row), sent);
@@ -77,7 +82,7 @@ impl<'a, R: Clock> Numbers<'a, R> {
     }
 
     fn begin_turn(&self, row: usize) {
-        if let Some(turn) = self.turns.get(row) {
+        if let Some(turn) = self.turn_word(row) {
             turn.store(self.microseconds(), Ordering::SeqCst);
         }
     }
@@ -109,9 +114,13 @@ impl<'a, R: Clock> Numbers<'a, R> {
 }
 
 impl<R> Numbers<'_, R> {
+    fn turn_word(&self, row: usize) -> Option<&AtomicU64> {
+        self.turns.get(row.checked_mul(APART)?)
+    }
+
     /// Returns when the turn of the worker in a row began.
     fn turn(&self, row: usize) -> u64 {
-        match self.turns.get(row) {
+        match self.turn_word(row) {
             Some(turn) => turn.load(Ordering::SeqCst),
             None => 0,
         }

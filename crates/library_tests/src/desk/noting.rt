@@ -233,9 +233,10 @@ impl Wire for TurnWire {
             Coming::From(from, octets) => {
                 let count = octets.len().min(4096);
                 datagram[..count].copy_from_slice(&octets[..count]);
+                let Endpoint { address, port } = from;
                 Received::Got {
-                    address: from.address,
-                    port: from.port,
+                    address,
+                    port,
                     socket: 0,
                     count,
                 }
