@@ -4,8 +4,8 @@ from tests.lib.ledgers import Lane, Run, text, worded
 from tests.lib.metric_texts import text_of
 from tests.lib.model import Fault, Replay, answers, is_right_status, is_signed, read
 from tests.lib.packets import (A_CLASS, ACCOUNTING_REQUEST, ACCOUNTING_RESPONSE, ACCT_SESSION_ID, ACCT_STATUS_TYPE, BOB, CLASS, FROM_NAS,
-                               HOME_SECRET, MESSAGE_AUTHENTICATOR, NAS_SECRET, PROXY_STATE, SESSION, START, STATUS_SERVER, USER_NAME, WORDS, ZEROS,
-                               answer, answered, attribute, classes, mark, of_lanes, of_nas, of_services, packet, reply, request,
+                               HOME_SECRET, MESSAGE_AUTHENTICATOR, NAS_SECRET, PROXY_STATE, SESSION, START, STATUS_SERVER, USER_NAME, WORDS,
+                               ZEROS, answer, answered, attribute, classes, mark, of_lanes, of_nas, of_services, packet, reply, request,
                                request_of_nas, signed, states_of, status, turned, user_name)
 from tests.lib.proxies import NOTHING_LEFT, SECRET, Home, Nas, Proxy, Stage, pairs_of
 from tests.lib.refusing import MOST_ALLOCATIONS, Refuser

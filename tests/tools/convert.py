@@ -19,7 +19,7 @@ import subprocess
 import tempfile
 import tomllib
 
-from tests.lib import LeftOut, environment, free_ports, hope, try_in_folders
+from tests.lib import TOP, LeftOut, environment, free_ports, hope, try_in_folders
 from tests.lib.tools import running, table, talking, texts
 from tests.lib.tools.running import want
 from tools.converting import freeradius, radsecproxy
@@ -142,8 +142,9 @@ def prepared(case, prepare):
 
 
 def words_are_told(program, room):
-    """--help has the statuses, --version one line."""
-    for word, part in (("--help", "statuses:"), ("--version", "rad_convert 0.1.0")):
+    """--help has the statuses, --version that of the package."""
+    version = re.search(r"^VERSION = (.*)$", (TOP / "Makefile").read_text(), re.MULTILINE)[1]
+    for word, part in (("--help", "statuses:"), ("--version", f"rad_convert {version}\n")):
         status, out, told = convert(word)
         hope(word, (status, told, part in out.decode()), (0, [], True))
 

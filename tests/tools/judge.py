@@ -1,5 +1,4 @@
-"""Has `rad_trial judge` read captures: made octet by octet, with faults that are planted, damaged ones, and those that tcpdump makes
-of radsecproxy, FreeRADIUS and the program under losses.
+"""Has `rad_trial judge` read captures that are made, with faults that are planted, that are damaged, and of three proxies under losses.
 
 usage: python3 -m tests.tools.judge PROGRAM [--long | NAME ..]
 
@@ -12,9 +11,11 @@ import os
 import pathlib
 import random
 import re
+import shutil
 import struct
 import subprocess
 import sys
+import tempfile
 import time
 
 from tests.lib import (ACCT_SESSION_ID, ACCT_STATUS_TYPE, CLASS, HOME_SECRET, NAS_SECRET, LeftOut, answer, attribute, hope, is_asked, mark,
@@ -50,6 +51,8 @@ KINDS = {
     "overtaken": "records that a later record of their session overtook on the way to a home server",
 }
 DELAY_TIME = 41
+# What tcpdump is asked for beside each proxy.
+CAPTURED = {"rad_proxy": ("-i", "any"), "radsecproxy": ("-i", "any", "-y", "LINUX_SLL"), "FreeRADIUS": ("-i", "lo")}
 
 
 def record(session=b"S1", kind=1, user=b"bob@example.org", more=b""):
@@ -399,7 +402,16 @@ def faults_of(path, config):
 
 def cut_anywhere_it_is_right_or_refused(program, folder):
     """A capture that is cut after any octet gives what its whole frames give, and says that it was cut; or it is refused in words."""
-    files, frames = Files(folder), scene_of(has_two_identifiers, is_overtaken, answers_another_request).frames()
+    see_cuts(Files(folder), scene_of(has_two_identifiers, is_open).frames())
+
+
+def longer_ones_are_cut_anywhere(program, folder):
+    """The same of one with several faults."""
+    see_cuts(Files(folder), scene_of(has_two_identifiers, is_overtaken, answers_another_request).frames())
+
+
+def see_cuts(files, frames):
+    """Whether it is so of a capture of these frames, in both forms."""
     for make in (pcap, pcapng):
         whole, least = make(frames), len(make([]))
         ends = {len(make(frames[:count])): count for count in range(len(frames) + 1)}
@@ -415,11 +427,21 @@ def cut_anywhere_it_is_right_or_refused(program, folder):
 
 
 def spoiled_anywhere_it_ends_in_words(program, folder):
-    """Octets that are turned anywhere give a report or one line, and no traceback."""
+    """Octets that are turned anywhere, 250 times in both forms, give a report or one line, and no traceback."""
+    see_spoiled(folder, 250)
+
+
+def spoiled_often_it_ends_in_words(program, folder):
+    """The same 3000 times."""
+    see_spoiled(folder, 3000)
+
+
+def see_spoiled(folder, count):
+    """Whether it is so of so many spoiled captures in each form, and of files that are none."""
     files, chance = Files(folder), random.Random(1)
     frames = scene_of(clean, has_two_identifiers, is_overtaken).frames()
     for made in (pcap(frames), pcapng(frames)):
-        for _ in range(1500):
+        for _ in range(count):
             octets = bytearray(made)
             for _ in range(chance.choice((1, 1, 3))):
                 at = chance.randrange(len(octets)) if chance.random() < 0.7 else chance.randrange(120)
@@ -525,7 +547,8 @@ def see_bounds(files, count, mebibytes, bound):
         for at in range(count):
             file.write(conversation(at))
     began = time.monotonic()
-    ran = subprocess.run([sys.executable, "-c", MEASURED, str(TOOLS / "rad_trial"), "judge", files.config, str(path)], capture_output=True, check=False)
+    words = [sys.executable, "-c", MEASURED, TOOLS / "rad_trial", "judge", files.config, path]
+    ran = subprocess.run(words, capture_output=True, check=False)
     text, (seconds, memory) = ran.stdout.decode(), map(float, ran.stderr.split()[-2:])
     print(f"{count} requests, {path.stat().st_size / 1e6:.0f} MB: {time.monotonic() - began:.0f} s, {seconds:.0f} s of a processor, "
           f"{memory / 1024:.0f} MiB", flush=True)
@@ -535,10 +558,26 @@ def see_bounds(files, count, mebibytes, bound):
     hope(f"less than {bound} s of a processor", seconds < bound, True)
 
 
-def losses(program, folder, name, *words):
+@functools.cache
+def captured(program):
+    """What losses.py leaves of each proxy that is here: all run at the same time, each in a network of its own. The result is the folder
+    that has a folder of each, and how each ended."""
+    made, begun = tempfile.TemporaryDirectory(), {}
+    for name, words in CAPTURED.items():
+        if name == "rad_proxy" or shutil.which(name.lower()):
+            folder = pathlib.Path(made.name, name)
+            folder.mkdir()
+            begun[name] = subprocess.Popen(
+                ["unshare", "--net", sys.executable, "-m", "tests.lib.tools.losses", name, program, folder, "12", *words])
+    return made, {name: ran.wait(300) for name, ran in begun.items()}
+
+
+def losses(program, name):
     """A proxy under losses, captured by tcpdump: the judge finds what both sides know, in number."""
     want("ip", "tcpdump", *({name.lower()} - {"rad_proxy"}), root=True)
-    subprocess.run(["unshare", "--net", sys.executable, "-m", "tests.lib.tools.losses", name, program, folder, *words], check=True, timeout=300)
+    made, statuses = captured(program)
+    hope("how losses.py ended", statuses[name], 0)
+    folder = pathlib.Path(made.name, name)
     truth = json.loads(pathlib.Path(folder, "truth").read_text())
     ran = tool("judge", os.path.join(folder, "rad_proxy.toml"), os.path.join(folder, "capture"))
     text, counts = ran.stdout.decode(), truth["counts"]
@@ -552,17 +591,17 @@ def losses(program, folder, name, *words):
 
 def the_program_loses_nothing(program, folder):
     """The program under losses, captured at all interfaces: nothing is found."""
-    hope("findings", losses(program, folder, "rad_proxy", "-i", "any"), {})
+    hope("findings", losses(program, "rad_proxy"), {})
 
 
 def radsecproxy_is_judged_right(program, folder):
     """radsecproxy under losses, captured at all interfaces in the older cooked form."""
-    losses(program, folder, "radsecproxy", "-i", "any", "-y", "LINUX_SLL")
+    losses(program, "radsecproxy")
 
 
 def freeradius_is_judged_right(program, folder):
     """FreeRADIUS under losses, captured at an interface."""
-    losses(program, folder, "FreeRADIUS", "-i", "lo")
+    losses(program, "FreeRADIUS")
 
 
 def dpkt_reads_the_same(program, folder):
@@ -608,7 +647,7 @@ TESTS = [each_fault_is_told, all_faults_are_told_together, each_form_is_read, fr
          secrets_are_judged, attributes_are_ignored, one_side_is_not_enough, another_port_is_named, errors_are_one_line,
          dpkt_reads_the_same, the_program_loses_nothing, radsecproxy_is_judged_right, freeradius_is_judged_right,
          captures_take_bounded_time_and_memory]
-LONG = [long_captures_take_bounded_time_and_memory]
+LONG = [longer_ones_are_cut_anywhere, spoiled_often_it_ends_in_words, long_captures_take_bounded_time_and_memory]
 
 
 if __name__ == "__main__":

@@ -17,7 +17,7 @@ import threading
 import time
 from dataclasses import dataclass, replace
 
-from tests.lib import ACCT_SESSION_ID, bound, environment, hope, read, reply, try_in_folders
+from tests.lib import ACCT_SESSION_ID, bound, environment, hope, read, reply, try_in_folders, until
 from tests.lib.starting import LIBC
 from tests.lib.tools import running, talking
 from tests.lib.tools.running import want
@@ -142,6 +142,15 @@ def at_proxy(lines):
         run("ip", "netns", "exec", PROXY, *line.split(" "))
 
 
+def is_taken(port):
+    """Whether somebody receives at a port there."""
+    try:
+        socket_in(PROXY, "0.0.0.0", port).close()
+    except OSError:
+        return True
+    return False
+
+
 def forget(*words):
     """Deletes mappings there, of which there may be none."""
     subprocess.run(["ip", "netns", "exec", PROXY, "conntrack", "-D", "-p", "udp", *words], capture_output=True, check=False)
@@ -226,7 +235,8 @@ class Room:
         """A proxy that runs until the case ends."""
         want(words[0])
         self.started(words, stdout=subprocess.DEVNULL, stderr=subprocess.DEVNULL)
-        time.sleep(2)
+        until(f"{words[0]} serves", lambda: is_taken(1813))
+        time.sleep(0.3)
 
     def beside(self):
         """radsecproxy at port 1813, and rad_proxy with what was converted of its file at port 11813."""

@@ -1,8 +1,9 @@
 """NASes, a proxy and a home server in a network namespace, where some datagrams are not heard, while tcpdump makes a capture.
 
-usage: unshare --net python3 -m tests.lib.tools.losses PROXY PROGRAM FOLDER WORD ..
+usage: unshare --net python3 -m tests.lib.tools.losses PROXY PROGRAM FOLDER SECONDS WORD ..
 
-PROXY is rad_proxy, radsecproxy or FreeRADIUS, and the words are options of tcpdump. In the folder it leaves `capture`, the
+PROXY is rad_proxy, radsecproxy or FreeRADIUS, which has so many seconds more than its NASes wait, and the words are options of
+tcpdump. In the folder it leaves `capture`, the
 configuration `rad_proxy.toml` and `truth`: by the logs of both sides, what a judge of the capture has to find.
 """
 import json
@@ -22,7 +23,7 @@ from tests.lib import (ACCT_SESSION_ID, ACCT_STATUS_TYPE, PROXY_STATE, STATUS_SE
 
 LISTEN, HOME = ("127.0.0.1", 1813), ("127.0.0.1", 2813)
 SESSIONS, KINDS, PACE = 60, (1, 3, 3, 2), 0.01
-LOST, TRIES, WAIT, AT_THE_END = 0.25, 6, 0.7, 12
+LOST, TRIES, WAIT = 0.25, 6, 0.7
 PROXIES = {"rad_proxy": proxies.RadProxy, "radsecproxy": lambda _: proxies.Radsecproxy(), "FreeRADIUS": lambda _: proxies.FreeRadius()}
 CLIENT_SECRET, HOME_SECRET = proxies.CLIENT_SECRET.encode(), proxies.HOME_SECRET.encode()
 
@@ -140,7 +141,7 @@ class Sides:
         return count
 
 
-def play(sides):
+def play(sides, seconds):
     """Sessions of which each has a start, two interim updates and a stop, all without waiting for answers. Behind them, after a
     while, one more."""
     numbers = Counter()
@@ -152,7 +153,7 @@ def play(sides):
                 sides.ask(nas, numbers[nas], session, kind, 100 * place)
                 numbers[nas] += 1
         sides.turn(PACE)
-    sides.turn(TRIES * WAIT + AT_THE_END)
+    sides.turn(TRIES * WAIT + seconds)
     for count in range(3):
         sides.ask(0, numbers[0] + count, SESSIONS + count, 1, 0)
         sides.turn(0.3)
@@ -160,7 +161,7 @@ def play(sides):
 
 
 def main():
-    name, program, folder, *words = sys.argv[1:]
+    name, program, folder, seconds, *words = sys.argv[1:]
     folder = pathlib.Path(folder)
     subprocess.run(["ip", "link", "set", "lo", "up"], check=True)
     setting = proxies.Setting(LISTEN[1], [HOME[1]], 1, clients=3)
@@ -170,9 +171,10 @@ def main():
     sides = Sides(setting.addresses(), random.Random(1))
     words = PROXIES[name](program).words(folder, setting)
     try:
-        with (folder / "proxy").open("wb") as told, started(words, stdin=subprocess.PIPE, stdout=subprocess.DEVNULL, stderr=told):
+        with (folder / "proxy").open("wb") as told, started(words, stdin=subprocess.PIPE, stdout=subprocess.DEVNULL, stderr=told) as proxy:
             time.sleep(3)
-            play(sides)
+            play(sides, float(seconds))
+            proxy.terminate()
     finally:
         time.sleep(1)
         capture.send_signal(signal.SIGINT)

@@ -11,7 +11,8 @@ from tests.lib.tools import table
 
 def asked(identifier, user, session, secret):
     """A request of a session's start."""
-    return request(identifier, user_name(user) + attribute(ACCT_STATUS_TYPE, bytes([0, 0, 0, 1])) + attribute(ACCT_SESSION_ID, session), secret)
+    start = attribute(ACCT_STATUS_TYPE, bytes([0, 0, 0, 1])) + attribute(ACCT_SESSION_ID, session)
+    return request(identifier, user_name(user) + start, secret)
 
 
 def value(packet, kind):
