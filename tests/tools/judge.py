@@ -558,10 +558,15 @@ def see_bounds(files, count, mebibytes, bound):
     hope(f"less than {bound} s of a processor", seconds < bound, True)
 
 
+def captures_are_begun(program, folder):
+    """The proxies that are here go through losses, each in a network of its own, while the other tests run."""
+    want("ip", "tcpdump", root=True)
+    captures(program)
+
+
 @functools.cache
-def captured(program):
-    """What losses.py leaves of each proxy that is here: all run at the same time, each in a network of its own. The result is the folder
-    that has a folder of each, and how each ended."""
+def captures(program):
+    """A process of losses.py for each proxy that is here, and the folder that has a folder for each."""
     made, begun = tempfile.TemporaryDirectory(), {}
     for name, words in CAPTURED.items():
         if name == "rad_proxy" or shutil.which(name.lower()):
@@ -569,14 +574,14 @@ def captured(program):
             folder.mkdir()
             begun[name] = subprocess.Popen(
                 ["unshare", "--net", sys.executable, "-m", "tests.lib.tools.losses", name, program, folder, "12", *words])
-    return made, {name: ran.wait(300) for name, ran in begun.items()}
+    return made, begun
 
 
 def losses(program, name):
     """A proxy under losses, captured by tcpdump: the judge finds what both sides know, in number."""
     want("ip", "tcpdump", *({name.lower()} - {"rad_proxy"}), root=True)
-    made, statuses = captured(program)
-    hope("how losses.py ended", statuses[name], 0)
+    made, begun = captures(program)
+    hope("how losses.py ended", begun[name].wait(300), 0)
     folder = pathlib.Path(made.name, name)
     truth = json.loads(pathlib.Path(folder, "truth").read_text())
     ran = tool("judge", os.path.join(folder, "rad_proxy.toml"), os.path.join(folder, "capture"))
@@ -642,8 +647,8 @@ def conversation(at):
     return made
 
 
-TESTS = [each_fault_is_told, all_faults_are_told_together, each_form_is_read, fragments_are_put_together, copies_are_left_out,
-         what_is_no_radius_is_left_out, cut_anywhere_it_is_right_or_refused, spoiled_anywhere_it_ends_in_words, names_are_printed_in_ascii,
+TESTS = [captures_are_begun, each_fault_is_told, all_faults_are_told_together, each_form_is_read, fragments_are_put_together,
+         copies_are_left_out, what_is_no_radius_is_left_out, cut_anywhere_it_is_right_or_refused, spoiled_anywhere_it_ends_in_words, names_are_printed_in_ascii,
          secrets_are_judged, attributes_are_ignored, one_side_is_not_enough, another_port_is_named, errors_are_one_line,
          dpkt_reads_the_same, the_program_loses_nothing, radsecproxy_is_judged_right, freeradius_is_judged_right,
          captures_take_bounded_time_and_memory]

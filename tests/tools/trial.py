@@ -309,13 +309,13 @@ def replayed(program, path):
 def a_script_is_never_too_long(program, folder):
     """Of more than a script may have, the first part is written."""
     traffic = Traffic()
-    for _ in range(2300):
-        traffic.ask(more=b"".join(attribute(CLASS, bytes(250)) for _ in range(15)))
+    for _ in range(9000):
+        traffic.ask(more=b"".join(attribute(CLASS, bytes(250)) for _ in range(4)))
     config, capture, path = (pathlib.Path(folder, name) for name in ("c.toml", "c.pcap", "script"))
     config.write_text(configuration())
     capture.write_bytes(pcap(traffic.frames()))
     ran = tool("--script", path, config, capture)
-    count = int(re.match(rb"(\d+) of 2300 datagrams are in ", ran.stdout)[1])
+    count = int(re.match(rb"(\d+) of 9000 datagrams are in ", ran.stdout)[1])
     hope("its octets", 16_770_000 < path.stat().st_size <= 16_777_216, True)
     hope("its requests", sum(line.startswith("nas: new ") for line in replayed(program, path)), count)
 
