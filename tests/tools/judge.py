@@ -611,7 +611,8 @@ def freeradius_is_judged_right(program, folder):
 
 def dpkt_reads_the_same(program, folder):
     """Debian's python3-dpkt reads the same datagrams out of captures, and what it writes as pcapng is read."""
-    if subprocess.run(["/usr/bin/python3", "-c", "import dpkt"], stderr=subprocess.DEVNULL, check=False).returncode:
+    want("/usr/bin/python3")
+    if subprocess.run(["/usr/bin/python3", "-c", "import dpkt.pcapng"], stderr=subprocess.DEVNULL, check=False).returncode:
         raise LeftOut("it wants python3-dpkt")
     files, scene = Files(folder), scene_of(clean, has_two_identifiers)
     written, path = files.folder / "written", files.write("read", pcap(scene.frames(tags=(7,))))
