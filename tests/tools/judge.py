@@ -649,9 +649,9 @@ def conversation(at):
 
 
 TESTS = [captures_are_begun, each_fault_is_told, all_faults_are_told_together, each_form_is_read, fragments_are_put_together,
-         copies_are_left_out, what_is_no_radius_is_left_out, cut_anywhere_it_is_right_or_refused, spoiled_anywhere_it_ends_in_words, names_are_printed_in_ascii,
-         secrets_are_judged, attributes_are_ignored, one_side_is_not_enough, another_port_is_named, errors_are_one_line,
-         dpkt_reads_the_same, the_program_loses_nothing, radsecproxy_is_judged_right, freeradius_is_judged_right,
+         copies_are_left_out, what_is_no_radius_is_left_out, cut_anywhere_it_is_right_or_refused, spoiled_anywhere_it_ends_in_words,
+         names_are_printed_in_ascii, secrets_are_judged, attributes_are_ignored, one_side_is_not_enough, another_port_is_named,
+         errors_are_one_line, dpkt_reads_the_same, the_program_loses_nothing, radsecproxy_is_judged_right, freeradius_is_judged_right,
          captures_take_bounded_time_and_memory]
 LONG = [longer_ones_are_cut_anywhere, spoiled_often_it_ends_in_words, long_captures_take_bounded_time_and_memory]
 
