@@ -114,6 +114,7 @@ SBINDIR ?= $(PREFIX)/sbin
 LIBEXECDIR ?= $(PREFIX)/libexec
 MANDIR ?= $(PREFIX)/share/man
 DOCDIR ?= $(PREFIX)/share/doc/rad_proxy
+TOOLSDIR ?= $(PREFIX)/share/rad_proxy
 UNITDIR ?= $(PREFIX)/lib/systemd/system
 SYSUSERSDIR ?= $(PREFIX)/lib/sysusers.d
 SYSCONFDIR ?= /etc
@@ -128,11 +129,16 @@ ONE = -e 's,@of@,,' -e 's,@config@,rad_proxy,g' -e 's,@runtime@,rad_proxy,'
 UNITS = rad_proxy.service rad_proxy@.service rad_proxy-metrics.socket rad_proxy-metrics@.service
 MANY = -e 's,@of@, %i,' -e 's,@config@,%i,g' -e 's,@runtime@,rad_proxy-%i,'
 
-.PHONY: install uninstall manual deb service
+# The tools of a move, which are Python programs with modules beside them.
+TOOLS = rad_convert rad_trial
+
+.PHONY: install install-proxy install-tools uninstall manual deb service
+
+install: install-proxy install-tools
 
 # Installs the program and the auditor that `make build` left, the scripts of the service, the units, the manual, the pages and the
 # examples. The configuration is the operator's: $(SYSCONFDIR)/rad_proxy is made, and nothing is put there.
-install:
+install-proxy:
 	@for program in $(PROGRAM) $(AUDITOR); do \
 		test -x $$program || { echo "there is no $$program: run make build first" >&2; exit 1; }; \
 	done
@@ -156,23 +162,34 @@ install:
 	cp -R docs examples $(DESTDIR)$(DOCDIR)
 	chmod -R u=rwX,go=rX $(DESTDIR)$(DOCDIR)
 
+# Installs the tools, their modules, and their manual.
+install-tools:
+	install -d $(DESTDIR)$(BINDIR) $(DESTDIR)$(TOOLSDIR) $(DESTDIR)$(MANDIR)/man1
+	for file in tools/*.py tools/*/*.py; do install -D -m 644 $$file $(DESTDIR)$(TOOLSDIR)/$${file#tools/} || exit 1; done
+	cd tools && install -m 755 $(TOOLS) $(abspath $(DESTDIR)$(TOOLSDIR))
+	cd man/man1 && install -m 644 $(TOOLS:=.1) $(abspath $(DESTDIR)$(MANDIR)/man1)
+	for tool in $(TOOLS); do ln -sfr $(DESTDIR)$(TOOLSDIR)/$$tool $(DESTDIR)$(BINDIR)/$$tool || exit 1; done
+
 # Takes away what `make install` put, and leaves the configuration.
 uninstall:
 	rm -f $(DESTDIR)$(SBINDIR)/rad_proxy $(DESTDIR)$(SBINDIR)/rad_proxyctl $(DESTDIR)$(BINDIR)/rad_audit
 	test ! -d $(DESTDIR)$(UNITDIR) || (cd $(DESTDIR)$(UNITDIR) && rm -f $(UNITS))
 	rm -f $(DESTDIR)$(SYSUSERSDIR)/rad_proxy.conf $(DESTDIR)$(MANDIR)/man8/rad_proxy.8
 	rm -f $(DESTDIR)$(MANDIR)/man8/rad_proxyctl.8 $(DESTDIR)$(MANDIR)/man5/rad_proxy.toml.5 $(DESTDIR)$(MANDIR)/man1/rad_audit.1
-	rm -rf $(DESTDIR)$(LIBEXECDIR)/rad_proxy $(DESTDIR)$(DOCDIR)
+	rm -f $(TOOLS:%=$(DESTDIR)$(BINDIR)/%) $(TOOLS:%=$(DESTDIR)$(MANDIR)/man1/%.1)
+	rm -rf $(DESTDIR)$(LIBEXECDIR)/rad_proxy $(DESTDIR)$(TOOLSDIR) $(DESTDIR)$(DOCDIR)
 
 # Looks at the manual and at the scripts of the shell: mandoc and shellcheck have to find nothing.
 manual:
-	mandoc -T lint -W warning man/man8/rad_proxy.8 man/man8/rad_proxyctl.8 man/man5/rad_proxy.toml.5 man/man1/rad_audit.1
-	shellcheck packaging/serve.in packaging/rad_proxyctl.in packaging/deb packaging/debian/postinst packaging/debian/prerm \
-		packaging/debian/postrm tests/packaging/* tests/gate/unproved
+	mandoc -T lint -W warning man/man8/rad_proxy.8 man/man8/rad_proxyctl.8 man/man5/rad_proxy.toml.5 man/man1/rad_audit.1 \
+		$(TOOLS:%=man/man1/%.1)
+	shellcheck packaging/serve.in packaging/rad_proxyctl.in packaging/deb packaging/deb-tools packaging/debian/postinst \
+		packaging/debian/prerm packaging/debian/postrm tests/packaging/* tests/gate/unproved
 
-# A Debian package of the programs that `make build` left, in out/.
+# A Debian package of the programs that `make build` left, and one of the tools, in out/.
 deb:
 	@VERSION=$(VERSION) packaging/deb
+	@VERSION=$(VERSION) packaging/deb-tools
 
 # Tries the installed scripts and the program over UDP on this machine's own address: as they are used, and as they are misused.
 service:

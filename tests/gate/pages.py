@@ -12,7 +12,7 @@ import sys
 from tests.lib import TOP, conclude, rows
 from tests.gate.scripts import SCRIPTS
 
-PAGE = TOP / "docs" / "working.md"
+PAGE, TESTS = TOP / "docs" / "working.md", TOP / "tests"
 BEGIN, END = "<!-- scripts: begin -->\n", "<!-- scripts: end -->\n"
 FOLDERS = {
     "gate": "the gate, and what else is run of the repository itself",
@@ -24,9 +24,11 @@ FOLDERS = {
     "faults": "memory, files, descriptors, inputs and outputs that fail",
     "ledger": "the ledger, and the auditor over ledgers",
     "service": "`serve` and `rad_proxyctl`",
+    "tools": "the tools of a move, over other proxies' files and captures",
     "packaging": "the package and the service in a clean system",
     "preload": "libraries that are loaded into the program before its own, by `LD_PRELOAD`",
     "lib": "what the others share",
+    "lib/tools": "what those of `tools/` share",
 }
 MOST_OF_A_FOLDER = 15
 
@@ -46,10 +48,10 @@ def usage(file):
 
 def shown(file):
     """The name of a file as it is called, with its words: a module without `tests.`, or the path of a script of the shell."""
-    words, place = usage(file), f"{file.parent.name}/{file.name}"
+    words, place = usage(file), file.relative_to(TESTS).as_posix()
     if not file.suffix:
         called = f"tests/{place}{words or ''}"
-    elif words is not None and file.parent.name != "lib":
+    elif words is not None and not place.startswith("lib/"):
         called = f"{file.parent.name}.{file.stem}{words}"
     else:
         called = place
@@ -58,7 +60,7 @@ def shown(file):
 
 def files_of(folder):
     """The scripts of a folder."""
-    found = (file for file in (TOP / "tests" / folder).iterdir() if file.is_file() and file.name != "__init__.py")
+    found = (file for file in (TESTS / folder).iterdir() if file.is_file() and file.name != "__init__.py")
     return sorted(file for file in found if file.suffix in ("", ".py", ".c"))
 
 
@@ -80,14 +82,14 @@ def faults():
     found = page.partition(BEGIN)[2].partition(END)[0]
     if found != text():
         yield "\n".join([f"{PAGE}: the list is not what the scripts say:", *rows.difference(text().encode(), found.encode())])
-    folders = {file.parent.name for file in (TOP / "tests").glob("*/*.py")} | {"packaging", "preload"}
+    folders = {file.parent.relative_to(TESTS).as_posix() for file in TESTS.glob("*/**/*.py")} | {"packaging", "preload"}
     yield from (f"tests/{name}: the list has no such folder" for name in folders - FOLDERS.keys())
     for folder in FOLDERS:
         files = files_of(folder)
         if len(files) > MOST_OF_A_FOLDER:
             yield f"tests/{folder}: {len(files)} scripts, and at most {MOST_OF_A_FOLDER} may be in a folder"
         yield from (f"{file}: its first line is no whole sentence" for file in files if not is_whole(first_line(file)))
-        if folder not in ("gate", "lib"):
+        if folder not in ("gate", "lib", "lib/tools"):
             run = {script.file for script in SCRIPTS}
             yield from (f"{file}: the gate does not run it" for file in files if file.suffix == ".py" and file not in run)
     yield from (f"{script.file}: there is no such script" for script in SCRIPTS if not script.file.is_file())

@@ -60,6 +60,7 @@ SCRIPTS = [
     Script("service/run"),
     Script("service/names"),
     Script("ledger/audits", AUDITOR),
+    Script("tools/convert"),
     Script("timing/ending", is_alone=True),
     Script("timing/moments", is_alone=True),
     Script("timing/metrics", is_alone=True),
@@ -70,4 +71,7 @@ SCRIPTS = [
     Script("network/locks", is_alone=True),
     Script("ledger/files", is_alone=True),
     Script("ledger/spoiled", AUDITOR, is_alone=True),
+    Script("tools/judge", is_alone=True),
+    Script("tools/trial", is_alone=True),
+    Script("tools/moving", is_alone=True),
 ]

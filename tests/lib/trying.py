@@ -68,6 +68,14 @@ def fault_of(test, *given):
     return None
 
 
+def is_asked(word):
+    """Whether the script is given a word, which is taken from its words."""
+    found = word in sys.argv
+    if found:
+        sys.argv.remove(word)
+    return found
+
+
 def chosen(tests, usage):
     """The program that the script is given, and the tests that it is given the names of behind it, or all."""
     if len(sys.argv) < 2:

@@ -1,14 +1,14 @@
 """Has rad_convert carry configurations over, and looks at what it writes, what it tells and how it ends.
 
-usage: python3 -m tests.tools.convert PROGRAM [WORD]
+usage: python3 -m tests.tools.convert PROGRAM [NAME ..]
 
 PROGRAM is rad_proxy: its `check` judges what is written, and it serves a site that is written in both languages (table.py). Where
 radsecproxy and FreeRADIUS are installed, they serve the same files, and each client's secret is tried by a signed request. Their
 shipped files are those of the packages `radsecproxy`, `freeradius` and `freeradius-config`, which `apt-get download` gets; where it
-cannot, these cases are left out. With WORD, only the cases are tried that have it in their names. The result of each case is printed.
-The last line is `N passed, M failed`.
+cannot, these cases are left out. Names choose cases. What fails or is left out is told, and the last line is `N passed, M failed`.
 """
 import contextlib
+import functools
 import io
 import os
 import pathlib
@@ -16,46 +16,34 @@ import random
 import re
 import shutil
 import subprocess
-import sys
 import tempfile
 import tomllib
 
-sys.dont_write_bytecode = True
+from tests.lib import TOP, LeftOut, environment, free_ports, hope, try_in_folders
+from tests.lib.tools import running, table, talking, texts
+from tests.lib.tools.running import want
+from tools.converting import freeradius, radsecproxy
+from tools.converting.reading import Fault, Library
+from tools.converting.site import Site
 
-TOP = pathlib.Path(__file__).resolve().parents[2]
-TOOL = TOP / "tools" / "rad_convert"
 SECONDS = 60
-
-sys.path[:0] = [str(TOP), str(TOP / "tests" / "hostile"), str(TOP / "tools")]
-
-from trying import LeftOut, conclude, hope, outcome  # noqa: E402
-
-from converting import freeradius, radsecproxy  # noqa: E402
-from converting.reading import Fault, Library  # noqa: E402
-from converting.site import Site  # noqa: E402
-
-from tests.tools import table, talking, texts  # noqa: E402
-
 MAIN = {"radsecproxy": "it", "freeradius": "radiusd.conf"}
 MODULES = {"radsecproxy": radsecproxy, "freeradius": freeradius}
-PROGRAM = ""
 
 
-def convert(*words, cwd=None, out=subprocess.PIPE, env=None):
+def convert(*words, out=subprocess.PIPE):
     """Runs the tool. The result is its status, what it wrote, and the lines that it told."""
-    environment = {name: value for name, value in os.environ.items() if name != "NO_SUCH_NAME"} | (env or {})
-    ran = subprocess.run([sys.executable, TOOL, *words], stdin=subprocess.DEVNULL, stdout=out, stderr=subprocess.PIPE, cwd=cwd,
-                         timeout=SECONDS, env=environment)
+    ran = running.run("rad_convert", *words, stdout=out)
     told = ran.stderr.decode()
     hope("a traceback", "Traceback" in told, False)
     return ran.returncode, ran.stdout, told.splitlines()
 
 
-def checked(octets, room):
+def checked(program, octets, room):
     """What a configuration says, which `check` of the program has to take without a word."""
     path = room / "checked.toml"
     path.write_bytes(octets)
-    ran = subprocess.run([PROGRAM, "check", path], capture_output=True, timeout=SECONDS, env={**os.environ, "RAD_PROXY_LOG": "warn"})
+    ran = subprocess.run([program, "check", path], capture_output=True, timeout=SECONDS, env=environment("warn"), check=False)
     found = tomllib.loads(octets.decode())
     counts = " ".join(f"{part}s {len(found.get(part, []))}" for part in ("client", "home", "realm")) + "\n"
     hope("check", (ran.returncode, ran.stdout.decode()), (0, counts))
@@ -94,7 +82,7 @@ def written(kind, text, room):
 
 def row(kind, text, told, wanted):
     """A case that converts a text."""
-    def case(room):
+    def case(program, room):
         path, file = written(kind, text, room)
         status, out, lines = convert(kind, path)
         if wanted is None:
@@ -104,7 +92,7 @@ def row(kind, text, told, wanted):
             return
         hope("status", (status, lines) if status == 2 else status, 3 if told else 0)
         hope_told(lines, told, file)
-        found = checked(out, room)
+        found = checked(program, out, room)
         hope("listen", found["listen"], wanted.get("listen", found["listen"]))
         hope("the configuration", short(found), {key: value for key, value in wanted.items() if key != "listen"})
         hope_comments(out.decode(), file)
@@ -126,7 +114,7 @@ def hope_comments(text, file):
 
 def fault(kind, text, line, part):
     """A case with a text that cannot be read."""
-    def case(room):
+    def case(program, room):
         path, file = written(kind, text, room)
         status, out, lines = convert(kind, path)
         hope("status and output", (status, out, len(lines)), (2, b"", 1))
@@ -135,10 +123,10 @@ def fault(kind, text, line, part):
     return case
 
 
-def call(status, part, *words, **how):
+def call(status, part, *words):
     """A case with a call that has one line on standard error, and this status."""
-    def case(room):
-        found, out, lines = convert(*(word.replace("ROOM", str(room)) if isinstance(word, str) else word for word in words), **how)
+    def case(program, room):
+        found, out, lines = convert(*(word.replace("ROOM", str(room)) if isinstance(word, str) else word for word in words))
         hope("status and output", (found, out or b"", len(lines)), (status, b"", 1))
         hope("what is told", part in lines[0] or lines, True)
         hope("printable", lines[0].isprintable(), True)
@@ -147,15 +135,16 @@ def call(status, part, *words, **how):
 
 def prepared(case, prepare):
     """A case before which a room is prepared."""
-    def both(room):
+    def both(program, room):
         prepare(room)
-        case(room)
+        case(program, room)
     return both
 
 
-def words_are_told(room):
-    """--help has the statuses, --version one line."""
-    for word, part in (("--help", "statuses:"), ("--version", "rad_convert 0.1.0")):
+def words_are_told(program, room):
+    """--help has the statuses, --version that of the package."""
+    version = re.search(r"^VERSION = (.*)$", (TOP / "Makefile").read_text(), re.MULTILINE)[1]
+    for word, part in (("--help", "statuses:"), ("--version", f"rad_convert {version}\n")):
         status, out, told = convert(word)
         hope(word, (status, told, part in out.decode()), (0, [], True))
 
@@ -194,7 +183,7 @@ def site_in(room):
     table.put(table.radsecproxy(table.site(1813, 2813)), room)
 
 
-def full_disk(room):
+def full_disk(program, room):
     """An output that takes nothing."""
     for words in (["radsecproxy", room / "radsecproxy.conf"], ["--help"], ["--version"]):
         with open("/dev/full", "wb") as full:
@@ -202,7 +191,7 @@ def full_disk(room):
         hope("status", (status, told), (2, ["rad_convert: standard output: No space left on device"]))
 
 
-def a_file_is_written(room):
+def a_file_is_written(program, room):
     """A file is written whole, for its owner alone, and nothing beside it."""
     out = room / "out" / "it.toml"
     out.parent.mkdir()
@@ -210,28 +199,28 @@ def a_file_is_written(room):
     hope("the call", convert("radsecproxy", room / "radsecproxy.conf", "-o", out), (0, b"", []))
     hope("the mode", oct(out.stat().st_mode & 0o777), "0o600")
     hope("the folder", os.listdir(out.parent), ["it.toml"])
-    checked(out.read_bytes(), room)
+    checked(program, out.read_bytes(), room)
 
 
-def addresses_are_looked_up(room):
+def addresses_are_looked_up(program, room):
     """Host names are looked up with --resolve alone."""
     text = texts.R.replace("192.0.2.1", "localhost") + texts.R_REALM + "client no.such.invalid {\n type udp\n secret x\n}\n"
     path, file = written("radsecproxy", text, room)
     status, out, told = convert("radsecproxy", path, "--resolve")
-    hope("status", (status, short(checked(out, room))["client"]), (3, [("127.0.0.1", "abc")]))
+    hope("status", (status, short(checked(program, out, room))["client"]), (3, [("127.0.0.1", "abc")]))
     hope_told(told, [(13, "for which no IPv4 address is found")], file)
 
 
 def limits():
     """More clients, home servers and realms than rad_proxy takes."""
-    def case(room):
+    def case(program, room):
         text = "".join(f"client 10.0.{number // 256}.{number % 256} {{\n type udp\n secret x\n}}\n" for number in range(258))
         text += "".join(f"server h{number} {{\n type udp\n host 10.1.0.{number}\n secret x\n}}\n" for number in range(66))
         text += "".join(f"realm r{number} {{\n accountingServer h{number % 64}\n}}\n" for number in range(258))
         text += "realm a {\n accountingServer h64\n}\n"
         path, _ = written("radsecproxy", text, room)
         status, out, told = convert("radsecproxy", path)
-        found = checked(out, room)
+        found = checked(program, out, room)
         hope("counts", (status, [len(found[part]) for part in ("client", "home", "realm")]), (3, [256, 64, 256]))
         hope("told", [line.split(": ", 1)[1] for line in told], [
             "client 10.0.1.0: rad_proxy has 256 clients at most", "client 10.0.1.1: rad_proxy has 256 clients at most",
@@ -244,12 +233,12 @@ def limits():
 
 def site_case(kind, name):
     """A case that has the site's files carried over, and compares the result with the table."""
-    def case(room):
+    def case(program, room):
         made = table.site(1813, 2813)
         table.put(getattr(table, kind)(made), room)
         status, out, told = convert(kind, room / name)
         hope("status", (status, told), (0, []))
-        found, wanted = checked(out, room), made.configuration()
+        found, wanted = checked(program, out, room), made.configuration()
         for part in wanted:
             hope(part, ordered(found[part]), ordered(wanted[part]))
     return case
@@ -260,20 +249,17 @@ def ordered(value):
     return value if isinstance(value, str) else sorted(value, key=str)
 
 
-def served(kind, name, words):
+def served(kind, name, words=()):
     """A case that has the site served, by the proxy itself or by the program over what was converted."""
-    def case(room):
-        if words and not shutil.which(words[0], path=os.environ["PATH"] + ":/usr/sbin"):
-            raise LeftOut(f"there is no {words[0]}")
-        homes = [f"127.0.20.{number}" for number in range(1, 6)]
-        port = talking.free_port([talking.table.FRONT])
-        made = table.site(port, talking.free_port(homes, (1000,)))
+    def case(program, room):
+        want(*words[:1])
+        made = table.site(*free_ports(2))
         table.put(getattr(table, kind)(made), room)
         if words:
             started = [word.replace("ROOM", str(room)) for word in words]
         else:
             convert(kind, room / name, "-o", room / "it.toml")
-            started = [PROGRAM, "run", str(room / "it.toml")]
+            started = [program, "run", room / "it.toml"]
         with talking.serving(started, made, room):
             hope("each client", talking.faults(made), [])
     return case
@@ -284,24 +270,31 @@ def sites():
     for kind, name, words in (("radsecproxy", "radsecproxy.conf", ["radsecproxy", "-f", "-c", "ROOM/radsecproxy.conf"]),
                               ("freeradius", ".", ["freeradius", "-f", "-l", "stdout", "-d", "ROOM"])):
         yield f"the site of {kind} is that of the table", site_case(kind, name)
-        yield f"the program serves what was the site of {kind}", served(kind, name, None)
+        yield f"the program serves what was the site of {kind}", served(kind, name)
         yield f"{kind} serves the same site", served(kind, name, words)
 
 
 # What the packages ship.
 
+@functools.cache
+def unpacked(package):
+    """A folder that a package is unpacked into, or None where it cannot be had. The folder goes when this script ends."""
+    made = tempfile.TemporaryDirectory()
+    words = ["apt-get", "download", package]
+    if subprocess.run(words, cwd=made.name, capture_output=True, timeout=SECONDS, check=False).returncode:
+        return None
+    for file in pathlib.Path(made.name).glob("*.deb"):
+        subprocess.run(["dpkg-deb", "-x", file, made.name], check=True)
+    return made
+
+
 def shipped(package, name):
-    """The folder that a package is unpacked into."""
-    folder = SHIPPED / package
-    if not folder.exists():
-        folder.mkdir()
-        got = shutil.which("apt-get") and shutil.which("dpkg-deb") and subprocess.run(
-            ["apt-get", "download", package], cwd=folder, capture_output=True, timeout=SECONDS).returncode == 0
-        for file in folder.glob("*.deb"):
-            subprocess.run(["dpkg-deb", "-x", file, folder], check=True)
-        if not got:
-            raise LeftOut(f"apt-get cannot download {package}")
-    found = next(iter(sorted(folder.rglob(name))), None)
+    """A file of a package."""
+    want("apt-get", "dpkg-deb")
+    folder = unpacked(package)
+    if folder is None:
+        raise LeftOut(f"apt-get cannot download {package}")
+    found = next(iter(sorted(pathlib.Path(folder.name).rglob(name))), None)
     if found is None:
         raise LeftOut(f"{package} has no {name}")
     return found
@@ -329,7 +322,7 @@ def turned_on(kind, text):
     return "\n".join(lines)
 
 
-def example_of_radsecproxy(room):
+def example_of_radsecproxy(program, room):
     """The example of all options, as it is: its realms have no home server for accounting."""
     file = shipped("radsecproxy", "radsecproxy.conf-example")
     status, out, told = convert("radsecproxy", file)
@@ -342,7 +335,7 @@ def example_of_radsecproxy(room):
     hope("TLS and DTLS", sum("no TLS" in line for line in told), len(re.findall(r"(?mi)^client [^}]*?type\s+d?tls", file.read_text())))
 
 
-def example_of_radsecproxy_turned_on(room):
+def example_of_radsecproxy_turned_on(program, room):
     """The same with accounting and its other comments turned on."""
     text = turned_on("radsecproxy", shipped("radsecproxy", "radsecproxy.conf-example").read_text())
     hope("turned on", [word in re.sub("(?m)^#.*", "", text) for word in ("accountingServer", "ListenUDP", "rewrite example")], [True] * 3)
@@ -350,7 +343,7 @@ def example_of_radsecproxy_turned_on(room):
     path.write_text(text)
     status, out, told = convert("radsecproxy", path)
     hope("status", status, 3)
-    found = short(checked(out, room))
+    found = short(checked(program, out, room))
     hope("the configuration", found, {"client": [("127.0.0.1", "secret")], "home": [("127.0.0.1", "127.0.0.1:1812", "secret")],
                                       "realm": [("eduroam.cc", "127.0.0.1")]})
     for part in ("ListenUDP: a host name", "no loop prevention", "ListenTLS: rad_proxy has no TLS", "does not rewrite", "a pattern",
@@ -358,13 +351,13 @@ def example_of_radsecproxy_turned_on(room):
         hope(part, any(part in line for line in told) or told, True)
 
 
-def default_of_radsecproxy(room):
+def default_of_radsecproxy(program, room):
     """The configuration that is installed, which has a client alone."""
     status, out, told = convert("radsecproxy", shipped("radsecproxy", "radsecproxy.conf"))
     hope("status", (status, out, len(told)), (2, b"", 1))
 
 
-def default_of_freeradius(room):
+def default_of_freeradius(program, room):
     """The folder that is installed, with the sites that Debian enables."""
     folder = shipped("freeradius-config", "radiusd.conf").parent
     for name in ("default", "inner-tunnel"):
@@ -376,7 +369,7 @@ def default_of_freeradius(room):
         hope(part, any(part in line for line in told) or told, True)
 
 
-def all_sites_of_freeradius_are_read(room):
+def all_sites_of_freeradius_are_read(program, room):
     """Each site and policy that is shipped is read as far as it goes."""
     folder = shipped("freeradius-config", "radiusd.conf").parent
     for file in sorted([*folder.glob("sites-available/*"), *folder.glob("policy.d/*")]):
@@ -385,14 +378,14 @@ def all_sites_of_freeradius_are_read(room):
             hope(file.name, told[-1].endswith("so there is no configuration") or told, True)
 
 
-def freeradius_turned_on(room):
+def freeradius_turned_on(program, room):
     """proxy.conf and clients.conf with their comments turned on, and the host name of a home server replaced by an address."""
     for name in ("proxy.conf", "clients.conf", "templates.conf"):
         text = turned_on("freeradius", shipped("freeradius-config", name).read_text())
         (room / name).write_text(text.replace("radius.example.com", "192.0.2.77"))
     status, out, told = convert("freeradius", room)
     hope("status", (status, status == 3 or told), (3, True))
-    found = short(checked(out, room))
+    found = short(checked(program, out, room))
     hope("the home server", found["home"], [("192.0.2.77", "192.0.2.77:1601", "testing123")])
     hope("without a realm", found["default"], "192.0.2.77")
     hope("a client", ("127.0.0.1", "testing123") in found["client"], True)
@@ -422,7 +415,7 @@ def converted(kind, path):
 
 def damaged(kind, name, damage):
     """A case that has the site's files damaged, one at a time, in many ways."""
-    def case(room):
+    def case(program, room):
         files = getattr(table, kind)(table.site(1813, 2813))
         table.put(files, room)
         for file, octets in files.items():
@@ -436,7 +429,7 @@ def damaged(kind, name, damage):
                     tomllib.loads(text)
             (room / file).write_bytes(octets)
         with contextlib.redirect_stdout(io.StringIO()):
-            checked(converted(kind, room / name).encode(), room)
+            checked(program, converted(kind, room / name).encode(), room)
     return case
 
 
@@ -478,33 +471,11 @@ def cases():
     yield from damages()
 
 
-def tried(case):
-    """What is wrong with a case, or None."""
-    with tempfile.TemporaryDirectory() as made:
-        try:
-            case(pathlib.Path(made))
-        except (AssertionError, OSError, subprocess.SubprocessError) as found:
-            return str(found) or type(found).__name__
-    return None
-
-
-def main():
-    """Tries all cases, or those whose names have the word behind the program."""
-    global PROGRAM, SHIPPED
-    if len(sys.argv) not in (2, 3):
-        sys.exit(__doc__)
-    PROGRAM = str(pathlib.Path(sys.argv[1]).resolve())
-    words = []
-    with tempfile.TemporaryDirectory() as made:
-        SHIPPED = pathlib.Path(made)
-        for name, case in cases():
-            if sys.argv[2:] and sys.argv[2] not in name:
-                continue
-            word, text = outcome(case, tried)
-            words.append(word)
-            print(f"{word}: {name}" + (f": {text}" if text else ""), flush=True)
-    conclude(words.count("passed"), words.count("failed"))
+def named(name, case):
+    """A test that tries a case, by the name of it."""
+    case.__name__ = name
+    return case
 
 
 if __name__ == "__main__":
-    main()
+    try_in_folders([named(*pair) for pair in cases()], __doc__)

@@ -1,12 +1,11 @@
-#!/usr/bin/env python3
-"""Has `rad_trial judge` read captures: made octet by octet, with faults that are planted, damaged ones, and those that tcpdump makes
-of radsecproxy, FreeRADIUS and the program under losses.
+"""Has `rad_trial judge` read captures that are made, with faults that are planted, that are damaged, and of three proxies under losses.
 
-usage: python3 -m tests.tools.judge PROGRAM [NAME ..]
+usage: python3 -m tests.tools.judge PROGRAM [--long | NAME ..]
 
-Names choose tests. Each test is a line, and the last line is `N passed, M failed`. Those with proxies want root, `unshare`, tcpdump
-and the proxy, and tell where one is left out for want of them.
+Names choose tests, and `--long` those that take a minute or more. What fails or is left out is told, and the last line is
+`N passed, M failed`. Those with proxies want root, `unshare`, tcpdump and the proxy, and are left out where one is not here.
 """
+import functools
 import json
 import os
 import pathlib
@@ -16,17 +15,21 @@ import shutil
 import struct
 import subprocess
 import sys
+import tempfile
 import time
 
-sys.dont_write_bytecode = True
+from tests.lib import (ACCT_SESSION_ID, ACCT_STATUS_TYPE, CLASS, HOME_SECRET, NAS_SECRET, LeftOut, answer, attribute, hope, is_asked, mark,
+                       request, status, try_in_folders, user_name)
+from tests.lib.tools import capturing
+from tests.lib.tools.capturing import COOKED, COOKED_2, ETHERNET, RAW, START, framed, ipv4, pcap, pcapng, udp
+from tests.lib.tools.running import TOOLS, run, want
+from tools.trial.faults import Fault
+from tools.trial.judge import Judge, findings
+from tools.trial.settings import read_settings
 
-from tests.tools import capturing
-from tests.tools.capturing import COOKED, COOKED_2, ETHERNET, RAW, START, framed, ipv4, pcap, pcapng, udp
-from tests.tools.running import TOOL, LeftOut, hope, run_tests, tool
-from tests.vectors import ACCT_SESSION_ID, ACCT_STATUS_TYPE, CLASS, answer, attribute, mark, request, status, user_name
+tool = functools.partial(run, "rad_trial")
 
 NAS, PROXY, OUT, HOME = ("192.0.2.10", 40000), ("192.0.2.1", 1813), ("192.0.2.1", 50000), ("198.51.100.20", 1813)
-NAS_SECRET, HOME_SECRET = b"nas-secret", b"home-secret"
 CONFIG = f"""listen = "0.0.0.0:1813"
 [[client]]
 address = "{NAS[0]}"
@@ -48,6 +51,8 @@ KINDS = {
     "overtaken": "records that a later record of their session overtook on the way to a home server",
 }
 DELAY_TIME = 41
+# What tcpdump is asked for beside each proxy.
+CAPTURED = {"rad_proxy": ("-i", "any"), "radsecproxy": ("-i", "any", "-y", "LINUX_SLL"), "FreeRADIUS": ("-i", "lo")}
 
 
 def record(session=b"S1", kind=1, user=b"bob@example.org", more=b""):
@@ -387,10 +392,6 @@ def what_is_no_radius_is_left_out(program, folder):
 
 def faults_of(path, config):
     """What the tool's judge says of a capture, in this process: its lines, or its fault in words."""
-    from trial.faults import Fault
-    from trial.judge import Judge, findings
-    from trial.settings import read_settings
-
     try:
         made = Judge(read_settings(config), [path], None, set(), 5)
         made.read()
@@ -401,8 +402,16 @@ def faults_of(path, config):
 
 def cut_anywhere_it_is_right_or_refused(program, folder):
     """A capture that is cut after any octet gives what its whole frames give, and says that it was cut; or it is refused in words."""
-    sys.path.insert(0, str(TOOL.parent))
-    files, frames = Files(folder), scene_of(has_two_identifiers, is_overtaken, answers_another_request).frames()
+    see_cuts(Files(folder), scene_of(has_two_identifiers, is_open).frames())
+
+
+def longer_ones_are_cut_anywhere(program, folder):
+    """The same of one with several faults."""
+    see_cuts(Files(folder), scene_of(has_two_identifiers, is_overtaken, answers_another_request).frames())
+
+
+def see_cuts(files, frames):
+    """Whether it is so of a capture of these frames, in both forms."""
     for make in (pcap, pcapng):
         whole, least = make(frames), len(make([]))
         ends = {len(make(frames[:count])): count for count in range(len(frames) + 1)}
@@ -418,12 +427,21 @@ def cut_anywhere_it_is_right_or_refused(program, folder):
 
 
 def spoiled_anywhere_it_ends_in_words(program, folder):
-    """Octets that are turned anywhere give a report or one line, and no traceback."""
-    sys.path.insert(0, str(TOOL.parent))
+    """Octets that are turned anywhere, 250 times in both forms, give a report or one line, and no traceback."""
+    see_spoiled(folder, 250)
+
+
+def spoiled_often_it_ends_in_words(program, folder):
+    """The same 3000 times."""
+    see_spoiled(folder, 3000)
+
+
+def see_spoiled(folder, count):
+    """Whether it is so of so many spoiled captures in each form, and of files that are none."""
     files, chance = Files(folder), random.Random(1)
     frames = scene_of(clean, has_two_identifiers, is_overtaken).frames()
     for made in (pcap(frames), pcapng(frames)):
-        for _ in range(1500):
+        for _ in range(count):
             octets = bytearray(made)
             for _ in range(chance.choice((1, 1, 3))):
                 at = chance.randrange(len(octets)) if chance.random() < 0.7 else chance.randrange(120)
@@ -511,30 +529,60 @@ def errors_are_one_line(program, folder):
         hope(word, (ran.returncode, ran.stderr, b"rad_trial" in ran.stdout), (0, b"", True))
 
 
+def captures_take_bounded_time_and_memory(program, folder):
+    """20,000 requests, each answered, at 2000 a second, from eight NASes' ports."""
+    see_bounds(Files(folder), 20_000, 120, 20)
+
+
 def long_captures_take_bounded_time_and_memory(program, folder):
-    """300,000 requests, each answered, at 2000 a second, from eight NASes' ports."""
-    files, count = Files(folder), 300_000
+    """The same of 300,000 requests."""
+    see_bounds(Files(folder), 300_000, 500, 200)
+
+
+def see_bounds(files, count, mebibytes, bound):
+    """Whether so many requests take no more memory, and no more seconds of a processor."""
     path = files.folder / "long"
     with path.open("wb") as file:
         file.write(pcap([]))
         for at in range(count):
             file.write(conversation(at))
     began = time.monotonic()
-    ran = subprocess.run([sys.executable, "-c", MEASURED, str(TOOL), "judge", files.config, str(path)], capture_output=True, check=False)
+    words = [sys.executable, "-c", MEASURED, TOOLS / "rad_trial", "judge", files.config, path]
+    ran = subprocess.run(words, capture_output=True, check=False)
     text, (seconds, memory) = ran.stdout.decode(), map(float, ran.stderr.split()[-2:])
-    print(f"300,000 requests, {path.stat().st_size / 1e6:.0f} MB: {time.monotonic() - began:.0f} s, {seconds:.0f} s of a processor, "
+    print(f"{count} requests, {path.stat().st_size / 1e6:.0f} MB: {time.monotonic() - began:.0f} s, {seconds:.0f} s of a processor, "
           f"{memory / 1024:.0f} MiB", flush=True)
     hope("its requests", f"{count} requests of NASes and 0 retransmissions, {count} answers" in text, True)
     hope("findings", counted(text), {})
-    hope("memory below 500 MiB", memory < 500 * 1024, True)
-    hope("less than 200 s of a processor", seconds < 200, True)
+    hope(f"memory below {mebibytes} MiB", memory < mebibytes * 1024, True)
+    hope(f"less than {bound} s of a processor", seconds < bound, True)
 
 
-def losses(program, folder, name, *words):
+def captures_are_begun(program, folder):
+    """The proxies that are here go through losses, each in a network of its own, while the other tests run."""
+    want("ip", "tcpdump", root=True)
+    captures(program)
+
+
+@functools.cache
+def captures(program):
+    """A process of losses.py for each proxy that is here, and the folder that has a folder for each."""
+    made, begun = tempfile.TemporaryDirectory(), {}
+    for name, words in CAPTURED.items():
+        if name == "rad_proxy" or shutil.which(name.lower()):
+            folder = pathlib.Path(made.name, name)
+            folder.mkdir()
+            begun[name] = subprocess.Popen(
+                ["unshare", "--net", sys.executable, "-m", "tests.lib.tools.losses", name, program, folder, "12", *words])
+    return made, begun
+
+
+def losses(program, name):
     """A proxy under losses, captured by tcpdump: the judge finds what both sides know, in number."""
-    if os.geteuid() or not all(map(shutil.which, ("unshare", "ip", "tcpdump", *({name.lower()} - {"rad_proxy"})))):
-        raise LeftOut(f"it wants root, unshare, ip, tcpdump and {name}")
-    subprocess.run(["unshare", "--net", sys.executable, "-m", "tests.tools.losses", name, program, folder, *words], check=True, timeout=300)
+    want("ip", "tcpdump", *({name.lower()} - {"rad_proxy"}), root=True)
+    made, begun = captures(program)
+    hope("how losses.py ended", begun[name].wait(300), 0)
+    folder = pathlib.Path(made.name, name)
     truth = json.loads(pathlib.Path(folder, "truth").read_text())
     ran = tool("judge", os.path.join(folder, "rad_proxy.toml"), os.path.join(folder, "capture"))
     text, counts = ran.stdout.decode(), truth["counts"]
@@ -548,22 +596,23 @@ def losses(program, folder, name, *words):
 
 def the_program_loses_nothing(program, folder):
     """The program under losses, captured at all interfaces: nothing is found."""
-    hope("findings", losses(program, folder, "rad_proxy", "-i", "any"), {})
+    hope("findings", losses(program, "rad_proxy"), {})
 
 
 def radsecproxy_is_judged_right(program, folder):
     """radsecproxy under losses, captured at all interfaces in the older cooked form."""
-    losses(program, folder, "radsecproxy", "-i", "any", "-y", "LINUX_SLL")
+    losses(program, "radsecproxy")
 
 
 def freeradius_is_judged_right(program, folder):
     """FreeRADIUS under losses, captured at an interface."""
-    losses(program, folder, "FreeRADIUS", "-i", "lo")
+    losses(program, "FreeRADIUS")
 
 
 def dpkt_reads_the_same(program, folder):
     """Debian's python3-dpkt reads the same datagrams out of captures, and what it writes as pcapng is read."""
-    if subprocess.run(["/usr/bin/python3", "-c", "import dpkt"], stderr=subprocess.DEVNULL, check=False).returncode:
+    want("/usr/bin/python3")
+    if subprocess.run(["/usr/bin/python3", "-c", "import dpkt.pcapng"], stderr=subprocess.DEVNULL, check=False).returncode:
         raise LeftOut("it wants python3-dpkt")
     files, scene = Files(folder), scene_of(clean, has_two_identifiers)
     written, path = files.folder / "written", files.write("read", pcap(scene.frames(tags=(7,))))
@@ -599,12 +648,13 @@ def conversation(at):
     return made
 
 
-TESTS = [each_fault_is_told, all_faults_are_told_together, each_form_is_read, fragments_are_put_together, copies_are_left_out,
-         what_is_no_radius_is_left_out, cut_anywhere_it_is_right_or_refused, spoiled_anywhere_it_ends_in_words, names_are_printed_in_ascii,
-         secrets_are_judged, attributes_are_ignored, one_side_is_not_enough, another_port_is_named, errors_are_one_line,
-         dpkt_reads_the_same, the_program_loses_nothing, radsecproxy_is_judged_right, freeradius_is_judged_right,
-         long_captures_take_bounded_time_and_memory]
+TESTS = [captures_are_begun, each_fault_is_told, all_faults_are_told_together, each_form_is_read, fragments_are_put_together,
+         copies_are_left_out, what_is_no_radius_is_left_out, cut_anywhere_it_is_right_or_refused, spoiled_anywhere_it_ends_in_words,
+         names_are_printed_in_ascii, secrets_are_judged, attributes_are_ignored, one_side_is_not_enough, another_port_is_named,
+         errors_are_one_line, dpkt_reads_the_same, the_program_loses_nothing, radsecproxy_is_judged_right, freeradius_is_judged_right,
+         captures_take_bounded_time_and_memory]
+LONG = [longer_ones_are_cut_anywhere, spoiled_often_it_ends_in_words, long_captures_take_bounded_time_and_memory]
 
 
 if __name__ == "__main__":
-    run_tests(TESTS, __doc__)
+    try_in_folders(LONG if is_asked("--long") else TESTS, __doc__)

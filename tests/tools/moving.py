@@ -1,32 +1,26 @@
 """Tries the steps of docs/moving.md in network namespaces, with two or three NASes and a home server around the proxies.
 
-usage: python3 -m tests.tools.moving PROGRAM [WORD]
+usage: python3 -m tests.tools.moving PROGRAM [NAME ..]
 
 PROGRAM is rad_proxy. A case that wants root, `ip`, `nft`, `conntrack`, radsecproxy or FreeRADIUS is left out where that is not here.
 The NASes are 10.20.0.11 to 10.20.0.13 and send from port 1646. The proxies' machine is 10.20.0.1, and the home servers are
-198.51.100.20 and 198.51.100.21. With WORD, only the cases are tried that have it in their names. The result of each case is printed.
-The last line is `N passed, M failed`.
+198.51.100.20 and 198.51.100.21. Names choose cases. What fails or is left out is told, and the last line is `N passed, M failed`.
 """
 import contextlib
 import ctypes
+import functools
 import os
 import pathlib
 import select
-import shutil
 import subprocess
-import sys
-import tempfile
 import threading
 import time
+from dataclasses import dataclass, replace
 
-sys.dont_write_bytecode = True
-
-TOP = pathlib.Path(__file__).resolve().parents[2]
-sys.path[:0] = [str(TOP), str(TOP / "tests" / "hostile")]
-
-from trying import LeftOut, conclude, hope, outcome  # noqa: E402
-
-from tests.tools import talking  # noqa: E402
+from tests.lib import ACCT_SESSION_ID, bound, environment, hope, read, reply, try_in_folders, until
+from tests.lib.starting import LIBC
+from tests.lib.tools import running, talking
+from tests.lib.tools.running import want
 
 NAS, PROXY, HOME = (f"moving-{os.getpid()}-{name}" for name in ("nas", "proxy", "home"))
 HERE, BILLING, HUB = "10.20.0.1", "198.51.100.20", "198.51.100.21"
@@ -148,6 +142,15 @@ def at_proxy(lines):
         run("ip", "netns", "exec", PROXY, *line.split(" "))
 
 
+def is_taken(port):
+    """Whether somebody receives at a port there."""
+    try:
+        socket_in(PROXY, "0.0.0.0", port).close()
+    except OSError:
+        return True
+    return False
+
+
 def forget(*words):
     """Deletes mappings there, of which there may be none."""
     subprocess.run(["ip", "netns", "exec", PROXY, "conntrack", "-D", "-p", "udp", *words], capture_output=True, check=False)
@@ -155,14 +158,13 @@ def forget(*words):
 
 def socket_in(space, address, port):
     """A socket of an address in a namespace."""
-    library = ctypes.CDLL(None, use_errno=True)
     with open("/proc/self/ns/net", "rb") as own, open(f"/run/netns/{space}", "rb") as other:
         try:
-            if library.setns(other.fileno(), NEW_NETWORK):
+            if LIBC.setns(other.fileno(), NEW_NETWORK):
                 raise OSError(ctypes.get_errno(), "setns")
-            return talking.bound(address, port)
+            return bound(address, port, None)
         finally:
-            library.setns(own.fileno(), NEW_NETWORK)
+            LIBC.setns(own.fileno(), NEW_NETWORK)
 
 
 @contextlib.contextmanager
@@ -198,36 +200,62 @@ class HomeServer:
     def _serve(self):
         while True:
             try:
-                packet, sender = self.where.recvfrom(4096)
+                octets, sender = self.where.recvfrom(4096)
             except OSError:
                 return
-            if packet[0] == talking.REQUEST and talking.is_signed(packet, bytes(16), HOME_SECRET):
-                found = {kind: octets[2:] for kind, octets in talking.attributes(packet)}
-                self.sessions.append((sender[1], found[talking.SESSION].decode()))
+            packet = read(octets)
+            if talking.is_request(packet, HOME_SECRET):
+                self.sessions.append((sender[1], talking.value(packet, ACCT_SESSION_ID).decode()))
                 threading.Timer(self.delay, self._answer, (packet, sender)).start()
 
     def _answer(self, packet, sender):
-        states = b"".join(octets for kind, octets in talking.attributes(packet) if kind == talking.PROXY_STATE)
-        answer = talking.signed(talking.RESPONSE, packet[1], packet[4:20], states, HOME_SECRET)
         with contextlib.suppress(OSError):
-            self.where.sendto(answer, sender)
+            self.where.sendto(reply(packet, HOME_SECRET), sender)
 
     def senders(self, session):
         """How many senders a session came from."""
         return len({port for port, name in self.sessions if name == session})
 
 
+@dataclass(frozen=True)
+class Room:
+    """The program, a folder, and what ends when a case does."""
+
+    program: pathlib.Path
+    folder: pathlib.Path
+    stack: contextlib.ExitStack
+
+    def started(self, words, **options):
+        """A process at the proxies' machine, which is killed in the end."""
+        made = self.stack.enter_context(subprocess.Popen(["ip", "netns", "exec", PROXY, *words], **options))
+        self.stack.callback(made.kill)
+        return made
+
+    def background(self, *words):
+        """A proxy that runs until the case ends."""
+        want(words[0])
+        self.started(words, stdout=subprocess.DEVNULL, stderr=subprocess.DEVNULL)
+        until(f"{words[0]} serves", lambda: is_taken(1813))
+        time.sleep(0.3)
+
+    def beside(self):
+        """radsecproxy at port 1813, and rad_proxy with what was converted of its file at port 11813."""
+        file = self.folder / "radsecproxy.conf"
+        file.write_text(OLD)
+        self.background("radsecproxy", "-f", "-c", str(file))
+        converted = running.run("rad_convert", "radsecproxy", file, text=True, check=True).stdout
+        return Proxy(converted.replace('"0.0.0.0:1813"', '"0.0.0.0:11813"'), self)
+
+
 class Proxy:
     """rad_proxy, as a program that is asked by its standard input."""
 
-    def __init__(self, configuration, folder, stack):
-        path = folder / "it.toml"
+    def __init__(self, configuration, room):
+        path = room.folder / "it.toml"
         path.write_text(configuration)
-        self.counters = folder / "counters"
-        self.ran = stack.enter_context(subprocess.Popen(
-            ["ip", "netns", "exec", PROXY, PROGRAM, "run", str(path)], stdin=subprocess.PIPE, stdout=subprocess.PIPE,
-            stderr=subprocess.DEVNULL, text=True, env={**os.environ, "RAD_PROXY_COUNTERS": str(self.counters)}))
-        stack.callback(self.ran.kill)
+        self.counters = room.folder / "counters"
+        self.ran = room.started([room.program, "run", path], stdin=subprocess.PIPE, stdout=subprocess.PIPE, stderr=subprocess.DEVNULL,
+                                text=True, env=environment() | {"RAD_PROXY_COUNTERS": str(self.counters)})
         hope("listening", self.ran.stdout.readline().split()[:1], ["listening"])
 
     def ask(self, word):
@@ -249,9 +277,7 @@ class Proxy:
 def asks(number, session, secret=None, user="bob@example.org", times=1, every=2.0, meanwhile=None):
     """Has a NAS send a request, and repeat it. The result is the port that the answer came from, or None."""
     secret = secret or SECRETS[number]
-    body = talking.attribute(talking.USER_NAME, user.encode()) + talking.attribute(talking.STATUS_TYPE, bytes([0, 0, 0, 1]))
-    body += talking.attribute(talking.SESSION, session.encode())
-    packet = talking.signed(talking.REQUEST, sum(session.encode()) % 256, bytes(16), body, secret)
+    packet = talking.asked(sum(session.encode()) % 256, user.encode(), session.encode(), secret)
     with socket_in(NAS, f"10.20.0.{number}", 1646) as nas:
         for _ in range(times):
             nas.sendto(packet, (HERE, 1813))
@@ -261,33 +287,14 @@ def asks(number, session, secret=None, user="bob@example.org", times=1, every=2.
                 meanwhile = None
             if select.select([nas], [], [], every)[0]:
                 answer, sender = nas.recvfrom(4096)
-                hope("the answer", talking.is_signed(answer, packet[4:20], secret), True)
+                hope("the answer", talking.is_answer(answer, packet, secret), True)
                 return sender[1]
     return None
 
 
-def background(words, stack):
-    """A proxy that runs until the case ends."""
-    if not shutil.which(words[0]):
-        raise LeftOut(f"there is no {words[0]}")
-    quiet = {"stdout": subprocess.DEVNULL, "stderr": subprocess.DEVNULL}
-    ran = stack.enter_context(subprocess.Popen(["ip", "netns", "exec", PROXY, *words], **quiet))
-    stack.callback(ran.kill)
-    time.sleep(2)
-
-
-def beside(folder, stack):
-    """radsecproxy at port 1813, and rad_proxy with what was converted of its file at port 11813."""
-    file = folder / "radsecproxy.conf"
-    file.write_text(OLD)
-    background(["radsecproxy", "-f", "-c", str(file)], stack)
-    ran = subprocess.run([sys.executable, TOP / "tools" / "rad_convert", "radsecproxy", file], capture_output=True, text=True, check=True)
-    return Proxy(ran.stdout.replace('"0.0.0.0:1813"', '"0.0.0.0:11813"'), folder, stack)
-
-
-def one_nas_is_moved_and_comes_back(folder, stack):
+def one_nas_is_moved_and_comes_back(room):
     """The rule and the mapping decide which proxy has a NAS, and the other NAS stays."""
-    home, proxy = HomeServer(), beside(folder, stack)
+    home, proxy = HomeServer(), room.beside()
     hope("the old proxy answers", (asks(11, "a"), asks(12, "b"), proxy.accepted()), (1813, 1813, 0))
     at_proxy(CHAIN + "\n" + ONE_RULE)
     forget("-s", "10.20.0.11")
@@ -299,10 +306,10 @@ def one_nas_is_moved_and_comes_back(folder, stack):
     hope("each record came once", [home.senders(session) for session in "abcde"], [1] * 5)
 
 
-def a_mapping_that_is_not_deleted_stays(folder, stack):
+def a_mapping_that_is_not_deleted_stays(room):
     """Where connections are tracked, a rule alone changes nothing for a NAS that has sent within the last seconds."""
     HomeServer()
-    proxy = beside(folder, stack)
+    proxy = room.beside()
     at_proxy(CHAIN + "\nnft add rule ip moving in ct state new counter")
     hope("before", asks(11, "a"), 1813)
     at_proxy(ONE_RULE)
@@ -311,9 +318,9 @@ def a_mapping_that_is_not_deleted_stays(folder, stack):
     hope("with the mapping deleted", (asks(11, "c"), proxy.accepted()), (1813, 1))
 
 
-def an_unanswered_request_that_is_moved_comes_twice(folder, stack):
+def an_unanswered_request_that_is_moved_comes_twice(room):
     """Both proxies send a request that its NAS repeats after the move."""
-    home, proxy = HomeServer(), beside(folder, stack)
+    home, proxy = HomeServer(), room.beside()
     home.delay = 3
     at_proxy(CHAIN)
 
@@ -326,28 +333,28 @@ def an_unanswered_request_that_is_moved_comes_twice(folder, stack):
     hope("it came from both", (home.senders("a"), proxy.accepted()), (2, 1))
 
 
-def all_are_moved_and_the_new_proxy_takes_the_port(folder, stack):
+def all_are_moved_and_the_new_proxy_takes_the_port(room):
     """A rule for all; then the old proxy ends, and the new one is drained and started at its port."""
     HomeServer()
     with contextlib.ExitStack() as both:
-        proxy = beside(folder, both)
+        proxy = replace(room, stack=both).beside()
         at_proxy(CHAIN + "\n" + ALL_RULE)
         forget("--dport", "1813")
         hope("both are moved", (asks(11, "a"), asks(12, "b"), proxy.accepted()), (1813, 1813, 2))
         hope("drained", (proxy.ask("drain"), " done " in proxy.ask("state")), ("drain: 0 2", True))
         proxy.ran.stdin.close()
         hope("the end", (proxy.ran.wait(10), proxy.ran.stdout.read()), (0, "end: queued 0 outstanding 0 untaken 0\n"))
-        text = (folder / "it.toml").read_text()
-    proxy = Proxy(text.replace(":11813", ":1813"), folder, stack)
+        text = (room.folder / "it.toml").read_text()
+    proxy = Proxy(text.replace(":11813", ":1813"), room)
     at_proxy("nft delete table ip moving")
     forget("--dport", "1813")
     hope("at its port", (asks(11, "c"), asks(12, "d"), proxy.accepted()), (1813, 1813, 2))
 
 
-def a_block_by_source_translation_is_one_client(folder, stack):
+def a_block_by_source_translation_is_one_client(room):
     """All addresses of a block are one client, and NASes that send from one port get several."""
     HomeServer()
-    proxy = Proxy(NEW.format(listen="0.0.0.0:1813", client="192.0.2.254"), folder, stack)
+    proxy = Proxy(NEW.format(listen="0.0.0.0:1813", client="192.0.2.254"), room)
     hope("without it", (asks(11, "a", ONE_SECRET), proxy.accepted()), (None, 0))
     at_proxy(BLOCK)
     forget()
@@ -355,10 +362,10 @@ def a_block_by_source_translation_is_one_client(folder, stack):
     hope("one client", proxy.counter('rad_proxy_client_accepted_total{client="192.0.2.254"}'), 3)
 
 
-def a_mapping_that_is_too_short_loses_answers(folder, stack):
+def a_mapping_that_is_too_short_loses_answers(room):
     """An answer after the mapping's end is lost, and the repeat is a new record. A longer mapping keeps both."""
     home = HomeServer()
-    proxy = Proxy(NEW.format(listen="0.0.0.0:1813", client="192.0.2.254"), folder, stack)
+    proxy = Proxy(NEW.format(listen="0.0.0.0:1813", client="192.0.2.254"), room)
     at_proxy(BLOCK + "\nsysctl -w net.netfilter.nf_conntrack_udp_timeout=3")
     hope("two NASes", [asks(number, f"a{number}", ONE_SECRET) for number in (11, 12)], [1813] * 2)
     forget()
@@ -370,12 +377,12 @@ def a_mapping_that_is_too_short_loses_answers(folder, stack):
     hope("a long one", (asks(12, "d", ONE_SECRET, times=2, every=7), proxy.accepted()), (1813, 6))
 
 
-def a_catch_all_by_freeradius_in_front(folder, stack):
+def a_catch_all_by_freeradius_in_front(room):
     """FreeRADIUS sends known realms to rad_proxy and all else to another home server, and repeats stay repeats."""
     home, hub = HomeServer(), HomeServer(HUB)
-    proxy = Proxy(NEW.format(listen="127.0.0.1:11813", client="127.0.0.1"), folder, stack)
-    (folder / "radiusd.conf").write_text(FRONT)
-    background(["freeradius", "-f", "-l", "stdout", "-d", str(folder)], stack)
+    proxy = Proxy(NEW.format(listen="127.0.0.1:11813", client="127.0.0.1"), room)
+    (room.folder / "radiusd.conf").write_text(FRONT)
+    room.background("freeradius", "-f", "-l", "stdout", "-d", str(room.folder))
     users = ("bob@example.org", "eve@elsewhere.example", "norealm")
     hope("answers", [asks(11 + number, user, ONE_SECRET, user) for number, user in enumerate(users)], [1813] * 3)
     hope("who gets what", ([name for _, name in home.sessions], [name for _, name in hub.sessions]), ([users[0]], list(users[1:])))
@@ -389,36 +396,20 @@ CASES = [one_nas_is_moved_and_comes_back, a_mapping_that_is_not_deleted_stays, a
          a_mapping_that_is_too_short_loses_answers, a_catch_all_by_freeradius_in_front]
 
 
-def tried(case):
-    """What is wrong with a case, or None."""
-    os.environ["PATH"] += ":/usr/sbin:/sbin"
-    for word in ("ip", "nft", "conntrack"):
-        if not shutil.which(word):
-            raise LeftOut(f"there is no {word}")
-    if os.geteuid():
-        raise LeftOut("it wants root")
-    with tempfile.TemporaryDirectory() as folder, network(), contextlib.ExitStack() as stack:
-        try:
-            case(pathlib.Path(folder), stack)
-        except (AssertionError, OSError, subprocess.SubprocessError) as found:
-            return str(found) or type(found).__name__
-    return None
+def test_of(case):
+    """A test that tries a case in the network."""
+
+    @functools.wraps(case)
+    def test(program, folder):
+        want("ip", "nft", "conntrack", root=True)
+        with network(), contextlib.ExitStack() as stack:
+            case(Room(program, folder, stack))
+
+    return test
 
 
-def main():
-    """Tries all cases, or those whose names have the word behind the program."""
-    global PROGRAM
-    if len(sys.argv) not in (2, 3):
-        sys.exit(__doc__)
-    PROGRAM = str(pathlib.Path(sys.argv[1]).resolve())
-    words = []
-    for case in CASES:
-        if not sys.argv[2:] or sys.argv[2] in case.__name__:
-            word, text = outcome(case, tried)
-            words.append(word)
-            print(f"{word}: {case.__name__.replace('_', ' ')}" + (f": {text}" if text else ""), flush=True)
-    conclude(words.count("passed"), words.count("failed"))
+TESTS = [test_of(case) for case in CASES]
 
 
 if __name__ == "__main__":
-    main()
+    try_in_folders(TESTS, __doc__)

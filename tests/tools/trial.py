@@ -1,10 +1,10 @@
-#!/usr/bin/env python3
 """Has `rad_trial` play captures to the program, and compares what it tells with what was sent.
 
-usage: python3 -m tests.tools.trial PROGRAM [NAME ..]
+usage: python3 -m tests.tools.trial PROGRAM [--long | NAME ..]
 
-Names choose tests. Each test is a line, and the last line is `N passed, M failed`. It wants root and `ip`; some tests want `setpriv`,
-`unshare` or tcpdump, and tell where they are left out for want of them.
+Names choose tests, and `--long` those that take a minute or more. What fails or is left out is told, and the last line is
+`N passed, M failed`. Most tests want root and `ip`, and some `setpriv`, `unshare`, tcpdump or radsecproxy: a test is left out where
+what it wants is not here.
 """
 import functools
 import os
@@ -18,11 +18,13 @@ import sys
 import time
 from collections import Counter
 
-sys.dont_write_bytecode = True
+from tests.lib import (ACCT_SESSION_ID, ACCT_STATUS_TYPE, CLASS, answer, attribute, hope, is_asked, is_so, mark, packet, request, status,
+                       try_in_folders, user_name)
+from tests.lib.tools.capturing import COOKED_2, ETHERNET, START, fragments, framed, ipv4, pcap, pcapng, udp
+from tests.lib.tools.running import TOOLS, is_root, run, want
 
-from tests.tools.capturing import COOKED_2, ETHERNET, START, fragments, framed, ipv4, pcap, pcapng, udp
-from tests.tools.running import TOOL, LeftOut, hope, run_tests, tool
-from tests.vectors import ACCT_SESSION_ID, ACCT_STATUS_TYPE, CLASS, answer, attribute, mark, packet, request, status, user_name
+TOOL = TOOLS / "rad_trial"
+tool = functools.partial(run, TOOL)
 
 PROXY, SECRET = ("192.0.2.1", 1813), b"nas-secret"
 FIRST, SECOND, STRANGER, SILENT = "192.0.2.10", "192.0.2.11", "203.0.113.9", "192.0.2.12"
@@ -94,8 +96,7 @@ class Trial:
     """A folder with a configuration and captures, where the tool is run."""
 
     def __init__(self, program, folder, config=None):
-        if os.geteuid() or not shutil.which("ip"):
-            raise LeftOut("it wants root and ip")
+        want("ip", root=True)
         self.program, self.folder = program, pathlib.Path(folder)
         self.config = self.write("rad_proxy.toml", (config or configuration()).encode())
 
@@ -281,7 +282,7 @@ def a_script_has_the_same(program, folder):
     config.write_text(configuration("queue = 3\nbook = 5"))
     capture.write_bytes(pcap(traffic.frames()))
     os.chmod(folder, 0o777)
-    nobody = ["setpriv", f"--reuid={NOBODY}", "--clear-groups"] if not os.geteuid() and shutil.which("setpriv") else []
+    nobody = ["setpriv", f"--reuid={NOBODY}", "--clear-groups"] if is_root() and shutil.which("setpriv") else []
     ran = subprocess.run([*nobody, sys.executable, TOOL, "--script", path, config, capture], capture_output=True, check=False)
     hope(ran.stderr, (ran.returncode, ran.stderr), (0, b""))
     hope("what it can't show", b"can't show" in ran.stdout, True)
@@ -331,15 +332,16 @@ def alone(test):
     """Runs a test in a network and with mounts of its own, where nobody else changes anything. Mounts below it would be seen."""
 
     @functools.wraps(test)
-    def run(program, folder):
-        if os.environ.get("ALONE") or os.geteuid() or not shutil.which("unshare"):
+    def alone_run(program, folder):
+        want("ip", root=True)
+        if os.environ.get("ALONE"):
             return test(program, folder)
         words = [sys.executable, "-m", "tests.tools.trial", program, test.__name__]
         inside = ["unshare", "--net", "--mount", "sh", "-c", 'mount --make-rshared / && exec "$@"', "sh", *words]
         ran = subprocess.run(inside, env=os.environ | {"ALONE": "1"}, capture_output=True, text=True, check=False)
-        hope(ran.stdout + ran.stderr, ran.returncode, 0)
+        return hope(ran.stdout + ran.stderr, ran.returncode, 0)
 
-    return run
+    return alone_run
 
 
 @alone
@@ -378,10 +380,7 @@ def nothing_is_left_after_a_kill(program, folder):
     ran, children = begun(trial, traffic)
     ran.kill()
     ran.wait()
-    end = time.monotonic() + 10
-    while time.monotonic() < end and any(is_alive(it) for it in children):
-        time.sleep(0.1)
-    hope("processes", (len(children) >= 3, [it for it in children if is_alive(it)]), (True, []))
+    hope("processes", (len(children) >= 3, is_so(lambda: not any(map(is_alive, children)), 10)), (True, True))
     hope("after it was killed", snapshot(), before)
 
 
@@ -451,8 +450,7 @@ def configurations_are_read_alike(program, folder):
 
 def users_are_told_of_root(program, folder):
     """Without root a trial is refused in words."""
-    if os.geteuid() or not shutil.which("setpriv"):
-        raise LeftOut("it wants root and setpriv")
+    want("setpriv", root=True)
     nobody = ["setpriv", f"--reuid={NOBODY}", "--clear-groups"]
     ran = subprocess.run([*nobody, sys.executable, TOOL, "/dev/null", "/dev/null"], capture_output=True, check=False)
     hope(ran.stderr, (ran.returncode, ran.stderr.count(b"\n"), b"wants root" in ran.stderr), (4, 1, True))
@@ -460,10 +458,9 @@ def users_are_told_of_root(program, folder):
 
 def a_capture_of_a_proxy_is_played(program, folder):
     """What tcpdump saw of NASes of radsecproxy, with their retransmissions: each request is accepted once."""
-    if os.geteuid() or not all(map(shutil.which, ("unshare", "ip", "tcpdump", "radsecproxy"))):
-        raise LeftOut("it wants root, unshare, ip, tcpdump and radsecproxy")
-    losses = [sys.executable, "-m", "tests.tools.losses"]
-    subprocess.run(["unshare", "--net", *losses, "radsecproxy", program, folder, "-i", "any"], check=True, timeout=300)
+    want("ip", "tcpdump", "radsecproxy", root=True)
+    losses = [sys.executable, "-m", "tests.lib.tools.losses"]
+    subprocess.run(["unshare", "--net", *losses, "radsecproxy", program, folder, "0", "-i", "any"], check=True, timeout=300)
     trial = Trial(program, folder, pathlib.Path(folder, "rad_proxy.toml").read_text())
     text = trial.played(os.path.join(folder, "capture"), words=["--speed", "10"])
     judged = tool("judge", trial.config, os.path.join(folder, "capture")).stdout.decode()
@@ -472,9 +469,19 @@ def a_capture_of_a_proxy_is_played(program, folder):
     hope(text, [sum(it[key] for it in found) for key in ("accepted", "repeated", "dropped", "refused")], [requests, again, 0, 0])
 
 
-def many_requests_take_bounded_time_and_memory(program, folder):
-    """300,000 requests of 40 NASes, and more that are left out, 6000 a second: all are accounted for."""
-    count, rate = 300_000, 6000
+def requests_take_bounded_time_and_memory(program, folder):
+    """12,000 requests of 40 NASes, 6000 a second: all are accounted for."""
+    see_bounds(program, folder, 12_000, 0)
+
+
+def as_many_requests_as_it_takes_have_bounds(program, folder):
+    """The same of 300,000 requests, and more that are left out."""
+    see_bounds(program, folder, 300_000, 100)
+
+
+def see_bounds(program, folder, count, more):
+    """Whether so many requests, and more that are left out, take no more than two minutes and 400 MiB."""
+    rate = 6000
     clients = [f"10.0.{number // 250}.{number % 250 + 1}" for number in range(40)]
     config = (f'listen = "{PROXY[0]}:1813"\n' + "".join(f'[[client]]\naddress = "{it}"\nsecret = "nas-secret"\n' for it in clients)
               + f'[[home]]\nname = "h1"\naddress = "{HOME[0]}:{HOME[1]}"\nsecret = "x"\n'
@@ -482,7 +489,7 @@ def many_requests_take_bounded_time_and_memory(program, folder):
     trial, path = Trial(program, folder, config), pathlib.Path(folder, "long")
     with path.open("wb") as file:
         file.write(pcap([]))
-        for number in range(count + 100):
+        for number in range(count + more):
             source = clients[number % 40], 40000 + number // 40 // 250 % 20
             octets = request(number // 40 % 250, record(number, more=attribute(CLASS, bytes(100))), SECRET)
             file.write(pcap([(START + number / rate, framed(ETHERNET, ipv4(source, PROXY, udp(source, PROXY, octets))))])[24:])
@@ -493,7 +500,7 @@ def many_requests_take_bounded_time_and_memory(program, folder):
     lost = re.search(r"^lost: (\d+) datagrams", text, re.MULTILINE)
     found = [it for (_, realm), (it, _) in rows(text).items() if realm == "all"]
     hope("memory below 400 MiB, and two minutes", (memory < 400, seconds < 120), (True, True))
-    hope("the rest", "\nleft out: 100 datagrams behind the first 300000\n" in text, True)
+    hope("the rest", f"\nleft out: {more} datagrams behind the first {count}\n" in text, more > 0)
     hope(text, sum(it["came"] for it in found) + int(lost[1] if lost else 0), count)
     home = home_rows(text, "h1")
     hope(text, (home["accepted"], home["left"]), (sum(it["accepted"] for it in found), 0))
@@ -502,9 +509,9 @@ def many_requests_take_bounded_time_and_memory(program, folder):
 TESTS = [each_fate_is_counted, each_form_is_played, both_sides_are_in_the_capture, an_outage_fills_the_queue, an_outage_may_come_later,
          answers_take_their_time, odd_names_are_played, warnings_are_told, two_homes_of_one_address_are_two, a_script_has_the_same,
          a_script_is_never_too_long, nothing_else_is_touched, nothing_is_left_after_a_kill, faults_are_one_line,
-         configurations_are_read_alike, users_are_told_of_root, a_capture_of_a_proxy_is_played,
-         many_requests_take_bounded_time_and_memory]
+         configurations_are_read_alike, users_are_told_of_root, a_capture_of_a_proxy_is_played, requests_take_bounded_time_and_memory]
+LONG = [as_many_requests_as_it_takes_have_bounds]
 
 
 if __name__ == "__main__":
-    run_tests(TESTS, __doc__)
+    try_in_folders(LONG if is_asked("--long") else TESTS, __doc__)

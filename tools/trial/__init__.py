@@ -1,2 +1,1 @@
 """The parts of rad_trial(1)."""
-VERSION = "0.1.0"

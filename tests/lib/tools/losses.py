@@ -1,9 +1,9 @@
-#!/usr/bin/env python3
 """NASes, a proxy and a home server in a network namespace, where some datagrams are not heard, while tcpdump makes a capture.
 
-usage: unshare --net python3 -m tests.tools.losses PROXY PROGRAM FOLDER WORD ..
+usage: unshare --net python3 -m tests.lib.tools.losses PROXY PROGRAM FOLDER SECONDS WORD ..
 
-PROXY is rad_proxy, radsecproxy or FreeRADIUS, and the words are options of tcpdump. In the folder it leaves `capture`, the
+PROXY is rad_proxy, radsecproxy or FreeRADIUS, which has so many seconds more than its NASes wait, and the words are options of
+tcpdump. In the folder it leaves `capture`, the
 configuration `rad_proxy.toml` and `truth`: by the logs of both sides, what a judge of the capture has to find.
 """
 import json
@@ -17,29 +17,20 @@ import sys
 import time
 from collections import Counter, defaultdict
 
-sys.dont_write_bytecode = True
-
 from bench import proxies
-from tests.vectors import ACCT_SESSION_ID, ACCT_STATUS_TYPE, PROXY_STATE, answer, attribute, request, user_name
+from tests.lib import (ACCT_SESSION_ID, ACCT_STATUS_TYPE, PROXY_STATE, STATUS_SERVER, answer, attribute, read, reply, request, started,
+                       user_name)
 
 LISTEN, HOME = ("127.0.0.1", 1813), ("127.0.0.1", 2813)
 SESSIONS, KINDS, PACE = 60, (1, 3, 3, 2), 0.01
-LOST, TRIES, WAIT, AT_THE_END = 0.25, 6, 0.7, 12
+LOST, TRIES, WAIT = 0.25, 6, 0.7
 PROXIES = {"rad_proxy": proxies.RadProxy, "radsecproxy": lambda _: proxies.Radsecproxy(), "FreeRADIUS": lambda _: proxies.FreeRadius()}
 CLIENT_SECRET, HOME_SECRET = proxies.CLIENT_SECRET.encode(), proxies.HOME_SECRET.encode()
 
 
-def attributes_of(octets):
-    """The attributes of a packet that is known to be one."""
-    at = 20
-    while at < len(octets):
-        yield octets[at], octets[at + 2 : at + octets[at + 1]]
-        at += octets[at + 1]
-
-
 def record_of(octets):
     """What a record is known by here: its attributes but for the Proxy-States."""
-    return tuple(it for it in attributes_of(octets) if it[0] != PROXY_STATE)
+    return tuple((kind, value) for kind, value, _ in read(octets).attributes if kind != PROXY_STATE)
 
 
 class Asked:
@@ -106,7 +97,7 @@ class Sides:
             self.nas_hears(self.nases.index(made), octets)
 
     def home_hears(self, octets, sender):
-        if octets[0] == 12:
+        if octets[0] == STATUS_SERVER:
             self.home.sendto(answer(octets, octets[1], b"", HOME_SECRET), sender)
             return
         record = record_of(octets)
@@ -116,9 +107,8 @@ class Sides:
             self.later.append((time.monotonic() + 0.01, octets, sender))
 
     def reply(self, octets, sender):
-        states = b"".join(attribute(PROXY_STATE, value) for kind, value in attributes_of(octets) if kind == PROXY_STATE)
         self.replied.setdefault(record_of(octets), time.monotonic())
-        self.home.sendto(answer(octets, octets[1], states, HOME_SECRET), sender)
+        self.home.sendto(reply(read(octets), HOME_SECRET), sender)
 
     def nas_hears(self, nas, octets):
         made = self.asked.get((nas, octets[1]))
@@ -151,7 +141,7 @@ class Sides:
         return count
 
 
-def play(sides):
+def play(sides, seconds):
     """Sessions of which each has a start, two interim updates and a stop, all without waiting for answers. Behind them, after a
     while, one more."""
     numbers = Counter()
@@ -163,7 +153,7 @@ def play(sides):
                 sides.ask(nas, numbers[nas], session, kind, 100 * place)
                 numbers[nas] += 1
         sides.turn(PACE)
-    sides.turn(TRIES * WAIT + AT_THE_END)
+    sides.turn(TRIES * WAIT + seconds)
     for count in range(3):
         sides.ask(0, numbers[0] + count, SESSIONS + count, 1, 0)
         sides.turn(0.3)
@@ -171,7 +161,7 @@ def play(sides):
 
 
 def main():
-    name, program, folder, *words = sys.argv[1:]
+    name, program, folder, seconds, *words = sys.argv[1:]
     folder = pathlib.Path(folder)
     subprocess.run(["ip", "link", "set", "lo", "up"], check=True)
     setting = proxies.Setting(LISTEN[1], [HOME[1]], 1, clients=3)
@@ -179,13 +169,13 @@ def main():
     capture = subprocess.Popen(["tcpdump", "-q", "-U", "-s", "0", "-B", "16384", "-Z", "root", "-w", folder / "capture", *words],
                                stderr=(folder / "tcpdump").open("wb"))
     sides = Sides(setting.addresses(), random.Random(1))
-    proxy = subprocess.Popen(PROXIES[name](program).words(folder, setting), stdin=subprocess.PIPE, stdout=subprocess.DEVNULL,
-                             stderr=(folder / "proxy").open("wb"))
+    words = PROXIES[name](program).words(folder, setting)
     try:
-        time.sleep(3)
-        play(sides)
+        with (folder / "proxy").open("wb") as told, started(words, stdin=subprocess.PIPE, stdout=subprocess.DEVNULL, stderr=told) as proxy:
+            time.sleep(3)
+            play(sides, float(seconds))
+            proxy.terminate()
     finally:
-        proxies.end(proxy)
         time.sleep(1)
         capture.send_signal(signal.SIGINT)
         capture.wait(20)

@@ -44,11 +44,11 @@ def framed(link, packet, tags=(), kind=0x0800, interface=1, way=0):
 def pcap(frames, link=ETHERNET, order="<", nanoseconds=False, snap=262_144):
     """A file of (time, frame)."""
     unit = 1_000_000_000 if nanoseconds else 1_000_000
-    made = struct.pack(order + "IHHiIII", 0xA1B23C4D if nanoseconds else 0xA1B2C3D4, 2, 4, 0, 0, snap, link)
+    made = [struct.pack(order + "IHHiIII", 0xA1B23C4D if nanoseconds else 0xA1B2C3D4, 2, 4, 0, 0, snap, link)]
     for time, frame in frames:
         whole = round(time * unit)
-        made += struct.pack(order + "IIII", whole // unit, whole % unit, min(len(frame), snap), len(frame)) + frame[:snap]
-    return made
+        made += [struct.pack(order + "IIII", whole // unit, whole % unit, min(len(frame), snap), len(frame)), frame[:snap]]
+    return b"".join(made)
 
 
 def option(order, code, value):
