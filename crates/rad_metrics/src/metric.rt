@@ -9,17 +9,12 @@ use crate::socket_metric::SocketMetric;
 /// What is written together: a metric, except for those of the ledger.
 #[derive(Clone, Copy)]
 pub(crate) enum Metric {
-    /// One of the program.
     Program(ProgramMetric),
-    /// Those of the ledger, if there is one.
+    /// All of the ledger, if there is one.
     Ledger,
-    /// One that counts events.
     Counted(Counted),
-    /// One of the home servers, by what was read of their lanes.
     Home(HomeMetric),
-    /// A histogram of each home server.
     Timed(Timed),
-    /// One of the sockets.
     Socket(SocketMetric),
 }
 

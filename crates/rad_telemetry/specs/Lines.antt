@@ -41,9 +41,9 @@ cut_line home count = codes "event=cut home=" ++ home ++ codes " count=" ++ deci
 
 -- How many datagrams at the clients' sockets were dropped, or requests refused, for one reason, and the client of the
 -- last one.
-abbrev pub client_sum : List ℕ → List ℕ → Sum → List ℕ
-client_sum event reason sum =
-    (codes "event=" ++ event ++ codes " reason=\"" ++ reason)
+abbrev pub client_sum : Sum → List ℕ
+client_sum sum =
+    (codes "event=" ++ event_word sum.event.metric ++ codes " reason=\"" ++ reason_name sum.event.reason)
     ++ (codes "\" count=" ++ decimal sum.count ++ codes " " ++ client_text sum.last)
 
 -- How many datagrams at a home server's sockets were dropped, for one reason.
@@ -63,8 +63,8 @@ fault_sum event worker count = codes "event=" ++ event ++ codes " worker=" ++ wo
 
 -- The line of a sum, by its metric.
 abbrev pub line_of : Counted → List ℕ → Sum → List ℕ
-line_of Dropped name sum = client_sum (codes "dropped") (reason_name sum.event.reason) sum
-line_of Refused name sum = client_sum (codes "refused") (reason_name sum.event.reason) sum
+line_of Dropped name sum = client_sum sum
+line_of Refused name sum = client_sum sum
 line_of Unheard name sum = home_sum name (reason_name sum.event.reason) sum.count
 line_of Cut name sum = cut_line name sum.count
 line_of Marked name sum = marked_sum name sum

@@ -1,8 +1,7 @@
 //! The log lines of what the workers report. Each line has an event and its keys, as in `event=down home=h1`.
 
-use crate::lines::{CutLine, UpLine};
+use crate::lines::{ClientText, CutLine, PeerText, UpLine};
 use crate::packet_words::{DatagramWords, KeyWord, WordsOf};
-use crate::peer_text::{ClientText, PeerText};
 use crate::workers::worker_name;
 use rad_desk::{Session, Spent, Worker, WorkerReport};
 use rad_log::{Level, Log, tell, warn_of_reason};

@@ -15,7 +15,6 @@ mod event_log;
 mod last_realm;
 mod lines;
 mod packet_words;
-mod peer_text;
 mod reporter;
 mod socket_reports;
 mod sums;

@@ -1,13 +1,12 @@
-//! The log lines of sums, which are how many events of a kind happened since the last such line, and of a home server that is
-//! marked up.
+//! The log lines of sums, which are how many events of a kind happened since the last such line, of a home server that is
+//! marked up, and the other end of a datagram in log lines.
 
 ghost use Rattle.std.specs.Prelude.{◌≡◌};
 ghost use Rattle.rad_telemetry.specs.Lines.{event_word};
 
-use crate::peer_text::ClientText;
 use rad_desk::UpReason;
 use rad_metrics::{Counted, Event, Reason};
-use rad_realms::Endpoint;
+use rad_realms::{AddressText, Endpoint};
 use std::fmt;
 
 /// What was counted of an event since the last sum.
@@ -45,7 +44,15 @@ pub struct UpLine<'a> {
     pub reason: UpReason,
 }
 
-/// How many requests had Proxy-States of this proxy's form, and the most that one request had.
+/// How many datagrams of clients were dropped, or requests refused, for one reason.
+#[derive(Clone, Copy)]
+struct ClientSum(Sum);
+
+/// How many requests that lead to this home server had Proxy-States of this proxy's form.
+#[derive(Clone, Copy)]
+struct MarkedSum<'a>(&'a str, Sum);
+
+/// How many requests that were, and the most such Proxy-States that one had.
 #[derive(Clone, Copy)]
 struct MarkedCounts(u64, u64);
 
@@ -56,18 +63,12 @@ impl fmt::Display for SumLine<'_> {
     ghost output = { λ line. Some (sum_line line.name.now line.sum) };
 
     fn fmt<W: fmt::Write>(&self, f: &mut fmt::Formatter<W>) -> fmt::Result {
-        let name = self.name;
-        let event = word_of(self.sum.event.metric);
-        let reason = self.sum.event.reason.name();
-        let count = self.sum.count;
-        let client = ClientText(self.sum.last);
-        match self.sum.event.metric {
-            Counted::Dropped | Counted::Refused => {
-                write!(
-                    f,
-                    "event={event} reason=\"{reason}\" count={count} {client}"
-                )
-            }
+        let SumLine { name, sum } = *self;
+        let event = word_of(sum.event.metric);
+        let reason = sum.event.reason.name();
+        let count = sum.count;
+        match sum.event.metric {
+            Counted::Dropped | Counted::Refused => ClientSum(sum).fmt(f),
             Counted::Unheard => {
                 write!(
                     f,
@@ -75,24 +76,41 @@ impl fmt::Display for SumLine<'_> {
                 )
             }
             Counted::Cut => CutLine { home: name, count }.fmt(f),
-            Counted::Marked => {
-                let counts = MarkedCounts(count, self.sum.most_marks);
-                write!(f, "event={event} home={name} {counts} {client}")
-            }
+            Counted::Marked => MarkedSum(name, sum).fmt(f),
             _ => write!(f, "event={event} worker={name} count={count}"),
         }
     }
 }
 
-impl fmt::Display for CutLine<'_> {
+impl fmt::Display for ClientSum {
     ghost use Rattle.std.specs.Prelude.{Some};
-    ghost use Rattle.rad_telemetry.specs.Lines.{cut_line};
+    ghost use Rattle.rad_telemetry.specs.Lines.{client_sum};
 
-    ghost output = { λ line. Some (cut_line line.home.now line.count) };
+    ghost output = { λ line. Some (client_sum line.0) };
 
     fn fmt<W: fmt::Write>(&self, f: &mut fmt::Formatter<W>) -> fmt::Result {
-        let CutLine { home, count } = *self;
-        write!(f, "event=cut home={home} count={count}")
+        let event = word_of(self.0.event.metric);
+        let reason = self.0.event.reason.name();
+        let count = self.0.count;
+        let client = ClientText(self.0.last);
+        write!(
+            f,
+            "event={event} reason=\"{reason}\" count={count} {client}"
+        )
+    }
+}
+
+impl fmt::Display for MarkedSum<'_> {
+    ghost use Rattle.std.specs.Prelude.{Some};
+    ghost use Rattle.rad_telemetry.specs.Lines.{marked_sum};
+
+    ghost output = { λ line. Some (marked_sum line.0.now line.1) };
+
+    fn fmt<W: fmt::Write>(&self, f: &mut fmt::Formatter<W>) -> fmt::Result {
+        let MarkedSum(home, sum) = *self;
+        let counts = MarkedCounts(sum.count, sum.most_marks);
+        let client = ClientText(sum.last);
+        write!(f, "event=marked home={home} {counts} {client}")
     }
 }
 
@@ -109,6 +127,18 @@ impl fmt::Display for MarkedCounts {
     }
 }
 
+impl fmt::Display for CutLine<'_> {
+    ghost use Rattle.std.specs.Prelude.{Some};
+    ghost use Rattle.rad_telemetry.specs.Lines.{cut_line};
+
+    ghost output = { λ line. Some (cut_line line.home.now line.count) };
+
+    fn fmt<W: fmt::Write>(&self, f: &mut fmt::Formatter<W>) -> fmt::Result {
+        let CutLine { home, count } = *self;
+        write!(f, "event=cut home={home} count={count}")
+    }
+}
+
 impl fmt::Display for UpLine<'_> {
     ghost use Rattle.std.specs.Prelude.{Some};
     ghost use Rattle.rad_telemetry.specs.Lines.{up_line};
@@ -119,6 +149,57 @@ impl fmt::Display for UpLine<'_> {
         let home = self.home;
         let reason = Reason::Up(self.reason).name();
         write!(f, "event=up home={home} reason=\"{reason}\"")
+    }
+}
+
+/// An IPv4 address and a UDP port.
+#[derive(Clone, Copy)]
+pub struct PeerText(pub Endpoint);
+
+/// A client's IPv4 address and UDP port.
+#[derive(Clone, Copy)]
+pub struct ClientText(pub Endpoint);
+
+/// A client's UDP port.
+#[derive(Clone, Copy)]
+struct ClientPort(u16);
+
+impl fmt::Display for PeerText {
+    ghost use Rattle.std.specs.Prelude.{Some};
+    ghost use Rattle.rad_telemetry.specs.Lines.{peer_text};
+
+    ghost output = { λ peer. Some (peer_text peer.0) };
+
+    fn fmt<W: fmt::Write>(&self, f: &mut fmt::Formatter<W>) -> fmt::Result {
+        let address = AddressText(self.0.address);
+        let port = self.0.port;
+        write!(f, "address={address} port={port}")
+    }
+}
+
+impl fmt::Display for ClientText {
+    ghost use Rattle.std.specs.Prelude.{Some};
+    ghost use Rattle.rad_telemetry.specs.Lines.{client_text};
+
+    ghost output = { λ client. Some (client_text client.0) };
+
+    fn fmt<W: fmt::Write>(&self, f: &mut fmt::Formatter<W>) -> fmt::Result {
+        let address = AddressText(self.0.address);
+        let port = ClientPort(self.0.port);
+        write!(f, "client={address} {port}")
+    }
+}
+
+impl fmt::Display for ClientPort {
+    ghost use Rattle.std.specs.Prelude.{Some};
+    ghost use Rattle.rad_telemetry.specs.Lines.{client_port_text};
+
+    ghost output = { λ port. Some (client_port_text port.0) };
+
+    #[tactic(auto, unfolding(crate::specs::Lines::client_port_text))]
+    fn fmt<W: fmt::Write>(&self, f: &mut fmt::Formatter<W>) -> fmt::Result {
+        let port = self.0;
+        write!(f, "client_port={port}")
     }
 }
 

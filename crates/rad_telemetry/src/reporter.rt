@@ -141,13 +141,6 @@ impl<L: Log, R> Reporter<'_, L, R> {
             ledger.tell(self.log);
         }
     }
-
-    /// Logs once why the last text was not written.
-    fn log_fault<S: Wait>(&self, rt: &S, texts: &CounterTexts) {
-        if let Some(fault) = texts.take_fault(rt) {
-            log_fault(self.log, fault);
-        }
-    }
 }
 
 impl<L: Log, R: Clock> Reporter<'_, L, R> {
@@ -157,7 +150,9 @@ impl<L: Log, R: Clock> Reporter<'_, L, R> {
         let Some(texts) = self.texts else {
             return;
         };
-        self.log_fault(rt, texts);
+        if let Some(fault) = texts.take_fault(rt) {
+            log_fault(self.log, fault);
+        }
         if draft.read(rt, sockets, self.numbers).is_ok() && self.write(draft).is_ok() {
             texts.leave(rt, draft.text());
         }

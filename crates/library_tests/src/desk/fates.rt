@@ -38,6 +38,7 @@ const REQUESTS: u16 = 60;
 const FIRST_LEFT: u16 = 40;
 
 /// How often each number was found at the end, and how many requests were cut.
+#[derive(Drop)]
 struct Fates {
     found: [u8; 60],
     cut: usize,
