@@ -101,6 +101,7 @@ bench:
 # Puts the figures of the last `make bench` into docs/performance.md.
 figures:
 	@python3 -m bench.page out/bench
+	@$(TESTS).gate.docs --write
 
 # What a push and a pop of the chain of blocks cost beside those of std's `VecDeque`, and what memory a long queue takes.
 bench-queue:

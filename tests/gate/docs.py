@@ -88,7 +88,7 @@ def is_made(path):
     return path in MADE or bool(re.search(r"(^|/)out(/|$)|(^|/)[A-Z]+(/|-|\.|$)(?!/?(md|antt))", path))
 
 
-MADE = {"rad_proxy.toml", "proofs/Wire/hand_over/Answers.antt"}
+MADE = {"rad_proxy.toml", "proofs/Wire/hand_over/Answers.antt", "models.replay"}
 
 
 def lost_paths(page, text):

@@ -34,6 +34,7 @@ class Script:
 SCRIPTS = [
     Script("gate/edits", "--check"),
     Script("gate/pages", "--check"),
+    Script("gate/docs", "--check"),
     Script("models/vectors", "--check"),
     Script("models/replay", "--check"),
     Script("models/ledgers", "--check"),
