@@ -365,7 +365,9 @@ def nothing_else_is_touched(program, folder):
 def begun(trial, traffic):
     """A trial that was begun a while ago, and the processes that it has started."""
     words = trial.words([pcap(traffic.frames())], [])
-    ran = subprocess.Popen([sys.executable, TOOL, *words], stdout=subprocess.PIPE, stderr=subprocess.PIPE)
+    # A shell has what it runs in the background ignore SIGINT, and a process hands that on.
+    ran = subprocess.Popen([sys.executable, TOOL, *words], stdout=subprocess.PIPE, stderr=subprocess.PIPE,
+                           preexec_fn=lambda: signal.signal(signal.SIGINT, signal.SIG_DFL))
     time.sleep(3)
     return ran, [int(it) for it in pathlib.Path(f"/proc/{ran.pid}/task/{ran.pid}/children").read_text().split()]
 
