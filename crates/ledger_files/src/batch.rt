@@ -6,13 +6,14 @@ use crate::disk::{DiskFault, LedgerDisk};
 use crate::pending::write_rest;
 use std::alloc::{AllocError, Global};
 
-/// What the line of an entry is of.
+/// What a line is of: an entry, or a request that is left.
 #[derive(Clone, Copy, Debug, PartialEq, Eq)]
 pub struct LineHead {
-    /// When the response was handed over, in milliseconds since 1970.
+    /// When the response was handed over, or the request was told as left, in milliseconds since 1970.
     pub time: u64,
     pub lane: u16,
-    pub serial: u64,
+    /// The serial of the response; `None` for a request that is left.
+    pub serial: Option<u64>,
 }
 
 /// The lines of entries that are put together, and how far they are written.

@@ -7,14 +7,11 @@ use Rattle.json.specs.Find.{get, as_str, as_number}
 use Rattle.hex.specs.Hex.{decode_of}
 use Rattle.ledger_lines.specs.Lines.{Denies, HasText, HasNumber, HasOctets, as_items}
 use Rattle.ledger_lines.specs.declared.faults.LineFault.{LineFault}
-use Rattle.ledger_lines.proofs.Lines.{denied}
+use Rattle.ledger_lines.proofs.Lines.{denied, differ}
 use Rattle.ledger_lines.proofs.Pairs.{DigitsRead}
 
 abbrev pub nothing : Option ℕ
 nothing = None
-
-pub differ : {A : Type 0} (o : Option A) (x : A) → None ≡ o → o ≡ Some x → ⊥
-differ o x n s = subst (λ p. MatchOption p ⊤ (λ _. ⊥)) (n ∙ s) tt
 
 -- what a search found is there, and nothing is there where it found nothing
 pub found_there : {X : Type 0} (f : X → Json) (found : Option X) (there : Option Json) → option_map f found ≡ there → is_some found ≡ true → (j : Json) × (Some j ≡ there)

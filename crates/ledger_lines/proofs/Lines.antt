@@ -1,9 +1,14 @@
 -- A value that lacks what a line has is none.
-use Rattle.std.proofs.Common.{◌≡◌, ◌↔◌, ℕ, ◌^◌, Bool, true, false, subst, sym, Result, Ok, Err, IsErrAnd, MatchResult, List, [], ◌∷◌, Option, codes, option_copied}
+use Rattle.std.proofs.Common.{◌≡◌, ◌≢◌, ◌↔◌, ◌∙◌, ℕ, ◌^◌, Some, None, is_some, MatchOption, refl, Bool, true, false, not, subst, sym, Result, Ok, Err, IsErrAnd, MatchResult, List, [], ◌∷◌, Option, codes, option_copied}
+use Rattle.std.specs.Prelude.{⊤}
 use Rattle.std.specs.Bool.{IsTrue}
-use Rattle.json.specs.Json.{Json}
-use Rattle.ledger_lines.specs.Lines.{Denies, HasText, HasNumber, HasOctets, MayHaveNumber, MayHaveWords, HasOnly, keys_of_entry, HasRun, HasTime, HasClient, HasAuthenticator, HasLanes, IsEntry, IsBegin, IsEnd, IsLaneStart, IsLaneCount}
+use Rattle.std.proofs.Math.Bool.{beq}
+use Rattle.json.specs.Json.{Json, number}
+use Rattle.json.specs.Find.{get}
+use Rattle.ledger_lines.specs.Lines.{Denies, HasText, HasNumber, HasOctets, MayHaveNumber, MayHaveWords, HasOnly, keys_of_entry, HasRun, HasTime, HasClient, HasAuthenticator, HasLanes, HasState, MayHaveTime, keys_of_left, IsEntry, IsLeft, IsBegin, IsEnd, IsLaneStart, IsLaneCount}
 use Rattle.rad_ledger.specs.declared.entry.Entry.{Entry}
+use Rattle.rad_ledger.specs.declared.left.Left.{Left}
+use Rattle.rad_ledger.specs.declared.left.LeftState.{LeftState}
 use Rattle.ledger_lines.specs.declared.begin.Begin.{Begin}
 use Rattle.ledger_lines.specs.declared.begin.End.{End}
 use Rattle.ledger_lines.specs.declared.begin.LaneStart.{LaneStart}
@@ -15,6 +20,10 @@ use Rattle.ledger_lines.specs.declared.faults.LineFault.TheVariants.{NotALine, O
 pub denied : (A B : Type 0) → (B → A) → (fault : LineFault) → Denies fault A → Denies fault B
 denied A B f NotALine n = λ b. n (f b)
 denied A B f OutOfMemory n = tt
+
+-- Nothing and something differ.
+pub differ : {A : Type 0} (o : Option A) (x : A) → None ≡ o → o ≡ Some x → ⊥
+differ o x n s = subst (λ p. MatchOption p ⊤ (λ _. ⊥)) (n ∙ s) tt
 
 -- A fault that is passed on denies what it denied.
 pub passed_on : (there : Type 0) {T : Type 0} (result : Result T LineFault) (P : T → Type 0) (fault : LineFault) → IsErrAnd result (λ f. f ≡ fault) → Denies fault there → MatchResult result P (λ f. Denies f there)
@@ -35,8 +44,8 @@ module _ (value : Json) (fault : LineFault) where
   pub entry_run : Denies fault ((x : ℕ) × HasRun value x) → Denies fault IsEntryThere
   entry_run = denied ((x : ℕ) × HasRun value x) IsEntryThere (λ p. (p.0.run, p.1.run)) fault
 
-  pub entry_time : Denies fault ((x : List ℕ) × HasTime value x) → Denies fault IsEntryThere
-  entry_time = denied ((x : List ℕ) × HasTime value x) IsEntryThere (λ p. (p.0.time.now, p.1.time)) fault
+  pub entry_time : Denies fault ((x : List ℕ) × HasTime (codes "time") value x) → Denies fault IsEntryThere
+  entry_time = denied ((x : List ℕ) × HasTime (codes "time") value x) IsEntryThere (λ p. (p.0.time.now, p.1.time)) fault
 
   pub entry_home : Denies fault ((x : List ℕ) × HasText (codes "home") value x) → Denies fault IsEntryThere
   entry_home = denied ((x : List ℕ) × HasText (codes "home") value x) IsEntryThere (λ p. (p.0.home.now, p.1.home)) fault
@@ -80,6 +89,66 @@ module _ (value : Json) (fault : LineFault) where
   pub entry_status : Denies fault ((x : Option ℕ) × MayHaveNumber (codes "status") (2 ^ 32) value x) → Denies fault IsEntryThere
   entry_status = denied ((x : Option ℕ) × MayHaveNumber (codes "status") (2 ^ 32) value x) IsEntryThere (λ p. (p.0.status, p.1.status)) fault
 
+  pub entry_user : Denies fault ((x : Option (List ℕ)) × MayHaveWords (codes "user") (codes "user_octets") value x) → Denies fault IsEntryThere
+  entry_user = denied ((x : Option (List ℕ)) × MayHaveWords (codes "user") (codes "user_octets") value x) IsEntryThere (λ p. (option_copied p.0.user, p.1.user)) fault
+
+  abbrev pub IsLeftThere : Type 0
+  IsLeftThere = (x : Left) × IsLeft value x
+
+  pub left_members : ¬ HasOnly keys_of_left value → ¬ IsLeftThere
+  left_members n p = n p.1.no_other
+
+  pub left_run : Denies fault ((x : ℕ) × HasRun value x) → Denies fault IsLeftThere
+  left_run = denied ((x : ℕ) × HasRun value x) IsLeftThere (λ p. (p.0.run, p.1.run)) fault
+
+  pub left_time : Denies fault ((x : List ℕ) × HasTime (codes "time") value x) → Denies fault IsLeftThere
+  left_time = denied ((x : List ℕ) × HasTime (codes "time") value x) IsLeftThere (λ p. (p.0.time.now, p.1.time)) fault
+
+  pub left_home : Denies fault ((x : List ℕ) × HasText (codes "home") value x) → Denies fault IsLeftThere
+  left_home = denied ((x : List ℕ) × HasText (codes "home") value x) IsLeftThere (λ p. (p.0.home.now, p.1.home)) fault
+
+  pub left_lane : Denies fault ((x : ℕ) × HasNumber (codes "lane") (2 ^ 16) value x) → Denies fault IsLeftThere
+  left_lane = denied ((x : ℕ) × HasNumber (codes "lane") (2 ^ 16) value x) IsLeftThere (λ p. (p.0.lane, p.1.lane)) fault
+
+  pub left_number : Denies fault ((x : ℕ) × HasNumber (codes "record") (2 ^ 64) value x) → Denies fault IsLeftThere
+  left_number = denied ((x : ℕ) × HasNumber (codes "record") (2 ^ 64) value x) IsLeftThere (λ p. (p.0.number, p.1.record_is)) fault
+
+  pub left_client : Denies fault ((x : List ℕ) × HasClient value x) → Denies fault IsLeftThere
+  left_client = denied ((x : List ℕ) × HasClient value x) IsLeftThere (λ p. (p.0.client, p.1.client)) fault
+
+  pub left_port : Denies fault ((x : ℕ) × HasNumber (codes "port") (2 ^ 16) value x) → Denies fault IsLeftThere
+  left_port = denied ((x : ℕ) × HasNumber (codes "port") (2 ^ 16) value x) IsLeftThere (λ p. (p.0.port, p.1.port)) fault
+
+  pub left_identifier : Denies fault ((x : ℕ) × HasNumber (codes "identifier") (2 ^ 8) value x) → Denies fault IsLeftThere
+  left_identifier = denied ((x : ℕ) × HasNumber (codes "identifier") (2 ^ 8) value x) IsLeftThere (λ p. (p.0.identifier, p.1.identifier)) fault
+
+  pub left_authenticator : Denies fault ((x : List ℕ) × HasAuthenticator value x) → Denies fault IsLeftThere
+  left_authenticator = denied ((x : List ℕ) × HasAuthenticator value x) IsLeftThere (λ p. (p.0.authenticator, p.1.authenticator)) fault
+
+  pub left_realm : Denies fault ((x : Option (List ℕ)) × MayHaveWords (codes "realm") (codes "realm_octets") value x) → Denies fault IsLeftThere
+  left_realm = denied ((x : Option (List ℕ)) × MayHaveWords (codes "realm") (codes "realm_octets") value x) IsLeftThere (λ p. (option_copied p.0.realm, p.1.realm)) fault
+
+  pub left_session : Denies fault ((x : Option (List ℕ)) × MayHaveWords (codes "session") (codes "session_octets") value x) → Denies fault IsLeftThere
+  left_session = denied ((x : Option (List ℕ)) × MayHaveWords (codes "session") (codes "session_octets") value x) IsLeftThere (λ p. (option_copied p.0.session, p.1.session)) fault
+
+  pub left_status : Denies fault ((x : Option ℕ) × MayHaveNumber (codes "status") (2 ^ 32) value x) → Denies fault IsLeftThere
+  left_status = denied ((x : Option ℕ) × MayHaveNumber (codes "status") (2 ^ 32) value x) IsLeftThere (λ p. (p.0.status, p.1.status)) fault
+
+  pub left_user : Denies fault ((x : Option (List ℕ)) × MayHaveWords (codes "user") (codes "user_octets") value x) → Denies fault IsLeftThere
+  left_user = denied ((x : Option (List ℕ)) × MayHaveWords (codes "user") (codes "user_octets") value x) IsLeftThere (λ p. (option_copied p.0.user, p.1.user)) fault
+
+  pub left_state : Denies fault ((x : LeftState) × HasState value x) → Denies fault IsLeftThere
+  left_state = denied ((x : LeftState) × HasState value x) IsLeftThere (λ p. (p.0.state, p.1.state)) fault
+
+  pub left_sendings : Denies fault ((x : Option ℕ) × MayHaveNumber (codes "sendings") (2 ^ 32) value x) → Denies fault IsLeftThere
+  left_sendings = denied ((x : Option ℕ) × MayHaveNumber (codes "sendings") (2 ^ 32) value x) IsLeftThere (λ p. (p.0.sendings, p.1.sendings)) fault
+
+  pub left_accepted : Denies fault ((x : Option (List ℕ)) × MayHaveTime (codes "accepted") value x) → Denies fault IsLeftThere
+  left_accepted = denied ((x : Option (List ℕ)) × MayHaveTime (codes "accepted") value x) IsLeftThere (λ p. (option_copied p.0.accepted, p.1.accepted)) fault
+
+  pub left_request : Denies fault ((x : List ℕ) × HasOctets (codes "request") value x) → Denies fault IsLeftThere
+  left_request = denied ((x : List ℕ) × HasOctets (codes "request") value x) IsLeftThere (λ p. (p.0.request.now, p.1.request)) fault
+
   abbrev pub IsBeginThere : Type 0
   IsBeginThere = (x : Begin) × IsBegin value x
 
@@ -89,8 +158,8 @@ module _ (value : Json) (fault : LineFault) where
   pub begin_run : Denies fault ((x : ℕ) × HasRun value x) → Denies fault IsBeginThere
   begin_run = denied ((x : ℕ) × HasRun value x) IsBeginThere (λ p. (p.0.run, p.1.run)) fault
 
-  pub begin_time : Denies fault ((x : List ℕ) × HasTime value x) → Denies fault IsBeginThere
-  begin_time = denied ((x : List ℕ) × HasTime value x) IsBeginThere (λ p. (p.0.time.now, p.1.time)) fault
+  pub begin_time : Denies fault ((x : List ℕ) × HasTime (codes "time") value x) → Denies fault IsBeginThere
+  begin_time = denied ((x : List ℕ) × HasTime (codes "time") value x) IsBeginThere (λ p. (p.0.time.now, p.1.time)) fault
 
   pub begin_version : Denies fault ((x : List ℕ) × HasText (codes "version") value x) → Denies fault IsBeginThere
   begin_version = denied ((x : List ℕ) × HasText (codes "version") value x) IsBeginThere (λ p. (p.0.version.now, p.1.version)) fault
@@ -110,8 +179,8 @@ module _ (value : Json) (fault : LineFault) where
   pub end_run : Denies fault ((x : ℕ) × HasRun value x) → Denies fault IsEndThere
   end_run = denied ((x : ℕ) × HasRun value x) IsEndThere (λ p. (p.0.run, p.1.run)) fault
 
-  pub end_time : Denies fault ((x : List ℕ) × HasTime value x) → Denies fault IsEndThere
-  end_time = denied ((x : List ℕ) × HasTime value x) IsEndThere (λ p. (p.0.time.now, p.1.time)) fault
+  pub end_time : Denies fault ((x : List ℕ) × HasTime (codes "time") value x) → Denies fault IsEndThere
+  end_time = denied ((x : List ℕ) × HasTime (codes "time") value x) IsEndThere (λ p. (p.0.time.now, p.1.time)) fault
 
   pub end_lanes : Denies fault ((x : List LaneCount) × HasLanes IsLaneCount value x) → Denies fault IsEndThere
   end_lanes = denied ((x : List LaneCount) × HasLanes IsLaneCount value x) IsEndThere (λ p. (p.0.lanes.items, p.1.lanes)) fault
@@ -134,7 +203,7 @@ module _ (value : Json) (fault : LineFault) where
   abbrev pub IsCountThere : Type 0
   IsCountThere = (x : LaneCount) × IsLaneCount value x
 
-  pub count_members : ¬ HasOnly (codes "lane" ∷ codes "entries" ∷ []) value → ¬ IsCountThere
+  pub count_members : ¬ HasOnly (codes "lane" ∷ codes "entries" ∷ codes "accepted" ∷ codes "left" ∷ []) value → ¬ IsCountThere
   count_members n p = n p.1.no_other
 
   pub count_lane : Denies fault ((x : ℕ) × HasNumber (codes "lane") (2 ^ 16) value x) → Denies fault IsCountThere
@@ -142,3 +211,33 @@ module _ (value : Json) (fault : LineFault) where
 
   pub count_entries : Denies fault ((x : ℕ) × HasNumber (codes "entries") (2 ^ 64) value x) → Denies fault IsCountThere
   count_entries = denied ((x : ℕ) × HasNumber (codes "entries") (2 ^ 64) value x) IsCountThere (λ p. (p.0.entries, p.1.entries)) fault
+
+  pub count_accepted : Denies fault ((x : Option ℕ) × MayHaveNumber (codes "accepted") (2 ^ 64) value x) → Denies fault IsCountThere
+  count_accepted = denied ((x : Option ℕ) × MayHaveNumber (codes "accepted") (2 ^ 64) value x) IsCountThere (λ p. (p.0.accepted, p.1.accepted)) fault
+
+  pub count_left : Denies fault ((x : Option ℕ) × MayHaveNumber (codes "left") (2 ^ 64) value x) → Denies fault IsCountThere
+  count_left = denied ((x : Option ℕ) × MayHaveNumber (codes "left") (2 ^ 64) value x) IsCountThere (λ p. (p.0.left, p.1.left)) fault
+
+-- What the tests of two numbers that a line may have tell.
+pub same_tests : (a b : Bool) → not (beq a b) ≡ false → a ≡ b
+same_tests true true n = refl
+same_tests true false n = n
+same_tests false true n = sym n
+same_tests false false n = refl
+
+pub other_tests : (a b : Bool) → not (beq a b) ≡ true → a ≢ b
+other_tests true true n e = absurd (cc)
+other_tests true false n e = absurd (cc)
+other_tests false true n e = absurd (cc)
+other_tests false false n e = absurd (cc)
+
+-- What a value shows of a number that it may have: there is one exactly where something stands at the key.
+pub one_there : (key : List ℕ) (limit : ℕ) (value : Json) (its other : Option ℕ) → MayHaveNumber key limit value its → MayHaveNumber key limit value other → is_some its ≡ is_some other
+one_there key limit value None None a b = refl
+one_there key limit value None (Some n) a b = absurd (differ (get key value) (number b.digits) (sym a) b.there)
+one_there key limit value (Some m) None a b = absurd (differ (get key value) (number a.digits) (sym b) a.there)
+one_there key limit value (Some m) (Some n) a b = refl
+
+pub one_alone : (value : Json) (accepted left : Option ℕ) → MayHaveNumber (codes "accepted") (2 ^ 64) value accepted → MayHaveNumber (codes "left") (2 ^ 64) value left → is_some accepted ≢ is_some left → ¬ ((x : LaneCount) × IsLaneCount value x)
+one_alone value accepted left a l n p =
+    n (one_there (codes "accepted") (2 ^ 64) value accepted p.0.accepted a p.1.accepted ∙ p.1.both_or_none ∙ sym (one_there (codes "left") (2 ^ 64) value left p.0.left l p.1.left))

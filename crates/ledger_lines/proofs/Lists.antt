@@ -8,8 +8,8 @@ use Rattle.json.specs.declared.value.Value.{Value}
 use Rattle.ledger_lines.specs.Lines.{Denies, AreEach, as_items, HasList, HasLanes}
 use Rattle.ledger_lines.specs.declared.faults.LineFault.{LineFault}
 use Rattle.ledger_lines.specs.declared.faults.LineFault.TheVariants.{NotALine, OutOfMemory}
-use Rattle.ledger_lines.proofs.Lines.{denied}
-use Rattle.ledger_lines.proofs.Found.{differ, same_some, items_by}
+use Rattle.ledger_lines.proofs.Lines.{denied, differ}
+use Rattle.ledger_lines.proofs.Found.{same_some, items_by}
 
 -- ---- the list at its key
 

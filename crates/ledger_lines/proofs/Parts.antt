@@ -10,11 +10,13 @@ use Rattle.json.specs.declared.error.Error.{Error}
 use Rattle.json.specs.declared.error.Error.TheVariants.{Invalid, OutOfMemory, TooLong, DuplicateKey}
 use Rattle.hex.specs.Hex.{decode_of}
 use Rattle.rad_realms.specs.Address.{address_in}
-use Rattle.ledger_lines.specs.Lines.{Denies, HasText, HasNumber, HasOctets, HasArray, HasRun, HasTime, IsTime, HasClient, MayHaveNumber, MayHaveWords, IsValue}
+use Rattle.ledger_lines.specs.Lines.{Denies, HasText, HasNumber, HasOctets, HasArray, HasRun, HasState, HasTime, IsTime, HasClient, MayHaveNumber, MayHaveTime, MayHaveWords, IsValue, state_text}
 use Rattle.ledger_lines.specs.declared.faults.LineFault.{LineFault}
-use Rattle.ledger_lines.proofs.Lines.{denied}
+use Rattle.rad_ledger.specs.declared.left.LeftState.{LeftState}
+use Rattle.rad_ledger.specs.declared.left.LeftState.TheVariants.{Queued, Outstanding, Untaken}
+use Rattle.ledger_lines.proofs.Lines.{denied, differ}
 use Rattle.ledger_lines.proofs.Pairs.{DigitsRead}
-use Rattle.ledger_lines.proofs.Found.{differ, same_some, string_by, TextThere, NumberThere, OctetsThere, narrower, too_large, none_below}
+use Rattle.ledger_lines.proofs.Found.{same_some, string_by, TextThere, NumberThere, OctetsThere, narrower, too_large, none_below}
 
 -- ---- the value of a line
 
@@ -68,19 +70,6 @@ module _ (value : Json) where
   pub no_run_text : (fault : LineFault) → Denies fault (TextThere (codes "run") value) → Denies fault RunThere
   no_run_text fault d = denied (TextThere (codes "run") value) RunThere (λ p. (p.1.there.digits, p.1.there.there)) fault d
 
-  abbrev pub TimeThere : Type 0
-  TimeThere = (time : List ℕ) × HasTime value time
-
-  pub time_found : (time : List ℕ) → HasText (codes "time") value time → IsTime time → HasTime value time
-  time_found time t is = record { there = t; is = is }
-
-  pub no_time : (time : List ℕ) → HasText (codes "time") value time → ¬ IsTime time → ¬ TimeThere
-  no_time time t n (other, h) =
-      n (subst IsTime (same_some other time (ap as_str (same_some (string other) (string time) (sym h.there ∙ t)))) h.is)
-
-  pub no_time_text : (fault : LineFault) → Denies fault (TextThere (codes "time") value) → Denies fault TimeThere
-  no_time_text fault d = denied (TextThere (codes "time") value) TimeThere (λ p. (p.0, p.1.there)) fault d
-
   abbrev pub ClientThere : Type 0
   ClientThere = (client : List ℕ) × HasClient value client
 
@@ -128,24 +117,71 @@ module _ (key other : List ℕ) (value : Json) where
   pub no_words_octets : (fault : LineFault) (b : Json) → None ≡ get key value → Some b ≡ get other value → Denies fault (OctetsThere other value) → Denies fault WordsThere
   no_words_octets fault b a f d = denied (OctetsThere other value) WordsThere (octets_of a b f) fault d
 
+module _ (key : List ℕ) (value : Json) where
+  abbrev pub TimeThere : Type 0
+  TimeThere = (time : List ℕ) × HasTime key value time
+
+  pub time_found : (time : List ℕ) → HasText key value time → IsTime time → HasTime key value time
+  time_found time t is = record { there = t; is = is }
+
+  pub no_time : (time : List ℕ) → HasText key value time → ¬ IsTime time → ¬ TimeThere
+  no_time time t n (other, h) =
+      n (subst IsTime (same_some other time (ap as_str (same_some (string other) (string time) (sym h.there ∙ t)))) h.is)
+
+  pub no_time_text : (fault : LineFault) → Denies fault (TextThere key value) → Denies fault TimeThere
+  no_time_text fault d = denied (TextThere key value) TimeThere (λ p. (p.0, p.1.there)) fault d
+
+  abbrev pub TimeIfAnyThere : Type 0
+  TimeIfAnyThere = (time : Option (List ℕ)) × MayHaveTime key value time
+
+  pub time_none : None ≡ get key value → MayHaveTime key value None
+  time_none e = sym e
+
+  time_of : (found : Json) → Some found ≡ get key value → TimeIfAnyThere → TimeThere
+  time_of found f (None, n) = absurd (differ (get key value) found (sym n) (sym f))
+  time_of found f (Some time, h) = (time, h)
+
+  pub no_time_if_any : (fault : LineFault) (found : Json) → Some found ≡ get key value → Denies fault TimeThere → Denies fault TimeIfAnyThere
+  no_time_if_any fault found f d = denied TimeThere TimeIfAnyThere (time_of found f) fault d
+
+  abbrev pub CountThere : ℕ → Type 0
+  CountThere limit = (its : Option ℕ) × MayHaveNumber key limit value its
+
+  pub count_none : (limit : ℕ) → None ≡ get key value → MayHaveNumber key limit value None
+  count_none limit e = sym e
+
+  pub count_found : (n m : ℕ) → HasNumber key (2 ^ 64) value n → m ≡ n → n < 2 ^ 32 → MayHaveNumber key (2 ^ 32) value (Some m)
+  count_found n m h e l = narrower key value (2 ^ 32) n m h e l
+
+  number_of : (limit : ℕ) (found : Json) → Some found ≡ get key value → CountThere limit → NumberThere key value limit
+  number_of limit found f (None, n) = absurd (differ (get key value) found (sym n) (sym f))
+  number_of limit found f (Some its, h) = (its, h)
+
+  pub no_count : (found : Json) (n : ℕ) → Some found ≡ get key value → HasNumber key (2 ^ 64) value n → 2 ^ 32 ≤ n → ¬ CountThere (2 ^ 32)
+  no_count found n f h l p = too_large key value (2 ^ 32) n h l (number_of (2 ^ 32) found f p)
+
+  pub no_amount : (fault : LineFault) (found : Json) → Some found ≡ get key value → Denies fault (NumberThere key value (2 ^ 64)) → Denies fault (CountThere (2 ^ 64))
+  no_amount fault found f d = denied (NumberThere key value (2 ^ 64)) (CountThere (2 ^ 64)) (number_of (2 ^ 64) found f) fault d
+
+  pub no_count_number : (fault : LineFault) (found : Json) → Some found ≡ get key value → Denies fault (NumberThere key value (2 ^ 64)) → Denies fault (CountThere (2 ^ 32))
+  no_count_number fault found f d =
+      denied (NumberThere key value (2 ^ 32)) (CountThere (2 ^ 32)) (number_of (2 ^ 32) found f) fault
+      (none_below key value (2 ^ 32) (omega arith) fault d)
+
+-- ---- how a request was left
+
 module _ (value : Json) where
-  abbrev pub StatusThere : Type 0
-  StatusThere = (status : Option ℕ) × MayHaveNumber (codes "status") (2 ^ 32) value status
+  abbrev pub StateThere : Type 0
+  StateThere = (state : LeftState) × HasState value state
 
-  pub status_none : None ≡ get (codes "status") value → MayHaveNumber (codes "status") (2 ^ 32) value None
-  status_none e = sym e
+  module _ (text : List ℕ) (t : HasText (codes "state") value text) where
+    one_state : (other : List ℕ) → HasText (codes "state") value other → text ≡ other
+    one_state other also = same_some text other (ap as_str (same_some (string text) (string other) (sym t ∙ also)))
 
-  pub status_found : (n m : ℕ) → HasNumber (codes "status") (2 ^ 64) value n → m ≡ n → n < 2 ^ 32 → MayHaveNumber (codes "status") (2 ^ 32) value (Some m)
-  status_found n m h e l = narrower (codes "status") value (2 ^ 32) n m h e l
+    pub no_state : text ≢ codes "queued" → text ≢ codes "outstanding" → text ≢ codes "untaken" → ¬ StateThere
+    no_state q o u (Queued, h) = q (one_state (codes "queued") h)
+    no_state q o u (Outstanding, h) = o (one_state (codes "outstanding") h)
+    no_state q o u (Untaken, h) = u (one_state (codes "untaken") h)
 
-  number_of : (found : Json) → Some found ≡ get (codes "status") value → StatusThere → NumberThere (codes "status") value (2 ^ 32)
-  number_of found f (None, n) = absurd (differ (get (codes "status") value) found (sym n) (sym f))
-  number_of found f (Some its, h) = (its, h)
-
-  pub no_status : (found : Json) (n : ℕ) → Some found ≡ get (codes "status") value → HasNumber (codes "status") (2 ^ 64) value n → 2 ^ 32 ≤ n → ¬ StatusThere
-  no_status found n f h l p = too_large (codes "status") value (2 ^ 32) n h l (number_of found f p)
-
-  pub no_status_number : (fault : LineFault) (found : Json) → Some found ≡ get (codes "status") value → Denies fault (NumberThere (codes "status") value (2 ^ 64)) → Denies fault StatusThere
-  no_status_number fault found f d =
-      denied (NumberThere (codes "status") value (2 ^ 32)) StatusThere (number_of found f) fault
-      (none_below (codes "status") value (2 ^ 32) (omega arith) fault d)
+  pub no_state_text : (fault : LineFault) → Denies fault (TextThere (codes "state") value) → Denies fault StateThere
+  no_state_text fault d = denied (TextThere (codes "state") value) StateThere (λ p. (state_text p.0, p.1)) fault d

@@ -1,5 +1,5 @@
 -- Lines of a ledger (RFC 8259, RFC 3339, own): objects of JSON, with their keys in any order, each once.
-use Rattle.std.specs.Prelude.{◌≡◌, ℕ, ◌<◌, ◌≤◌, ◌*◌, ◌^◌, List, [], ◌∷◌, length, get_or, codes, Bool, option_copied, IsTrue, cond, ◌==◌, Option, Some, None, Ok, ◌⊎◌, ⊤}
+use Rattle.std.specs.Prelude.{◌≡◌, ℕ, ◌<◌, ◌≤◌, ◌*◌, ◌^◌, List, [], ◌∷◌, length, get_or, codes, Bool, option_copied, IsTrue, cond, ◌==◌, Option, Some, None, Ok, ◌⊎◌, is_some, ⊤}
 use Rattle.std.specs.List.{All, Contains}
 use Rattle.std.specs.Int.{w64, from_be_bytes}
 use Rattle.std.specs.Char.{is_ascii_digit}
@@ -11,6 +11,9 @@ use Rattle.json.specs.Strict.{keys, HasUniqueKeys}
 use Rattle.hex.specs.Hex.{decode_of}
 use Rattle.rad_realms.specs.Address.{address_in}
 use Rattle.rad_ledger.specs.declared.entry.Entry.{Entry}
+use Rattle.rad_ledger.specs.declared.left.Left.{Left}
+use Rattle.rad_ledger.specs.declared.left.LeftState.{LeftState}
+use Rattle.rad_ledger.specs.declared.left.LeftState.TheVariants.{Queued, Outstanding, Untaken}
 use Rattle.ledger_lines.specs.declared.begin.Begin.{Begin}
 use Rattle.ledger_lines.specs.declared.begin.End.{End}
 use Rattle.ledger_lines.specs.declared.begin.LaneStart.{LaneStart}
@@ -18,7 +21,7 @@ use Rattle.ledger_lines.specs.declared.begin.LaneCount.{LaneCount}
 use Rattle.ledger_lines.specs.declared.faults.LineFault.{LineFault}
 use Rattle.ledger_lines.specs.declared.faults.LineFault.TheVariants.{NotALine, OutOfMemory}
 use Rattle.ledger_lines.specs.declared.reading.Line.{Line}
-use Rattle.ledger_lines.specs.declared.reading.Line.TheVariants.{Begin as begins, Entry as enters, End as ends}
+use Rattle.ledger_lines.specs.declared.reading.Line.TheVariants.{Begin as begins, Entry as enters, Left as leaves, End as ends}
 
 -- A fault tells that nothing is there, where it is not want of memory.
 abbrev pub Denies : LineFault → Type 0 → Type 0
@@ -84,9 +87,13 @@ pub record HasRun (value : Json) (run : ℕ) : Type 0 where
   pub there : HasArray (codes "run") 8 value octets
   pub are : from_be_bytes w64 octets ≡ run
 
-pub record HasTime (value : Json) (time : List ℕ) : Type 0 where
-  pub there : HasText (codes "time") value time
+pub record HasTime (key : List ℕ) (value : Json) (time : List ℕ) : Type 0 where
+  pub there : HasText key value time
   pub is : IsTime time
+
+abbrev pub MayHaveTime : List ℕ → Json → Option (List ℕ) → Type 0
+MayHaveTime key value None = Lacks key value
+MayHaveTime key value (Some time) = HasTime key value time
 
 -- A client's address, and a request's Authenticator.
 pub record HasClient (value : Json) (client : List ℕ) : Type 0 where
@@ -102,13 +109,13 @@ abbrev pub keys_of_entry : List (List ℕ)
 keys_of_entry =
     codes "type" ∷ codes "run" ∷ codes "time" ∷ codes "home" ∷ codes "lane" ∷ codes "serial" ∷ codes "record" ∷ codes "client" ∷ codes "port"
     ∷ codes "identifier" ∷ codes "authenticator" ∷ codes "realm" ∷ codes "realm_octets" ∷ codes "session" ∷ codes "session_octets"
-    ∷ codes "status" ∷ codes "sent" ∷ codes "reply" ∷ codes "response" ∷ []
+    ∷ codes "status" ∷ codes "user" ∷ codes "user_octets" ∷ codes "sent" ∷ codes "reply" ∷ codes "response" ∷ []
 
 pub record IsEntry (value : Json) (e : Entry) : Type 0 where
   pub no_other : HasOnly keys_of_entry value
   pub type_is : HasText (codes "type") value (codes "entry")
   pub run : HasRun value e.run
-  pub time : HasTime value e.time.now
+  pub time : HasTime (codes "time") value e.time.now
   pub home : HasText (codes "home") value e.home.now
   pub lane : HasNumber (codes "lane") (2 ^ 16) value e.lane
   pub serial : HasNumber (codes "serial") (2 ^ 63) value e.serial
@@ -123,6 +130,44 @@ pub record IsEntry (value : Json) (e : Entry) : Type 0 where
   pub realm : MayHaveWords (codes "realm") (codes "realm_octets") value (option_copied e.realm)
   pub session : MayHaveWords (codes "session") (codes "session_octets") value (option_copied e.session)
   pub status : MayHaveNumber (codes "status") (2 ^ 32) value e.status
+  pub user : MayHaveWords (codes "user") (codes "user_octets") value (option_copied e.user)
+
+-- How a request was left, as a line has it.
+abbrev pub state_text : LeftState → List ℕ
+state_text Queued = codes "queued"
+state_text Outstanding = codes "outstanding"
+state_text Untaken = codes "untaken"
+
+abbrev pub HasState : Json → LeftState → Type 0
+HasState value state = HasText (codes "state") value (state_text state)
+
+-- The keys of a request that was left, with those that it may lack.
+abbrev pub keys_of_left : List (List ℕ)
+keys_of_left =
+    codes "type" ∷ codes "run" ∷ codes "time" ∷ codes "home" ∷ codes "lane" ∷ codes "record" ∷ codes "client" ∷ codes "port"
+    ∷ codes "identifier" ∷ codes "authenticator" ∷ codes "realm" ∷ codes "realm_octets" ∷ codes "session" ∷ codes "session_octets"
+    ∷ codes "status" ∷ codes "user" ∷ codes "user_octets" ∷ codes "state" ∷ codes "sendings" ∷ codes "accepted" ∷ codes "request" ∷ []
+
+pub record IsLeft (value : Json) (left : Left) : Type 0 where
+  pub no_other : HasOnly keys_of_left value
+  pub type_is : HasText (codes "type") value (codes "left")
+  pub run : HasRun value left.run
+  pub time : HasTime (codes "time") value left.time.now
+  pub home : HasText (codes "home") value left.home.now
+  pub lane : HasNumber (codes "lane") (2 ^ 16) value left.lane
+  pub record_is : HasNumber (codes "record") (2 ^ 64) value left.number
+  pub client : HasClient value left.client
+  pub port : HasNumber (codes "port") (2 ^ 16) value left.port
+  pub identifier : HasNumber (codes "identifier") (2 ^ 8) value left.identifier
+  pub authenticator : HasAuthenticator value left.authenticator
+  pub realm : MayHaveWords (codes "realm") (codes "realm_octets") value (option_copied left.realm)
+  pub session : MayHaveWords (codes "session") (codes "session_octets") value (option_copied left.session)
+  pub status : MayHaveNumber (codes "status") (2 ^ 32) value left.status
+  pub user : MayHaveWords (codes "user") (codes "user_octets") value (option_copied left.user)
+  pub state : HasState value left.state
+  pub sendings : MayHaveNumber (codes "sendings") (2 ^ 32) value left.sendings
+  pub accepted : MayHaveTime (codes "accepted") value (option_copied left.accepted)
+  pub request : HasOctets (codes "request") value left.request.now
 
 -- The values of a list, in order, each of which is what stands at its place.
 abbrev pub AreEach : {X : Type 0} → (Json → X → Type 0) → Items → List X → Type 0
@@ -154,15 +199,18 @@ pub record IsLaneStart (value : Json) (start : LaneStart) : Type 0 where
   pub serial : HasNumber (codes "serial") (2 ^ 63) value start.serial
 
 pub record IsLaneCount (value : Json) (count : LaneCount) : Type 0 where
-  pub no_other : HasOnly (codes "lane" ∷ codes "entries" ∷ []) value
+  pub no_other : HasOnly (codes "lane" ∷ codes "entries" ∷ codes "accepted" ∷ codes "left" ∷ []) value
   pub lane : HasNumber (codes "lane") (2 ^ 16) value count.lane
   pub entries : HasNumber (codes "entries") (2 ^ 64) value count.entries
+  pub accepted : MayHaveNumber (codes "accepted") (2 ^ 64) value count.accepted
+  pub left : MayHaveNumber (codes "left") (2 ^ 64) value count.left
+  pub both_or_none : is_some count.accepted ≡ is_some count.left
 
 pub record IsBegin (value : Json) (begin : Begin) : Type 0 where
   pub no_other : HasOnly (codes "type" ∷ codes "run" ∷ codes "time" ∷ codes "version" ∷ codes "file" ∷ codes "lanes" ∷ []) value
   pub type_is : HasText (codes "type") value (codes "begin")
   pub run : HasRun value begin.run
-  pub time : HasTime value begin.time.now
+  pub time : HasTime (codes "time") value begin.time.now
   pub version : HasText (codes "version") value begin.version.now
   pub file : HasNumber (codes "file") (2 ^ 64) value begin.file
   pub lanes : HasLanes IsLaneStart value begin.lanes.items
@@ -171,12 +219,13 @@ pub record IsEnd (value : Json) (end : End) : Type 0 where
   pub no_other : HasOnly (codes "type" ∷ codes "run" ∷ codes "time" ∷ codes "lanes" ∷ []) value
   pub type_is : HasText (codes "type") value (codes "end")
   pub run : HasRun value end.run
-  pub time : HasTime value end.time.now
+  pub time : HasTime (codes "time") value end.time.now
   pub lanes : HasLanes IsLaneCount value end.lanes.items
 
 abbrev pub IsLineOf : Json → Line → Type 0
 IsLineOf value (begins begin) = IsBegin value begin
 IsLineOf value (enters entry) = IsEntry value entry
+IsLineOf value (leaves left) = IsLeft value left
 IsLineOf value (ends end) = IsEnd value end
 
 -- Octets that are a value, in which no object has a key twice.

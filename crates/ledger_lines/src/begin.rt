@@ -21,6 +21,10 @@ pub struct LaneCount {
     pub lane: u16,
     /// How many responses of it the front took in the run.
     pub entries: u64,
+    /// How many requests it accepted in the run. It is there exactly where `left` is.
+    pub accepted: Option<u64>,
+    /// How many of these were left when the run ended.
+    pub left: Option<u64>,
 }
 
 /// The first line of a file: it names the run.

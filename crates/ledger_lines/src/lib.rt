@@ -1,7 +1,8 @@
-//! The lines of a ledger: a line for each response that the front took, and lines that name a run and end one.
+//! The lines of a ledger: a line for each response that the front took, a line for each request that was left, and lines that name a
+//! run and end one.
 //!
-//! [`read_line`] reads a line, and [`write_begin`], [`write_entry`] and [`write_end`] write one. `specs/Lines.antt` says which octets
-//! are a line.
+//! [`read_line`] reads a line, and [`write_begin`], [`write_entry`], [`write_left`] and [`write_end`] write one. `specs/Lines.antt` says
+//! which octets are a line.
 #![tactic(auto)]
 
 mod begin;
@@ -14,4 +15,4 @@ mod writing;
 pub use begin::{Begin, End, LaneCount, LaneStart};
 pub use faults::LineFault;
 pub use reading::{Line, MOST_LINE_OCTETS, Room, read_line};
-pub use writing::{write_begin, write_end, write_entry};
+pub use writing::{write_begin, write_end, write_entry, write_left};

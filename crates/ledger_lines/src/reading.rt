@@ -7,18 +7,20 @@ ghost use Rattle.ledger_lines.specs.declared.begin.End.{End as TheEnd};
 ghost use Rattle.ledger_lines.specs.declared.begin.LaneStart.{LaneStart as TheStart};
 ghost use Rattle.ledger_lines.specs.declared.begin.LaneCount.{LaneCount as TheCount};
 ghost use Rattle.rad_ledger.specs.declared.entry.Entry.{Entry as TheEntry};
+ghost use Rattle.rad_ledger.specs.declared.left.Left.{Left as TheLeft};
 ghost use Rattle.ledger_lines.specs.declared.faults.LineFault.TheVariants.{OutOfMemory};
 ghost use Rattle.ledger_lines.specs.declared.reading.Line.{Line as TheLine};
-ghost use Rattle.ledger_lines.specs.Lines.{AreEach, Denies, HasLanes, HasText, IsBegin, IsEnd, IsEntry, IsLaneCount, IsLaneStart, IsLine, IsLineOf};
+ghost use Rattle.ledger_lines.specs.Lines.{AreEach, Denies, HasLanes, HasText, IsBegin, IsEnd, IsEntry, IsLaneCount, IsLaneStart, IsLeft, IsLine, IsLineOf};
 
 use crate::begin::{Begin, End, LaneCount, LaneStart};
 use crate::faults::LineFault;
 use crate::values::{
-    authenticator_at, client_at, has_only, lanes_at, number_at, octet_at, octets_at, read_value,
-    run_at, serial_at, short_at, status_at, text_at, time_at, words_at,
+    amount_at, authenticator_at, client_at, count_at, has_only, lanes_at, number_at, octet_at,
+    octets_at, read_value, run_at, serial_at, short_at, state_at, text_at, time_at, time_if_any_at,
+    words_at,
 };
 use json::{Scratch, Value};
-use rad_ledger::Entry;
+use rad_ledger::{Entry, Left};
 use std::alloc::{AllocError, Global};
 
 /// The most octets of a line.
@@ -30,6 +32,7 @@ pub enum Line<'a> {
     /// It names a run, and begins a file.
     Begin(Begin<'a>),
     Entry(Entry<'a>),
+    Left(Left<'a>),
     /// It ends a run.
     End(End<'a>),
 }
@@ -49,6 +52,8 @@ struct Octets {
     response: Vec<u8>,
     realm: Vec<u8>,
     session: Vec<u8>,
+    user: Vec<u8>,
+    request: Vec<u8>,
 }
 
 impl Room {
@@ -68,6 +73,8 @@ impl Room {
                 response: Vec::new(alloc),
                 realm: Vec::new(alloc),
                 session: Vec::new(alloc),
+                user: Vec::new(alloc),
+                request: Vec::new(alloc),
             },
         })
     }
@@ -107,6 +114,7 @@ fn line_of<'a>(
 {
     match text_at(value, "type")? {
         "entry" => Ok(Line::Entry(entry_of(value, room)?)),
+        "left" => Ok(Line::Left(left_of(value, room)?)),
         "begin" => Ok(Line::Begin(begin_of(alloc, value)?)),
         "end" => Ok(Line::End(end_of(alloc, value)?)),
         _ => Err(LineFault::NotALine),
@@ -114,7 +122,7 @@ fn line_of<'a>(
 }
 
 /// The keys of an entry, in the order in which they are written.
-const ENTRY_KEYS: [&str; 19] = [
+const ENTRY_KEYS: [&str; 21] = [
     "type",
     "run",
     "time",
@@ -131,6 +139,8 @@ const ENTRY_KEYS: [&str; 19] = [
     "session",
     "session_octets",
     "status",
+    "user",
+    "user_octets",
     "sent",
     "reply",
     "response",
@@ -150,9 +160,11 @@ fn entry_of<'a>(value: &Value<'a>, room: &'a mut Octets) -> Result<Entry<'a>, Li
         response,
         realm,
         session,
+        user,
+        request: _,
     } = room;
     let run = run_at(value)?;
-    let time = time_at(value)?;
+    let time = time_at(value, "time")?;
     let home = text_at(value, "home")?;
     let lane = short_at(value, "lane")?;
     let serial = serial_at(value, "serial")?;
@@ -166,7 +178,8 @@ fn entry_of<'a>(value: &Value<'a>, room: &'a mut Octets) -> Result<Entry<'a>, Li
     let response = octets_at(value, "response", response)?;
     let realm = words_at(value, "realm", "realm_octets", realm)?;
     let session = words_at(value, "session", "session_octets", session)?;
-    let status = status_at(value)?;
+    let status = count_at(value, "status")?;
+    let user = words_at(value, "user", "user_octets", user)?;
     Ok(Entry {
         run,
         time,
@@ -184,6 +197,87 @@ fn entry_of<'a>(value: &Value<'a>, room: &'a mut Octets) -> Result<Entry<'a>, Li
         realm,
         session,
         status,
+        user,
+    })
+}
+
+/// The keys of a request that was left, in the order in which they are written.
+const LEFT_KEYS: [&str; 21] = [
+    "type",
+    "run",
+    "time",
+    "home",
+    "lane",
+    "record",
+    "client",
+    "port",
+    "identifier",
+    "authenticator",
+    "realm",
+    "realm_octets",
+    "session",
+    "session_octets",
+    "status",
+    "user",
+    "user_octets",
+    "state",
+    "sendings",
+    "accepted",
+    "request",
+];
+
+/// The request that was left that a value is.
+fn left_of<'a>(value: &Value<'a>, room: &'a mut Octets) -> Result<Left<'a>, LineFault>
+    requires { HasText (codes "type") (value_view value.now) (codes "left") }
+    ensures { MatchResult result (λ left. IsLeft (value_view value.now) left) (λ fault. Denies fault ((left : TheLeft) × IsLeft (value_view value.now) left)) }
+{
+    if !has_only(value, &LEFT_KEYS) {
+        return Err(LineFault::NotALine);
+    }
+    let Octets {
+        realm,
+        session,
+        user,
+        request,
+        sent: _,
+        reply: _,
+        response: _,
+    } = room;
+    let run = run_at(value)?;
+    let time = time_at(value, "time")?;
+    let home = text_at(value, "home")?;
+    let lane = short_at(value, "lane")?;
+    let number = number_at(value, "record")?;
+    let client = client_at(value)?;
+    let port = short_at(value, "port")?;
+    let identifier = octet_at(value, "identifier")?;
+    let authenticator = authenticator_at(value)?;
+    let realm = words_at(value, "realm", "realm_octets", realm)?;
+    let session = words_at(value, "session", "session_octets", session)?;
+    let status = count_at(value, "status")?;
+    let user = words_at(value, "user", "user_octets", user)?;
+    let state = state_at(value)?;
+    let sendings = count_at(value, "sendings")?;
+    let accepted = time_if_any_at(value, "accepted")?;
+    let request = octets_at(value, "request", request)?;
+    Ok(Left {
+        run,
+        time,
+        home,
+        lane,
+        number,
+        client,
+        port,
+        identifier,
+        authenticator,
+        realm,
+        session,
+        status,
+        user,
+        state,
+        sendings,
+        accepted,
+        request,
     })
 }
 
@@ -197,7 +291,7 @@ fn begin_of<'a>(alloc: Global, value: &Value<'a>) -> Result<Begin<'a>, LineFault
     }
     Ok(Begin {
         run: run_at(value)?,
-        time: time_at(value)?,
+        time: time_at(value, "time")?,
         version: text_at(value, "version")?,
         file: number_at(value, "file")?,
         lanes: starts_at(alloc, value)?,
@@ -247,7 +341,7 @@ fn end_of<'a>(alloc: Global, value: &Value<'a>) -> Result<End<'a>, LineFault>
     }
     Ok(End {
         run: run_at(value)?,
-        time: time_at(value)?,
+        time: time_at(value, "time")?,
         lanes: counts_at(alloc, value)?,
     })
 }
@@ -275,12 +369,21 @@ fn counts_of(alloc: Global, values: &[Value<'_>]) -> Result<Vec<LaneCount>, Line
 fn count_of(value: &Value<'_>) -> Result<LaneCount, LineFault>
     ensures { MatchResult result (λ count. IsLaneCount (value_view value.now) count) (λ fault. Denies fault ((count : TheCount) × IsLaneCount (value_view value.now) count)) }
 {
-    if !has_only(value, &["lane", "entries"]) {
+    if !has_only(value, &["lane", "entries", "accepted", "left"]) {
+        return Err(LineFault::NotALine);
+    }
+    let lane = short_at(value, "lane")?;
+    let entries = number_at(value, "entries")?;
+    let accepted = amount_at(value, "accepted")?;
+    let left = amount_at(value, "left")?;
+    if accepted.is_some() != left.is_some() {
         return Err(LineFault::NotALine);
     }
     Ok(LaneCount {
-        lane: short_at(value, "lane")?,
-        entries: number_at(value, "entries")?,
+        lane,
+        entries,
+        accepted,
+        left,
     })
 }
 

@@ -6,11 +6,13 @@ ghost use Rattle.json.specs.Json.{Items, Json};
 ghost use Rattle.json.specs.Strict.{keys};
 ghost use Rattle.json.specs.Value.{items_view, members_view, value_view};
 ghost use Rattle.ledger_lines.specs.internal.Known.{IsAbsent};
-ghost use Rattle.ledger_lines.specs.Lines.{as_items, Denies, HasAuthenticator, HasClient, HasList, HasNumber, HasOctets, HasOnly, HasRun, HasText, HasTime, has_form, IsTime, IsValue, MayHaveNumber, MayHaveWords};
+ghost use Rattle.rad_ledger.specs.declared.left.LeftState.{LeftState as TheState};
+ghost use Rattle.ledger_lines.specs.Lines.{as_items, Denies, HasAuthenticator, HasClient, HasList, HasNumber, HasOctets, HasOnly, HasRun, HasText, HasState, HasTime, has_form, IsTime, IsValue, MayHaveNumber, MayHaveTime, MayHaveWords};
 
 use crate::digits::{fill, octets_of};
 use crate::faults::LineFault;
 use json::{Error, Scratch, Value};
+use rad_ledger::LeftState;
 use rad_realms::read_address;
 use std::alloc::Global;
 
@@ -182,16 +184,38 @@ pub(crate) fn authenticator_at(value: &Value<'_>) -> Result<[u8; 16], LineFault>
     }
 }
 
-/// The moment of a line.
+/// The moment at a key.
 #[tactic(auto, using(crate::proofs::Parts::time_found, crate::proofs::Parts::no_time, crate::proofs::Parts::no_time_text))]
-pub(crate) fn time_at<'a>(value: &Value<'a>) -> Result<&'a str, LineFault>
-    ensures { MatchResult result (λ time. HasTime (value_view value.now) time.now) (λ fault. Denies fault ((time : List ℕ) × HasTime (value_view value.now) time)) }
+pub(crate) fn time_at<'a>(value: &Value<'a>, key: &str) -> Result<&'a str, LineFault>
+    ensures { MatchResult result (λ time. HasTime key.now (value_view value.now) time.now) (λ fault. Denies fault ((time : List ℕ) × HasTime key.now (value_view value.now) time)) }
 {
-    let time = text_at(value, "time")?;
+    let time = text_at(value, key)?;
     if is_time(time.as_bytes()) {
         Ok(time)
     } else {
         Err(LineFault::NotALine)
+    }
+}
+
+/// The moment at a key, where there is one.
+pub(crate) fn time_if_any_at<'a>(value: &Value<'a>, key: &str) -> Result<Option<&'a str>, LineFault>
+    ensures { MatchResult result (λ time. MayHaveTime key.now (value_view value.now) (option_copied time)) (λ fault. Denies fault ((time : Option (List ℕ)) × MayHaveTime key.now (value_view value.now) time)) }
+{
+    if value.get(key).is_none() {
+        return Ok(None);
+    }
+    Ok(Some(time_at(value, key)?))
+}
+
+/// How a request was left.
+pub(crate) fn state_at(value: &Value<'_>) -> Result<LeftState, LineFault>
+    ensures { MatchResult result (λ state. HasState (value_view value.now) state) (λ fault. Denies fault ((state : TheState) × HasState (value_view value.now) state)) }
+{
+    match text_at(value, "state")? {
+        "queued" => Ok(LeftState::Queued),
+        "outstanding" => Ok(LeftState::Outstanding),
+        "untaken" => Ok(LeftState::Untaken),
+        _ => Err(LineFault::NotALine),
     }
 }
 
@@ -235,7 +259,7 @@ pub(crate) fn client_at(value: &Value<'_>) -> Result<[u8; 4], LineFault>
     }
 }
 
-/// A realm or a session: none, a text at the one key, or octets that are no text at the other, in this room.
+/// A realm, a session or a user: none, a text at the one key, or octets that are no text at the other, in this room.
 #[tactic(auto, using(crate::proofs::Parts::words_none, crate::proofs::Parts::words_text, crate::proofs::Parts::words_octets, crate::proofs::Parts::two_words, crate::proofs::Parts::no_words, crate::proofs::Parts::no_words_octets))]
 pub(crate) fn words_at<'a>(
     value: &Value<'a>,
@@ -260,17 +284,27 @@ pub(crate) fn words_at<'a>(
     }
 }
 
-/// An Acct-Status-Type, where there is one.
-pub(crate) fn status_at(value: &Value<'_>) -> Result<Option<u32>, LineFault>
-    ensures { MatchResult result (λ status. MayHaveNumber (codes "status") (2 ^ 32) (value_view value.now) status) (λ fault. Denies fault ((status : Option ℕ) × MayHaveNumber (codes "status") (2 ^ 32) (value_view value.now) status)) }
+/// The number at a key, below 2^32, where there is one.
+pub(crate) fn count_at(value: &Value<'_>, key: &str) -> Result<Option<u32>, LineFault>
+    ensures { MatchResult result (λ its. MayHaveNumber key.now (2 ^ 32) (value_view value.now) its) (λ fault. Denies fault ((its : Option ℕ) × MayHaveNumber key.now (2 ^ 32) (value_view value.now) its)) }
 {
-    if value.get("status").is_none() {
+    if value.get(key).is_none() {
         return Ok(None);
     }
-    match u32::try_from(number_at(value, "status")?) {
-        Ok(status) => Ok(Some(status)),
+    match u32::try_from(number_at(value, key)?) {
+        Ok(its) => Ok(Some(its)),
         Err(_) => Err(LineFault::NotALine),
     }
+}
+
+/// The number at a key, below 2^64, where there is one.
+pub(crate) fn amount_at(value: &Value<'_>, key: &str) -> Result<Option<u64>, LineFault>
+    ensures { MatchResult result (λ its. MayHaveNumber key.now (2 ^ 64) (value_view value.now) its) (λ fault. Denies fault ((its : Option ℕ) × MayHaveNumber key.now (2 ^ 64) (value_view value.now) its)) }
+{
+    if value.get(key).is_none() {
+        return Ok(None);
+    }
+    Ok(Some(number_at(value, key)?))
 }
 
 /// The values of the list of lanes.

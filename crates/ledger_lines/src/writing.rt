@@ -1,11 +1,12 @@
 //! Lines of a ledger, as they are written.
 
 ghost use Rattle.std.specs.Prelude.{◌≡◌, IfOk, OnOk};
+ghost use Rattle.ledger_lines.specs.Lines.{state_text as the_state_text};
 ghost use Rattle.ledger_lines.specs.Written.{HasLineBehind};
 
 use crate::begin::{Begin, End, LaneCount, LaneStart};
 use json::Writer;
-use rad_ledger::Entry;
+use rad_ledger::{Entry, Left, LeftState};
 use std::alloc::{AllocError, Global};
 
 /// Writes a line that names a run, with its line end, behind what these octets are.
@@ -31,6 +32,19 @@ pub fn write_entry(alloc: Global, entry: &Entry<'_>, out: Vec<u8>) -> Result<Vec
 {
     let mut writer = Writer::new(out);
     entry_members(alloc, &mut writer, entry)?;
+    close_line(writer)
+}
+
+/// Writes a request that was left, with its line end, behind what these octets are.
+///
+/// # Errors
+///
+/// Where memory is refused.
+pub fn write_left(alloc: Global, left: &Left<'_>, out: Vec<u8>) -> Result<Vec<u8>, AllocError>
+    ensures { IfOk result (λ all. HasLineBehind out.items all.items) }
+{
+    let mut writer = Writer::new(out);
+    left_members(alloc, &mut writer, left)?;
     close_line(writer)
 }
 
@@ -92,24 +106,99 @@ fn entry_members(alloc: Global, writer: &mut Writer, entry: &Entry<'_>) -> Resul
     number(writer, "lane", u64::from(entry.lane))?;
     number(writer, "serial", entry.serial)?;
     number(writer, "record", entry.number)?;
-    request_members(alloc, writer, entry)?;
+    request_members(alloc, writer, &name_in_entry(entry))?;
     words(alloc, writer, "realm", "realm_octets", entry.realm)?;
     words(alloc, writer, "session", "session_octets", entry.session)?;
-    number_if_any(writer, "status", entry.status)?;
+    number_if_any(writer, "status", widened(entry.status))?;
+    words(alloc, writer, "user", "user_octets", entry.user)?;
     digits(alloc, writer, "sent", entry.sent)?;
     digits(alloc, writer, "reply", entry.reply)?;
     digits(alloc, writer, "response", entry.response)?;
     writer.end_object()
 }
 
-/// Writes what names the request of an entry.
-fn request_members(alloc: Global, writer: &mut Writer, entry: &Entry<'_>) -> Result<(), AllocError>
+/// What names a request besides its number.
+#[derive(Clone, Copy)]
+struct RequestName {
+    client: [u8; 4],
+    port: u16,
+    identifier: u8,
+    authenticator: [u8; 16],
+}
+
+/// Returns what names the request of an entry.
+fn name_in_entry(entry: &Entry<'_>) -> RequestName {
+    RequestName {
+        client: entry.client,
+        port: entry.port,
+        identifier: entry.identifier,
+        authenticator: entry.authenticator,
+    }
+}
+
+/// Returns what names a request that was left.
+fn name_in_left(left: &Left<'_>) -> RequestName {
+    RequestName {
+        client: left.client,
+        port: left.port,
+        identifier: left.identifier,
+        authenticator: left.authenticator,
+    }
+}
+
+/// Writes what names a request.
+fn request_members(
+    alloc: Global,
+    writer: &mut Writer,
+    request: &RequestName,
+) -> Result<(), AllocError>
     ensures { OnOk result (writer.new.before ≡ writer.old.before) }
 {
-    address(alloc, writer, "client", entry.client)?;
-    number(writer, "port", u64::from(entry.port))?;
-    number(writer, "identifier", u64::from(entry.identifier))?;
-    digits(alloc, writer, "authenticator", &entry.authenticator)
+    address(alloc, writer, "client", request.client)?;
+    number(writer, "port", u64::from(request.port))?;
+    number(writer, "identifier", u64::from(request.identifier))?;
+    digits(alloc, writer, "authenticator", &request.authenticator)
+}
+
+/// Writes the object of a request that was left.
+fn left_members(alloc: Global, writer: &mut Writer, left: &Left<'_>) -> Result<(), AllocError>
+    ensures { OnOk result (writer.new.before ≡ writer.old.before) }
+{
+    first_members(alloc, writer, "left", left.run, left.time)?;
+    text(writer, "home", left.home)?;
+    number(writer, "lane", u64::from(left.lane))?;
+    number(writer, "record", left.number)?;
+    request_members(alloc, writer, &name_in_left(left))?;
+    words(alloc, writer, "realm", "realm_octets", left.realm)?;
+    words(alloc, writer, "session", "session_octets", left.session)?;
+    number_if_any(writer, "status", widened(left.status))?;
+    words(alloc, writer, "user", "user_octets", left.user)?;
+    text(writer, "state", state_text(left.state))?;
+    number_if_any(writer, "sendings", widened(left.sendings))?;
+    text_if_any(writer, "accepted", left.accepted)?;
+    digits(alloc, writer, "request", left.request)?;
+    writer.end_object()
+}
+
+/// Returns how a line has it how a request was left.
+fn state_text(state: LeftState) -> &'static str
+    ensures { result.now ≡ the_state_text state }
+{
+    match state {
+        LeftState::Queued => "queued",
+        LeftState::Outstanding => "outstanding",
+        LeftState::Untaken => "untaken",
+    }
+}
+
+/// Returns the same number, if there is one, as one of eight octets.
+fn widened(value: Option<u32>) -> Option<u64>
+    ensures { result ≡ value }
+{
+    match value {
+        Some(value) => Some(u64::from(value)),
+        None => None,
+    }
 }
 
 /// Writes the object of a line that ends a run.
@@ -133,6 +222,8 @@ fn lane_count(writer: &mut Writer, lane: &LaneCount) -> Result<(), AllocError>
     writer.begin_object()?;
     number(writer, "lane", u64::from(lane.lane))?;
     number(writer, "entries", lane.entries)?;
+    number_if_any(writer, "accepted", lane.accepted)?;
+    number_if_any(writer, "left", lane.left)?;
     writer.end_object()
 }
 
@@ -167,11 +258,21 @@ fn number(writer: &mut Writer, key: &str, value: u64) -> Result<(), AllocError>
 }
 
 /// A number, where there is one.
-fn number_if_any(writer: &mut Writer, key: &str, value: Option<u32>) -> Result<(), AllocError>
+fn number_if_any(writer: &mut Writer, key: &str, value: Option<u64>) -> Result<(), AllocError>
     ensures { OnOk result (writer.new.before ≡ writer.old.before) }
 {
     match value {
-        Some(value) => number(writer, key, u64::from(value)),
+        Some(value) => number(writer, key, value),
+        None => Ok(()),
+    }
+}
+
+/// A text, where there is one.
+fn text_if_any(writer: &mut Writer, key: &str, value: Option<&str>) -> Result<(), AllocError>
+    ensures { OnOk result (writer.new.before ≡ writer.old.before) }
+{
+    match value {
+        Some(value) => text(writer, key, value),
         None => Ok(()),
     }
 }

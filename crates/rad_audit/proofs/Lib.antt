@@ -1,1 +1,4 @@
 pub mod Entries
+pub mod Tabs
+pub mod Texts
+pub mod Values

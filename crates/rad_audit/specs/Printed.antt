@@ -10,6 +10,9 @@ use Rattle.rad_audit.specs.declared.printing.TornLine.{TornLine}
 use Rattle.rad_audit.specs.declared.printing.GapLine.{GapLine}
 use Rattle.rad_audit.specs.declared.printing.LaneCounts.{LaneCounts}
 use Rattle.rad_audit.specs.declared.printing.LaneLine.{LaneLine}
+use Rattle.rad_audit.specs.declared.printing.FateCounts.{FateCounts}
+use Rattle.rad_audit.specs.declared.printing.FatesLine.{FatesLine}
+use Rattle.rad_audit.specs.declared.printing.RangesLine.{RangesLine}
 
 abbrev pub place_text : Place → List ℕ
 place_text place = word_text place.file.now ++ codes ":" ++ decimal place.line
@@ -37,3 +40,13 @@ counts_text counts =
 
 abbrev pub lane_line : LaneLine → List ℕ
 lane_line line = name_text line.name ++ codes " " ++ counts_text line.counts
+
+abbrev pub fates_text : FateCounts → List ℕ
+fates_text fates =
+    codes "accepted " ++ decimal fates.accepted ++ codes " answered " ++ decimal fates.answered ++ codes " left " ++ decimal fates.left
+
+abbrev pub fates_line : FatesLine → List ℕ
+fates_line line = name_text line.name ++ codes " " ++ fates_text line.fates
+
+abbrev pub ranges_line : RangesLine → List ℕ
+ranges_line line = name_text line.name ++ codes " more than 4096 ranges"

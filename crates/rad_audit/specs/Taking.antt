@@ -1,22 +1,76 @@
--- What becomes of an entry of a lane that its run names (own).
-use Rattle.std.specs.Prelude.{◌≡◌, ◌≤◌, ℕ, List, [], ◌∷◌, ◌++◌, Option, Some}
+-- What becomes of an entry, or of a request that was left, of a lane that its run names (own).
+use Rattle.std.specs.Prelude.{◌≡◌, ◌≤◌, ◌+◌, ◌-◌, ◌^◌, min, ℕ, List, [], ◌∷◌, ◌++◌, Option, Some, None, option_copied, ⊤}
+use Rattle.rad_config.specs.Realm.{realm_of_packet}
+use Rattle.rad_lane.specs.Session.{session_id}
 use Rattle.rad_ledger.specs.Judging.{ArePacketsRight, IsWrong}
+use Rattle.rad_ledger.specs.Leaving.{IsRightlyLeft, IsWronglyLeft}
 use Rattle.rad_ledger.specs.Counting.{Counts, LeavesGap}
+use Rattle.rad_ledger.specs.Numbers.{IsAsBefore, IsKnown, Keeps}
+use Rattle.rad_ledger.specs.declared.account.Account.{Account}
 use Rattle.rad_ledger.specs.declared.entry.Entry.{Entry}
+use Rattle.rad_ledger.specs.declared.left.Left.{Left}
+use Rattle.rad_ledger.specs.declared.reason.Reason.{Reason}
+use Rattle.rad_ledger.specs.declared.reason.Reason.TheVariants.{NotEntry, NoPacket, WrongSent, WrongReply, WrongResponse, SerialNotAbove, UnknownLane, RecordTwice, WrongWords}
 use Rattle.rad_ledger.specs.declared.tally.Gap.{Gap}
 use Rattle.rad_ledger.specs.declared.tally.Tally.{Tally}
+use Rattle.rad_audit.specs.Facts.{number_at, value_at}
 use Rattle.rad_audit.specs.declared.taking.Taken.{Taken}
 use Rattle.rad_audit.specs.declared.taking.Taken.TheVariants.{Wrong, Counted}
 
+-- The number was not known to be that of another line, and now it is one of the lane's numbers.
+pub record CountsNumber (old new : Account) (number : ℕ) : Type 0 where
+  pub fresh : ¬ IsKnown old.numbers number
+  pub keeps : (numbers : List ℕ) → Keeps old.numbers numbers → Keeps new.numbers (numbers ++ number ∷ [])
+  pub told : new.told ≡ old.told
+
+-- Nothing is counted.
+pub record IsUnchanged (old new : Account) : Type 0 where
+  pub numbers : IsAsBefore old.numbers new.numbers
+  pub left : new.left ≡ old.left
+  pub told : new.told ≡ old.told
+
 -- Nothing is wrong with it, and it is one more of the lane's entries, behind this gap if there is one.
-pub record IsCounted (e : Entry) (home client : Option (List ℕ)) (old : Tally) (gap : Option Gap) (new : Tally) : Type 0 where
+pub record IsCounted (e : Entry) (home client : Option (List ℕ)) (old : Tally) (was : Account) (gap : Option Gap) (new : Tally) (is : Account) : Type 0 where
   pub right : ArePacketsRight e home client
   pub in_place : old.next ≤ e.serial
   pub leaves : LeavesGap old.next e.serial gap
   pub counts : (serials : List ℕ) → Counts old serials → Counts new (serials ++ e.serial ∷ [])
   pub first : new.first ≡ old.first
   pub end : new.end ≡ old.end
+  pub number : CountsNumber was is e.number
+  pub left : is.left ≡ was.left
 
-abbrev pub Takes : Entry → Option (List ℕ) → Option (List ℕ) → Tally → Taken → Tally → Type 0
-Takes e home client old (Wrong reason) new = IsWrong e home client (Some old.next) reason × (new ≡ old)
-Takes e home client old (Counted gap) new = IsCounted e home client old gap new
+abbrev pub Takes : Entry → Option (List ℕ) → Option (List ℕ) → Tally → Account → Taken → Tally → Account → Type 0
+Takes e home client old was (Wrong reason) new is =
+    IsWrong e home client (Some old.next) (IsKnown was.numbers e.number) reason × (new ≡ old) × IsUnchanged was is
+Takes e home client old was (Counted gap) new is = IsCounted e home client old was gap new is
+
+-- The words of a line are those of its request.
+pub record HasItsWords (left : Left) : Type 0 where
+  pub realm : option_copied left.realm ≡ realm_of_packet left.request.now
+  pub session : option_copied left.session ≡ session_id left.request.now
+  pub user : option_copied left.user ≡ value_at 1 left.request.now
+  pub status : left.status ≡ number_at 40 left.request.now
+
+-- Nothing is wrong with it, and it is one more of the lane's requests that were left.
+pub record IsCountedLeft (left : Left) (client : Option (List ℕ)) (was is : Account) : Type 0 where
+  pub right : IsRightlyLeft left client ⊤ (IsKnown was.numbers left.number)
+  pub words : HasItsWords left
+  pub number : CountsNumber was is left.number
+  pub more : is.left ≡ min (was.left + 1) (2 ^ 64 - 1)
+
+-- What is wrong with it: its words last.
+abbrev pub IsWrongLeft : Left → Option (List ℕ) → Account → Reason → Type 0
+IsWrongLeft left client was NotEntry = ⊥
+IsWrongLeft left client was NoPacket = IsWronglyLeft left client ⊤ (IsKnown was.numbers left.number) NoPacket
+IsWrongLeft left client was WrongSent = IsWronglyLeft left client ⊤ (IsKnown was.numbers left.number) WrongSent
+IsWrongLeft left client was WrongReply = ⊥
+IsWrongLeft left client was WrongResponse = ⊥
+IsWrongLeft left client was SerialNotAbove = ⊥
+IsWrongLeft left client was UnknownLane = ⊥
+IsWrongLeft left client was RecordTwice = IsWronglyLeft left client ⊤ (IsKnown was.numbers left.number) RecordTwice
+IsWrongLeft left client was WrongWords = IsRightlyLeft left client ⊤ (IsKnown was.numbers left.number) × ¬ HasItsWords left
+
+abbrev pub Leaves : Left → Option (List ℕ) → Account → Option Reason → Account → Type 0
+Leaves left client was None is = IsCountedLeft left client was is
+Leaves left client was (Some reason) is = IsWrongLeft left client was reason × IsUnchanged was is

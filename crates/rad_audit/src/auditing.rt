@@ -1,6 +1,6 @@
 //! The audit of files.
 
-ghost use Rattle.std.specs.Prelude.{◌≡◌, ◌↔◌, ◌<◌, ◌^◌, IfErr, IfOk, IsTrue, find, option_copied, option_map};
+ghost use Rattle.std.specs.Prelude.{◌≡◌, ◌↔◌, ◌<◌, ◌^◌, IfErr, IfOk, IsTrue, MatchOption, None, find, option_copied, option_map};
 ghost use Rattle.std.specs.Str.{bytes_eq};
 ghost use Rattle.rad_realms.specs.Realm.{client_of};
 ghost use Rattle.rad_audit.specs.Lines.{IsFront};
@@ -10,39 +10,46 @@ ghost use Rattle.rad_audit.specs.declared.printing.Findings.{Findings as TheFind
 
 use crate::faults::Fault;
 use crate::line_room::{LineRoom, Piece};
-use crate::printing::{Findings, GapLine, LaneLine, LaneName, Place, Report, TornLine, WrongLine};
-use crate::runs::Runs;
-use crate::taking::{Taken, judge_stray, take_entry};
-use ledger_lines::{Begin, End, Line, LineFault, MOST_LINE_OCTETS, Room, read_line};
+use crate::printing::{
+    FatesLine, Findings, GapLine, LaneLine, LaneName, Outputs, Place, RangesLine, Report, TornLine,
+    WrongLine,
+};
+use crate::runs::{Lane, Runs};
+use crate::taking::{Taken, judge_stray, judge_stray_left, take_entry, take_left};
+use ledger_lines::{Begin, End, LaneCount, Line, LineFault, MOST_LINE_OCTETS, Room, read_line};
+use libc::{STDERR_FILENO, isatty};
 use rad_auth::Secret;
-use rad_ledger::{Entry, Reason};
+use rad_ledger::{Entry, Fates, Left, Reason};
 use rad_realms::{Config, Home};
 use std::alloc::{AllocError, Global};
 use std::fs;
 use std::io::{BufRead, BufReader, Write};
-use std::rt::Files;
+use std::rt::Runtime;
 
 /// How many octets of a file are read at once.
 const READ_OCTETS: usize = 262_144;
+
+/// After so many lines of a file standard error tells how far the audit is, where that is a terminal.
+const LINES_APART: u64 = 65_536;
 
 /// Audits the ledgers in these files, in this order, and prints what it finds. Returns the status.
 ///
 /// # Errors
 ///
 /// `File` if a file can't be read, `Output` if nothing more can be printed, `Memory` if a growth is refused.
-pub fn audit_files<R: Files, W: Write>(
+pub fn audit_files<R: Runtime, W: Write>(
     rt: &R,
     alloc: Global,
     config: &Config,
     files: &[&str],
-    output: &mut W,
+    outputs: Outputs<'_, W>,
 ) -> Result<u8, Fault>
 where
     R::File: Drop,
     ensures { IfOk result (λ status. (found : TheFindings) × (status ≡ status_at found)) }
 {
     let report = Report {
-        output,
+        outputs,
         findings: Findings {
             wrong: false,
             gap: false,
@@ -94,19 +101,38 @@ impl<'a, W: Write> Audit<'a, W> {
     }
 
     /// Reads the files, prints what each lane of each run has, and returns the status.
-    fn read_files<R: Files>(&mut self, rt: &R, files: &[&str]) -> Result<u8, Fault>
+    fn read_files<R: Runtime>(&mut self, rt: &R, files: &[&str]) -> Result<u8, Fault>
     where
         R::File: Drop,
         ensures { IfOk result (λ status. (found : TheFindings) × (status ≡ status_at found)) }
     {
-        for path in files {
-            self.open(rt, path)?;
+        let is_watched = isatty(STDERR_FILENO) == 1;
+        let read = self.open_each(rt, files, is_watched);
+        if is_watched {
+            clear_place(rt);
         }
+        read?;
         self.end()
     }
 
+    /// Opens the files of these paths, one after the other, and reads their lines.
+    fn open_each<R: Runtime>(
+        &mut self,
+        rt: &R,
+        files: &[&str],
+        is_watched: bool,
+    ) -> Result<(), Fault>
+    where
+        R::File: Drop,
+    {
+        for path in files {
+            self.open(rt, path, is_watched)?;
+        }
+        Ok(())
+    }
+
     /// Opens the file of this path, and reads its lines.
-    fn open<R: Files>(&mut self, rt: &R, path: &str) -> Result<(), Fault>
+    fn open<R: Runtime>(&mut self, rt: &R, path: &str, is_watched: bool) -> Result<(), Fault>
     where
         R::File: Drop,
     {
@@ -117,13 +143,22 @@ impl<'a, W: Write> Audit<'a, W> {
         let Ok(mut reader) = BufReader::with_capacity(self.alloc, READ_OCTETS, file) else {
             return Err(Fault::Memory);
         };
-        self.read_file(path, &mut reader)
+        self.read_file(rt, path, &mut reader, is_watched)
     }
 
     /// Reads the lines of a file.
-    fn read_file<R: BufRead>(&mut self, file: &str, reader: &mut R) -> Result<(), Fault> {
+    fn read_file<H: Runtime, R: BufRead>(
+        &mut self,
+        rt: &H,
+        file: &str,
+        reader: &mut R,
+        is_watched: bool,
+    ) -> Result<(), Fault> {
         for line in 1..u64::MAX {
             let place = Place { file, line };
+            if is_watched && line.is_multiple_of(LINES_APART) {
+                tell_place(rt, place);
+            }
             let piece = match self.line.read(reader) {
                 Ok(piece) => piece,
                 Err(error) => return Err(Fault::of_file(self.alloc, file, &error)),
@@ -169,6 +204,7 @@ impl<'a, W: Write> Audit<'a, W> {
         let (runs, report) = (&mut self.runs, &mut self.report);
         let taken = match read_line(alloc, self.line.as_slice(), &mut self.room) {
             Ok(Line::Entry(entry)) => count_entry(alloc, config, runs, report, place, &entry),
+            Ok(Line::Left(left)) => count_left(config, runs, report, place, &left),
             Ok(Line::Begin(begin)) => take_begin(alloc, runs, &begin),
             Ok(Line::End(end)) => take_end(runs, report, place, &end),
             Err(LineFault::NotALine) => return Ok(false),
@@ -202,11 +238,21 @@ impl<'a, W: Write> Audit<'a, W> {
     {
         for run in self.runs.as_slice() {
             for lane in run.lanes.as_slice() {
-                self.report.lane(LaneLine::of(run.run, lane))?;
+                tell_lane(&mut self.report, run.run, lane)?;
             }
         }
         Ok(self.report.findings.status())
     }
+}
+
+/// Tells at which line of the files the audit is. Whatever is printed next is written over that.
+fn tell_place<R: Runtime>(rt: &R, place: Place<'_>) {
+    let _ = eprint!(rt; "\u{1b}[K{place}\r");
+}
+
+/// Takes away what was told of the lines.
+fn clear_place<R: Runtime>(rt: &R) {
+    let _ = eprint!(rt; "\u{1b}[K");
 }
 
 /// A file begins.
@@ -254,22 +300,65 @@ fn count_entry<W: Write>(
             };
         }
     };
-    match take_entry(alloc, entry, home, client, &mut lane.tally) {
+    match take_entry(
+        alloc,
+        entry,
+        home,
+        client,
+        &mut lane.tally,
+        &mut lane.account,
+    ) {
         Ok(Taken::Wrong(reason)) => report.wrong(WrongLine { place, reason }),
         Ok(Taken::Counted(gap)) => {
             if home.is_none() {
                 lane.not_judged = lane.not_judged.saturating_add(1);
             }
-            match gap {
-                Some(gap) => {
-                    let name = LaneName::of(entry.run, lane);
-                    report.gap(GapLine { place, name, gap })
-                }
-                None => Ok(()),
+            if let Some(gap) = gap {
+                let name = LaneName::of(entry.run, lane);
+                report.gap(GapLine { place, name, gap })?;
             }
+            report.row(place, entry)
         }
         Err(_) => Err(Fault::Memory),
     }
+}
+
+/// Counts a request that was left, or tells what is wrong with it.
+fn count_left<W: Write>(
+    config: &Config,
+    runs: &mut Runs,
+    report: &mut Report<'_, W>,
+    place: Place<'_>,
+    left: &Left<'_>,
+) -> Result<(), Fault> {
+    let client = secret_of_client(config, left.client);
+    let lane = match runs.lane(left.run, left.lane) {
+        Some(lane) if lane.home.as_str() == left.home => lane,
+        _ => {
+            let reason = judge_stray_left(left, client);
+            return report.wrong(WrongLine { place, reason });
+        }
+    };
+    match take_left(left, client, &mut lane.account) {
+        Ok(Some(reason)) => report.wrong(WrongLine { place, reason }),
+        Ok(None) => report.left_row(place, left),
+        Err(_) => Err(Fault::Memory),
+    }
+}
+
+/// Prints what a lane of a run has.
+fn tell_lane<W: Write>(report: &mut Report<'_, W>, run: u64, lane: &Lane) -> Result<(), Fault>
+    ensures { IfErr result (λ fault. fault ≡ Output) }
+{
+    report.lane(LaneLine::of(run, lane))?;
+    if let Some(line) = FatesLine::of(run, lane) {
+        report.fates(line)?;
+    }
+    if !lane.account.is_exact() {
+        let name = LaneName::of(run, lane);
+        report.ranges(RangesLine { name })?;
+    }
+    Ok(())
 }
 
 /// Returns the secret of the home server with this name, if the configuration has it.
@@ -315,10 +404,21 @@ fn take_end<W: Write>(
             report.wrong(WrongLine { place, reason })?;
             continue;
         };
+        lane.account.end(fates_of(count));
         if let Some(gap) = lane.tally.end(count.entries) {
             let name = LaneName::of(end.run, lane);
             report.gap(GapLine { place, name, gap })?;
         }
     }
     Ok(())
+}
+
+/// Returns what an end line says of the requests of a lane, if it does.
+fn fates_of(count: &LaneCount) -> Option<Fates>
+    ensures { MatchOption count.now.accepted (result ≡ None) (λ accepted. MatchOption count.now.left (result ≡ None) (λ left. MatchOption result ⊥ (λ fates. (fates.accepted ≡ accepted) × (fates.left ≡ left)))) }
+{
+    match (count.accepted, count.left) {
+        (Some(accepted), Some(left)) => Some(Fates { accepted, left }),
+        _ => None,
+    }
 }

@@ -3,11 +3,15 @@
 #![tactic(auto)]
 
 mod auditing;
+mod cells;
+mod facts;
 mod faults;
 mod line_room;
 mod printing;
+mod rows;
 mod runs;
 mod shown;
+mod streams;
 mod taking;
 mod words;
 
@@ -18,6 +22,7 @@ ghost use Rattle.rad_audit.specs.declared.printing.Findings.{Findings as TheFind
 
 use auditing::audit_files;
 use faults::Fault;
+use printing::{Findings, Outputs};
 use rad_console::{read_at_most, read_configuration};
 use rad_realms::Config;
 use std::alloc::{AllocGlobal, Global};
@@ -26,7 +31,8 @@ use std::fs;
 use std::io::{self, BufWriter, Error, ErrorKind, Print, Write};
 use std::process::ExitCode;
 use std::rt::{Files, Runtime};
-use words::{Words, read_words};
+use streams::Stream;
+use words::{Asked, Words, read_words};
 
 /// The most octets of a configuration's file.
 const MOST_FILE_OCTETS: u64 = 1_048_576;
@@ -60,8 +66,25 @@ where
     R::File: Drop,
     ensures { IfOk result (λ status. (found : TheFindings) × (status ≡ status_at found)) }
 {
-    let words = read_words(alloc, arguments)?;
-    audit_words(rt, alloc, &words)
+    match read_words(alloc, arguments)? {
+        Asked::Audit(words) => audit_words(rt, alloc, &words),
+        Asked::Text(text) => print_text(rt, &text),
+    }
+}
+
+/// Prints the text of `--help`, or of `--version`, on standard output, and returns the status.
+fn print_text<R: Runtime>(rt: &R, text: &clap::Error) -> Result<u8, Fault>
+    ensures status { IfOk result (λ status. (found : TheFindings) × (status ≡ status_at found)) }
+    ensures none { IfOk result (λ status. status ≡ 0) }
+{
+    let none = Findings {
+        wrong: false,
+        gap: false,
+    };
+    match print!(rt; "{text}") {
+        Ok(()) => Ok(none.status()),
+        Err(_) => Err(Fault::Output),
+    }
 }
 
 /// Audits the files that these words name, and returns the status.
@@ -71,7 +94,12 @@ where
     ensures { IfOk result (λ status. (found : TheFindings) × (status ≡ status_at found)) }
 {
     let config = load(rt, alloc, words.config)?;
-    print_audit(rt, alloc, &config, words.files.as_slice())
+    let files = words.files.as_slice();
+    if words.rows {
+        print_rows(rt, alloc, &config, files)
+    } else {
+        print_audit(rt, alloc, &config, files)
+    }
 }
 
 /// Audits files against a configuration, prints what it finds on standard output, and returns the status.
@@ -85,14 +113,57 @@ where
     R::File: Drop,
     ensures { IfOk result (λ status. (found : TheFindings) × (status ≡ status_at found)) }
 {
-    let Ok(mut output) = BufWriter::new(alloc, io::writer(rt)) else {
-        return Err(Fault::Memory);
+    let mut output = buffered(alloc, Stream::Output(io::writer(rt)))?;
+    let outputs = Outputs {
+        lines: &mut output,
+        rows: None,
     };
-    let audited = audit_files(rt, alloc, config, files, &mut output);
-    if output.flush().is_err() {
-        return Err(Fault::Output);
-    }
+    let audited = audit_files(rt, alloc, config, files, outputs);
+    flush(&mut output)?;
     audited
+}
+
+/// Audits files against a configuration, prints a row for each record that is right on standard output and what it finds
+/// on standard error, and returns the status.
+fn print_rows<R: Runtime>(
+    rt: &R,
+    alloc: Global,
+    config: &Config,
+    files: &[&str],
+) -> Result<u8, Fault>
+where
+    R::File: Drop,
+    ensures { IfOk result (λ status. (found : TheFindings) × (status ≡ status_at found)) }
+{
+    let mut rows = buffered(alloc, Stream::Output(io::writer(rt)))?;
+    let mut lines = buffered(alloc, Stream::Error)?;
+    let outputs = Outputs {
+        lines: &mut lines,
+        rows: Some(&mut rows),
+    };
+    let audited = audit_files(rt, alloc, config, files, outputs);
+    flush(&mut rows)?;
+    flush(&mut lines)?;
+    audited
+}
+
+/// Returns a stream with a buffer.
+fn buffered<P: Print>(
+    alloc: Global,
+    stream: Stream<'_, P>,
+) -> Result<BufWriter<Stream<'_, P>>, Fault> {
+    match BufWriter::new(alloc, stream) {
+        Ok(buffered) => Ok(buffered),
+        Err(_) => Err(Fault::Memory),
+    }
+}
+
+/// Writes what a buffer has.
+fn flush<W: Write>(output: &mut W) -> Result<(), Fault> {
+    match output.flush() {
+        Ok(()) => Ok(()),
+        Err(_) => Err(Fault::Output),
+    }
 }
 
 /// Reads the configuration in a file.

@@ -5,9 +5,10 @@ ghost use Rattle.rad_audit.specs.declared.faults.Fault.TheVariants.{Output};
 ghost use Rattle.rad_audit.specs.Statuses.{is_missing as the_is_missing};
 
 use crate::faults::Fault;
+use crate::rows::Row;
 use crate::runs::Lane;
 use crate::shown::Shown;
-use rad_ledger::{Gap, Reason, Verdict};
+use rad_ledger::{Entry, Gap, Left, Reason, Verdict, lane_verdict};
 use std::fmt;
 use std::io::Write;
 
@@ -58,6 +59,30 @@ pub struct LaneLine<'a> {
     pub counts: LaneCounts,
 }
 
+/// The line of what became of the requests that a lane of a run accepted, as an end line counts them.
+#[derive(Clone, Copy)]
+pub struct FatesLine<'a> {
+    pub name: LaneName<'a>,
+    pub fates: FateCounts,
+}
+
+/// What became of the requests that a lane of a run accepted.
+#[derive(Clone, Copy)]
+pub struct FateCounts {
+    /// How many there were, as the end line counts them.
+    pub accepted: u64,
+    /// How many entries are right.
+    pub answered: u64,
+    /// How many lines of requests that were left are right.
+    pub left: u64,
+}
+
+/// The line of a lane whose numbers are of more ranges than are kept.
+#[derive(Clone, Copy)]
+pub struct RangesLine<'a> {
+    pub name: LaneName<'a>,
+}
+
 /// What a lane of a run has.
 #[derive(Clone, Copy)]
 pub struct LaneCounts {
@@ -75,7 +100,7 @@ pub struct LaneCounts {
 pub struct Findings {
     /// Whether a line was wrong.
     pub wrong: bool,
-    /// Whether a response is missing.
+    /// Whether a response or a request is missing.
     pub gap: bool,
 }
 
@@ -115,14 +140,16 @@ impl<'a> LaneName<'a> {
 
 impl<'a> LaneLine<'a> {
     ghost use Rattle.std.specs.Prelude.{◌≡◌, ℕ, List, string_bytes};
-    ghost use Rattle.rad_ledger.specs.Counting.{Counts, Tells};
+    ghost use Rattle.rad_ledger.specs.Accounting.{TellsLane};
+    ghost use Rattle.rad_ledger.specs.Counting.{Counts};
+    ghost use Rattle.rad_ledger.specs.Numbers.{Keeps};
 
     /// Returns the line of this lane of a run.
     pub fn of(run: u64, lane: &'a Lane) -> LaneLine<'a>
         ensures name { (result.name.run ≡ run) × (result.name.number ≡ lane.now.number) }
         ensures home { result.name.home.now ≡ string_bytes lane.now.home.0 }
         ensures counts { (result.counts.first ≡ lane.now.tally.first) × (result.counts.entries ≡ lane.now.tally.entries) × (result.counts.not_judged ≡ lane.now.not_judged) }
-        ensures verdict { (serials : List ℕ) → Counts lane.now.tally serials → Tells lane.now.tally serials result.counts.verdict }
+        ensures verdict { (serials : List ℕ) (numbers : List ℕ) → Counts lane.now.tally serials → Keeps lane.now.account.numbers numbers → TellsLane lane.now.tally lane.now.account serials numbers result.counts.verdict }
     {
         LaneLine {
             name: LaneName::of(run, lane),
@@ -130,16 +157,42 @@ impl<'a> LaneLine<'a> {
                 first: lane.tally.first(),
                 entries: lane.tally.entries(),
                 not_judged: lane.not_judged,
-                verdict: lane.tally.verdict(),
+                verdict: lane_verdict(&lane.tally, &lane.account),
             },
         }
     }
 }
 
+impl<'a> FatesLine<'a> {
+    ghost use Rattle.std.specs.Prelude.{◌≡◌, None, MatchOption};
+
+    /// Returns the line of what became of the requests of this lane of a run, if an end line counts them.
+    pub fn of(run: u64, lane: &'a Lane) -> Option<FatesLine<'a>>
+        ensures { MatchOption result (lane.now.account.told ≡ None) (λ line. (line.fates.answered ≡ lane.now.tally.entries) × (line.fates.left ≡ lane.now.account.left) × MatchOption lane.now.account.told ⊥ (λ told. line.fates.accepted ≡ told.accepted)) }
+    {
+        let told = lane.account.told()?;
+        Some(FatesLine {
+            name: LaneName::of(run, lane),
+            fates: FateCounts {
+                accepted: told.accepted,
+                answered: lane.tally.entries(),
+                left: lane.account.left(),
+            },
+        })
+    }
+}
+
+/// Where lines are printed, and rows, if they are.
+#[derive(Drop)]
+pub struct Outputs<'a, W> {
+    pub lines: &'a mut W,
+    pub rows: Option<&'a mut W>,
+}
+
 /// Where lines are printed, and what they told so far.
 #[derive(Drop)]
 pub struct Report<'a, W> {
-    pub output: &'a mut W,
+    pub outputs: Outputs<'a, W>,
     pub findings: Findings,
 }
 
@@ -156,7 +209,7 @@ impl<W: Write> Report<'_, W> {
         ensures fault { IfErr result (λ fault. fault ≡ Output) }
     {
         self.findings.wrong = true;
-        written(writeln!(self.output, "{line}"))
+        written(writeln!(self.outputs.lines, "{line}"))
     }
 
     /// Tells of a line that was cut short. That is no fault.
@@ -164,7 +217,7 @@ impl<W: Write> Report<'_, W> {
         ensures findings { self.new.findings ≡ self.old.findings }
         ensures fault { IfErr result (λ fault. fault ≡ Output) }
     {
-        written(writeln!(self.output, "{line}"))
+        written(writeln!(self.outputs.lines, "{line}"))
     }
 
     /// Tells of responses that are missing.
@@ -173,7 +226,52 @@ impl<W: Write> Report<'_, W> {
         ensures fault { IfErr result (λ fault. fault ≡ Output) }
     {
         self.findings.gap = true;
-        written(writeln!(self.output, "{line}"))
+        written(writeln!(self.outputs.lines, "{line}"))
+    }
+
+    /// Prints the row of an entry, if rows are printed.
+    pub fn row(&mut self, place: Place<'_>, entry: &Entry<'_>) -> Result<(), Fault>
+        ensures findings { self.new.findings ≡ self.old.findings }
+        ensures fault { IfErr result (λ fault. fault ≡ Output) }
+    {
+        let Some(rows) = &mut self.outputs.rows else {
+            return Ok(());
+        };
+        match Row::of_entry(place, entry) {
+            Some(row) => written(writeln!(rows, "{row}")),
+            None => Ok(()),
+        }
+    }
+
+    /// Prints the row of a request that was left, if rows are printed.
+    pub fn left_row(&mut self, place: Place<'_>, left: &Left<'_>) -> Result<(), Fault>
+        ensures findings { self.new.findings ≡ self.old.findings }
+        ensures fault { IfErr result (λ fault. fault ≡ Output) }
+    {
+        let Some(rows) = &mut self.outputs.rows else {
+            return Ok(());
+        };
+        if let Some(row) = Row::of_left(place, left) {
+            written(writeln!(rows, "{row}"))
+        } else {
+            Ok(())
+        }
+    }
+
+    /// Tells what became of the requests of a lane of a run.
+    pub fn fates(&mut self, line: FatesLine<'_>) -> Result<(), Fault>
+        ensures findings { self.new.findings ≡ self.old.findings }
+        ensures fault { IfErr result (λ fault. fault ≡ Output) }
+    {
+        written(writeln!(self.outputs.lines, "{line}"))
+    }
+
+    /// Tells that the numbers of a lane of a run are of too many ranges.
+    pub fn ranges(&mut self, line: RangesLine<'_>) -> Result<(), Fault>
+        ensures findings { self.new.findings ≡ self.old.findings }
+        ensures fault { IfErr result (λ fault. fault ≡ Output) }
+    {
+        written(writeln!(self.outputs.lines, "{line}"))
     }
 
     /// Tells what a lane of a run has.
@@ -184,15 +282,15 @@ impl<W: Write> Report<'_, W> {
         if is_missing(line.counts.verdict) {
             self.findings.gap = true;
         }
-        written(writeln!(self.output, "{line}"))
+        written(writeln!(self.outputs.lines, "{line}"))
     }
 }
 
-/// Whether a response is missing.
+/// Whether a response or a request is missing.
 fn is_missing(verdict: Verdict) -> bool
     ensures { result ≡ the_is_missing verdict }
 {
-    matches!(verdict, Verdict::Missing(_))
+    matches!(verdict, Verdict::Missing(_) | Verdict::Unaccounted)
 }
 
 /// Returns the fault of a line that can't be printed.
@@ -282,6 +380,45 @@ impl fmt::Display for LaneLine<'_> {
         let name = self.name;
         let counts = self.counts;
         write!(f, "{name} {counts}")
+    }
+}
+
+impl fmt::Display for FatesLine<'_> {
+    ghost use Rattle.std.specs.Prelude.{Some};
+    ghost use Rattle.rad_audit.specs.Printed.{fates_line};
+
+    ghost output = { λ line. Some (fates_line line) };
+
+    fn fmt<W: fmt::Write>(&self, f: &mut fmt::Formatter<W>) -> fmt::Result {
+        let name = self.name;
+        let fates = self.fates;
+        write!(f, "{name} {fates}")
+    }
+}
+
+impl fmt::Display for FateCounts {
+    ghost use Rattle.std.specs.Prelude.{Some};
+    ghost use Rattle.rad_audit.specs.Printed.{fates_text};
+
+    ghost output = { λ fates. Some (fates_text fates) };
+
+    fn fmt<W: fmt::Write>(&self, f: &mut fmt::Formatter<W>) -> fmt::Result {
+        let accepted = self.accepted;
+        let answered = self.answered;
+        let left = self.left;
+        write!(f, "accepted {accepted} answered {answered} left {left}")
+    }
+}
+
+impl fmt::Display for RangesLine<'_> {
+    ghost use Rattle.std.specs.Prelude.{Some};
+    ghost use Rattle.rad_audit.specs.Printed.{ranges_line};
+
+    ghost output = { λ line. Some (ranges_line line) };
+
+    fn fmt<W: fmt::Write>(&self, f: &mut fmt::Formatter<W>) -> fmt::Result {
+        let name = self.name;
+        write!(f, "{name} more than 4096 ranges")
     }
 }
 

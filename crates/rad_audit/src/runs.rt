@@ -2,8 +2,9 @@
 
 use crate::shown::Word;
 use ledger_lines::{Begin, LaneStart};
-use rad_ledger::Tally;
+use rad_ledger::{Account, Tally};
 use std::alloc::{AllocError, Global};
+use std::collections::BTreeMap;
 
 /// A lane of a run.
 #[derive(Drop)]
@@ -13,6 +14,8 @@ pub struct Lane {
     pub home: Word,
     /// The entries that are right.
     pub tally: Tally,
+    /// The numbers of these entries and of the requests that were left.
+    pub account: Account,
     /// How many of these were not judged, because the configuration does not have the home server.
     pub not_judged: u64,
 }
@@ -29,6 +32,8 @@ pub struct Run {
 #[derive(Drop)]
 pub struct Runs {
     runs: Vec<Run>,
+    /// The place of each run in that list, by its name.
+    places: BTreeMap<u64, usize>,
     /// The place of the run that was last asked for.
     last: usize,
 }
@@ -37,6 +42,7 @@ impl Runs {
     pub fn new(alloc: Global) -> Runs {
         Runs {
             runs: Vec::new(alloc),
+            places: BTreeMap::new(alloc),
             last: 0,
         }
     }
@@ -49,16 +55,25 @@ impl Runs {
     ///
     /// # Errors
     ///
-    /// `AllocError` if memory is refused. The run is then not known.
+    /// `AllocError` if memory is refused. The run then has no lanes.
     pub fn begin(&mut self, alloc: Global, begin: &Begin<'_>) -> Result<(), AllocError> {
         if self.place_of(begin.run).is_some() {
             return Ok(());
         }
         let run = begin.run;
+        self.name(run)?;
         let mut lanes = Vec::with_capacity(alloc, begin.lanes.len())?;
         match add_lanes(alloc, &mut lanes, begin) {
             Ok(()) => push(&mut self.runs, Run { run, lanes }),
             Err(refused) => Err(refused),
+        }
+    }
+
+    /// Keeps the place at which a run comes next.
+    fn name(&mut self, run: u64) -> Result<(), AllocError> {
+        match self.places.insert(run, self.runs.len()) {
+            Ok(_) => Ok(()),
+            Err(_) => Err(AllocError),
         }
     }
 
@@ -67,7 +82,7 @@ impl Runs {
         if self.runs.get(self.last).is_some_and(|last| last.run == run) {
             return Some(self.last);
         }
-        self.runs.iter().position(|known| known.run == run)
+        self.places.get(&run).copied()
     }
 
     /// Returns the lane of this number, if there is such a run and it has one.
@@ -93,6 +108,7 @@ fn lane_of(alloc: Global, start: &LaneStart<'_>) -> Result<Lane, AllocError> {
         number: start.lane,
         home: Word::new(alloc, start.home)?,
         tally: Tally::new(start.serial),
+        account: Account::new(alloc),
         not_judged: 0,
     })
 }

@@ -17,11 +17,11 @@ struct ShownCharacter(char);
 
 /// Octets, each printed as `%` and two hexadecimal digits.
 #[derive(Clone, Copy)]
-struct EscapedOctets<'a>(&'a [u8]);
+pub struct EscapedOctets<'a>(pub &'a [u8]);
 
 /// One of them.
 #[derive(Clone, Copy)]
-struct EscapedOctet(u8);
+pub struct EscapedOctet(pub u8);
 
 impl fmt::Display for Shown<'_> {
     ghost use Rattle.std.specs.Prelude.{Some};

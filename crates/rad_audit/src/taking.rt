@@ -1,11 +1,15 @@
-//! What becomes of an entry.
+//! What becomes of an entry, and of a request that was left.
 
-ghost use Rattle.std.specs.Prelude.{◌≡◌, ◌<◌, ◌^◌, IfErr, IfOk, None, option_copied};
+ghost use Rattle.std.specs.Prelude.{◌≡◌, ◌↔◌, ◌<◌, ◌^◌, false, IfErr, IfOk, IsTrue, None, option_copied};
+ghost use Rattle.rad_packet.specs.Packet.{IsPacketText};
 ghost use Rattle.rad_ledger.specs.Judging.{IsWrong};
-ghost use Rattle.rad_audit.specs.Taking.{Takes};
+ghost use Rattle.rad_ledger.specs.Leaving.{IsWronglyLeft};
+ghost use Rattle.rad_ledger.specs.Numbers.{IsAsBefore, IsKnown};
+ghost use Rattle.rad_audit.specs.Taking.{HasItsWords, Leaves, Takes};
 
+use crate::facts::Facts;
 use rad_auth::Secret;
-use rad_ledger::{Entry, Gap, Reason, Tally, judge};
+use rad_ledger::{Account, Entry, Gap, Left, Reason, Tally, judge, judge_left, whole_packet};
 use std::alloc::{AllocError, Global};
 
 /// What became of an entry.
@@ -28,13 +32,19 @@ pub fn take_entry(
     home: Option<&Secret>,
     client: Option<&Secret>,
     tally: &mut Tally,
+    account: &mut Account,
 ) -> Result<Taken, AllocError>
     requires { entry.now.serial < 2 ^ 63 }
-    ensures taken { IfOk result (λ taken. Takes entry.now (option_copied home.entry) (option_copied client.entry) tally.old taken tally.new) }
-    ensures refused { IfErr result (λ _. tally.new ≡ tally.old) }
+    ensures taken { IfOk result (λ taken. Takes entry.now (option_copied home.entry) (option_copied client.entry) tally.old account.old taken tally.new account.new) }
+    ensures refused { IfErr result (λ _. (tally.new ≡ tally.old) × IsAsBefore account.old.numbers account.new.numbers) }
 {
-    if let Some(reason) = judge(alloc, entry, home, client, Some(tally.next()))? {
+    let next = Some(tally.next());
+    let twice = account.has(entry.number);
+    if let Some(reason) = judge(alloc, entry, home, client, next, twice)? {
         return Ok(Taken::Wrong(reason));
+    }
+    if !account.answer(entry.number)? {
+        return Ok(Taken::Wrong(Reason::RecordTwice));
     }
     match tally.take(entry.serial) {
         Ok(gap) => Ok(Taken::Counted(gap)),
@@ -53,10 +63,73 @@ pub fn judge_stray(
     home: Option<&Secret>,
     client: Option<&Secret>,
 ) -> Result<Reason, AllocError>
-    ensures { IfOk result (λ reason. IsWrong entry.now (option_copied home.entry) (option_copied client.entry) None reason) }
+    ensures { IfOk result (λ reason. IsWrong entry.now (option_copied home.entry) (option_copied client.entry) None (IsTrue false) reason) }
 {
-    match judge(alloc, entry, home, client, None)? {
+    match judge(alloc, entry, home, client, None, false)? {
         Some(reason) => Ok(reason),
         None => Ok(Reason::UnknownLane),
+    }
+}
+
+/// Takes a request that was left, of a lane that its run names. It counts exactly if nothing is wrong with it, and otherwise
+/// this is the first thing that is wrong.
+///
+/// # Errors
+///
+/// `AllocError` if memory is refused.
+pub fn take_left(
+    left: &Left<'_>,
+    client: Option<&Secret>,
+    account: &mut Account,
+) -> Result<Option<Reason>, AllocError>
+    ensures taken { IfOk result (λ wrong. Leaves left.now (option_copied client.entry) account.old wrong account.new) }
+    ensures refused { IfErr result (λ _. IsAsBefore account.old.numbers account.new.numbers × (account.new.left ≡ account.old.left)) }
+{
+    let twice = account.has(left.number);
+    if let Some(reason) = judge_left(left, client, true, twice) {
+        return Ok(Some(reason));
+    }
+    if !has_its_words(left) {
+        return Ok(Some(Reason::WrongWords));
+    }
+    if account.leave(left.number)? {
+        Ok(None)
+    } else {
+        Ok(Some(Reason::RecordTwice))
+    }
+}
+
+/// Returns what is wrong with a request that was left, of a lane that its run does not name.
+pub fn judge_stray_left(left: &Left<'_>, client: Option<&Secret>) -> Reason
+    ensures { IsWronglyLeft left.now (option_copied client.entry) (IsTrue false) (IsTrue false) result }
+{
+    match judge_left(left, client, false, false) {
+        Some(reason) => reason,
+        None => Reason::UnknownLane,
+    }
+}
+
+/// Whether the words of a line are those of its request.
+fn has_its_words(left: &Left<'_>) -> bool
+    ensures { IsPacketText left.now.request.now → IsTrue result ↔ HasItsWords left.now }
+{
+    let Some(request) = whole_packet(left.request) else {
+        return false;
+    };
+    let facts = Facts::of(left.identifier, left.home, &request);
+    is_same(left.realm, facts.realm)
+        && is_same(left.session, facts.session)
+        && is_same(left.user, facts.user)
+        && left.status == facts.status
+}
+
+/// Whether two words are the same, or both are none.
+fn is_same(word: Option<&[u8]>, other: Option<&[u8]>) -> bool
+    ensures { IsTrue result ↔ (option_copied word.entry ≡ option_copied other.entry) }
+{
+    match (word, other) {
+        (Some(word), Some(other)) => word == other,
+        (None, None) => true,
+        _ => false,
     }
 }

@@ -5,21 +5,35 @@ use clap::error::ErrorKind;
 use clap::{Arg, ArgAction, ArgMatches, Command};
 use std::alloc::{AllocError, Global};
 
-/// The files to read.
+/// The version of the program.
+const VERSION: &str = "0.1.0";
+
+/// What the words ask for.
+#[derive(Drop)]
+pub enum Asked<'a> {
+    /// An audit.
+    Audit(Words<'a>),
+    /// The text of `--help`, or of `--version`.
+    Text(clap::Error),
+}
+
+/// What to read, and how to print it.
 #[derive(Drop)]
 pub struct Words<'a> {
+    /// Whether a row is printed for each record.
+    pub rows: bool,
     /// The configuration's.
     pub config: &'a str,
     /// The ledgers', in the order in which they are read.
     pub files: Vec<&'a str>,
 }
 
-/// Returns the files that the words name. The first word is the program's name.
+/// Returns what the words ask for. The first word is the program's name.
 ///
 /// # Errors
 ///
 /// `Usage` for words of any other form, `Memory` if a growth is refused.
-pub fn read_words(alloc: Global, words: &[String]) -> Result<Words<'_>, Fault> {
+pub fn read_words(alloc: Global, words: &[String]) -> Result<Asked<'_>, Fault> {
     let Ok(command) = command(alloc) else {
         return Err(Fault::Memory);
     };
@@ -28,11 +42,15 @@ pub fn read_words(alloc: Global, words: &[String]) -> Result<Words<'_>, Fault> {
         Err(error) => {
             return match error.kind() {
                 ErrorKind::OutOfMemory => Err(Fault::Memory),
+                ErrorKind::DisplayHelp | ErrorKind::DisplayVersion => Ok(Asked::Text(error)),
                 _ => Err(Fault::Usage),
             };
         }
     };
-    words_of(alloc, &matches)
+    match words_of(alloc, &matches) {
+        Ok(words) => Ok(Asked::Audit(words)),
+        Err(fault) => Err(fault),
+    }
 }
 
 /// Returns the files that the matched words name.
@@ -40,21 +58,39 @@ fn words_of<'a>(alloc: Global, matches: &ArgMatches<'a>) -> Result<Words<'a>, Fa
     let (Some(config), Some(files)) = (matches.get_str("CONFIG"), matches.get_strs("FILE")) else {
         return Err(Fault::Usage);
     };
+    let rows = matches.get_flag("rows");
     match files.to_vec(alloc) {
-        Ok(files) => Ok(Words { config, files }),
+        Ok(files) => Ok(Words {
+            rows,
+            config,
+            files,
+        }),
         Err(_) => Err(Fault::Memory),
     }
 }
 
 /// Returns the words that the program takes.
 fn command<'a>(alloc: Global) -> Result<Command<'a>, AllocError> {
-    let command = Command::new(alloc, "rad_audit").arg(config_word(alloc))?;
+    let command = Command::new(alloc, "rad_audit")
+        .version(VERSION)
+        .about("Audits ledgers of rad_proxy. rad_audit(1) says what it prints.")
+        .arg(rows_word(alloc))?;
+    let command = command.arg(config_word(alloc))?;
     command.arg(file_words(alloc))
+}
+
+/// Returns the word `--rows`.
+fn rows_word<'a>(alloc: Global) -> Arg<'a> {
+    Arg::new(alloc, "rows")
+        .long("rows")
+        .help("Print a row for each entry that is right, and all else on standard error")
+        .action(ArgAction::SetTrue)
 }
 
 /// Returns the word CONFIG, which is required.
 fn config_word<'a>(alloc: Global) -> Arg<'a> {
     Arg::new(alloc, "CONFIG")
+        .help("The configuration that the proxy had")
         .required(true)
         .action(ArgAction::Set)
 }
@@ -62,6 +98,7 @@ fn config_word<'a>(alloc: Global) -> Arg<'a> {
 /// Returns the words FILE, of which one is required.
 fn file_words<'a>(alloc: Global) -> Arg<'a> {
     Arg::new(alloc, "FILE")
+        .help("The files of ledgers, in their order")
         .required(true)
         .num_args(1..)
         .action(ArgAction::Append)

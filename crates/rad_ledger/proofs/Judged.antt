@@ -7,7 +7,7 @@ use Rattle.rad_auth.specs.declared.mark.Mark.{Mark}
 use Rattle.rad_auth.specs.declared.reply.RequestHead.{RequestHead}
 use Rattle.rad_ledger.specs.declared.entry.Entry.{Entry}
 use Rattle.rad_ledger.specs.declared.reason.Reason.{Reason}
-use Rattle.rad_ledger.specs.declared.reason.Reason.TheVariants.{NotEntry, NoPacket, WrongSent, WrongReply, WrongResponse, SerialNotAbove, UnknownLane}
+use Rattle.rad_ledger.specs.declared.reason.Reason.TheVariants.{NotEntry, NoPacket, WrongSent, WrongReply, WrongResponse, SerialNotAbove, UnknownLane, RecordTwice, WrongWords}
 
 module _ (e : Entry) where
   pub sent_is_none : ¬ IsPacketText e.sent.now → ¬ ArePackets e
@@ -48,6 +48,8 @@ module _ (e : Entry) where
       by_reason (Some WrongResponse) j = (p, (s, j.0, j.1))
       by_reason (Some SerialNotAbove) j = j
       by_reason (Some UnknownLane) j = j
+      by_reason (Some RecordTwice) j = j
+      by_reason (Some WrongWords) j = j
 
       -- what is told of the reply and the response is told of the packets
       pub judged : {E : Type 0} (result : Result (Option Reason) E) → IfOk result (λ wrong. JudgesReply home client (head_of e) e.sent.now e.reply.now e.response.now wrong) → IfOk result (λ wrong. MatchOption wrong (ArePacketsRight e (Some home) client) (λ reason. IsWrongPacket e (Some home) client reason))
@@ -61,9 +63,9 @@ module _ (e : Entry) where
           (subst (λ x. IfOk result (λ wrong. JudgesReply home client (head_of e) x reply e.response.now wrong)) o
           (subst (λ x. IfOk result (λ wrong. JudgesReply home client x sent reply e.response.now wrong)) h j)))
 
-  module _ (home client : Option (List ℕ)) (next : Option ℕ) where
+  module _ (home client : Option (List ℕ)) (next : Option ℕ) (Twice : Type 0) where
     -- what is wrong with the packets is wrong first
-    pub packets_first : (reason : Reason) → IsWrongPacket e home client reason → IsWrong e home client next reason
+    pub packets_first : (reason : Reason) → IsWrongPacket e home client reason → IsWrong e home client next Twice reason
     packets_first NotEntry w = w
     packets_first NoPacket w = w
     packets_first WrongSent w = w
@@ -71,3 +73,5 @@ module _ (e : Entry) where
     packets_first WrongResponse w = w
     packets_first SerialNotAbove w = absurd w
     packets_first UnknownLane w = absurd w
+    packets_first RecordTwice w = absurd w
+    packets_first WrongWords w = w

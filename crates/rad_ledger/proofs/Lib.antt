@@ -5,3 +5,5 @@ pub mod Replies
 pub mod Judged
 pub mod Serials
 pub mod Outlets
+pub mod Edges
+pub mod Kept

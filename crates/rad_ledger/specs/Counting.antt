@@ -5,7 +5,7 @@ use Rattle.std.specs.Option.{option_map_or}
 use Rattle.rad_ledger.specs.declared.tally.Tally.{Tally}
 use Rattle.rad_ledger.specs.declared.tally.Gap.{Gap}
 use Rattle.rad_ledger.specs.declared.tally.Verdict.{Verdict}
-use Rattle.rad_ledger.specs.declared.tally.Verdict.TheVariants.{Whole, Open, Missing}
+use Rattle.rad_ledger.specs.declared.tally.Verdict.TheVariants.{Whole, Open, Missing, Unaccounted}
 
 -- The serials go on from the first one, none left out: 0, 1, 2 and so on where that is 0.
 abbrev pub GoOnFrom : ℕ → List ℕ → Type 0
@@ -60,3 +60,4 @@ abbrev pub Tells : Tally → List ℕ → Verdict → Type 0
 Tells tally serials Whole = IsWhole tally serials
 Tells tally serials Open = IsOpen tally serials
 Tells tally serials (Missing gap) = IsFirstGap tally.first serials gap ⊎ IsCutShort tally serials gap
+Tells tally serials Unaccounted = ⊥

@@ -8,7 +8,7 @@ use Rattle.rad_auth.specs.declared.mark.Mark.{Mark}
 use Rattle.rad_auth.specs.declared.reply.RequestHead.{RequestHead}
 use Rattle.rad_ledger.specs.declared.entry.Entry.{Entry}
 use Rattle.rad_ledger.specs.declared.reason.Reason.{Reason}
-use Rattle.rad_ledger.specs.declared.reason.Reason.TheVariants.{NotEntry, NoPacket, WrongSent, WrongReply, WrongResponse, SerialNotAbove, UnknownLane}
+use Rattle.rad_ledger.specs.declared.reason.Reason.TheVariants.{NotEntry, NoPacket, WrongSent, WrongReply, WrongResponse, SerialNotAbove, UnknownLane, RecordTwice, WrongWords}
 
 -- The head of the request, and the mark that it went out with.
 abbrev pub head_of : Entry → RequestHead
@@ -64,20 +64,24 @@ IsWrongPacket e home client WrongResponse =
     ArePackets e × MatchOption home ⊥ (λ secret. HasSent secret e × HasReply secret e × MatchOption client ⊥ (λ its. ¬ HasResponse secret its e))
 IsWrongPacket e home client SerialNotAbove = ⊥
 IsWrongPacket e home client UnknownLane = ⊥
+IsWrongPacket e home client RecordTwice = ⊥
+IsWrongPacket e home client WrongWords = ⊥
 
 -- Of a lane whose next serial is at least this one, where the run names the lane.
 abbrev pub IsInPlace : ℕ → Option ℕ → Type 0
 IsInPlace serial next = MatchOption next ⊥ (λ least. least ≤ serial)
 
--- The first thing that is wrong with an entry, where it is one.
-abbrev pub IsWrong : Entry → Option (List ℕ) → Option (List ℕ) → Option ℕ → Reason → Type 0
-IsWrong e home client next NotEntry = ⊥
-IsWrong e home client next NoPacket = IsWrongPacket e home client NoPacket
-IsWrong e home client next WrongSent = IsWrongPacket e home client WrongSent
-IsWrong e home client next WrongReply = IsWrongPacket e home client WrongReply
-IsWrong e home client next WrongResponse = IsWrongPacket e home client WrongResponse
-IsWrong e home client next SerialNotAbove = ArePacketsRight e home client × MatchOption next ⊥ (λ least. e.serial < least)
-IsWrong e home client next UnknownLane = ArePacketsRight e home client × (next ≡ None)
+-- The first thing that is wrong with an entry, where it is one. Its number is that of another line where it is there twice.
+abbrev pub IsWrong : Entry → Option (List ℕ) → Option (List ℕ) → Option ℕ → Type 0 → Reason → Type 0
+IsWrong e home client next Twice NotEntry = ⊥
+IsWrong e home client next Twice NoPacket = IsWrongPacket e home client NoPacket
+IsWrong e home client next Twice WrongSent = IsWrongPacket e home client WrongSent
+IsWrong e home client next Twice WrongReply = IsWrongPacket e home client WrongReply
+IsWrong e home client next Twice WrongResponse = IsWrongPacket e home client WrongResponse
+IsWrong e home client next Twice SerialNotAbove = ArePacketsRight e home client × MatchOption next ⊥ (λ least. e.serial < least)
+IsWrong e home client next Twice UnknownLane = ArePacketsRight e home client × (next ≡ None)
+IsWrong e home client next Twice RecordTwice = ArePacketsRight e home client × IsInPlace e.serial next × Twice
+IsWrong e home client next Twice WrongWords = ⊥
 
 -- What is wrong first with a reply to what was sent or with a response to the request of this head, where nothing is wrong with what
 -- was sent.
@@ -92,3 +96,5 @@ JudgesReply home client head sent reply response (Some WrongResponse) =
     IsReply home sent reply × MatchOption client ⊥ (λ its. ¬ Answers head sent reply its home response)
 JudgesReply home client head sent reply response (Some SerialNotAbove) = ⊥
 JudgesReply home client head sent reply response (Some UnknownLane) = ⊥
+JudgesReply home client head sent reply response (Some RecordTwice) = ⊥
+JudgesReply home client head sent reply response (Some WrongWords) = ⊥

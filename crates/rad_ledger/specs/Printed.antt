@@ -2,10 +2,10 @@
 use Rattle.std.specs.Prelude.{ℕ, List, ◌++◌, codes}
 use Rattle.std.specs.Fmt.{decimal}
 use Rattle.rad_ledger.specs.declared.reason.Reason.{Reason}
-use Rattle.rad_ledger.specs.declared.reason.Reason.TheVariants.{NotEntry, NoPacket, WrongSent, WrongReply, WrongResponse, SerialNotAbove, UnknownLane}
+use Rattle.rad_ledger.specs.declared.reason.Reason.TheVariants.{NotEntry, NoPacket, WrongSent, WrongReply, WrongResponse, SerialNotAbove, UnknownLane, RecordTwice, WrongWords}
 use Rattle.rad_ledger.specs.declared.tally.Gap.{Gap}
 use Rattle.rad_ledger.specs.declared.tally.Verdict.{Verdict}
-use Rattle.rad_ledger.specs.declared.tally.Verdict.TheVariants.{Whole, Open, Missing}
+use Rattle.rad_ledger.specs.declared.tally.Verdict.TheVariants.{Whole, Open, Missing, Unaccounted}
 
 abbrev pub reason_text : Reason → List ℕ
 reason_text NotEntry = codes "NotEntry"
@@ -15,6 +15,8 @@ reason_text WrongReply = codes "WrongReply"
 reason_text WrongResponse = codes "WrongResponse"
 reason_text SerialNotAbove = codes "SerialNotAbove"
 reason_text UnknownLane = codes "UnknownLane"
+reason_text RecordTwice = codes "RecordTwice"
+reason_text WrongWords = codes "WrongWords"
 
 abbrev pub gap_text : Gap → List ℕ
 gap_text gap = codes "gap " ++ decimal gap.first ++ codes " to " ++ decimal gap.last
@@ -23,3 +25,4 @@ abbrev pub verdict_text : Verdict → List ℕ
 verdict_text Whole = codes "whole"
 verdict_text Open = codes "open"
 verdict_text (Missing gap) = gap_text gap
+verdict_text Unaccounted = codes "unaccounted"

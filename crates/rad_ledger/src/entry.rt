@@ -36,4 +36,6 @@ pub struct Entry<'a> {
     pub session: Option<&'a [u8]>,
     /// The number in its Acct-Status-Type, if it had one.
     pub status: Option<u32>,
+    /// The Value of its User-Name, if it had one.
+    pub user: Option<&'a [u8]>,
 }

@@ -16,8 +16,8 @@ use rad_packet::PacketRef;
 use std::alloc::{AllocError, Global};
 
 /// Returns the first thing that is wrong with an entry, if anything is. It looks at the packets, under the known secrets,
-/// and then at the serial: `next` is the least serial that the entry's lane can have next, if the run names that lane. It
-/// hashes each packet once.
+/// then at the serial: `next` is the least serial that the entry's lane can have next, if the run names that lane; and then
+/// at the number, which another line has if it is there `twice`. It hashes each packet once.
 ///
 /// # Errors
 ///
@@ -29,8 +29,9 @@ pub fn judge(
     home: Option<&Secret>,
     client: Option<&Secret>,
     next: Option<u64>,
+    twice: bool,
 ) -> Result<Option<Reason>, AllocError>
-    ensures { IfOk result (λ wrong. MatchOption wrong (ArePacketsRight entry.now (option_copied home.entry) (option_copied client.entry) × IsInPlace entry.now.serial next) (λ reason. IsWrong entry.now (option_copied home.entry) (option_copied client.entry) next reason)) }
+    ensures { IfOk result (λ wrong. MatchOption wrong (ArePacketsRight entry.now (option_copied home.entry) (option_copied client.entry) × IsInPlace entry.now.serial next × ¬ IsTrue twice) (λ reason. IsWrong entry.now (option_copied home.entry) (option_copied client.entry) next (IsTrue twice) reason)) }
 {
     if let Some(reason) = judge_packets(alloc, entry, home, client)? {
         return Ok(Some(reason));
@@ -38,6 +39,7 @@ pub fn judge(
     match next {
         None => Ok(Some(Reason::UnknownLane)),
         Some(least) if entry.serial < least => Ok(Some(Reason::SerialNotAbove)),
+        Some(_) if twice => Ok(Some(Reason::RecordTwice)),
         Some(_) => Ok(None),
     }
 }

@@ -7,9 +7,10 @@ use std::fmt;
 pub enum Reason {
     /// It is not a line of a ledger.
     NotEntry,
-    /// What was sent, the reply or the response is not a packet.
+    /// What was sent, the reply, the response or the request that was left is not a packet.
     NoPacket,
-    /// What was sent is not valid under the home server's secret, or does not end with the mark of its lane and number.
+    /// What was sent is not valid under the home server's secret, or does not end with the mark of its lane and number. Of a
+    /// request that was left: it is not the one that the line names, or is not valid under the client's secret.
     WrongSent,
     /// The reply is not valid for what was sent.
     WrongReply,
@@ -19,6 +20,10 @@ pub enum Reason {
     SerialNotAbove,
     /// The run does not name the lane.
     UnknownLane,
+    /// Another line of the lane has its number.
+    RecordTwice,
+    /// Its words are not those of the request.
+    WrongWords,
 }
 
 impl fmt::Display for Reason {
@@ -36,6 +41,8 @@ impl fmt::Display for Reason {
             Reason::WrongResponse => f.write_str("WrongResponse"),
             Reason::SerialNotAbove => f.write_str("SerialNotAbove"),
             Reason::UnknownLane => f.write_str("UnknownLane"),
+            Reason::RecordTwice => f.write_str("RecordTwice"),
+            Reason::WrongWords => f.write_str("WrongWords"),
         }
     }
 }

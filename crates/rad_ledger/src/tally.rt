@@ -40,6 +40,8 @@ pub enum Verdict {
     Open,
     /// These are missing, and none before them.
     Missing(Gap),
+    /// No response is missing, but not each request that was accepted stands in one line.
+    Unaccounted,
 }
 
 /// What is counted of one lane of a run: the entries that are right, in the order of their lines.
@@ -197,6 +199,7 @@ impl fmt::Display for Verdict {
             Verdict::Whole => f.write_str("whole"),
             Verdict::Open => f.write_str("open"),
             Verdict::Missing(gap) => write!(f, "{gap}"),
+            Verdict::Unaccounted => f.write_str("unaccounted"),
         }
     }
 }

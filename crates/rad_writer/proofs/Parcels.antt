@@ -18,9 +18,9 @@ same_parts (m ∷ a) b (n ∷ x) y e l =
 pub with_more : (before here after part octets : List ℕ) → after ≡ here ++ part → here ≡ before → part ≡ octets → after ≡ before ++ octets
 with_more before here after part octets e f g = e ∙ ap (λ (l : List ℕ). l ++ part) f ∙ ap (λ (l : List ℕ). before ++ l) g
 
--- Eleven lists, one behind the other.
-pub eleven_joined : (o a b c d e f g h i j k : List ℕ) → ((((((((((o ++ a) ++ b) ++ c) ++ d) ++ e) ++ f) ++ g) ++ h) ++ i) ++ j) ++ k ≡ o ++ (a ++ (b ++ (c ++ (d ++ (e ++ (f ++ (g ++ (h ++ (i ++ (j ++ k))))))))))
-eleven_joined o a b c d e f g h i j k = simp append_assoc
+-- Fourteen lists, one behind the other.
+pub fourteen_joined : (o a b c d e f g h i j k l m n : List ℕ) → (((((((((((((o ++ a) ++ b) ++ c) ++ d) ++ e) ++ f) ++ g) ++ h) ++ i) ++ j) ++ k) ++ l) ++ m) ++ n ≡ o ++ (a ++ (b ++ (c ++ (d ++ (e ++ (f ++ (g ++ (h ++ (i ++ (j ++ (k ++ (l ++ (m ++ n)))))))))))))
+fourteen_joined o a b c d e f g h i j k l m n = simp append_assoc
 
 -- Three lists behind a fourth.
 pub three_joined : (o a b c : List ℕ) → ((o ++ a) ++ b) ++ c ≡ o ++ (a ++ (b ++ c))

@@ -1,34 +1,67 @@
-//! How many responses the front took of each lane.
+//! What is counted of each lane in a run.
 
-ghost use Rattle.std.specs.Prelude.{◌≡◌, ◌≤◌, vec_len};
+ghost use Rattle.std.specs.Prelude.{◌≡◌, ◌≤◌, None, vec_len};
 
 use std::alloc::{AllocError, Global};
 use std::sync::atomic::{AtomicU64, Ordering};
 
-/// How many responses the front took of each lane in this run, whether their entries were written or dropped.
+/// What is counted of each lane in this run, whether the lines were written or dropped.
 #[derive(Drop)]
-pub struct TakenCounts {
-    lanes: Vec<AtomicU64>,
+pub struct RunCounts {
+    lanes: Vec<LaneTotals>,
 }
 
-impl TakenCounts {
+/// What is counted of a lane.
+#[derive(Drop)]
+struct LaneTotals {
+    /// How many responses the front took.
+    taken: AtomicU64,
+    /// How many requests were told as left.
+    left: AtomicU64,
+    /// One more than how many requests the lane accepted, once all that is left of it was told; 0 before.
+    accepted: AtomicU64,
+}
+
+impl RunCounts {
     /// Makes the counts of so many lanes, all 0.
     ///
     /// # Errors
     ///
     /// `AllocError` if memory is refused.
-    pub(crate) fn new(alloc: Global, lanes: usize) -> Result<TakenCounts, AllocError> {
+    pub(crate) fn new(alloc: Global, lanes: usize) -> Result<RunCounts, AllocError> {
         let mut counts = Vec::with_capacity(alloc, lanes)?;
         for _ in 0..lanes {
-            counts.push(AtomicU64::new(0))?;
+            counts.push(LaneTotals {
+                taken: AtomicU64::new(0),
+                left: AtomicU64::new(0),
+                accepted: AtomicU64::new(0),
+            })?;
         }
-        Ok(TakenCounts { lanes: counts })
+        Ok(RunCounts { lanes: counts })
     }
 
     /// Records that the response of this serial of a lane was taken. A lane's serials are 0, 1, 2 and so on.
     pub(crate) fn took(&self, lane: u16, serial: u64) {
-        if let Some(count) = self.lanes.get(usize::from(lane)) {
-            count.store(serial.saturating_add(1), Ordering::SeqCst);
+        if let Some(totals) = self.lanes.get(usize::from(lane)) {
+            totals
+                .taken
+                .store(serial.saturating_add(1), Ordering::SeqCst);
+        }
+    }
+
+    /// Counts a request of a lane that is left.
+    pub(crate) fn leaves(&self, lane: u16) {
+        if let Some(totals) = self.lanes.get(usize::from(lane)) {
+            totals.left.fetch_add(1, Ordering::SeqCst);
+        }
+    }
+
+    /// Records how many requests a lane accepted. All that is left of it was counted before.
+    pub(crate) fn accepted(&self, lane: u16, count: u64) {
+        if let Some(totals) = self.lanes.get(usize::from(lane)) {
+            totals
+                .accepted
+                .store(count.saturating_add(1), Ordering::SeqCst);
         }
     }
 
@@ -37,8 +70,20 @@ impl TakenCounts {
         ensures { vec_len self.now.lanes ≤ lane → result ≡ 0 }
     {
         match self.lanes.get(lane) {
-            Some(count) => count.load(Ordering::SeqCst),
+            Some(totals) => totals.taken.load(Ordering::SeqCst),
             None => 0,
+        }
+    }
+
+    /// Returns how many requests of a lane were accepted, and how many of them are left, once all that is left of it was
+    /// told.
+    pub(crate) fn end_of_lane(&self, lane: usize) -> Option<(u64, u64)>
+        ensures { vec_len self.now.lanes ≤ lane → result ≡ None }
+    {
+        let totals = self.lanes.get(lane)?;
+        match totals.accepted.load(Ordering::SeqCst) {
+            0 => None,
+            told => Some((told - 1, totals.left.load(Ordering::SeqCst))),
         }
     }
 }

@@ -1,10 +1,12 @@
-//! Filling a batch with the lines of the entries that wait.
+//! Filling a batch with the lines of the entries, and of the requests that are left, that wait.
 
-ghost use Rattle.std.specs.Prelude.{◌≡◌, [], vec_len, IfOk};
+ghost use Rattle.std.specs.Prelude.{◌≡◌, [], None, Some, vec_len, IfOk, MatchOption};
 ghost use Rattle.ledger_files.specs.Batches.{HoldsLines};
+ghost use Rattle.rad_writer.specs.Parcels.{state_of_kind};
 
 use crate::entry_buffer::EntryBuffer;
-use crate::lines::entry_line;
+use crate::lines::line_of;
+use crate::parcel::ParcelHead;
 use crate::run_names::RunNames;
 use ledger_files::{Batch, LedgerDisk, LineHead, RunFiles, day_of};
 use std::alloc::{AllocError, Global};
@@ -62,15 +64,25 @@ pub(crate) fn fill<D: LedgerDisk + Drop>(
         }
         let mut line = mem::replace(room, Vec::new(alloc));
         line.clear();
-        let line = entry_line(alloc, names, &parcel, line)?;
+        let line = line_of(alloc, names, &parcel, line)?;
         let line_head = LineHead {
             time: head.time,
             lane: head.lane,
-            serial: head.serial,
+            serial: serial_of(head),
         };
         files.add(line_head, line.as_slice())?;
         *room = line;
         entries.pass();
     }
     Ok(())
+}
+
+/// Returns the serial of the response that a parcel is of, if it is of one.
+fn serial_of(head: ParcelHead) -> Option<u64>
+    ensures { MatchOption (state_of_kind head.kind) (result ≡ Some head.serial) (λ _. result ≡ None) }
+{
+    match head.state() {
+        Some(_) => None,
+        None => Some(head.serial),
+    }
 }

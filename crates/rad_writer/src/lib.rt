@@ -23,7 +23,7 @@ mod run_names;
 mod runtime_disk;
 mod writer;
 
-pub use counts::TakenCounts;
+pub use counts::RunCounts;
 pub use inlet::LedgerInlet;
 pub use ledger_files::LedgerDisk;
 pub use opening::{OpenedLedger, find_folder, open_ledger, start_writer};

@@ -1,34 +1,35 @@
 //! The lines of a ledger, made of what passed through the buffer.
 
-ghost use Rattle.std.specs.Prelude.{◌≡◌, ◌<◌, ◌^◌, IfOk, MatchOption, slice_get};
+ghost use Rattle.std.specs.Prelude.{◌≡◌, ◌<◌, ◌^◌, IfOk, MatchOption, option_copied, slice_get};
 ghost use Rattle.ledger_lines.specs.Written.{HasLineBehind};
-ghost use Rattle.rad_writer.specs.Entries.{IsEntryOf};
+ghost use Rattle.rad_desk.specs.declared.leaving.LeftState.{LeftState as TheState};
+ghost use Rattle.rad_writer.specs.Entries.{IsEntryOf, IsLeftOf, sendings_in, state_in};
 
-use crate::counts::TakenCounts;
+use crate::counts::RunCounts;
 use crate::entry_buffer::Parcel;
-use crate::parcel::ParcelHead;
+use crate::parcel::{ParcelHead, UNKNOWN_SENDINGS, UNKNOWN_TIME};
 use crate::run_names::RunNames;
 use ledger_files::UtcTime;
-use ledger_lines::{Begin, End, LaneCount, LaneStart, write_begin, write_end, write_entry};
+use ledger_lines::{
+    Begin, End, LaneCount, LaneStart, write_begin, write_end, write_entry, write_left,
+};
+use rad_desk::{LeftState, status_of, user_of};
 use rad_lane::session_of;
-use rad_ledger::Entry;
+use rad_ledger::{self, Entry, Left};
 use rad_metrics::VERSION;
-use rad_packet::{PacketRef, read};
+use rad_packet::read;
 use rad_realms::realm_of_packet;
 use std::alloc::{AllocError, Global};
 
 /// The greatest serial of a ledger.
 const GREATEST_SERIAL: u64 = 9_223_372_036_854_775_807;
 
-/// The Type of an Acct-Status-Type (RFC 2866 section 5.1).
-const ACCT_STATUS_TYPE: u8 = 40;
-
 /// Writes the line of a parcel behind what these octets are.
 ///
 /// # Errors
 ///
 /// `AllocError` if memory is refused.
-pub(crate) fn entry_line(
+pub(crate) fn line_of(
     alloc: Global,
     names: &RunNames,
     parcel: &Parcel<'_>,
@@ -42,9 +43,109 @@ pub(crate) fn entry_line(
         reply,
         response,
     } = *parcel;
+    if let Some(state) = head.state() {
+        return left_line(alloc, names, head, state, sent, out);
+    }
     let time = time_text(alloc, head.time)?;
     let entry = entry_of(names, head, sent, reply, response, time.as_str());
     write_entry(alloc, &entry, out)
+}
+
+/// Writes the line of a request that is left in this state, by the head of its parcel and its packet, behind what these
+/// octets are.
+///
+/// # Errors
+///
+/// `AllocError` if memory is refused.
+fn left_line(
+    alloc: Global,
+    names: &RunNames,
+    head: ParcelHead,
+    state: LeftState,
+    request: &[u8],
+    out: Vec<u8>,
+) -> Result<Vec<u8>, AllocError>
+    ensures { IfOk result (λ all. HasLineBehind out.items all.items) }
+{
+    let time = time_text(alloc, head.time)?;
+    let accepted = accepted_text(alloc, head.accepted)?;
+    let accepted = match &accepted {
+        Some(text) => Some(text.as_str()),
+        None => None,
+    };
+    let left = left_of(names, head, state, request, time.as_str(), accepted);
+    write_left(alloc, &left, out)
+}
+
+/// Returns when a request was accepted, as a line has it, if it is known.
+///
+/// # Errors
+///
+/// `AllocError` if memory is refused.
+fn accepted_text(alloc: Global, time: u64) -> Result<Option<String>, AllocError> {
+    if time == UNKNOWN_TIME {
+        return Ok(None);
+    }
+    Ok(Some(time_text(alloc, time)?))
+}
+
+/// Returns the request that is left in this state that a parcel's head and packet are, with these texts for its times.
+fn left_of<'a>(
+    names: &'a RunNames,
+    head: ParcelHead,
+    state: LeftState,
+    request: &'a [u8],
+    time: &'a str,
+    accepted: Option<&'a str>,
+) -> Left<'a>
+    ensures { IsLeftOf names.now head state request.now time.now (option_copied accepted.entry) result }
+{
+    let told = told_in(request);
+    let home = names.home(head.lane);
+    let number = head.number;
+    let client = head.client;
+    let authenticator = head.authenticator;
+    Left {
+        run: names.run,
+        time,
+        home,
+        lane: head.lane,
+        number,
+        client,
+        port: head.port,
+        identifier: head.identifier,
+        authenticator,
+        realm: told.realm,
+        session: told.session,
+        status: told.status,
+        user: told.user,
+        state: state_of(state),
+        sendings: sendings_of(head),
+        accepted,
+        request,
+    }
+}
+
+/// Returns the state of a request that is left, as a line names it.
+fn state_of(state: LeftState) -> rad_ledger::LeftState
+    ensures { state_in result ≡ state }
+{
+    match state {
+        LeftState::Queued => rad_ledger::LeftState::Queued,
+        LeftState::Outstanding => rad_ledger::LeftState::Outstanding,
+        LeftState::Untaken => rad_ledger::LeftState::Untaken,
+    }
+}
+
+/// Returns how often a request that is left was sent, if its head knows it.
+fn sendings_of(head: ParcelHead) -> Option<u32>
+    ensures { result ≡ sendings_in head.sendings }
+{
+    if head.sendings == UNKNOWN_SENDINGS {
+        None
+    } else {
+        Some(u32::from(head.sendings))
+    }
 }
 
 /// Returns a time in milliseconds since 1970, as a line has it.
@@ -88,6 +189,7 @@ fn entry_of<'a>(
         realm: told.realm,
         session: told.session,
         status: told.status,
+        user: told.user,
     }
 }
 
@@ -97,6 +199,7 @@ struct Told<'a> {
     realm: Option<&'a [u8]>,
     session: Option<&'a [u8]>,
     status: Option<u32>,
+    user: Option<&'a [u8]>,
 }
 
 /// Returns what the packet of these octets tells, or nothing if they are no packet.
@@ -106,26 +209,15 @@ fn told_in(sent: &[u8]) -> Told<'_> {
             realm: realm_of_packet(&packet),
             session: session_of(&packet),
             status: status_of(&packet),
+            user: user_of(&packet),
         },
         Err(_) => Told {
             realm: None,
             session: None,
             status: None,
+            user: None,
         },
     }
-}
-
-/// Returns the number in a packet's first Acct-Status-Type (RFC 2866 section 5.1), if it has one of four octets.
-fn status_of(packet: &PacketRef<'_>) -> Option<u32> {
-    for attribute in packet.attributes() {
-        if attribute.kind == ACCT_STATUS_TYPE {
-            return match attribute.value {
-                &[a, b, c, d] => Some(u32::from_be_bytes([a, b, c, d])),
-                _ => None,
-            };
-        }
-    }
-    None
 }
 
 /// Writes the line that begins a file of this number behind what these octets are. The next entry of each lane has the
@@ -177,7 +269,8 @@ fn lane_starts<'a>(
     Ok(lanes)
 }
 
-/// Returns the run's lanes, each with how many responses of it were taken.
+/// Returns the run's lanes, each with how many responses of it were taken, and, once that was told, how many requests it
+/// accepted and how many of them are left.
 ///
 /// # Errors
 ///
@@ -185,13 +278,19 @@ fn lane_starts<'a>(
 fn lane_counts(
     alloc: Global,
     names: &RunNames,
-    taken: &TakenCounts,
+    counts: &RunCounts,
 ) -> Result<Vec<LaneCount>, AllocError> {
     let mut lanes = Vec::with_capacity(alloc, names.homes.len())?;
     for lane in 0..names.homes.len() {
+        let (accepted, left) = match counts.end_of_lane(lane) {
+            Some((accepted, left)) => (Some(accepted), Some(left)),
+            None => (None, None),
+        };
         lanes.push(LaneCount {
             lane: u16::try_from(lane).unwrap_or(u16::MAX),
-            entries: taken.of_lane(lane),
+            entries: counts.of_lane(lane),
+            accepted,
+            left,
         })?;
     }
     Ok(lanes)
@@ -217,13 +316,13 @@ pub(crate) fn end_line(
     alloc: Global,
     names: &RunNames,
     time: u64,
-    taken: &TakenCounts,
+    counts: &RunCounts,
     out: Vec<u8>,
 ) -> Result<Vec<u8>, AllocError>
     ensures { IfOk result (λ all. HasLineBehind out.items all.items) }
 {
     let time = time_text(alloc, time)?;
-    let lanes = lane_counts(alloc, names, taken)?;
+    let lanes = lane_counts(alloc, names, counts)?;
     let end = End {
         run: names.run,
         time: time.as_str(),

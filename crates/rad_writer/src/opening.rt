@@ -3,7 +3,7 @@
 ghost use Rattle.std.specs.Prelude.{◌≡◌, [], length, vec_len, IfOk};
 ghost use Rattle.rad_writer.specs.RunNames.{AreNamesOf};
 
-use crate::counts::TakenCounts;
+use crate::counts::RunCounts;
 use crate::entry_buffer::EntryBuffer;
 use crate::filling::{LINE, new_batch};
 use crate::inlet::{LedgerInlet, time_since_1970};
@@ -21,7 +21,7 @@ use std::env::{self, Env, VarError};
 use std::random::RandomSource;
 use std::sync::{Arc, Wait};
 use std::thread::{self, Threads};
-use std::time::Clock;
+use std::time::{Clock, Duration};
 
 /// The environment variable that names the folder of the ledger.
 const LEDGER: &str = "RAD_PROXY_LEDGER";
@@ -60,7 +60,8 @@ where
     }
 }
 
-/// Opens a ledger of a configuration in this folder, under a name that is drawn now. No file is made yet.
+/// Opens a ledger of a configuration in this folder, under a name that is drawn now. No file is made yet. At the end,
+/// requests that are left may wait for room for so long.
 ///
 /// # Errors
 ///
@@ -70,6 +71,7 @@ pub fn open_ledger<'a, R: Clock + RandomSource>(
     alloc: Global,
     folder: String,
     config: &Config,
+    longest: Duration,
 ) -> Result<OpenedLedger<'a, R>, AllocError>
     ensures kept { IfOk result (λ opened. opened.inlet.handed.responses ≡ []) }
     ensures folder { IfOk result (λ opened. opened.writer.source.folder ≡ folder) }
@@ -77,11 +79,11 @@ pub fn open_ledger<'a, R: Clock + RandomSource>(
     ensures lanes { IfOk result (λ opened. vec_len opened.writer.source.next ≡ length config.now.homes) }
 {
     let shared = Shared {
-        taken: Arc::new(alloc, TakenCounts::new(alloc, config.homes().len())?)?,
+        counts: Arc::new(alloc, RunCounts::new(alloc, config.homes().len())?)?,
         state: Arc::new(alloc, LedgerState::new())?,
     };
     let (producer, consumer) = RingBuffer::new(alloc, ROOM)?;
-    let inlet = open_inlet(rt, alloc, producer, &shared)?;
+    let inlet = open_inlet(rt, alloc, producer, &shared, longest)?;
     let source = open_source(
         alloc,
         draw_name(rt),
@@ -102,7 +104,7 @@ pub fn open_ledger<'a, R: Clock + RandomSource>(
 /// What both ends of a ledger share.
 #[derive(Drop)]
 struct Shared {
-    taken: Arc<TakenCounts>,
+    counts: Arc<RunCounts>,
     state: Arc<LedgerState>,
 }
 
@@ -116,15 +118,17 @@ fn open_inlet<'a, R: Clock>(
     alloc: Global,
     buffer: Producer<u8, Global>,
     shared: &Shared,
+    longest: Duration,
 ) -> Result<LedgerInlet<'a, R>, AllocError>
     ensures { IfOk result (λ inlet. inlet.handed.responses ≡ []) }
 {
     Ok(LedgerInlet {
         clock: rt,
+        longest,
         time: 0,
         parcel: Vec::with_capacity(alloc, MOST)?,
         buffer,
-        taken: Arc::try_clone(&shared.taken)?,
+        counts: Arc::try_clone(&shared.counts)?,
         state: Arc::try_clone(&shared.state)?,
         handed: Handed::new(),
     })
@@ -153,7 +157,7 @@ fn open_source(
         entries: EntryBuffer::new(alloc, buffer)?,
         room: Vec::with_capacity(alloc, LINE)?,
         next: first_serials(alloc, homes.len())?,
-        taken: Arc::try_clone(&shared.taken)?,
+        counts: Arc::try_clone(&shared.counts)?,
         state: Arc::try_clone(&shared.state)?,
     })
 }

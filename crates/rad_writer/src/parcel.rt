@@ -1,17 +1,19 @@
-//! A response as it passes through the buffer: a head of fixed size, and behind it the three packets.
+//! A response, or a request that is left, as it passes through the buffer: a head of fixed size, and behind it the
+//! packets: three of a response, one of a request that is left.
 
-ghost use Rattle.std.specs.Prelude.{◌≡◌, ◌+◌, ◌≤◌, ◌<◌, ◌^◌, ◌++◌, ℕ, List, length, OnOk};
+ghost use Rattle.std.specs.Prelude.{◌≡◌, ◌+◌, ◌≤◌, ◌<◌, ◌^◌, [], ◌++◌, ℕ, List, Some, length, OnOk};
 ghost use Rattle.std.specs.Int.{w16, w64, to_be_bytes};
 ghost use Rattle.rad_auth.specs.Mark.{mark_value};
 ghost use Rattle.rad_auth.specs.declared.mark.Mark.{Mark};
-ghost use Rattle.rad_writer.specs.Parcels.{FitsOctets, parcel_octets};
+ghost use Rattle.rad_writer.specs.Parcels.{FitsOctets, accepted_kept, parcel_octets, sendings_kept, state_of_kind};
 
 use rad_auth::RequestHead;
+use rad_desk::{LeftRecord, LeftState};
 use rad_lane::Outgoing;
 use std::alloc::AllocError;
 
 /// How many octets a head has.
-pub(crate) const HEAD: usize = 55;
+pub(crate) const HEAD: usize = 66;
 
 /// The most octets of a parcel: three packets of the greatest length (RFC 2866 section 3).
 pub(crate) const MOST: usize = HEAD + 3 * 4096;
@@ -19,11 +21,30 @@ pub(crate) const MOST: usize = HEAD + 3 * 4096;
 /// How many octets at the end of a sending are the lane and the number in its mark.
 const MARKED: usize = 10;
 
+/// The kind of the parcel of a response.
+pub(crate) const RESPONSE: u8 = 0;
+
+/// The kinds of the parcel of a request that is left: queued, outstanding or untaken.
+pub(crate) const QUEUED: u8 = 1;
+
+pub(crate) const OUTSTANDING: u8 = 2;
+
+pub(crate) const UNTAKEN: u8 = 3;
+
+/// The sendings of a request of which they are not known.
+pub(crate) const UNKNOWN_SENDINGS: u16 = u16::MAX;
+
+/// The time of acceptance of a request of which it is not known.
+pub(crate) const UNKNOWN_TIME: u64 = u64::MAX;
+
 /// What a parcel has in front of its packets.
 #[derive(Clone, Copy)]
 pub(crate) struct ParcelHead {
-    /// When the response was handed over, in milliseconds since 1970.
+    /// What it is of: a response or a request that is left.
+    pub(crate) kind: u8,
+    /// When the response was handed over, or the request was told as left, in milliseconds since 1970.
     pub(crate) time: u64,
+    /// The response's serial; 0 of a request that is left.
     pub(crate) serial: u64,
     /// The number of the request in its lane.
     pub(crate) number: u64,
@@ -32,7 +53,11 @@ pub(crate) struct ParcelHead {
     pub(crate) port: u16,
     pub(crate) identifier: u8,
     pub(crate) authenticator: [u8; 16],
-    /// How many octets the packet to the home server has.
+    /// How often a request that is left was sent; 0 of a response.
+    pub(crate) sendings: u16,
+    /// When a request that is left was accepted, in milliseconds since 1970; 0 of a response.
+    pub(crate) accepted: u64,
+    /// How many octets the packet to the home server has, or the request that is left.
     pub(crate) sent: u16,
     /// How many octets the home server's reply has.
     pub(crate) reply: u16,
@@ -127,8 +152,40 @@ fn mark_of(sent: &[u8]) -> (u16, u64)
     (lane, number)
 }
 
+/// Returns the kind of the parcel of a request that is left in this state.
+fn kind_of(state: LeftState) -> u8
+    ensures { state_of_kind result ≡ Some state }
+{
+    match state {
+        LeftState::Queued => QUEUED,
+        LeftState::Outstanding => OUTSTANDING,
+        LeftState::Untaken => UNTAKEN,
+    }
+}
+
+/// Returns the sendings of a request that is left, as its head has them. No request is sent more than ten times in a
+/// round.
+fn sendings_octets(sendings: Option<u32>) -> u16
+    ensures { result ≡ sendings_kept sendings }
+{
+    match sendings {
+        Some(sendings) if sendings < 65_536 => sendings as u16,
+        _ => UNKNOWN_SENDINGS,
+    }
+}
+
+/// Returns when a request was accepted that was of this age at this time, as its head has it.
+fn accepted_at(time: u64, age: Option<u64>) -> u64
+    ensures { result ≡ accepted_kept time age }
+{
+    match age {
+        Some(age) => time.saturating_sub(age),
+        None => UNKNOWN_TIME,
+    }
+}
+
 impl ParcelHead {
-    ghost use Rattle.rad_writer.specs.Parcels.{IsHead, IsHeadOf, head_octets};
+    ghost use Rattle.rad_writer.specs.Parcels.{IsHead, IsHeadOf, IsHeadOfLeft, head_octets, state_of_kind};
 
     /// Returns the head of a response that is handed over at this moment. Its lane and number are those of the mark,
     /// which is the last attribute of the sending.
@@ -142,6 +199,7 @@ impl ParcelHead {
             authenticator,
         } = outgoing.reply.head();
         ParcelHead {
+            kind: RESPONSE,
             time,
             serial: outgoing.serial,
             number,
@@ -150,17 +208,58 @@ impl ParcelHead {
             port: outgoing.port,
             identifier,
             authenticator,
+            sendings: 0,
+            accepted: 0,
             sent: length_of(sent),
             reply: length_of(outgoing.reply.reply()),
             response: length_of(outgoing.reply.response()),
         }
     }
 
+    /// Returns the head of a request that is told as left at this moment.
+    pub(crate) fn of_left(time: u64, told: &LeftRecord<'_>) -> ParcelHead
+        ensures { IsHeadOfLeft time told.now result }
+    {
+        ParcelHead {
+            kind: kind_of(told.state),
+            time,
+            serial: 0,
+            number: told.number,
+            lane: told.lane,
+            client: told.client,
+            port: told.port,
+            identifier: told.identifier,
+            authenticator: told.authenticator,
+            sendings: sendings_octets(told.sendings),
+            accepted: accepted_at(time, told.age),
+            sent: length_of(told.request),
+            reply: 0,
+            response: 0,
+        }
+    }
+
+    /// Returns the state in which the request is left, if the parcel is of such a one.
+    pub(crate) fn state(&self) -> Option<LeftState>
+        ensures { result ≡ state_of_kind self.now.kind }
+    {
+        if self.kind == QUEUED {
+            return Some(LeftState::Queued);
+        }
+        if self.kind == OUTSTANDING {
+            return Some(LeftState::Outstanding);
+        }
+        if self.kind == UNTAKEN {
+            return Some(LeftState::Untaken);
+        }
+        None
+    }
+
     /// Returns the head that these octets are.
     pub(crate) fn read(octets: &[u8; HEAD]) -> ParcelHead
         ensures { (head : ParcelHead) → IsHead head → octets.now ≡ head_octets head → result ≡ head }
     {
-        let (time, rest) = split_long(octets.as_slice());
+        let ([kind], rest) = split_front::<1>(octets.as_slice());
+        let (time, rest) = split_long(rest);
         let (serial, rest) = split_long(rest);
         let (number, rest) = split_long(rest);
         let (lane, rest) = split_short(rest);
@@ -168,10 +267,13 @@ impl ParcelHead {
         let (port, rest) = split_short(rest);
         let ([identifier], rest) = split_front::<1>(rest);
         let (authenticator, rest) = split_front(rest);
+        let (sendings, rest) = split_short(rest);
+        let (accepted, rest) = split_long(rest);
         let (sent, rest) = split_short(rest);
         let (reply, rest) = split_short(rest);
         let (response, _) = split_short(rest);
         ParcelHead {
+            kind,
             time,
             serial,
             number,
@@ -180,6 +282,8 @@ impl ParcelHead {
             port,
             identifier,
             authenticator,
+            sendings,
+            accepted,
             sent,
             reply,
             response,
@@ -194,6 +298,7 @@ impl ParcelHead {
     fn write(&self, out: &mut Vec<u8>) -> Result<(), AllocError>
         ensures { OnOk result (out.new.items ≡ out.old.items ++ head_octets self.now) }
     {
+        put(out, &[self.kind])?;
         put_long(out, self.time)?;
         put_long(out, self.serial)?;
         put_long(out, self.number)?;
@@ -202,10 +307,24 @@ impl ParcelHead {
         put_short(out, self.port)?;
         put(out, &[self.identifier])?;
         put(out, &self.authenticator)?;
+        put_short(out, self.sendings)?;
+        put_long(out, self.accepted)?;
         put_short(out, self.sent)?;
         put_short(out, self.reply)?;
         put_short(out, self.response)?;
         Ok(())
+    }
+
+    /// Replaces these octets with the head.
+    ///
+    /// # Errors
+    ///
+    /// `AllocError` if memory is needed and refused.
+    fn write_alone(&self, out: &mut Vec<u8>) -> Result<(), AllocError>
+        ensures { OnOk result (out.new.items ≡ head_octets self.now) }
+    {
+        out.clear();
+        self.write(out)
     }
 
     /// Returns how many octets the packets have together.
@@ -228,10 +347,27 @@ pub(crate) fn pack(
 ) -> Result<(), AllocError>
     ensures { OnOk result (out.new.items ≡ parcel_octets head.now outgoing.now.reply.sending outgoing.now.reply.reply outgoing.now.reply.response) }
 {
-    out.clear();
-    head.write(out)?;
+    head.write_alone(out)?;
     put(out, outgoing.reply.sending())?;
     put(out, outgoing.reply.reply())?;
     put(out, outgoing.reply.response())?;
+    Ok(())
+}
+
+/// Replaces these octets with the parcel of a request that is left. It takes no memory if they have room for [`MOST`]
+/// octets.
+///
+/// # Errors
+///
+/// `AllocError` if memory is needed and refused.
+pub(crate) fn pack_left(
+    head: &ParcelHead,
+    request: &[u8],
+    out: &mut Vec<u8>,
+) -> Result<(), AllocError>
+    ensures { OnOk result (out.new.items ≡ parcel_octets head.now request.now [] []) }
+{
+    head.write_alone(out)?;
+    put(out, request)?;
     Ok(())
 }

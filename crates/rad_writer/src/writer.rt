@@ -3,7 +3,7 @@
 ghost use Rattle.std.specs.Prelude.{◌≡◌, [], vec_len};
 ghost use Rattle.ledger_files.specs.Batches.{HoldsLines};
 
-use crate::counts::TakenCounts;
+use crate::counts::RunCounts;
 use crate::entry_buffer::EntryBuffer;
 use crate::filling::fill;
 use crate::inlet::time_since_1970;
@@ -45,7 +45,7 @@ pub(crate) struct LineSource {
     pub(crate) room: Vec<u8>,
     /// The serial behind the last entry of each lane that was written.
     pub(crate) next: Vec<u64>,
-    pub(crate) taken: Arc<TakenCounts>,
+    pub(crate) counts: Arc<RunCounts>,
     pub(crate) state: Arc<LedgerState>,
 }
 
@@ -123,9 +123,9 @@ impl LineSource {
     }
 
     /// Puts the serial behind an entry that is written into `next`, at the place of its lane.
-    fn pass(&mut self, head: LineHead) {
-        if let Some(serial) = self.next.get_mut(usize::from(head.lane)) {
-            *serial = head.serial.saturating_add(1);
+    fn pass(&mut self, lane: u16, serial: u64) {
+        if let Some(next) = self.next.get_mut(usize::from(lane)) {
+            *next = serial.saturating_add(1);
         }
     }
 }
@@ -302,7 +302,7 @@ impl<R: Clock, D: LedgerDisk + Drop> Session<'_, R, D> {
             self.alloc,
             &self.source.names,
             now,
-            &self.source.taken,
+            &self.source.counts,
             Vec::new(self.alloc),
         );
         match line {
@@ -326,24 +326,30 @@ impl<R: Clock, D: LedgerDisk + Drop> Session<'_, R, D> {
     /// not written, if the file is still at its path.
     fn write_lines(&mut self) -> Result<(), DiskFault> {
         let outcome = self.files.write();
-        let count = self.pass_lines();
-        self.source.state.count_written(count);
+        self.pass_lines();
         self.source.state.set_oldest(self.oldest());
         outcome?;
         self.files.write_end()
     }
 
-    /// Counts the lines of entries that are written whole, and returns how many that are.
-    fn pass_lines(&mut self) -> u64 {
-        let mut count = 0u64;
+    /// Counts the lines of entries, and of requests that are left, that are written whole.
+    fn pass_lines(&mut self) {
+        let mut entries = 0_u64;
+        let mut left = 0_u64;
         for _ in 0..self.files.batch().count() {
             let Some(head) = self.files.pass_line() else {
                 break;
             };
-            self.source.pass(head);
-            count = count.saturating_add(1);
+            match head.serial {
+                Some(serial) => {
+                    self.source.pass(head.lane, serial);
+                    entries = entries.saturating_add(1);
+                }
+                None => left = left.saturating_add(1),
+            }
         }
-        count
+        self.source.state.count_written(entries);
+        self.source.state.count_left_written(left);
     }
 
     /// Syncs the file, if that is due or `is_now` is set.

@@ -1,5 +1,5 @@
 use Rattle.ledger_lines.specs.declared.faults.LineFault.TheVariants.{NotALine}
-use Rattle.ledger_lines.proofs.Lines.{passed_on, has_others, entry_members, IsEntryThere, entry_run, entry_time, entry_home, entry_lane, entry_serial, entry_record, entry_client, entry_port, entry_identifier, entry_authenticator, entry_sent, entry_reply, entry_response, entry_realm, entry_session, entry_status}
+use Rattle.ledger_lines.proofs.Lines.{passed_on, has_others, entry_members, IsEntryThere, entry_run, entry_time, entry_home, entry_lane, entry_serial, entry_record, entry_client, entry_port, entry_identifier, entry_authenticator, entry_sent, entry_reply, entry_response, entry_realm, entry_session, entry_status, entry_user}
 use Rattle.json.specs.Value.{value_view}
 use Rattle.ledger_lines.specs.Lines.{IsEntry}
 use Rattle.ledger_lines.proofs.reading.entry_of.Goals as goal
@@ -100,6 +100,12 @@ returns-in_err-status c =
     let fault = c.in_err-status.field-0.0 in
     passed_on (IsEntryThere value fault) c.from_residual-in_err-status.result (IsEntry value) fault c.from_residual-in_err-status.ensures.1 (entry_status value fault c.in_err-status.ensures)
 
+pub returns-in_err-user : goal.returns-in_err-user
+returns-in_err-user c =
+    let value = value_view c.args.value.now in
+    let fault = c.in_err-user.field-0.0 in
+    passed_on (IsEntryThere value fault) c.from_residual-in_err-user.result (IsEntry value) fault c.from_residual-in_err-user.ensures.1 (entry_user value fault c.in_err-user.ensures)
+
 pub returns-then-not-has_only : goal.returns-then-not-has_only
 returns-then-not-has_only c = entry_members (value_view c.args.value.now) NotALine (has_others c.has_only.result _ c.has_only.ensures c.if-not-has_only.true)
 
@@ -123,4 +129,5 @@ returns c = record {
   realm = c.in_ok-realm.ensures;
   session = c.in_ok-session.ensures;
   status = c.in_ok-status.ensures;
+  user = c.in_ok-user.ensures;
 }

@@ -2,7 +2,7 @@ use Rattle.json.specs.Value.{value_view}
 use Rattle.ledger_lines.specs.Lines.{IsLineOf}
 use Rattle.ledger_lines.specs.declared.faults.LineFault.TheVariants.{NotALine}
 use Rattle.ledger_lines.proofs.Lines.{passed_on}
-use Rattle.ledger_lines.proofs.Types.{LineThere, no_type, entry_denied, begin_denied, end_denied, other_denied}
+use Rattle.ledger_lines.proofs.Types.{LineThere, no_type, entry_denied, left_denied, begin_denied, end_denied, other_denied}
 use Rattle.ledger_lines.proofs.reading.line_of.Goals as goal
 
 pub returns-in_err-text_at : goal.returns-in_err-text_at
@@ -24,6 +24,20 @@ returns-in_err-entry_of-in-entry c =
     let gone = c.from_residual-in_err-entry_of-in-entry in
     passed_on (LineThere value fault) gone.result (IsLineOf value) fault gone.ensures.1
     (entry_denied value fault c.in_ok-text_at.field-0.now c.in_ok-text_at.ensures c.in-entry.is c.in_err-entry_of-in-entry.ensures)
+
+pub left_of-requires : goal.left_of-requires
+left_of-requires c = rw c.in-left.is at c.in_ok-text_at.ensures
+
+pub returns-in_ok-left_of-in-left : goal.returns-in_ok-left_of-in-left
+returns-in_ok-left_of-in-left c = c.in_ok-left_of-in-left.ensures
+
+pub returns-in_err-left_of-in-left : goal.returns-in_err-left_of-in-left
+returns-in_err-left_of-in-left c =
+    let value = value_view c.args.value.now in
+    let fault = c.in_err-left_of-in-left.field-0.0 in
+    let gone = c.from_residual-in_err-left_of-in-left in
+    passed_on (LineThere value fault) gone.result (IsLineOf value) fault gone.ensures.1
+    (left_denied value fault c.in_ok-text_at.field-0.now c.in_ok-text_at.ensures c.in-left.is c.in_err-left_of-in-left.ensures)
 
 pub begin_of-requires : goal.begin_of-requires
 begin_of-requires c = rw c.in-begin.is at c.in_ok-text_at.ensures
@@ -55,4 +69,4 @@ returns-in_err-end_of-in-end c =
 
 pub returns-in_default : goal.returns-in_default
 returns-in_default c =
-    other_denied (value_view c.args.value.now) NotALine c.in_ok-text_at.field-0.now c.in_ok-text_at.ensures c.in_default.not-entry c.in_default.not-begin c.in_default.not-end
+    other_denied (value_view c.args.value.now) NotALine c.in_ok-text_at.field-0.now c.in_ok-text_at.ensures c.in_default.not-entry c.in_default.not-left c.in_default.not-begin c.in_default.not-end

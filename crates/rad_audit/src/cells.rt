@@ -1,0 +1,172 @@
+//! The words of a row.
+
+ghost use Rattle.std.specs.Prelude.{◌≡◌, chars, codes, bytes_eq};
+ghost use Rattle.std.specs.Fmt.{WritesOnOk};
+ghost use Rattle.std.specs.List.{flat_map, list_all};
+ghost use Rattle.rad_audit.specs.Cells.{character_cell, is_escaped as the_is_escaped, is_plain as the_is_plain, octet_cell, text_cell};
+
+use crate::shown::{EscapedOctet, EscapedOctets};
+use rad_realms::AddressText;
+use std::fmt;
+
+/// A value, or `-` where there is none. Control characters, `%`, `\` and octets that are no visible ASCII of a value that
+/// is not UTF-8 are printed as `%` and two hexadecimal digits for each octet, and a value that is `-` as `%2d`.
+#[derive(Clone, Copy)]
+pub struct Cell<'a>(pub Option<&'a [u8]>);
+
+/// A number, or `-` where there is none.
+#[derive(Clone, Copy)]
+pub struct NumberCell(pub Option<u64>);
+
+/// A client's IPv4 address.
+#[derive(Clone, Copy)]
+pub struct ClientCell(pub [u8; 4]);
+
+/// A character of a text.
+#[derive(Clone, Copy)]
+struct Character(char);
+
+/// An octet of a value that is not UTF-8.
+#[derive(Clone, Copy)]
+struct Octet(u8);
+
+impl fmt::Display for Cell<'_> {
+    ghost use Rattle.std.specs.Prelude.{Some, option_copied};
+    ghost use Rattle.rad_audit.specs.Cells.{value_cell};
+
+    ghost output = { λ cell. Some (value_cell (option_copied cell.0)) };
+
+    fn fmt<W: fmt::Write>(&self, f: &mut fmt::Formatter<W>) -> fmt::Result {
+        let Some(octets) = self.0 else {
+            return f.write_str("-");
+        };
+        if is_hyphen(octets) {
+            return f.write_str("%2d");
+        }
+        match str::from_utf8(octets) {
+            Ok(text) => write_text(f, text),
+            Err(_) => write_octets(f, octets),
+        }
+    }
+}
+
+impl fmt::Display for NumberCell {
+    ghost use Rattle.std.specs.Prelude.{Some};
+    ghost use Rattle.rad_audit.specs.Cells.{number_cell};
+
+    ghost output = { λ cell. Some (number_cell cell.0) };
+
+    fn fmt<W: fmt::Write>(&self, f: &mut fmt::Formatter<W>) -> fmt::Result {
+        match self.0 {
+            Some(number) => write!(f, "{number}"),
+            None => f.write_str("-"),
+        }
+    }
+}
+
+impl fmt::Display for ClientCell {
+    ghost use Rattle.std.specs.Prelude.{Some};
+    ghost use Rattle.rad_audit.specs.Cells.{client_cell};
+
+    ghost output = { λ cell. Some (client_cell cell.0) };
+
+    #[tactic(auto, unfolding(crate::specs::Cells::client_cell))]
+    fn fmt<W: fmt::Write>(&self, f: &mut fmt::Formatter<W>) -> fmt::Result {
+        let address = AddressText(self.0);
+        write!(f, "{address}")
+    }
+}
+
+/// Writes a text: as it is, where nothing in it is printed otherwise, and else one character after the other.
+fn write_text<W: fmt::Write>(f: &mut fmt::Formatter<W>, text: &str) -> fmt::Result
+    ensures { WritesOnOk W.write_str_gives f.old result (text_cell text.now) f.new }
+{
+    if are_plain(text.as_bytes()) {
+        return f.write_str(text);
+    }
+    write_characters(f, text)
+}
+
+/// Writes a text, one character after the other.
+fn write_characters<W: fmt::Write>(f: &mut fmt::Formatter<W>, text: &str) -> fmt::Result
+    ensures { WritesOnOk W.write_str_gives f.old result (flat_map character_cell (chars text.now)) f.new }
+{
+    for character in text.chars() {
+        let character = Character(character);
+        write!(f, "{character}")?;
+    }
+    Ok(())
+}
+
+/// Writes a value that is not UTF-8, one octet after the other.
+fn write_octets<W: fmt::Write>(f: &mut fmt::Formatter<W>, octets: &[u8]) -> fmt::Result
+    ensures { WritesOnOk W.write_str_gives f.old result (flat_map octet_cell octets.now) f.new }
+{
+    for octet in octets {
+        let octet = Octet(*octet);
+        write!(f, "{octet}")?;
+    }
+    Ok(())
+}
+
+impl fmt::Display for Character {
+    ghost use Rattle.std.specs.Prelude.{Some};
+    ghost use Rattle.rad_audit.specs.Cells.{character_cell};
+
+    ghost output = { λ character. Some (character_cell character.0) };
+
+    fn fmt<W: fmt::Write>(&self, f: &mut fmt::Formatter<W>) -> fmt::Result {
+        let character = self.0;
+        if !is_escaped(character) {
+            return write!(f, "{character}");
+        }
+        let mut room = [0; 4];
+        let octets = EscapedOctets(character.encode_utf8(&mut room).as_bytes());
+        write!(f, "{octets}")
+    }
+}
+
+impl fmt::Display for Octet {
+    ghost use Rattle.std.specs.Prelude.{Some};
+    ghost use Rattle.rad_audit.specs.Cells.{octet_cell};
+
+    ghost output = { λ octet. Some (octet_cell octet.0) };
+
+    fn fmt<W: fmt::Write>(&self, f: &mut fmt::Formatter<W>) -> fmt::Result {
+        let octet = self.0;
+        if is_plain(octet) {
+            let plain = char::from(octet);
+            return write!(f, "{plain}");
+        }
+        let octet = EscapedOctet(octet);
+        write!(f, "{octet}")
+    }
+}
+
+/// Whether a value is printed as a missing one would be.
+fn is_hyphen(value: &[u8]) -> bool
+    ensures { result ≡ bytes_eq value.now (codes "-") }
+{
+    value == b"-".as_slice()
+}
+
+/// Whether octets are all printed as they are.
+fn are_plain(octets: &[u8]) -> bool
+    ensures { result ≡ list_all the_is_plain octets.now }
+{
+    octets.iter().all(|octet| is_plain(*octet))
+}
+
+/// Whether a character of a text is printed by its octets.
+fn is_escaped(character: char) -> bool
+    ensures { result ≡ the_is_escaped character }
+{
+    character.is_control() || character == '%' || character == '\\'
+}
+
+/// Whether an octet of a value that is not UTF-8 is printed as it is: a space or visible ASCII, but `%` and `\`.
+fn is_plain(octet: u8) -> bool
+    ensures { result ≡ the_is_plain octet }
+{
+    octet >= b' ' && octet <= b'~' && octet != b'%' && octet != b'\\'
+}

@@ -1,0 +1,141 @@
+//! What became of the requests that a lane accepted in a run.
+
+ghost use Rattle.std.specs.Prelude.{ℕ, List};
+ghost use Rattle.rad_ledger.specs.Counting.{Counts};
+ghost use Rattle.rad_ledger.specs.Numbers.{Keeps};
+ghost use Rattle.rad_ledger.specs.Accounting.{TellsLane};
+
+use crate::numbers::Numbers;
+use crate::tally::{Tally, Verdict};
+use std::alloc::{AllocError, Global};
+
+/// What an end line says of the requests of a lane.
+#[derive(Clone, Copy, Debug, PartialEq, Eq)]
+pub struct Fates {
+    /// How many were accepted.
+    pub accepted: u64,
+    /// How many of these were left.
+    pub left: u64,
+}
+
+/// What is counted of the requests of one lane of a run.
+#[derive(Drop)]
+pub struct Account {
+    /// The numbers of the entries and of the requests that were left, in the lines that are right.
+    numbers: Numbers,
+    /// How many of these lines are of requests that were left.
+    left: u64,
+    /// What an end line says, if it does.
+    told: Option<Fates>,
+}
+
+impl Account {
+    ghost use Rattle.std.specs.Prelude.{◌≡◌, ◌↔◌, ◌+◌, ◌^◌, ◌-◌, ◌++◌, [], ◌∷◌, ℕ, List, None, min, IsTrue, IfOk, OnErr, MatchBool};
+    ghost use Rattle.rad_ledger.specs.Numbers.{IsAsBefore, IsKnown, Keeps};
+    ghost use Rattle.rad_ledger.specs.Accounting.{IsSettled};
+
+    /// Returns the account of a lane without lines.
+    pub fn new(alloc: Global) -> Account
+        ensures none { Keeps result.numbers [] }
+        ensures untold { (result.left ≡ 0) × (result.told ≡ None) }
+    {
+        Account {
+            numbers: Numbers::new(alloc),
+            left: 0,
+            told: None,
+        }
+    }
+
+    /// Whether it is known that a line has this number.
+    pub fn has(&self, number: u64) -> bool
+        ensures { IsTrue result ↔ IsKnown self.now.numbers number }
+    {
+        self.numbers.has(number)
+    }
+
+    /// Whether it is known of each number whether a line has it.
+    pub fn is_exact(&self) -> bool
+        ensures { IsTrue result ↔ (self.now.numbers.exact_from ≡ 0) }
+    {
+        self.numbers.is_exact()
+    }
+
+    /// Returns how many requests were left.
+    pub fn left(&self) -> u64
+        ensures { result ≡ self.now.left }
+    {
+        self.left
+    }
+
+    /// Returns what an end line says, if it does.
+    pub fn told(&self) -> Option<Fates>
+        ensures { result ≡ self.now.told }
+    {
+        self.told
+    }
+
+    /// Counts the entry of this number. Returns whether it is counted: whether no line is known to have the number.
+    ///
+    /// # Errors
+    ///
+    /// `AllocError` if memory is refused. Nothing is counted then.
+    pub fn answer(&mut self, number: u64) -> Result<bool, AllocError>
+        ensures counted { IfOk result (λ fresh. MatchBool fresh ((¬ IsKnown self.old.numbers number) × ((all : List ℕ) → Keeps self.old.numbers all → Keeps self.new.numbers (all ++ number ∷ []))) (IsKnown self.old.numbers number × IsAsBefore self.old.numbers self.new.numbers)) }
+        ensures others { (self.new.left ≡ self.old.left) × (self.new.told ≡ self.old.told) }
+        ensures refused { OnErr result (IsAsBefore self.old.numbers self.new.numbers) }
+    {
+        self.numbers.insert(number)
+    }
+
+    /// Counts the request of this number that was left. Returns whether it is counted: whether no line is known to have the
+    /// number.
+    ///
+    /// # Errors
+    ///
+    /// `AllocError` if memory is refused. Nothing is counted then.
+    pub fn leave(&mut self, number: u64) -> Result<bool, AllocError>
+        ensures counted { IfOk result (λ fresh. MatchBool fresh ((¬ IsKnown self.old.numbers number) × ((all : List ℕ) → Keeps self.old.numbers all → Keeps self.new.numbers (all ++ number ∷ []))) (IsKnown self.old.numbers number × IsAsBefore self.old.numbers self.new.numbers)) }
+        ensures left { IfOk result (λ fresh. MatchBool fresh (self.new.left ≡ min (self.old.left + 1) (2 ^ 64 - 1)) (self.new.left ≡ self.old.left)) }
+        ensures told { self.new.told ≡ self.old.told }
+        ensures refused { OnErr result (IsAsBefore self.old.numbers self.new.numbers × (self.new.left ≡ self.old.left)) }
+    {
+        let fresh = self.numbers.insert(number)?;
+        if fresh {
+            self.left = self.left.saturating_add(1);
+        }
+        Ok(fresh)
+    }
+
+    /// Keeps what an end line says.
+    pub fn end(&mut self, told: Option<Fates>)
+        ensures told { self.new.told ≡ told }
+        ensures others { (self.new.numbers ≡ self.old.numbers) × (self.new.left ≡ self.old.left) }
+    {
+        self.told = told;
+    }
+
+    /// Whether of so many entries and the requests that were left each is accounted for, as an end line says it.
+    pub fn is_settled(&self, entries: u64) -> bool
+        ensures { (all : List ℕ) → Keeps self.now.numbers all → IsTrue result ↔ IsSettled self.now entries all }
+    {
+        match self.told {
+            None => self.numbers.is_exact(),
+            Some(told) => {
+                self.numbers.are_all_below(told.accepted)
+                    && told.left == self.left
+                    && self.left <= told.accepted
+                    && entries == told.accepted - self.left
+            }
+        }
+    }
+}
+
+/// Returns what the lines of a lane show together.
+pub fn lane_verdict(tally: &Tally, account: &Account) -> Verdict
+    ensures { (serials : List ℕ) (numbers : List ℕ) → Counts tally.now serials → Keeps account.now.numbers numbers → TellsLane tally.now account.now serials numbers result }
+{
+    match tally.verdict() {
+        Verdict::Whole if !account.is_settled(tally.entries()) => Verdict::Unaccounted,
+        verdict => verdict,
+    }
+}
