@@ -2,7 +2,7 @@
 
 use crate::comparing::holds_at;
 use crate::vectors::LINES;
-use ledger_lines::{Line, Room, read_line, write_begin, write_end, write_entry};
+use ledger_lines::{Line, Room, read_line, write_begin, write_end, write_entry, write_left};
 use std::alloc::{AllocError, Global};
 use std::process::Abort;
 use std::test::Fail;
@@ -13,6 +13,7 @@ fn written(alloc: Global, line: &Line<'_>) -> Result<Vec<u8>, AllocError> {
     match line {
         Line::Begin(begin) => write_begin(alloc, begin, out),
         Line::Entry(entry) => write_entry(alloc, entry, out),
+        Line::Left(left) => write_left(alloc, left, out),
         Line::End(end) => write_end(alloc, end, out),
     }
 }

@@ -173,7 +173,7 @@ fn each_item_is_dropped_once(rt: HostRuntime) -> Result<(), Fail> {
 }
 
 /// Items that pass through a queue of constant length take no new block: the first block, once emptied, becomes the
-/// last one. blocks.py counts the allocations.
+/// last one. queue_memory.py counts the allocations.
 #[test]
 fn what_passes_takes_no_block(rt: HostRuntime) {
     let mut numbers = Numbers::from(rt.alloc(), 0);
@@ -184,7 +184,7 @@ fn what_passes_takes_no_block(rt: HostRuntime) {
     }
 }
 
-/// The empty block of an appended queue is used for the next items. blocks.py limits the memory.
+/// The empty block of an appended queue is used for the next items. queue_memory.py limits the memory.
 #[test]
 fn what_is_appended_empty_takes_no_room(rt: HostRuntime) {
     let mut numbers = Numbers::from(rt.alloc(), 0);

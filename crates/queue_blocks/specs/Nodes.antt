@@ -1,4 +1,5 @@
--- Nodes, each in a region of one place, at values of the row R. Own.
+-- Which memory the nodes of a chain own and lend, each a region of one place, and which node lies at which address.
+-- Own. R is the row of the values.
 use Rattle.std.specs.Prelude.{◌≡◌, ℕ, List, [], ◌∷◌, ◌++◌, Option, Some, None, slice_get}
 use base.Fml.{Lft, Fml, ftrue, fsep}
 use mir.Syntax.{Ty}

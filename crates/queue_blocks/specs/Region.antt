@@ -1,4 +1,5 @@
--- What a region owns and lends, at values of the row R.
+-- Which memory a region of places owns and lends, the value of each full place and the room for one of each empty one.
+-- Own. R is the row of the values.
 use Rattle.std.specs.Prelude.{ℕ, ◌+◌, ◌*◌, ◌^◌, ◌<◌, List, [], ◌∷◌, Option, Some, None, length}
 use Rattle.std.specs.Mem.{type_size}
 use base.Fraction.{full_share}

@@ -1,4 +1,4 @@
--- The faults as they are printed (own): by their names.
+-- The printed names of the faults of a secret and of a reply (own).
 use Rattle.std.specs.Prelude.{ℕ, List, codes}
 use Rattle.rad_auth.specs.declared.responding.ReplyFault.{ReplyFault}
 use Rattle.rad_auth.specs.declared.responding.ReplyFault.TheVariants.{BadAuthenticator, MessageAuthenticatorHere, NoProxyState, OutOfMemory}

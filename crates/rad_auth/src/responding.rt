@@ -152,7 +152,7 @@ fn last_proxy_state(reply: &PacketRef<'_>) -> Result<Option<AttributePlace>, Rep
 }
 
 /// Whether the last Proxy-State of the reply, at `last`, is the mark of the sending, which is the last attribute of
-/// the sending.
+/// the sending. A mark has [`MARK_LENGTH`] octets, so it is compared with as many last octets of the sending.
 fn is_returned_mark(sending: &PacketRef<'_>, reply: &PacketRef<'_>, last: AttributePlace) -> bool
     requires mark { (mark : Mark) × EndsWithMark mark sending.now }
     requires last { IsLastAt reply.now 33 last.place last.length }
@@ -195,7 +195,7 @@ fn room_behind(
 }
 
 /// Writes the response: the attributes of the reply except the one at `mark`, with the request's Identifier. Reserves
-/// `room` more octets behind it.
+/// `room` more octets behind it. Its Authenticator is computed from the parts first, so no octet is written twice.
 fn write_response(
     alloc: Global,
     head: RequestHead,

@@ -5,3 +5,5 @@ pub mod HandOver
 pub mod Responses
 pub mod MarksCounted
 pub mod Kept
+pub mod LeftTold
+pub mod FirstTold

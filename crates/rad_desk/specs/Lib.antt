@@ -20,3 +20,5 @@ pub mod HandOver
 pub mod Marks
 pub mod Reports
 pub mod Keeping
+pub mod Leaving
+pub mod ToldValues

@@ -9,6 +9,7 @@ ghost use Rattle.rad_desk.specs.Keeping.{Keeps};
 
 use crate::gate::{Call, Gate, Repeat, Worker, WorkerReport};
 use crate::handling::{Handled, handle};
+use crate::leaving::number_in_mark;
 use crate::ledger::{Ledger, NoLedger};
 use crate::marks::count_marks;
 use crate::shift::{Arrival, Buffers, Shift};
@@ -130,16 +131,19 @@ fn take_in<R: Wait, W: Wire, G: Gate>(
     }
 }
 
-/// Reports how many Proxy-States of this proxy's form a request has, if it has any.
-fn tell_marks<R, W: Wire, G: Gate>(
+/// Reports the realm of a request, if it has one, and how many Proxy-States of this proxy's form it has, if it has any.
+fn tell_request<R, W: Wire, G: Gate>(
     shift: &Shift<'_, R, W, G>,
     from: Endpoint,
     incoming: &Incoming<'_>,
 ) {
     if let Incoming::Request(request) = incoming {
+        let lane = request.lane();
+        if let Some(rank) = request.rank() {
+            shift.report(&WorkerReport::Requested { lane, rank });
+        }
         let marks = count_marks(request.packet());
         if marks > 0 {
-            let lane = request.lane();
             shift.report(&WorkerReport::Marked { lane, from, marks });
         }
     }
@@ -160,7 +164,7 @@ fn serve<R: Wait, W: Wire, G: Gate>(
     if is_request && !shift.may(Call::Accept) {
         return false;
     }
-    tell_marks(shift, from, incoming);
+    tell_request(shift, from, incoming);
     let moment = shift.wire.now();
     let handled = handle(
         shift.rt,
@@ -183,11 +187,13 @@ fn serve<R: Wait, W: Wire, G: Gate>(
         Ok(Handled::Taken(_, Taken::Waiting(_))) => shift.report(&WorkerReport::Repeated {
             repeat: Repeat::Waiting,
             from,
+            octets: octets_of(incoming),
         }),
         Ok(Handled::Taken(_, Taken::Again(_))) => {
             shift.report(&WorkerReport::Repeated {
                 repeat: Repeat::Answered,
                 from,
+                octets: octets_of(incoming),
             });
             if fits(incoming, datagram) {
                 shift.send(socket, from, datagram.bytes());
@@ -269,5 +275,8 @@ fn take<R, W: Wire, L: Ledger, G: Gate>(
     shift.report(&WorkerReport::Took {
         lane: inlet.lane(),
         serial: outgoing.serial,
+        number: number_in_mark(outgoing.reply.sending()),
+        client: to,
+        sent: outgoing.reply.sending(),
     });
 }

@@ -5,7 +5,7 @@ ghost use Rattle.rad_desk.specs.Reports.{note_of};
 
 use rad_lane::Refusal;
 use rad_realms::{Dropped, Endpoint};
-use rad_rings::{DeskFault, Spent, Standing};
+use rad_rings::{DeskFault, Origin, Spent, Standing};
 use rad_tables::{Moment, Slot};
 
 /// The worker that asks or reports.
@@ -100,10 +100,12 @@ pub enum WorkerReport<'a> {
     },
     /// A receive failed.
     ReceiveFault,
-    /// A datagram is about to be sent to this address and port.
+    /// A datagram is about to be sent to this address and port. If the gate traces, a request to a home server has its
+    /// origin.
     Sends {
         to: Endpoint,
         octets: &'a [u8],
+        origin: Option<&'a Origin>,
     },
     /// A datagram to this address and port could not be sent. It is lost.
     SendFault {
@@ -122,6 +124,11 @@ pub enum WorkerReport<'a> {
         from: Endpoint,
         marks: u64,
     },
+    /// The front received a request for a lane, by the realm of this rank among those that lead to the lane.
+    Requested {
+        lane: u16,
+        rank: usize,
+    },
     /// A lane accepted a new request of the front's under this number, so its worker has something to send.
     Accepted {
         lane: u16,
@@ -133,6 +140,7 @@ pub enum WorkerReport<'a> {
     Repeated {
         repeat: Repeat,
         from: Endpoint,
+        octets: &'a [u8],
     },
     /// A request that came to the front from this address and port was refused, for this reason.
     Refused {
@@ -140,26 +148,34 @@ pub enum WorkerReport<'a> {
         from: Endpoint,
         octets: &'a [u8],
     },
-    /// The response of this lane and serial was taken from the lane's ring, and its datagram was handed to the wire.
+    /// The response of this lane and serial was taken from the lane's ring, and its datagram was handed to the wire. It
+    /// answers this client's request of this number, which was sent to the home server as this packet.
     Took {
         lane: u16,
         serial: u64,
+        number: u64,
+        client: Endpoint,
+        sent: &'a [u8],
     },
     /// A datagram to a lane's worker was dropped, since its home server did not send it.
     NotHome {
         from: Endpoint,
         octets: &'a [u8],
     },
-    /// A datagram of the home server was dropped, for this reason.
+    /// A datagram of the home server was dropped, for this reason. If the gate traces, it has the origin of the request
+    /// that was outstanding under the pair that it came to.
     Unheard {
         fault: DeskFault,
         octets: &'a [u8],
+        origin: Option<&'a Origin>,
     },
     /// The request that was outstanding under this pair of source port and Identifier is answered. The response of this
-    /// serial was added to the lane's ring, so the front has something to take.
+    /// serial was added to the lane's ring, so the front has something to take. If the gate traces, it has the request's
+    /// origin.
     Answered {
         serial: u64,
         slot: Slot,
+        origin: Option<&'a Origin>,
     },
     /// The standing of the lane at this moment, for which the gate asked. All that the lane has sent was reported before.
     Stands {
@@ -192,7 +208,7 @@ impl WorkerReport<'_> {
             WorkerReport::SendFault { .. } => Some(Note::SendFault),
             WorkerReport::Dropped { reason, .. } => Some(Note::Dropped(reason)),
             WorkerReport::Refused { reason, .. } => Some(Note::Refused(reason)),
-            WorkerReport::Took { lane, serial } => Some(Note::Took(lane, serial)),
+            WorkerReport::Took { lane, serial, .. } => Some(Note::Took(lane, serial)),
             WorkerReport::NotHome { .. } => Some(Note::NotHome),
             WorkerReport::Unheard { fault, .. } => Some(Note::Unheard(fault)),
             WorkerReport::WentDown(_) => Some(Note::WentDown),
@@ -202,6 +218,7 @@ impl WorkerReport<'_> {
             | WorkerReport::Received { .. }
             | WorkerReport::Sends { .. }
             | WorkerReport::Marked { .. }
+            | WorkerReport::Requested { .. }
             | WorkerReport::Accepted { .. }
             | WorkerReport::Repeated { .. }
             | WorkerReport::Answered { .. }
@@ -226,6 +243,11 @@ pub trait Gate {
 
     /// Returns whether the worker of a lane is to report the lane's standing.
     fn asks(&self, _lane: u16) -> bool {
+        false
+    }
+
+    /// Returns whether the workers of lanes are to report the origins of requests.
+    fn traces(&self) -> bool {
         false
     }
 

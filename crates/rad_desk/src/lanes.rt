@@ -12,7 +12,7 @@ use crate::wire::Wire;
 use rad_lane::Action;
 use rad_packet::Datagram;
 use rad_realms::{Endpoint, Home};
-use rad_rings::{Proxy, Stepped, Told};
+use rad_rings::{DeskFault, Origin, Proxy, Stepped, Told};
 use rad_tables::{Moment, Slot};
 use std::alloc::Global;
 use std::sync::Wait;
@@ -89,6 +89,7 @@ fn hear<R: Wait, W: Wire, G: Gate>(
     if !shift.may(Call::Hear) {
         return false;
     }
+    let origin = origin_of_reply(shift, lane, socket, octets);
     let now = shift.wire.now();
     let told = shift
         .proxy
@@ -100,12 +101,58 @@ fn hear<R: Wait, W: Wire, G: Gate>(
                 port: socket,
                 identifier: buffers.octets[1],
             };
-            shift.report(&WorkerReport::Answered { serial, slot });
+            shift.report(&WorkerReport::Answered {
+                serial,
+                slot,
+                origin: origin.as_ref(),
+            });
         }
         Ok(Told::ProbeAnswered) => shift.report(&WorkerReport::WentUp(UpReason::ProbeAnswered)),
-        Err(fault) => shift.report(&WorkerReport::Unheard { fault, octets }),
+        Err(fault) => tell_unheard(shift, fault, octets, origin.as_ref()),
     }
     true
+}
+
+/// Reports that a datagram of the home server was dropped.
+fn tell_unheard<'b, R, W: Wire, G: Gate>(
+    shift: &Shift<'_, R, W, G>,
+    fault: DeskFault,
+    octets: &'b [u8],
+    origin: Option<&'b Origin>,
+) {
+    shift.report(&WorkerReport::Unheard {
+        fault,
+        octets,
+        origin,
+    });
+}
+
+/// Returns the origin of the request that is outstanding under the pair that a reply came to, if the gate traces.
+fn origin_of_reply<R: Wait, W: Wire, G: Gate>(
+    shift: &Shift<'_, R, W, G>,
+    lane: u16,
+    port: u16,
+    octets: &[u8],
+) -> Option<Origin>
+    requires { lane < shift.now.proxy.now }
+{
+    let identifier = *octets.get(1)?;
+    origin_under(shift, lane, Slot { port, identifier })
+}
+
+/// Returns the origin of the request that is outstanding under a pair, if the gate traces.
+fn origin_under<R: Wait, W: Wire, G: Gate>(
+    shift: &Shift<'_, R, W, G>,
+    lane: u16,
+    slot: Slot,
+) -> Option<Origin>
+    requires { lane < shift.now.proxy.now }
+{
+    if shift.gate.traces() {
+        shift.proxy.origin(shift.rt, lane, slot)
+    } else {
+        None
+    }
 }
 
 /// Makes the lane do its next step, sends what that gives, and returns whether the worker goes on.
@@ -137,7 +184,8 @@ fn step<R: Wait, W: Wire, G: Gate>(
         return follow(shift, lane, home, &stepped);
     };
     tell_first(shift, &stepped.action);
-    send_home(shift, home, port, &buffers.datagram);
+    let origin = origin_of_sent(shift, lane, &stepped.action);
+    send_home(shift, home, port, &buffers.datagram, origin.as_ref());
     true
 }
 
@@ -145,6 +193,20 @@ fn step<R: Wait, W: Wire, G: Gate>(
 fn tell_first<R, W: Wire, G: Gate>(shift: &Shift<'_, R, W, G>, action: &Action) {
     if let Action::Sent(number, slot) = *action {
         shift.report(&WorkerReport::FirstSent { number, slot });
+    }
+}
+
+/// Returns the origin of the request that is sent, if the gate traces. A probe has none.
+fn origin_of_sent<R: Wait, W: Wire, G: Gate>(
+    shift: &Shift<'_, R, W, G>,
+    lane: u16,
+    action: &Action,
+) -> Option<Origin>
+    requires { lane < shift.now.proxy.now }
+{
+    match *action {
+        Action::Sent(_, slot) | Action::Resent(_, slot) => origin_under(shift, lane, slot),
+        Action::Probed(_) | Action::WentDown | Action::WentUp | Action::Idle(_) => None,
     }
 }
 
@@ -196,20 +258,21 @@ fn follow<R: Wait, W: Wire, G: Gate>(
     true
 }
 
-/// Sends a datagram to the home server, from the socket of a source port. If the home server does not have that port,
+/// Sends a datagram of a request of this origin to the home server, from the socket of a source port. If the home server does not have that port,
 /// since the port is another lane's, for example, nothing is sent.
 fn send_home<R, W: Wire, G: Gate>(
     shift: &mut Shift<'_, R, W, G>,
     home: &Home,
     port: u16,
     datagram: &Datagram,
+    origin: Option<&Origin>,
 )
     ensures sends { Passes (IsSentHome home.now port datagram.now) (W.log shift.old.wire.now) (W.log shift.new.wire.now) }
     ensures keeps { Keeps shift.old shift.new }
 {
     let to = endpoint_of(home);
     if u32::from(port) < home.limits().numbers().ports {
-        shift.send(port, to, datagram.bytes());
+        shift.send_of(port, to, datagram.bytes(), origin);
     }
 }
 

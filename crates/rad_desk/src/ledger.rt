@@ -4,25 +4,44 @@ ghost use Rattle.std.specs.Prelude.{◌≡◌, List, [], ◌∷◌, ◌++◌, Op
 ghost use Rattle.std.specs.Borrow.{ftrue};
 ghost use Rattle.rad_lane.specs.declared.outgoing.Outgoing.{Outgoing};
 ghost use Rattle.rad_desk.specs.HandOver.{kept_with};
+ghost use Rattle.rad_desk.specs.Leaving.{Left, as_left, left_with};
 
-use rad_lane::Outgoing;
+use crate::leaving::LeftRecord;
+use rad_lane::{Counts, Outgoing};
 use std::marker::Model;
 
-/// What keeps evidence of the responses that are handed over to it.
+/// What keeps evidence of the responses that are handed over to it, and of the requests that are left at the end.
 ///
-/// Contracts may see a ledger as the list of the responses that it was given so far, in order. They say nothing of a
-/// ledger without such a list.
+/// Contracts may see a ledger as the list of the responses that it was given so far, in order, and as that of the
+/// requests that it was told as left. They say nothing of a ledger without such a list.
 pub trait Ledger {
     ghost kept: { Self → Option (List Outgoing) } = { λ _. None };
+
+    ghost left: { Self → Option (List Left) } = { λ _. None };
 
     /// From now on responses may come.
     fn begin(&mut self)
         ensures { kept self.new ≡ kept self.old }
     {}
 
-    /// Keeps a response, which it is lent. It must not wait for anything.
+    /// Keeps a response, which it is lent. It must not wait for anything. The mark, the last attribute of the sending
+    /// that the response holds, tells which lane the response is of, and the number of its request.
     fn keep(&mut self, outgoing: &Outgoing)
         ensures { kept self.new ≡ kept_with (kept self.old) (outgoing.now ∷ []) };
+
+    /// Keeps a request that is left, which it is lent. No response comes any more, so it may wait.
+    fn leave(&mut self, told: &LeftRecord<'_>)
+        ensures { left self.new ≡ left_with (left self.old) (as_left told.now ∷ []) };
+
+    /// All that is left of this lane was told. These are the lane's counts.
+    fn end_lane(&mut self, _lane: u16, _counts: &Counts)
+        ensures { left self.new ≡ left self.old }
+    {}
+
+    /// What is left can't be told, since memory was refused.
+    fn leave_untold(&mut self)
+        ensures { left self.new ≡ left self.old }
+    {}
 }
 
 /// A ledger that keeps nothing.
@@ -31,11 +50,15 @@ pub struct NoLedger;
 
 impl Ledger for NoLedger {
     fn keep(&mut self, _outgoing: &Outgoing) {}
+
+    fn leave(&mut self, _told: &LeftRecord<'_>) {}
 }
 
 /// A ledger, if there is one.
 impl<L: Ledger> Ledger for Option<L> {
     ghost kept = { λ ledger. option_and_then L.kept ledger };
+
+    ghost left = { λ ledger. option_and_then L.left ledger };
 
     fn begin(&mut self) {
         if let Some(ledger) = self {
@@ -46,6 +69,24 @@ impl<L: Ledger> Ledger for Option<L> {
     fn keep(&mut self, outgoing: &Outgoing) {
         if let Some(ledger) = self {
             ledger.keep(outgoing);
+        }
+    }
+
+    fn leave(&mut self, told: &LeftRecord<'_>) {
+        if let Some(ledger) = self {
+            ledger.leave(told);
+        }
+    }
+
+    fn end_lane(&mut self, lane: u16, counts: &Counts) {
+        if let Some(ledger) = self {
+            ledger.end_lane(lane, counts);
+        }
+    }
+
+    fn leave_untold(&mut self) {
+        if let Some(ledger) = self {
+            ledger.leave_untold();
         }
     }
 }

@@ -6,6 +6,8 @@
 //! The definitions that the contracts cite are in specs. `Marks` is how many Proxy-States of this proxy's form a
 //! request has, and `Handling` what a checked datagram leads to. `Traffic` is what passes over a wire, `Working` what a
 //! lane's worker may send over it, `Once` what the front may send, and `HandOver` what the front hands over to a ledger.
+//! `Leaving` is what a ledger is told of the requests that are left at the end, and `ToldValues` which values of a request
+//! are told.
 //! `Keeping` is what a call leaves as it was of what a worker has, and `Reports` the note of a report.
 #![tactic(auto)]
 
@@ -14,20 +16,24 @@ mod gate;
 mod handling;
 mod lanes;
 pub mod laws;
+mod leaving;
 mod ledger;
 mod marks;
 mod shift;
 mod tally;
+mod told_values;
 mod wire;
 
 pub use front::{front_worker, front_worker_with};
 pub use gate::{Call, Gate, Go, Note, Repeat, UpReason, Worker, WorkerReport};
 pub use lanes::lane_worker;
+pub use leaving::{LeftRecord, LeftState, tell_left};
 pub use ledger::{Handed, Ledger, NoLedger};
 pub use marks::count_marks;
 pub use rad_rings::{
-    CloseFault, DeskFault, Inlet, LaneEnd, OpenFault, Proxy, Report, Rest, Session, Spent,
+    CloseFault, DeskFault, Inlet, LaneEnd, OpenFault, Origin, Proxy, Report, Rest, Session, Spent,
     Standing, Told, open,
 };
 pub use tally::Tally;
+pub use told_values::{status_of, user_of};
 pub use wire::{Delivery, Received, Traffic, Wire};

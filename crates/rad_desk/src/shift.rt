@@ -10,7 +10,7 @@ use crate::tally::Tally;
 use crate::wire::{Delivery, Received, Wire};
 use rad_packet::Datagram;
 use rad_realms::Endpoint;
-use rad_rings::Proxy;
+use rad_rings::{Origin, Proxy};
 use std::alloc::Global;
 
 /// What a worker has while it works, but its buffers: what is in them is lent while the rest is used.
@@ -136,7 +136,21 @@ impl<'a, R, W: Wire, G: Gate> Shift<'a, R, W, G> {
         ensures sends { Passes (IsSent socket to octets.now) (W.log self.old.wire.now) (W.log self.new.wire.now) }
         ensures keeps { Keeps self.old self.new }
     {
-        self.report(&WorkerReport::Sends { to, octets });
+        self.send_of(socket, to, octets, None);
+    }
+
+    /// Does the same, and reports the origin of the request that is sent, if that is known.
+    pub(crate) fn send_of<'b>(
+        &mut self,
+        socket: u16,
+        to: Endpoint,
+        octets: &'b [u8],
+        origin: Option<&'b Origin>,
+    )
+        ensures sends { Passes (IsSent socket to octets.now) (W.log self.old.wire.now) (W.log self.new.wire.now) }
+        ensures keeps { Keeps self.old self.new }
+    {
+        self.report(&WorkerReport::Sends { to, octets, origin });
         match self.wire.send(socket, to.address, to.port, octets) {
             Delivery::Sent => self.tally.sent = self.tally.sent.saturating_add(1),
             Delivery::Fault => {

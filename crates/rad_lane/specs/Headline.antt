@@ -1,5 +1,6 @@
--- The headline (own): what is proved of a lane, in one statement. It is true of the book before any list of calls, of
--- the calls with their results, and of the book after them, whatever the calls are and in whatever order.
+-- The headline of what is proved of a lane (own), that its book stays lawful, each call does what its definition says,
+-- and no request is lost. It is true of the book before any list of calls, of the calls with their results, and of the
+-- book after them, whatever the calls are and in whatever order.
 use Rattle.std.specs.Prelude.{ℕ, List, [], replicate}
 use Rattle.rad_packet.specs.Packet.{packet_text}
 use Rattle.rad_lane.specs.declared.running.Event.{Event}

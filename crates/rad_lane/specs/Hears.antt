@@ -1,5 +1,6 @@
--- The results that hearing a datagram from the home server may have, and the book after it (own). Of the faults, the
--- first one that applies is returned; lack of memory is the last. A fault leaves the book unchanged.
+-- Which datagrams from the home server are heard as the answer to a request or to the probe, why others are not, and
+-- the book after the call (own). Of the faults, the first one that applies is returned; lack of memory is the last. A
+-- fault leaves the book unchanged.
 use Rattle.std.specs.Prelude.{◌≡◌, ◌≢◌, ℕ, ◌+◌, List, [], ◌∷◌, ◌++◌, Some, None, Result, Ok, Err}
 use Rattle.std.specs.FinMap as map
 use Rattle.rad_packet.specs.Packet.{code_of, identifier_of, authenticator_of}

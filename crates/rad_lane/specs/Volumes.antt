@@ -1,5 +1,5 @@
--- Volumes (own): the requests at the start of a book that are over are removed from it and kept elsewhere, so that
--- the book does not grow without end.
+-- Which requests a turn removes from the front of a book, since they were answered at least a span ago, the volume that
+-- then has them, and the book after it (own). So the book does not grow without end.
 use Rattle.std.specs.Prelude.{◌≡◌, ⊤, ℕ, ◌+◌, ◌≤◌, List, [], ◌∷◌, ◌++◌, length, drop, filter, All, Bool, not, nat_lt, Some, Result, Ok, Err}
 use Rattle.rad_lane.specs.declared.stamp.Stamp.{Stamp}
 use Rattle.rad_lane.specs.declared.turning.Volume.{Volume}

@@ -43,7 +43,9 @@ pub struct Lane<Q: Fifo<Record>> {
     pub(crate) indices: SlidingList<Option<AnswerIndex>>,
     /// How many answers the lane has given.
     pub(crate) served: u64,
-    /// The outstanding sendings and probe, each under its pair of source port and Identifier.
+    /// The outstanding sendings and probe, each under its pair of source port and Identifier. The probe is due at no
+    /// moment and never spent, and there is one only while the home server is marked down. So no search for the sending
+    /// that is due has a case for it.
     pub(crate) slots: Slots<Entry>,
     /// How many of the entries are sendings.
     pub(crate) outstanding: usize,

@@ -2,6 +2,7 @@ use crate::Stamp;
 use crate::session::session_of;
 use rad_auth::{Buffer, Octets, Secret};
 use rad_packet::PacketRef;
+use rad_realms::user_name_of;
 use std::marker::Model;
 
 /// A request that a lane accepted: its stamp, its packet, and the secret of the client that sent it.
@@ -33,6 +34,7 @@ impl Record {
     ghost use Rattle.std.specs.Prelude.{◌≡◌, ◌≤◌, length, option_copied};
     ghost use Rattle.rad_lane.specs.Stamp.{IsRecord};
     ghost use Rattle.rad_lane.specs.Session.{session_id};
+    ghost use Rattle.rad_config.specs.Realm.{user_name};
 
     /// Makes a record, with a buffer for the octets to be sent.
     pub(crate) fn new(stamp: Stamp, text: Octets, client_secret: Secret, spare: Buffer) -> Record
@@ -74,6 +76,13 @@ impl Record {
         ensures { option_copied result ≡ session_id self.now.recorded.text }
     {
         session_of(&self.packet())
+    }
+
+    /// Returns the Value of the request's first User-Name (RFC 2865 section 5.1), if it has one.
+    pub fn user(&self) -> Option<&[u8]>
+        ensures { option_copied result ≡ user_name self.now.recorded.text }
+    {
+        user_name_of(&self.packet())
     }
 
     /// Returns the request as a packet.

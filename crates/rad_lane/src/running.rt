@@ -13,7 +13,7 @@ use rad_realms::Checked;
 use rad_tables::Moment;
 use std::alloc::Global;
 
-/// A call of a lane.
+/// A call of a lane. One lifetime is that of the references, the other that of what the request borrows.
 #[derive(Drop)]
 pub enum Event<'a, 'c> {
     /// Accept a request at a moment.
@@ -60,7 +60,8 @@ pub enum RunFault {
 }
 
 /// Makes the calls of these events in order, with one datagram that begins as [`Datagram::new`]. The request of each
-/// [`Event::Accept`] must be one that the lane takes. Each result is kept with a copy of the datagram after it.
+/// [`Event::Accept`] must be one that the lane takes. Each result is kept with a copy of the datagram after it. The
+/// memory for all results is taken before the first event, so no event is made whose result could not be kept.
 ///
 /// # Errors
 ///

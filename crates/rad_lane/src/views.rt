@@ -1,15 +1,18 @@
 //! The calls that show the book of a lane.
 
-ghost use Rattle.std.specs.Prelude.{◌≡◌, ◌↔◌, IsTrue, IsSome, MatchOption};
+ghost use Rattle.std.specs.Prelude.{◌≡◌, ◌↔◌, IsTrue, IsSome, MatchOption, option_and_then};
+ghost use Rattle.std.specs.FinMap as map;
 ghost use Rattle.std.specs.Option.{option_copied};
 ghost use Rattle.rad_lane.specs.Counting.{counts_of, IsDone};
 ghost use Rattle.rad_lane.specs.Dues.{NoneSpent, IsFirstSpent};
+ghost use Rattle.rad_lane.specs.Entries.{request_in};
 ghost use Rattle.rad_lane.specs.Lawful.{IsLawful};
 ghost use Rattle.rad_lane.specs.Setup.{IsOf};
 
 use crate::{Answered, Counts, Entry, Lane, Record, Sending, Stamp, Watch};
 use block_queue::Fifo;
 use rad_auth::Secret;
+use rad_tables::Slot;
 
 impl<Q: Fifo<Record>> Lane<Q> {
     /// Returns whether the lane has this number and its home server has this secret. It compares the secrets' octets.
@@ -80,6 +83,17 @@ impl<Q: Fifo<Record>> Lane<Q> {
     {
         let slot = self.slots.least_due(true)?;
         match self.slots.get(slot) {
+            Some(Entry::Sending(sending)) => Some(sending),
+            Some(Entry::Probe(_)) | None => None,
+        }
+    }
+
+    /// Returns the sending of the request that is outstanding under a pair, if there is one.
+    pub fn sending_under(&self, slot: Slot) -> Option<&Sending>
+        ensures { option_copied result ≡ option_and_then request_in (map.get self.now.held slot) }
+    {
+        let entry = self.slots.get(slot);
+        match entry {
             Some(Entry::Sending(sending)) => Some(sending),
             Some(Entry::Probe(_)) | None => None,
         }

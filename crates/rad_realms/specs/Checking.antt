@@ -1,7 +1,7 @@
--- The checks of a datagram that comes from a client, and the properties of one that passes: its sender is a client;
--- and it is either an Accounting-Request (RFC 2866 section 4.1) that is valid under that client's secret, has no
--- Message-Authenticator (own) and leads to a lane, or a Status-Server (RFC 5997 section 3) that is valid under that
--- secret.
+-- Which datagrams pass the checks of the front, as a request or as a Status-Server, and for which reason each other one
+-- is dropped. The sender of one that passes is a client; and it is either an Accounting-Request (RFC 2866 section 4.1)
+-- that is valid under that client's secret, has no Message-Authenticator (own) and leads to a lane, or a Status-Server
+-- (RFC 5997 section 3) that is valid under that secret.
 use Rattle.std.specs.Prelude.{◌≡◌, ◌≢◌, ◌<◌, ℕ, List, [], length, Some, None}
 use Rattle.rad_packet.specs.Attribute.{of_kind}
 use Rattle.rad_packet.specs.Packet.{IsPacketText, code_of, packet_attributes}

@@ -371,7 +371,7 @@ fn unsigned_name_of<'a>(packet: &PacketRef<'a>) -> Result<Option<&'a [u8]>, Drop
 }
 
 /// Returns the User-Name of a packet, if it has one. Looks at each attribute up to it once.
-fn user_name_of<'a>(packet: &PacketRef<'a>) -> Option<&'a [u8]>
+pub fn user_name_of<'a>(packet: &PacketRef<'a>) -> Option<&'a [u8]>
     ensures name { option_copied result ≡ user_name packet.now }
     ensures packet { IsPacketText packet.now }
 {

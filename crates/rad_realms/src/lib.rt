@@ -8,11 +8,13 @@
 mod checking;
 mod laws;
 
-pub use checking::{Checked, CheckedStatus, DROPPED, Dropped, Incoming, check_in, realm_of_packet};
+pub use checking::{
+    Checked, CheckedStatus, DROPPED, Dropped, Incoming, check_in, realm_of_packet, user_name_of,
+};
 pub use laws::taken_or_dropped_once;
 pub use rad_config::{
     AddressText, Client, Config, ConfigFault, DEFAULT_LIMITS, Endpoint, Home, Key, LimitFault,
     LimitNumbers, Limits, Part, Realm, Spot, addresses_have_one_text,
-    configurations_are_well_formed, endpoints_have_one_text, no_fault_in_range,
+    configurations_are_well_formed, endpoints_have_one_text, list_faults, no_fault_in_range,
     numbers_have_one_text, read_address, read_config, realm_follows_the_last_sign,
 };

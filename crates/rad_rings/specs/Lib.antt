@@ -10,4 +10,5 @@ pub mod Refusing
 pub mod Turned
 pub mod Printed
 pub mod Spent
+pub mod Origin
 pub mod Standing

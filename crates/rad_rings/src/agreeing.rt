@@ -7,7 +7,8 @@ use rad_auth::Reply;
 use rad_lane::{Answered, Outgoing, Stamp};
 
 /// Returns whether a response agrees with a kept answer: in the client's address and port, the Identifier, and the
-/// octets of the sending, the reply and the response. It compares all octets.
+/// octets of the sending, the reply and the response. It compares all octets, and no secrets: the response was signed
+/// with the client's, and the sending with the home server's.
 pub fn agrees(answer: &Answered, outgoing: &Outgoing) -> bool
     ensures { IsTrue result ↔ Agrees answer.now outgoing.now }
 {

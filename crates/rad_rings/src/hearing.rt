@@ -22,10 +22,12 @@ pub enum Told {
     ProbeAnswered,
 }
 
-/// Why a datagram from the home server is unheard. It is printed as `RingFull`, or as the lane's fault.
+/// Why a datagram from the home server is unheard. It is printed as `RingFull`, or as the lane's fault. There is no
+/// fault of a lane that does not exist: only a request can be for one.
 #[derive(Clone, Copy, Debug, PartialEq, Eq)]
 pub enum DeskFault {
-    /// The ring had no free place for a response. The datagram was not read.
+    /// The ring had no free place for a response. The datagram was not read, so the answer to a probe, which needs no
+    /// place, is unheard too.
     RingFull,
     /// The lane did not hear it, for this reason.
     Lane(HearFault),

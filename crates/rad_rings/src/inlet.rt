@@ -19,7 +19,8 @@ pub struct Inlet {
     /// The number of the lane.
     lane: u16,
     pub(crate) taker: Consumer<Outgoing, Global, Numbered>,
-    /// The serial of the response that was taken last.
+    /// The serial of the response that was taken last. By the order of the ring it is how many were taken before it, so
+    /// no count is kept that could exceed its type.
     last: Option<u64>,
     /// The room for the responses that are left at the end. It is allocated when it is needed.
     room: Option<Vec<Outgoing>>,
@@ -87,7 +88,8 @@ impl Inlet {
         }
     }
 
-    /// Allocates room for as many responses as the ring can hold.
+    /// Allocates room for as many responses as the ring can hold. `close` does so for each inlet before it takes any
+    /// desk out of its lock, so that there is nothing to undo if memory is refused.
     ///
     /// # Errors
     ///

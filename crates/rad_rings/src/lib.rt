@@ -9,7 +9,7 @@
 //! The definitions that the contracts cite are in specs. `Desk` and `Inlet` are what a contract sees of the two ends of
 //! a ring, and `Outlet` is what was added to the ring, beside the lane's book. `Tells` is hearing the home server.
 //! `Departures` and `Lawful` are what a call through a lock states, `Spent` is what is reported of the request that
-//! marks a home server down, and `Standing` is the standing of a lane.
+//! marks a home server down, `Origin` where an outstanding request comes from, and `Standing` is the standing of a lane.
 #![tactic(auto)]
 
 mod agreeing;
@@ -20,6 +20,7 @@ mod hearing;
 mod inlet;
 mod lane_calls;
 mod numbered;
+mod origin;
 mod proxy;
 mod report;
 mod spent;
@@ -31,6 +32,7 @@ pub use closing::CloseFault;
 pub use desk::{Desk, OpenFault, RecordQueue};
 pub use hearing::{DeskFault, Told};
 pub use inlet::Inlet;
+pub use origin::Origin;
 pub use proxy::{Proxy, Stepped, open};
 pub use report::{LaneEnd, Report, Rest};
 pub use spent::{Session, Spent};

@@ -12,9 +12,10 @@ use std::io::{Error, ErrorKind};
 /// the input: an earlier fault leaves them as they are.
 #[derive(Clone, Copy, Debug, PartialEq, Eq)]
 pub enum ServeFault {
-    /// The socket for the clients can't be bound to this address and port, or can't be set up.
+    /// The socket for the clients can't be bound to this address and port, or can't be set up. A poll or random octets
+    /// that the system refuses to the front's worker are this fault too: it names what can't be served.
     Listen(Endpoint),
-    /// The sockets of this lane can't be bound or set up.
+    /// The sockets of this lane can't be bound or set up, or its worker is refused a poll or random octets.
     LaneSocket(usize),
     /// A worker's thread can't be started.
     Threads,

@@ -12,7 +12,9 @@ use std::os::fd::{AsRawFd, RawFd};
 /// The timeout of a poll that waits without a limit.
 const FOR_EVER: i32 = -1;
 
-/// A reader that waits until there is something to read, and ends the wait if it is notified.
+/// A reader that waits until there is something to read, and ends the wait if it is notified. Such an end is a read
+/// that returned `Interrupted`, so a caller needs no other trait than `Read`. Files and terminals are polled as well as
+/// pipes.
 #[derive(Drop)]
 pub struct Interruptible<I: Drop> {
     reader: I,

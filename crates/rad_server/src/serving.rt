@@ -13,11 +13,11 @@ use crate::socket_reports::SocketReports;
 use crate::sockets::BoundSockets;
 use crate::streams::{Descriptors, Streams};
 use crate::supervising::Supervisor;
-use crate::threads::work;
+use crate::threads::{FrontEnd, Worked, work};
 use crate::wiring::{NotifiedWires, WireMaker, Wires, make_reader};
 use crate::working::Service;
 use rad_addresses::LocalAddresses;
-use rad_console::{EndLine, ListeningLine, close};
+use rad_console::{EndLine, ListeningLine, close_with};
 use rad_desk::{NoLedger, OpenFault, open};
 use rad_realms::Config;
 use std::alloc::Global;
@@ -66,7 +66,7 @@ where
 /// Serves a configuration over UDP as [`run`] does, and keeps its responses in a ledger.
 ///
 /// The ledger begins once all sockets are bound, and before the workers do. The front hands each response over to it
-/// before it sends it.
+/// before it sends it. At the end, also by a fault, it is told each request that is left.
 ///
 /// # Errors
 ///
@@ -163,8 +163,9 @@ where
 
 /// Serves a configuration over these wires as [`serve`] does, and keeps its responses in a ledger.
 ///
-/// The ledger begins before the workers do. The front hands each response over to it before it sends it. If the writer
-/// writes to a descriptor, the input is watched while a write waits, as [`run`] does.
+/// The ledger begins before the workers do. The front hands each response over to it before it sends it. At the end, also
+/// by a fault, it is told each request that is left. If the writer writes to a descriptor, the input is watched while a
+/// write waits, as [`run`] does.
 ///
 /// # Errors
 ///
@@ -245,8 +246,15 @@ where
         supervisor: &supervisor,
     };
     ledger.begin();
-    let inlets = work(service, wires, ledger, inlets, &mut console)?;
-    let end = close(alloc, proxy, inlets)?;
+    let Worked { front, outcome } = work(service, wires, ledger, inlets, &mut console)?;
+    let FrontEnd {
+        inlets,
+        mut ledger,
+        moment,
+    } = front;
+    let end = close_with(alloc, proxy, inlets, moment, &mut ledger);
+    outcome?;
+    let end = end?;
     console.output.add(&end)?;
     console.output.finish(rt)?;
     Ok(end)

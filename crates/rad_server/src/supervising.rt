@@ -153,7 +153,8 @@ impl<G: Gate> Supervisor<'_, G> {
         self.notifiers.notify(worker);
     }
 
-    /// Records an answer, which marks a home server up without a step, and notifies the front.
+    /// Records an answer, which marks a home server up without a step, and notifies the front. The worker does not know
+    /// whether this answer did so. It did, if the home server was last reported as marked down.
     fn answered(&self, worker: Worker) {
         self.set_down(worker, false, &WorkerReport::WentUp(UpReason::Answered));
         if let Some(state) = self.lane_of(worker) {
@@ -177,6 +178,10 @@ impl<G: Gate> Gate for Supervisor<'_, G> {
 
     fn asks(&self, lane: u16) -> bool {
         self.outer.asks(lane)
+    }
+
+    fn traces(&self) -> bool {
+        self.outer.traces()
     }
 
     /// Does what an event asks for, and passes the report on.

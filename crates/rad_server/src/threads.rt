@@ -9,18 +9,40 @@ use crate::faults::ServeFault;
 use crate::wiring::Wires;
 use crate::working::Service;
 use rad_desk::Inlet;
+use rad_tables::Moment;
 use std::io::{Read, Write};
 use std::thread::{self, JoinHandle, Scope};
 
+/// What the worker of the clients' side returns at its end.
+#[derive(Drop)]
+pub(crate) struct FrontEnd<L: Drop> {
+    pub(crate) inlets: Vec<Inlet>,
+    pub(crate) ledger: L,
+    /// The moment of its end.
+    pub(crate) moment: Moment,
+}
+
+/// What the workers leave, and why they ended.
+#[derive(Drop)]
+pub(crate) struct Worked<L: Drop> {
+    pub(crate) front: FrontEnd<L>,
+    /// `Ok` if the commands ended.
+    pub(crate) outcome: Result<(), ServeFault>,
+}
+
 /// Starts a thread for each wire, writes what the output holds once all have begun, and obeys the commands. The thread
-/// of the front has the ledger. Returns the inlets. All threads have ended when it returns.
+/// of the front has the ledger. All threads have ended when it returns.
+///
+/// # Errors
+///
+/// `Threads` if the thread of the front can't be started. No request was accepted then.
 pub(crate) fn work<R, W, G, L, I, O>(
     service: Service<'_, R, G>,
     wires: Wires<W>,
     ledger: L,
     inlets: Vec<Inlet>,
     console: &mut Console<I, O>,
-) -> Result<Vec<Inlet>, ServeFault>
+) -> Result<Worked<L>, ServeFault>
 where
     R: Host,
     W: OwnedWire,
@@ -33,7 +55,7 @@ where
     thread::scope(
         thread::scope_env(),
         service.rt,
-        move |scope| -> Result<Vec<Inlet>, ServeFault>
+        move |scope| -> Result<Worked<L>, ServeFault>
             requires { IsSync R.row × IsSend W.row × IsSync G.row × IsSend L.row × ((wire : W) → IsSome (W.log wire)) }
         {
             let Wires { front, lanes } = wires;
@@ -44,23 +66,20 @@ where
                 Err(ServeFault::Threads)
             };
             service.supervisor.stop();
-            let inlets = front.join(service.rt);
-            match outcome {
-                Ok(()) => Ok(inlets),
-                Err(fault) => Err(fault),
-            }
+            let front = front.join(service.rt);
+            Ok(Worked { front, outcome })
         },
     )
 }
 
-/// Starts the worker of the clients' side, which returns the inlets at its end.
+/// Starts the worker of the clients' side, which returns the inlets and the ledger at its end.
 fn start_front<'s, E, R, W, G, L>(
     scope: &Scope<'s, E>,
     service: Service<'s, R, G>,
     inlets: Vec<Inlet>,
     wire: W,
     ledger: L,
-) -> Result<JoinHandle<Vec<Inlet>>, ServeFault>
+) -> Result<JoinHandle<FrontEnd<L>>, ServeFault>
 where
     R: Host + 's,
     W: OwnedWire + 's,
@@ -69,14 +88,18 @@ where
     requires keeps { (wire : W) → IsSome (W.log wire) }
 {
     let worker = scope.spawn(
-        move || -> Vec<Inlet>
+        move || -> FrontEnd<L>
             requires { (wire : W) → IsSome (W.log wire) }
         {
             let mut inlets = inlets;
             let mut wire = wire;
             let mut ledger = ledger;
             service.work_in_front(inlets.as_mut_slice(), &mut wire, &mut ledger);
-            inlets
+            FrontEnd {
+                inlets,
+                ledger,
+                moment: wire.now(),
+            }
         },
     );
     match worker {

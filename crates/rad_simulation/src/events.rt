@@ -65,6 +65,7 @@ pub enum Sign {
     Marked(u16, Endpoint, u64),
     Accepted(u16, u64, Endpoint),
     Repeated(Repeat, Endpoint),
+    Requested(u16, usize),
     Refused(Refusal, Endpoint),
     Took(u16, u64),
     NotHome(Endpoint),
@@ -96,12 +97,13 @@ impl Sign {
                 from,
                 ..
             } => Sign::Accepted(lane, number, from),
-            WorkerReport::Repeated { repeat, from } => Sign::Repeated(repeat, from),
+            WorkerReport::Repeated { repeat, from, .. } => Sign::Repeated(repeat, from),
+            WorkerReport::Requested { lane, rank } => Sign::Requested(lane, rank),
             WorkerReport::Refused { reason, from, .. } => Sign::Refused(reason, from),
-            WorkerReport::Took { lane, serial } => Sign::Took(lane, serial),
+            WorkerReport::Took { lane, serial, .. } => Sign::Took(lane, serial),
             WorkerReport::NotHome { from, .. } => Sign::NotHome(from),
             WorkerReport::Unheard { fault, .. } => Sign::Unheard(fault),
-            WorkerReport::Answered { serial, slot } => Sign::Answered(serial, slot),
+            WorkerReport::Answered { serial, slot, .. } => Sign::Answered(serial, slot),
             WorkerReport::Stands { .. } => Sign::Stands,
             WorkerReport::FirstSent { number, slot } => Sign::FirstSent(number, slot),
             WorkerReport::WentDown(_) => Sign::WentDown,
@@ -118,6 +120,7 @@ pub fn octets_of<'a>(report: &WorkerReport<'a>) -> &'a [u8] {
         | WorkerReport::Sends { octets, .. }
         | WorkerReport::Dropped { octets, .. }
         | WorkerReport::Accepted { octets, .. }
+        | WorkerReport::Repeated { octets, .. }
         | WorkerReport::Refused { octets, .. }
         | WorkerReport::NotHome { octets, .. }
         | WorkerReport::Unheard { octets, .. } => octets,

@@ -153,6 +153,10 @@ fn accept(
     if !walk.asks(Call::Accept, Rule::ACCEPT) {
         return false;
     }
+    if realm_of(first_value(packet, USER_NAME).unwrap_or(&[])).is_some() {
+        // Each lane has one realm.
+        walk.meets(Sign::Requested(book.lane, 0), &[], Rule::REQUESTED);
+    }
     let marks = marks_of(packet);
     if marks > 0 {
         let sign = Sign::Marked(book.lane, mail.from, marks);
@@ -176,9 +180,9 @@ fn taken(book: &Book, taking: Taking, mail: &Mail, packet: &PacketRef<'_>, walk:
             octets,
             Rule::ACCEPTED,
         ),
-        Taking::Waiting => repeats(Repeat::Waiting, from, walk),
+        Taking::Waiting => repeats(Repeat::Waiting, from, octets, walk),
         Taking::Again(number) => {
-            repeats(Repeat::Answered, from, walk);
+            repeats(Repeat::Answered, from, octets, walk);
             answer(
                 mail.socket,
                 mail.from,
@@ -192,8 +196,8 @@ fn taken(book: &Book, taking: Taking, mail: &Mail, packet: &PacketRef<'_>, walk:
 }
 
 /// Expects the report that a request is a repeat.
-fn repeats(repeat: Repeat, from: Endpoint, walk: &mut Walk<'_>) {
-    walk.meets(Sign::Repeated(repeat, from), &[], Rule::AGAIN);
+fn repeats(repeat: Repeat, from: Endpoint, octets: &[u8], walk: &mut Walk<'_>) {
+    walk.meets(Sign::Repeated(repeat, from), octets, Rule::AGAIN);
 }
 
 /// Expects that the next response of a lane, if there is one, goes to its client.

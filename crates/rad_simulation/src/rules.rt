@@ -36,6 +36,8 @@ impl Rule {
 
     pub const DROPPED: Rule = Rule("what is no right request is dropped, its first reason noted");
 
+    pub const REQUESTED: Rule = Rule("the gate is told by which realm a request came, if by one");
+
     pub const MARKED: Rule = Rule("the gate is told how many marks of this form a request has");
 
     pub const ACCEPT: Rule = Rule("the front asks before a lane takes a request, and tells after");

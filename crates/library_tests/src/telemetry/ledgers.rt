@@ -4,6 +4,7 @@ use crate::comparing::holds;
 use crate::telemetry::logs::{MemoryLog, has_logged, log_up_to};
 use rad_log::LevelFilter;
 use rad_telemetry::{LedgerFault, LedgerState};
+use std::time::Clock;
 
 /// What happens to a ledger.
 #[derive(Clone, Copy)]
@@ -20,6 +21,10 @@ enum Step {
     GoOn,
     /// What happened is logged.
     Tell,
+    /// A request is told as left.
+    Leave,
+    /// This many lines of requests that are left are written.
+    WriteLeft(u64),
     /// What is left at the end is logged.
     TellLeft,
 }
@@ -50,7 +55,13 @@ const STEPS: &[Step] = &[
     Step::Write(2),
     Step::Fail(LedgerFault::Memory),
     Step::TellLeft,
+    Step::Leave,
+    Step::Leave,
+    Step::Leave,
+    Step::WriteLeft(1),
+    Step::TellLeft,
     Step::Put,
+    Step::TellLeft,
 ];
 
 /// The lines of a ledger that can't be written at first.
@@ -63,7 +74,9 @@ const LINES: &str =
     event=ledger-fault reason=\"can't sync\"\n\
     event=ledger-back\n\
     event=ledger-left count=2\n\
-    event=ledger-fault reason=\"no memory\"\n";
+    event=ledger-fault reason=\"no memory\"\n\
+    event=ledger-left count=0 left=2\n\
+    event=ledger-left count=1 left=2\n";
 
 /// Those of them that are logged at `error`.
 const ERRORS: &str =
@@ -73,10 +86,12 @@ const ERRORS: &str =
     event=ledger-dropped count=1\n\
     event=ledger-fault reason=\"can't sync\"\n\
     event=ledger-left count=2\n\
-    event=ledger-fault reason=\"no memory\"\n";
+    event=ledger-fault reason=\"no memory\"\n\
+    event=ledger-left count=0 left=2\n\
+    event=ledger-left count=1 left=2\n";
 
 /// Lets a step happen to a ledger.
-fn happen(ledger: &LedgerState, log: &MemoryLog, step: Step) {
+fn happen(rt: &impl Clock, ledger: &LedgerState, log: &MemoryLog, step: Step) {
     match step {
         Step::Put => ledger.count_put(),
         Step::Write(count) => ledger.count_written(count),
@@ -84,6 +99,10 @@ fn happen(ledger: &LedgerState, log: &MemoryLog, step: Step) {
         Step::Fail(fault) => ledger.fail(fault),
         Step::GoOn => ledger.goes_on(),
         Step::Tell => ledger.tell(log),
+        Step::Leave => {
+            let _ = ledger.count_left(rt);
+        }
+        Step::WriteLeft(count) => ledger.count_left_written(count),
         Step::TellLeft => ledger.tell_left(log),
     }
 }
@@ -107,19 +126,22 @@ fn is_counted(ledger: &LedgerState) -> bool {
 }
 
 /// Lets all steps happen to a ledger, and returns whether exactly these lines are logged.
-fn tells(log: &MemoryLog, expected: &str) -> bool {
+fn tells(rt: &impl Clock, log: &MemoryLog, expected: &str) -> bool {
     let ledger = LedgerState::new();
     for next in STEPS {
-        happen(&ledger, log, *next);
+        happen(rt, &ledger, log, *next);
     }
     is_counted(&ledger) && has_logged(log, expected)
 }
 
 #[test]
 fn what_happens_to_a_ledger_is_logged_once(rt: HostRuntime) {
-    holds(&rt, tells(&log_up_to(rt.alloc(), LevelFilter::Info), LINES));
     holds(
         &rt,
-        tells(&log_up_to(rt.alloc(), LevelFilter::Error), ERRORS),
+        tells(&rt, &log_up_to(rt.alloc(), LevelFilter::Info), LINES),
+    );
+    holds(
+        &rt,
+        tells(&rt, &log_up_to(rt.alloc(), LevelFilter::Error), ERRORS),
     );
 }

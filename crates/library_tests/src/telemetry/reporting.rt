@@ -10,7 +10,7 @@ use rad_log::LevelFilter;
 use rad_metrics::{Counted, Event, Reason};
 use rad_realms::{Config, Endpoint};
 use rad_tables::Moment;
-use rad_telemetry::Telemetry;
+use rad_telemetry::{Telemetry, Tracer};
 use std::alloc::{AllocError, Global};
 use std::test::Fail;
 use std::time::Clock;
@@ -78,6 +78,7 @@ fn report<R: Clock>(telemetry: &Telemetry<'_, MemoryLog, R>) -> bool {
         &WorkerReport::Unheard {
             fault: DeskFault::RingFull,
             octets: &[],
+            origin: None,
         },
     );
     telemetry.report(Worker::Lane(2), &WorkerReport::WentDown(None));
@@ -86,6 +87,7 @@ fn report<R: Clock>(telemetry: &Telemetry<'_, MemoryLog, R>) -> bool {
         &WorkerReport::Sends {
             to: HOME,
             octets: &[4, 7, 0],
+            origin: None,
         },
     );
     let counts = telemetry.numbers().counts();
@@ -112,7 +114,8 @@ fn is_reported<R: Clock>(
     config: &Config,
     log: &MemoryLog,
 ) -> Result<bool, AllocError> {
-    let telemetry = Telemetry::new(alloc, rt, config, log)?;
+    let tracer = Tracer::new(alloc, log_up_to(alloc, LevelFilter::Trace));
+    let telemetry = Telemetry::new(alloc, rt, config, log, &tracer)?;
     Ok(report(&telemetry) && asks_until_told(&telemetry))
 }
 

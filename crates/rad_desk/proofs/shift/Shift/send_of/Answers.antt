@@ -2,7 +2,7 @@ use Rattle.std.proofs.Common.{refl}
 use Rattle.rad_desk.specs.Traffic.{departed}
 use Rattle.rad_desk.specs.Calls.{IsSent}
 use Rattle.rad_desk.proofs.CallsJoined.{passes_one}
-use Rattle.rad_desk.proofs.shift.Shift.send.Goals as goal
+use Rattle.rad_desk.proofs.shift.Shift.send_of.Goals as goal
 
 pub returns-in-Sent-clause-sends : goal.returns-in-Sent-clause-sends
 returns-in-Sent-clause-sends g c =

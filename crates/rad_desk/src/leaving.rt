@@ -1,0 +1,331 @@
+//! What is left at the end, told to a ledger one by one.
+
+ghost use Rattle.std.specs.Prelude.{◌≡◌, ◌+◌, ◌-◌, ◌≤◌, ◌++◌, Some, None, MatchOption, option_copied, length, take, drop, map as each};
+ghost use Rattle.std.specs.List.{Contains};
+ghost use Rattle.rad_lane.specs.declared.stamp.Stamp.{Stamp as TheStamp};
+ghost use Rattle.rad_desk.specs.Leaving.{age_at, as_left, left_with, number_sent, outstanding_left, queued_left, recorded_left, restored, untaken_left, left_in, left_under, left_of_pairs, left_of_queue, left_of_rest, left_of_lane, left_of_all};
+
+use crate::ledger::Ledger;
+use block_queue::Fifo;
+use rad_auth::{MARK_LENGTH, Reply};
+use rad_lane::{Entry, Outgoing, Record, Sending};
+use rad_rings::{LaneEnd, RecordQueue, Report, Rest};
+use rad_tables::{Moment, Slot, Slots};
+
+/// The Code of an Accounting-Request (RFC 2866 section 3).
+const ACCOUNTING_REQUEST: u8 = 4;
+
+/// The octets of a packet before its attributes (RFC 2866 section 3).
+const HEADER_LENGTH: usize = 20;
+
+/// The greatest Length of a packet (RFC 2865 section 3).
+const GREATEST_LENGTH: usize = 4096;
+
+/// How many source ports a lane may have.
+const PORTS: u16 = 4;
+
+/// The state in which a request is left.
+#[derive(Clone, Copy, Debug, PartialEq, Eq)]
+pub enum LeftState {
+    /// It was never sent.
+    Queued,
+    /// It was sent, and is unanswered.
+    Outstanding,
+    /// It is answered, and nobody took the response.
+    Untaken,
+}
+
+/// A request of a lane that is left.
+#[derive(Clone, Copy)]
+pub struct LeftRecord<'a> {
+    /// The lane's number.
+    pub lane: u16,
+    /// The request's number in its lane.
+    pub number: u64,
+    /// The client's IPv4 address.
+    pub client: [u8; 4],
+    /// The UDP port that the request came from.
+    pub port: u16,
+    /// The request's Identifier.
+    pub identifier: u8,
+    /// The request's Authenticator.
+    pub authenticator: [u8; 16],
+    pub state: LeftState,
+    /// How often it was sent in its last round, if that is known.
+    pub sendings: Option<u32>,
+    /// How many milliseconds ago it was accepted, if that is known.
+    pub age: Option<u64>,
+    /// The request as it came, without padding.
+    pub request: &'a [u8],
+}
+
+/// Tells a ledger each request that is left of the lanes, in the order of the lanes, and after those of a lane its
+/// counts. Those of a lane are the answered ones whose responses nobody took, in order of answering; the outstanding
+/// ones, in the order of their pairs; and the queued ones in order. Ages are those at this moment.
+pub fn tell_left<L: Ledger>(report: Report, now: Moment, ledger: &mut L)
+    ensures { L.left ledger.new ≡ left_with (L.left ledger.old) (left_of_all report.ends report.queued.items) }
+{
+    let Report { ends, mut queued } = report;
+    let mut room = [0; GREATEST_LENGTH];
+    for end in ends.as_slice() {
+        tell_lane(end, &mut queued, now, &mut room, ledger);
+    }
+}
+
+/// Tells what is left of a lane, and takes its queued records from the front of the queue.
+fn tell_lane<L: Ledger>(
+    end: &LaneEnd,
+    queued: &mut RecordQueue,
+    now: Moment,
+    room: &mut [u8; GREATEST_LENGTH],
+    ledger: &mut L,
+)
+    ensures told { L.left ledger.new ≡ left_with (L.left ledger.old) (left_of_lane end.now (take end.now.counts.queued queued.old.items)) }
+    ensures queued { queued.new.items ≡ drop end.now.counts.queued queued.old.items }
+{
+    tell_rest(end, now, room, ledger);
+    tell_outstanding(end.lane, &end.outstanding, now, ledger);
+    tell_queued(end.lane, end.counts.queued, queued, now, ledger);
+    ledger.end_lane(end.lane, &end.counts);
+}
+
+/// Tells the answered requests of a lane whose responses nobody took, if these are known.
+fn tell_rest<L: Ledger>(
+    end: &LaneEnd,
+    now: Moment,
+    room: &mut [u8; GREATEST_LENGTH],
+    ledger: &mut L,
+)
+    ensures { L.left ledger.new ≡ left_with (L.left ledger.old) (left_of_rest end.now.lane end.now.rest) }
+{
+    if let Rest::Known(rest) = &end.rest {
+        tell_responses(end, rest.as_slice(), now, room, ledger);
+    }
+}
+
+/// Tells the requests of a lane that these responses answer.
+fn tell_responses<L: Ledger>(
+    end: &LaneEnd,
+    responses: &[Outgoing],
+    now: Moment,
+    room: &mut [u8; GREATEST_LENGTH],
+    ledger: &mut L,
+)
+    ensures { L.left ledger.new ≡ left_with (L.left ledger.old) (each (untaken_left end.now.lane) responses.now) }
+{
+    for outgoing in responses {
+        let number = number_in_mark(outgoing.reply.sending());
+        let age = age_of_number(end, number, now);
+        let request = restore(&outgoing.reply, room);
+        ledger.leave(&of_outgoing(end.lane, outgoing, number, age, request));
+    }
+}
+
+/// Tells the outstanding requests of a lane.
+fn tell_outstanding<L: Ledger>(lane: u16, outstanding: &Slots<Entry>, now: Moment, ledger: &mut L)
+    ensures { L.left ledger.new ≡ left_with (L.left ledger.old) (left_of_pairs lane outstanding.now) }
+{
+    for port in 0..PORTS {
+        tell_port(lane, port, outstanding, now, ledger);
+    }
+}
+
+/// Tells the outstanding requests of a lane that were sent from one source port.
+fn tell_port<L: Ledger>(
+    lane: u16,
+    port: u16,
+    outstanding: &Slots<Entry>,
+    now: Moment,
+    ledger: &mut L,
+)
+    ensures { L.left ledger.new ≡ left_with (L.left ledger.old) (left_under lane outstanding.now port) }
+{
+    for identifier in 0..256_u16 {
+        let slot = Slot {
+            port,
+            identifier: identifier as u8,
+        };
+        tell_found(lane, outstanding.get(slot), now, ledger);
+    }
+}
+
+/// Tells the request of a lane that is outstanding under a pair, if there is one.
+#[tactic(auto, using(crate::proofs::LeftTold::left_none))]
+fn tell_found<L: Ledger>(lane: u16, found: Option<&Entry>, now: Moment, ledger: &mut L)
+    ensures { L.left ledger.new ≡ left_with (L.left ledger.old) (left_in lane (option_copied found.entry)) }
+{
+    let Some(entry) = found else {
+        return;
+    };
+    tell_entry(lane, entry, now, ledger);
+}
+
+/// Tells the request of a lane that an entry is of. A probe is of none.
+#[tactic(auto, using(crate::proofs::LeftTold::left_none))]
+fn tell_entry<L: Ledger>(lane: u16, entry: &Entry, now: Moment, ledger: &mut L)
+    ensures { L.left ledger.new ≡ left_with (L.left ledger.old) (left_in lane (Some entry.now)) }
+{
+    let Entry::Sending(sending) = entry else {
+        return;
+    };
+    ledger.leave(&of_sending(lane, sending, now));
+}
+
+/// Tells the queued requests of a lane, which are so many at the front of the queue, and takes them from it.
+fn tell_queued<L: Ledger>(
+    lane: u16,
+    count: usize,
+    queued: &mut RecordQueue,
+    now: Moment,
+    ledger: &mut L,
+)
+    ensures told { L.left ledger.new ≡ left_with (L.left ledger.old) (left_of_queue lane (take count queued.old.items)) }
+    ensures queued { queued.new.items ≡ drop count queued.old.items }
+{
+    for _ in 0..count {
+        let Some(kept) = queued.pop_front() else {
+            return;
+        };
+        ledger.leave(&of_record(lane, &kept, now));
+    }
+}
+
+/// Returns a queued request as it is told.
+fn of_record(lane: u16, kept: &Record, now: Moment) -> LeftRecord<'_>
+    ensures told { as_left result ≡ queued_left lane kept.now.recorded }
+    ensures sendings { result.sendings ≡ Some 0 }
+    ensures age { result.age ≡ Some (age_at now kept.now.recorded.stamp) }
+{
+    of_kept(lane, kept, LeftState::Queued, 0, now)
+}
+
+/// Returns an outstanding request as it is told.
+fn of_sending(lane: u16, sending: &Sending, now: Moment) -> LeftRecord<'_>
+    ensures told { as_left result ≡ outstanding_left lane sending.now }
+    ensures sendings { result.sendings ≡ Some sending.now.sendings }
+    ensures age { result.age ≡ Some (age_at now sending.now.request.stamp) }
+{
+    let state = LeftState::Outstanding;
+    of_kept(lane, sending.request(), state, sending.sendings(), now)
+}
+
+/// Returns a request that is not answered as it is told, in this state and with so many sendings.
+fn of_kept(lane: u16, kept: &Record, state: LeftState, sendings: u32, now: Moment) -> LeftRecord<'_>
+    ensures told { as_left result ≡ recorded_left lane state kept.now.recorded }
+    ensures sendings { result.sendings ≡ Some sendings }
+    ensures age { result.age ≡ Some (age_at now kept.now.recorded.stamp) }
+{
+    let stamp = kept.stamp();
+    let client = stamp.client;
+    let authenticator = stamp.authenticator;
+    LeftRecord {
+        lane,
+        number: stamp.number,
+        client,
+        port: stamp.port,
+        identifier: stamp.identifier,
+        authenticator,
+        state,
+        sendings: Some(sendings),
+        age: Some(age_of(now, stamp.moment)),
+        request: kept.text(),
+    }
+}
+
+/// Returns an answered request as it is told: of this number and age, and with these octets.
+fn of_outgoing<'a>(
+    lane: u16,
+    outgoing: &Outgoing,
+    number: u64,
+    age: Option<u64>,
+    request: &'a [u8],
+) -> LeftRecord<'a>
+    ensures told { number ≡ number_sent outgoing.now.reply.sending → request.now ≡ restored outgoing.now.reply.head outgoing.now.reply.sending → as_left result ≡ untaken_left lane outgoing.now }
+    ensures sendings { result.sendings ≡ None }
+    ensures age { result.age ≡ age }
+{
+    let head = outgoing.reply.head();
+    let client = outgoing.client;
+    let authenticator = head.authenticator;
+    LeftRecord {
+        lane,
+        number,
+        client,
+        port: outgoing.port,
+        identifier: head.identifier,
+        authenticator,
+        state: LeftState::Untaken,
+        sendings: None,
+        age,
+        request,
+    }
+}
+
+/// Returns how many milliseconds before this moment another one was.
+fn age_of(now: Moment, moment: Moment) -> u64
+    ensures { result ≡ now - moment }
+{
+    now.get().saturating_sub(moment.get())
+}
+
+/// Returns the age at this moment of a lane's request of this number, if the book still held its stamp.
+fn age_of_number(end: &LaneEnd, number: u64, now: Moment) -> Option<u64>
+    ensures { MatchOption result (Unit {0}) (λ age. (stamp : TheStamp) × Contains end.now.accepted stamp × (stamp.number ≡ number) × (age ≡ age_at now stamp)) }
+{
+    let place = number.checked_sub(end.counts.opening)?;
+    let stamp = end.accepted.as_slice().get(place as usize)?;
+    if stamp.number == number {
+        Some(age_of(now, stamp.moment))
+    } else {
+        None
+    }
+}
+
+/// Returns the number of the request in the mark of a packet that was sent: its last eight octets.
+pub(crate) fn number_in_mark(sending: &[u8]) -> u64
+    ensures { result ≡ number_sent sending.now }
+{
+    if sending.len() < 8 {
+        return 0;
+    }
+    let mut octets = [0; 8];
+    octets.copy_from_slice(&sending[sending.len() - 8..]);
+    u64::from_be_bytes(octets)
+}
+
+/// Returns the request that a reply answers, as it came: with the Identifier and the Authenticator of its head, and the
+/// attributes that were sent to the home server, without the mark at their end.
+fn restore<'a>(reply: &Reply, room: &'a mut [u8; GREATEST_LENGTH]) -> &'a [u8]
+    ensures { result.now ≡ restored reply.now.head reply.now.sending }
+{
+    let sending = reply.sending();
+    if sending.len() < HEADER_LENGTH + MARK_LENGTH || sending.len() > GREATEST_LENGTH {
+        return &[];
+    }
+    let head = reply.head();
+    let end = sending.len() - MARK_LENGTH;
+    let (high, low) = ((end / 256) as u8, (end % 256) as u8);
+    put(room, 0, &[ACCOUNTING_REQUEST, head.identifier, high, low]);
+    let authenticator = head.authenticator;
+    put_authenticator(room, authenticator);
+    put(room, HEADER_LENGTH, &sending[HEADER_LENGTH..end]);
+    &room[..end]
+}
+
+/// Writes a packet's Authenticator.
+fn put_authenticator(packet: &mut [u8], authenticator: [u8; 16])
+    requires { 20 ≤ length packet.old }
+    ensures written { packet.new ≡ take 4 packet.old ++ authenticator ++ drop (4 + length authenticator) packet.old }
+    ensures counted { length authenticator ≡ 16 }
+{
+    put(packet, 4, &authenticator);
+}
+
+/// Copies octets into a buffer at an offset.
+fn put(buffer: &mut [u8], place: usize, octets: &[u8])
+    requires { place + length octets.now ≤ length buffer.old }
+    ensures { buffer.new ≡ take place buffer.old ++ octets.now ++ drop (place + length octets.now) buffer.old }
+{
+    let end = place + octets.len();
+    buffer[place..end].copy_from_slice(octets);
+}
