@@ -1,3 +1,4 @@
+mod Listed
 mod Items
 mod LastLines
 mod Lists

@@ -1,6 +1,6 @@
 -- What loops over lists keep.
-use Rattle.std.proofs.Common.{◌≡◌, ℕ, zero, suc, ◌+◌, ◌-◌, ◌<◌, min, map, take, List, [], ◌∷◌, ◌++◌, length, get_or, drop, Option, Some, None, refl, sym, ap, ◌∙◌, append_assoc, arith}
-use Rattle.std.proofs.lemmas.List.{drop_more, take_more, length-map, length-take, map-append}
+use Rattle.std.proofs.Common.{◌≡◌, ℕ, zero, suc, ◌+◌, ◌-◌, ◌<◌, ◌≤◌, min, map, take, List, [], ◌∷◌, ◌++◌, length, get_or, drop, Option, Some, None, refl, sym, ap, ◌∙◌, append_assoc, arith}
+use Rattle.std.proofs.lemmas.List.{drop_more, take_more, take_all, take_min, length-map, length-take, map-append}
 use Rattle.std.proofs.lemmas.List.Elements.{All-nil, All-push}
 use Rattle.std.specs.List.{All, filter_map, cons_option}
 use Rattle.std.specs.Option.{option_to_list}
@@ -35,6 +35,12 @@ others f most xs count e = rw (length-map xs f) (omega arith)
 -- the end of a front of the list, where it is not longer than the list
 pub end_of_front : {X : Type 0} (most : ℕ) (xs : List X) (count : ℕ) → count ≡ min (length xs) most → count ≡ length (take count xs)
 end_of_front most xs count e = simp length-take (omega arith)
+
+-- the whole of that front is the first ones
+pub all_of_front : {X : Type 0} (most : ℕ) (xs : List X) (count i : ℕ) → count ≡ min (length xs) most → length (take count xs) ≤ i → take i (take count xs) ≡ take most xs
+all_of_front most xs count i e le =
+    let same : count ≡ min most (length xs) = omega (arith, e) in
+    take_all i (take count xs) le ∙ ap (λ (n : ℕ). take n xs) same ∙ take_min most xs
 
 -- the images of no elements, and what holds of each of them
 pub images_of_none : {X Y : Type 0} (f : X → Y) (xs : List X) → xs ≡ [] → map f xs ≡ []

@@ -1,5 +1,6 @@
--- The faults of the address and port of a home server. Which datagrams come to `listen` is own.
-use Rattle.std.specs.Prelude.{ℕ, Bool, ◌&&◌, ◌||◌, ◌==◌, nat_le, if◌then◌else◌, List, [], ◌∷◌, Option, Some, None, option_map, slice_index}
+-- Which home servers are reported since none can be at their address and port, and with which fault (RFC 1122
+-- section 3.2.1.3, RFC 919 section 7, RFC 5771 section 3, RFC 1112 section 4). Which datagrams come to `listen` is own.
+use Rattle.std.specs.Prelude.{ℕ, Bool, not, ◌&&◌, ◌||◌, ◌==◌, nat_le, if◌then◌else◌, List, [], ◌∷◌, Option, Some, None, option_map, slice_index}
 use Rattle.std.specs.List.{list_any, filter_map}
 use Rattle.std.specs.Str.{bytes_eq}
 use Rattle.rad_config.specs.declared.reading.address.Endpoint.{Endpoint}
@@ -43,9 +44,10 @@ address_fault address =
     else if nat_le 224 (slice_index address 0) then Some Multicast
     else None
 
--- The fault of a home server's address and port, for a proxy that listens on `listen`.
+-- The fault of a home server's address and port, for a proxy that listens on `listen`. 0.0.0.0 is no host's, also if it
+-- is served.
 abbrev pub endpoint_fault : Endpoint → List (List ℕ) → Endpoint → Option AddressFault
-endpoint_fault listen own to = if is_served listen own to then Some Listen else address_fault to.address
+endpoint_fault listen own to = if not (bytes_eq to.address unspecified) && is_served listen own to then Some Listen else address_fault to.address
 
 unfoldable pub advice_of : Endpoint → List (List ℕ) → HomeEntry → Option Advice
 advice_of listen own home =

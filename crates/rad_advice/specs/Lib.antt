@@ -1,3 +1,5 @@
+pub mod Doubts
+pub mod Faults
 pub mod Homes
 pub mod Keys
 pub mod Place

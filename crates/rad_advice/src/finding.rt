@@ -1,27 +1,29 @@
-//! Finding the place of a key in a TOML text.
+//! Finding the place of a key or of a table in a TOML text.
 //!
 //! A parsed document does not contain the places of its keys, so the text is searched, one header or one pair of a key
 //! and a value at a time. A key that was found is read again and compared before its place is returned.
 
 ghost use Rattle.std.specs.Prelude.{◌≡◌, ◌≤◌, Some, length, option_copied, option_map, IfOk, IfSome, IsTrue, string_bytes};
 ghost use Rattle.std.specs.List.{slice_get};
+ghost use Rattle.rad_realms.specs.Spot.{part_name};
 ghost use Rattle.rad_advice.specs.Keys.{BeginsAt};
 
-use crate::keys::part_name;
 use crate::tokens::{Token, next_token, read_key, skip_expression, skip_part};
 use rad_realms::Part;
 use std::alloc::{AllocError, Global};
 use toml_parser::text::{byte_at, first, skip, skip_blank, skip_ws};
 
-/// The key that is looked for, and its table.
+/// The key that is looked for, and its table; or that table itself.
 #[derive(Clone, Copy)]
 struct Wanted<'a> {
     /// The part that the table belongs to.
     part: Part,
     /// The index of the table in that array, counted from 0.
     index: usize,
-    /// The name of the key.
+    /// The name of the key, or of the array of the table.
     name: &'a str,
+    /// Whether the table is looked for.
+    is_table: bool,
 }
 
 /// The kind of table that the next pair belongs to.
@@ -55,7 +57,31 @@ pub(crate) fn find_key(
 ) -> Result<Option<usize>, AllocError>
     ensures { IfOk result (λ found. IfSome found (λ offset. (offset ≤ length text.now) × BeginsAt name.now offset text.now)) }
 {
-    let wanted = Wanted { part, index, name };
+    let wanted = Wanted {
+        part,
+        index,
+        name,
+        is_table: false,
+    };
+    find(alloc, text, wanted)
+}
+
+/// Returns the offset in octets at which the header of the table of this part and index has the name of its array. If
+/// the array is written as one value, it is the offset of the array's key. It is `None` if neither was found.
+pub(crate) fn find_table(
+    alloc: Global,
+    text: &str,
+    part: Part,
+    index: usize,
+) -> Result<Option<usize>, AllocError>
+    ensures { IfOk result (λ found. IfSome found (λ offset. (offset ≤ length text.now) × BeginsAt (part_name part) offset text.now)) }
+{
+    let wanted = Wanted {
+        part,
+        index,
+        name: part.name(),
+        is_table: true,
+    };
     find(alloc, text, wanted)
 }
 
@@ -196,17 +222,21 @@ fn place_in_header(
     if wanted.part == Part::Top {
         return is_part(parts, 0, wanted.name).then_some(Place::First);
     }
-    if !is_part(parts, 0, part_name(wanted.part)) {
+    if !is_part(parts, 0, wanted.part.name()) {
         return None;
     }
     if parts.len() > 1 {
-        let found = passed.is_at(wanted.index) && is_part(parts, 1, wanted.name);
+        let found = !wanted.is_table
+            && passed.is_at(wanted.index)
+            && is_part(parts, 1, wanted.name);
         return found.then_some(Place::Second);
     }
-    if double {
-        passed.begin();
+    if !double {
+        return None;
     }
-    None
+    passed.begin();
+    let found = wanted.is_table && passed.is_at(wanted.index);
+    found.then_some(Place::First)
 }
 
 impl Passed {
@@ -254,7 +284,11 @@ enum Pair<'t> {
 /// Returns what a pair is whose key has these parts. Its value is in the text after the key.
 fn pair_of<'t>(wanted: Wanted<'_>, passed: &Passed, parts: &[String], after: &'t str) -> Pair<'t> {
     if is_array(wanted, passed, parts) {
-        return Pair::Array(after);
+        return if wanted.is_table {
+            Pair::Wanted
+        } else {
+            Pair::Array(after)
+        };
     }
     if is_section(wanted, passed) && is_part(parts, 0, wanted.name) {
         return Pair::Wanted;
@@ -266,7 +300,7 @@ fn pair_of<'t>(wanted: Wanted<'_>, passed: &Passed, parts: &[String], after: &'t
 fn is_array(wanted: Wanted<'_>, passed: &Passed, parts: &[String]) -> bool {
     wanted.part != Part::Top
         && matches!(passed.section, Section::Top)
-        && is_part(parts, 0, part_name(wanted.part))
+        && is_part(parts, 0, wanted.part.name())
 }
 
 /// Whether the next pair belongs to the table that is looked for.

@@ -14,7 +14,8 @@ use std::fmt;
 /// Why the address and port of a home server cannot be correct.
 #[derive(Clone, Copy, PartialEq, Eq)]
 pub enum AddressFault {
-    /// The proxy itself receives what is sent to it, on `listen`, so each request would come back as one of a client.
+    /// The proxy itself receives what is sent to it, on `listen`, so each request would come back as one of a client. An
+    /// address 0.0.0.0 is `Unspecified`.
     Listen,
     /// The address is 0.0.0.0, which no host has.
     Unspecified,
@@ -117,7 +118,8 @@ pub fn advise_home<'c>(
         address: home.address(),
         port: home.port(),
     };
-    let fault = if is_served(listen, local, endpoint) {
+    let is_host = endpoint.address != [0, 0, 0, 0];
+    let fault = if is_host && is_served(listen, local, endpoint) {
         AddressFault::Listen
     } else {
         address_fault(endpoint.address)?

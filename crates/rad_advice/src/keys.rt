@@ -1,7 +1,6 @@
 //! The keys of a configuration that are read, by part.
 
 ghost use Rattle.std.specs.Prelude.{◌≡◌, map};
-ghost use Rattle.rad_realms.specs.Spot.{part_name as name_of_part};
 ghost use Rattle.rad_advice.specs.Keys.{read_names, is_one_of};
 
 use rad_realms::Part;
@@ -38,18 +37,6 @@ fn names_of(part: Part) -> &'static [&'static str]
             ]
         }
         Part::Realm => &["name", "home"],
-    }
-}
-
-/// Returns the name of a part, which is also that of its array of tables.
-pub(crate) fn part_name(part: Part) -> &'static str
-    ensures { result.now ≡ name_of_part part }
-{
-    match part {
-        Part::Top => "top",
-        Part::Client => "client",
-        Part::Home => "home",
-        Part::Realm => "realm",
     }
 }
 

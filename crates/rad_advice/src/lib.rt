@@ -1,14 +1,18 @@
-//! Reports on a configuration for its operator, besides the fault for which it is refused: where a text stops being
-//! TOML, which keys are not read, and which home servers have an address that is not the address of a host, or is the
-//! proxy's own.
+//! Reports on a configuration for its operator: where a text stops being TOML, all of its faults, with their values and
+//! a hint, which keys are not read, what is hardly meant as it is, and which home servers have an address that is not
+//! the address of a host, or is the proxy's own.
 //!
 //! Nothing here changes how a configuration is read: only `rad_realms::read_config` does that. `specs/Place.antt`
-//! defines the place of an octet in a text, `specs/Keys.antt` which keys of a document are not read, and
-//! `specs/Homes.antt` the faults of a home server's address. Each report is printed as one line.
+//! defines the place of an octet in a text, `specs/Faults.antt` what is told of a fault, `specs/Keys.antt` which keys of
+//! a document are not read, `specs/Doubts.antt` what is hardly meant, and `specs/Homes.antt` the faults of a home
+//! server's address. Each report is printed as one line.
 #![tactic(auto)]
 
+mod doubts;
 mod escaped;
+mod faults;
 mod finding;
+mod hints;
 mod homes;
 mod keys;
 mod place;
@@ -16,6 +20,8 @@ mod syntax;
 mod tokens;
 mod unread;
 
+pub use doubts::{Doubt, Doubtful, Warning, Warnings, list_warnings};
+pub use faults::{FaultReport, FaultReports, fault_reports};
 pub use homes::{AddressFault, HomeAdvice, advise_home, advise_homes};
 pub use place::{Place, place_of};
 pub use syntax::{SyntaxError, syntax_error};

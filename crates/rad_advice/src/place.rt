@@ -28,6 +28,24 @@ impl fmt::Display for Place {
     }
 }
 
+/// ` at ` and a place, if it is known.
+#[derive(Clone, Copy)]
+pub(crate) struct AtText(pub Option<Place>);
+
+impl fmt::Display for AtText {
+    ghost use Rattle.std.specs.Prelude.{Some};
+    ghost use Rattle.rad_advice.specs.Printed.{at_text};
+
+    ghost output = { λ at. Some (at_text at.0) };
+
+    fn fmt<W: fmt::Write>(&self, f: &mut fmt::Formatter<W>) -> fmt::Result {
+        match self.0 {
+            Some(place) => write!(f, " at {place}"),
+            None => Ok(()),
+        }
+    }
+}
+
 /// Returns the place of the octet at an offset of a text. At the text's end it is the place of an octet that would
 /// follow.
 #[tactic(auto, unfolding(crate::specs::Place::place_at))]

@@ -8,8 +8,8 @@ ghost use Rattle.rad_advice.specs.Keys.{unless_read, read_names, unread_in_table
 
 use crate::escaped::Escaped;
 use crate::finding::find_key;
-use crate::keys::{is_read, part_name};
-use crate::place::{Place, place_of};
+use crate::keys::is_read;
+use crate::place::{AtText, Place, place_of};
 use rad_realms::Part;
 use std::alloc::{AllocError, Global};
 use std::fmt;
@@ -82,14 +82,10 @@ impl fmt::Display for UnreadKey {
 
 /// The table that contains a key, followed by a space.
 #[derive(Clone, Copy)]
-struct TableText {
-    part: Part,
-    index: usize,
+pub(crate) struct TableText {
+    pub part: Part,
+    pub index: usize,
 }
-
-/// ` at ` and the place of a key, if it is known.
-#[derive(Clone, Copy)]
-struct AtText(Option<Place>);
 
 impl fmt::Display for TableText {
     ghost use Rattle.std.specs.Prelude.{Some};
@@ -98,26 +94,12 @@ impl fmt::Display for TableText {
     ghost output = { λ table. Some (table_text table.part table.index) };
 
     fn fmt<W: fmt::Write>(&self, f: &mut fmt::Formatter<W>) -> fmt::Result {
-        let name = part_name(self.part);
+        let name = self.part.name();
         if self.part == Part::Top {
             return write!(f, "{name} ");
         }
         let index = self.index;
         write!(f, "{name} {index} ")
-    }
-}
-
-impl fmt::Display for AtText {
-    ghost use Rattle.std.specs.Prelude.{Some};
-    ghost use Rattle.rad_advice.specs.Printed.{at_text};
-
-    ghost output = { λ at. Some (at_text at.0) };
-
-    fn fmt<W: fmt::Write>(&self, f: &mut fmt::Formatter<W>) -> fmt::Result {
-        match self.0 {
-            Some(place) => write!(f, " at {place}"),
-            None => Ok(()),
-        }
     }
 }
 
@@ -282,7 +264,7 @@ fn add_of_part<'t>(
 ) -> Result<(), AllocError>
     ensures { OnOk result (map entry_found found.new.items ≡ map entry_found found.old.items ++ unread_in_items part 0 (read_names part) (items_at (name_of_part part) (table_view document.now))) }
 {
-    add_of_values(found, part, values_at(part_name(part), document))
+    add_of_values(found, part, values_at(part.name(), document))
 }
 
 /// Appends the keys that are not read of each value that is a table of a part.
@@ -312,7 +294,7 @@ fn values_at<'t>(name: &str, document: &'t Table) -> &'t [Value]
 }
 
 /// Finds the value of a key.
-fn member<'t>(name: &str, document: &'t Table) -> Option<&'t Value>
+pub(crate) fn member<'t>(name: &str, document: &'t Table) -> Option<&'t Value>
     ensures { option_map (λ v. view v.now) result ≡ get_member name.now (table_view document.now) }
 {
     document.get(name)

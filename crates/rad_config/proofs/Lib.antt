@@ -15,3 +15,5 @@ pub mod EachTable
 pub mod NewNames
 pub mod WellFormed
 pub mod Lanes
+pub mod Listing
+pub mod FirstFaults

@@ -1,4 +1,4 @@
--- Reading may end early if memory is refused.
+-- The result of reading a part of a configuration, which is the one that its definition gives or `OutOfMemory`.
 use Rattle.std.specs.Prelude.{◌≡◌, List, [], ◌∷◌, ◌++◌, Result, Ok, Err}
 use Rattle.rad_config.specs.declared.reading.faults.ConfigFault.{ConfigFault}
 use Rattle.rad_config.specs.declared.reading.faults.ConfigFault.TheVariants.{OutOfMemory}

@@ -6,5 +6,6 @@ pub mod Realm
 pub mod WellFormed
 pub mod Walk
 pub mod Gives
+pub mod Faults
 pub mod Printed
 pub mod internal

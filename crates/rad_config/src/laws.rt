@@ -13,6 +13,10 @@ ghost use Rattle.rad_config.specs.Configuration.{Configuration};
 ghost use Rattle.std.specs.Prelude.{Ok};
 ghost use Rattle.rad_config.specs.Walk.{configuration_in};
 ghost use Rattle.rad_config.specs.WellFormed.{IsWellFormed};
+ghost use Rattle.std.specs.Result.{result_err};
+ghost use Rattle.toml.specs.Data.{Members};
+ghost use Rattle.rad_config.specs.Walk.{walk};
+ghost use Rattle.rad_config.specs.Faults.{first_of, faults_in};
 
 /// Numbers have no fault exactly if each of them is in its range.
 pub fn no_fault_in_range()
@@ -46,4 +50,9 @@ pub fn endpoints_have_one_text()
 /// Each configuration that a text gives is well-formed (`specs/WellFormed.antt`).
 pub fn configurations_are_well_formed()
     ensures { (text : List ℕ) (config : Configuration) → configuration_in text ≡ Ok config → IsWellFormed config }
+{}
+
+/// The first of the listed faults of a document is the one at which the walk stops.
+pub fn the_walk_stops_at_the_first_fault()
+    ensures { (doc : Members) → first_of (faults_in doc) ≡ result_err (walk doc) }
 {}

@@ -21,7 +21,10 @@ pub use homes::Home;
 pub use laws::{
     addresses_have_one_text, configurations_are_well_formed, endpoints_have_one_text,
     no_fault_in_range, numbers_have_one_text, realm_follows_the_last_sign,
+    the_walk_stops_at_the_first_fault,
 };
 pub use limits::{DEFAULT_LIMITS, LimitFault, LimitNumbers, Limits};
-pub use reading::{AddressText, ConfigFault, Endpoint, Key, Part, Spot, read_address, read_config};
+pub use reading::{
+    AddressText, ConfigFault, Endpoint, Key, Part, Spot, list_faults, read_address, read_config,
+};
 pub use realms::{Destination, Realm, realm_of};

@@ -5,9 +5,11 @@ mod address;
 mod arrays;
 mod document;
 mod faults;
+mod listing;
 mod sections;
 mod walk;
 
 pub use address::{AddressText, Endpoint, read_address};
 pub use faults::{ConfigFault, Key, Part, Spot};
+pub use listing::list_faults;
 pub use walk::read_config;

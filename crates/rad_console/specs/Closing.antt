@@ -6,6 +6,7 @@ use Rattle.rad_rings.specs.declared.report.Report.{Report}
 use Rattle.rad_rings.specs.declared.report.Rest.{Rest}
 use Rattle.rad_rings.specs.declared.report.Rest.TheVariants.{Known, Unknown}
 use Rattle.rad_desk.specs.Ending.{IsReportOf}
+use Rattle.rad_desk.specs.Leaving.{Left, left_with, left_of_all}
 use Rattle.rad_console.specs.declared.lines.EndLine.{EndLine}
 use Rattle.rad_console.specs.Totals.{count_in_all}
 
@@ -43,6 +44,12 @@ pub record Closes (lanes : ℕ) (inlets : List Inlet) (end : EndLine) : Type 0 w
   pub report : Report
   pub report_of : IsReportOf lanes inlets report
   pub told : Tells report end
+
+-- A ledger that was told `before` was told of each request that is left by the report of `lanes` lanes, with these inlets.
+pub record LeavesTold (lanes : ℕ) (inlets : List Inlet) (before after : Option (List Left)) : Type 0 where
+  pub report : Report
+  pub report_of : IsReportOf lanes inlets report
+  pub told : after ≡ left_with before (left_of_all report.ends report.queued.items)
 
 -- What is left of `lanes` lanes, with some inlets.
 abbrev pub IsEndOf : ℕ → EndLine → Type 0

@@ -3,7 +3,8 @@
 //!
 //! [`Commands`] reads the commands of standard input. [`obey`] executes a command and writes its result; it also
 //! executes an event of a script that is a command. The layer above uses the contract of [`close`]: the [`EndLine`] has
-//! the totals of the report of the closed proxy, so it is clean only if nothing is left.
+//! the totals of the report of the closed proxy, so it is clean only if nothing is left. [`close_with`] tells a ledger
+//! each request that is left too.
 //!
 //! The definitions that the contracts cite are in specs: `Closing` is what an end line has, `Commands` which command a
 //! line is, `Configurations` which octets are a configuration, `Pieces` how a text is cut, and `Lanes` and `Lines` how
@@ -20,7 +21,7 @@ mod lines;
 mod pieces;
 
 pub use bounded::read_at_most;
-pub use closing::close;
+pub use closing::{close, close_with};
 pub use commands::{Command, Commands};
 pub use configuration::read_configuration;
 pub use console::obey;

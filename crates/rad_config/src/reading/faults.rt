@@ -115,7 +115,7 @@ impl Part {
     ghost use Rattle.rad_config.specs.Spot.{part_name};
 
     /// Returns the part as it is printed.
-    pub(crate) fn name(self) -> &'static str
+    pub fn name(self) -> &'static str
         ensures { result.now ≡ part_name self }
     {
         match self {
@@ -175,7 +175,7 @@ impl Key {
     ghost use Rattle.rad_config.specs.Spot.{key_name};
 
     /// Returns the key as it is written in the configuration.
-    pub(crate) fn name(self) -> &'static str
+    pub fn name(self) -> &'static str
         ensures { result.now ≡ key_name self }
     {
         match self {

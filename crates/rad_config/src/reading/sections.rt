@@ -84,7 +84,7 @@ fn add_home(alloc: Global, homes: &mut Homes, value: &Value) -> Result<(), Confi
 
 /// Reads the limits of a lane.
 #[tactic(auto, unfolding(crate::specs::Walk::limits_at))]
-fn lane_limits(index: usize, doc: &Table) -> Result<Limits, ConfigFault>
+pub(crate) fn lane_limits(index: usize, doc: &Table) -> Result<Limits, ConfigFault>
     ensures { result ≡ limits_at index (table_view doc.now) }
 {
     let numbers = lane_numbers(index, doc)?;

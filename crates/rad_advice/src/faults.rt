@@ -1,0 +1,401 @@
+//! The faults of a configuration, as its operator is told of them.
+
+ghost use Rattle.std.specs.Prelude.{◌≡◌, ◌-◌, [], All, length, map, take, option_map, option_and_then, IfOk, IfSome, OnOk, IsUtf8, string_bytes, Some, if◌then◌else◌};
+ghost use Rattle.toml.specs.Data.{as_str, at, get};
+ghost use Rattle.toml.specs.View.{view, table_view};
+ghost use Rattle.rad_realms.specs.Spot.{key_name, part_name};
+ghost use Rattle.rad_realms.specs.Faults.{faults_in};
+ghost use Rattle.rad_advice.specs.Keys.{BeginsAtPlace};
+ghost use Rattle.rad_advice.specs.Faults.{data_at, data_text, text_at as told_text, value_text, spot_in, shown_text, entry_told, entry_of, entries_in, entries_in_text, sought as name_sought, key_sought, is_top, IsPlacedIn};
+
+use crate::escaped::Escaped;
+use crate::finding::{find_key, find_table};
+use crate::hints::hint_of;
+use crate::place::{AtText, Place, place_of};
+use crate::unread::member;
+use rad_realms::{ConfigFault, Key, Part, Spot, list_faults};
+use std::alloc::{AllocError, Global};
+use std::fmt;
+use toml::{Table, Value};
+
+/// The most faults that are listed.
+const MOST_LISTED: usize = 50;
+
+/// A fault of a configuration. It is printed as its name and spot, its place, the value, unless that is a secret, and a
+/// hint: `BadAddress at client 0 address at line 4, column 1: 10.2.0.0/16 is a block: one [[client]] for each address`.
+/// The value is escaped, and cut if it is long.
+#[derive(Drop)]
+pub struct FaultReport {
+    /// The fault.
+    fault: ConfigFault,
+    /// The place of its key; or of the header of its table, if the key is absent.
+    place: Option<Place>,
+    /// The value.
+    value: Shown,
+    /// What the value seems to be, or should be.
+    hint: &'static str,
+    /// The place of the first key with the same value, if it is a name that two tables have.
+    first: Option<Place>,
+}
+
+/// A value that is told.
+#[derive(Drop)]
+enum Shown {
+    /// A secret, an absent value, or one of another type.
+    Nothing,
+    Text(String),
+    Number(i64),
+}
+
+impl FaultReport {
+    /// Returns the fault.
+    pub fn fault(&self) -> ConfigFault
+        ensures { result ≡ self.now.fault }
+    {
+        self.fault
+    }
+
+    /// Returns the place of its key in the text, or that of the header of its table, if the key is absent. It is `None`
+    /// if this was not found.
+    pub fn place(&self) -> Option<Place>
+        ensures { result ≡ self.now.place }
+    {
+        self.place
+    }
+}
+
+impl fmt::Display for FaultReport {
+    ghost use Rattle.std.specs.Prelude.{Some};
+    ghost use Rattle.rad_advice.specs.Faults.{report_text};
+
+    ghost output = { λ report. Some (report_text report) };
+
+    fn fmt<W: fmt::Write>(&self, f: &mut fmt::Formatter<W>) -> fmt::Result {
+        let fault = self.fault;
+        let at = AtText(self.place);
+        let value = &self.value;
+        let hint = self.hint;
+        let first = FirstText(self.first);
+        write!(f, "{fault}{at}{value}{hint}{first}")
+    }
+}
+
+impl fmt::Display for Shown {
+    ghost use Rattle.std.specs.Prelude.{Some};
+    ghost use Rattle.rad_advice.specs.Faults.{shown_text};
+
+    ghost output = { λ shown. Some (shown_text shown) };
+
+    fn fmt<W: fmt::Write>(&self, f: &mut fmt::Formatter<W>) -> fmt::Result {
+        match self {
+            Shown::Nothing => Ok(()),
+            Shown::Text(text) => {
+                let text = Escaped(text.as_str());
+                write!(f, ": {text}")
+            }
+            Shown::Number(number) => write!(f, ": {number}"),
+        }
+    }
+}
+
+/// The line of the first key with the same value, if it is known.
+#[derive(Clone, Copy)]
+struct FirstText(Option<Place>);
+
+impl fmt::Display for FirstText {
+    ghost use Rattle.std.specs.Prelude.{Some};
+    ghost use Rattle.rad_advice.specs.Faults.{first_text};
+
+    ghost output = { λ first. Some (first_text first.0) };
+
+    fn fmt<W: fmt::Write>(&self, f: &mut fmt::Formatter<W>) -> fmt::Result {
+        match self.0 {
+            Some(place) => {
+                let line = place.line;
+                write!(f, ": the first one is at line {line}")
+            }
+            None => Ok(()),
+        }
+    }
+}
+
+/// The first faults of a configuration, and the number of the others.
+#[derive(Drop)]
+pub struct FaultReports {
+    /// The first ones, at most 50.
+    listed: Vec<FaultReport>,
+    /// The number of the others.
+    more: usize,
+}
+
+impl FaultReports {
+    /// Returns the first ones, at most 50, in the order in which the configuration is read. The first of them is the
+    /// one for which it is refused.
+    pub fn listed(&self) -> &[FaultReport]
+        ensures { result.now ≡ self.now.listed.items }
+    {
+        self.listed.as_slice()
+    }
+
+    /// Returns the number of those that are not listed.
+    pub fn more(&self) -> usize
+        ensures { result ≡ self.now.more }
+    {
+        self.more
+    }
+}
+
+/// Returns the faults of a configuration's text. There are none if the text is not TOML. It takes the memory that
+/// reading the text takes.
+///
+/// # Errors
+///
+/// If memory is refused.
+pub fn fault_reports(alloc: Global, text: &[u8]) -> Result<FaultReports, AllocError>
+    ensures first { IsUtf8 text.now → IfOk result (λ reports. map entry_told reports.listed.items ≡ take 50 (entries_in_text text.now)) }
+    ensures more { IsUtf8 text.now → IfOk result (λ reports. reports.more ≡ length (entries_in_text text.now) - 50) }
+    ensures places { IfOk result (λ reports. All (IsPlacedIn text.now) reports.listed.items) }
+    ensures other { ¬ IsUtf8 text.now → IfOk result (λ reports. (reports.listed.items ≡ []) × (reports.more ≡ 0)) }
+{
+    match std::str::from_utf8(text) {
+        Ok(text) => reports_of_text(alloc, text),
+        Err(_) => Ok(no_reports(alloc)),
+    }
+}
+
+/// Returns the empty list.
+fn no_reports(alloc: Global) -> FaultReports
+    ensures listed { result.listed.items ≡ [] }
+    ensures more { result.more ≡ 0 }
+{
+    FaultReports {
+        listed: Vec::new(alloc),
+        more: 0,
+    }
+}
+
+/// Returns the faults of a text.
+fn reports_of_text(alloc: Global, text: &str) -> Result<FaultReports, AllocError>
+    ensures first { IfOk result (λ reports. map entry_told reports.listed.items ≡ take 50 (entries_in_text text.now)) }
+    ensures more { IfOk result (λ reports. reports.more ≡ length (entries_in_text text.now) - 50) }
+    ensures places { IfOk result (λ reports. All (IsPlacedIn text.now) reports.listed.items) }
+{
+    match toml::table_from_str(alloc, text) {
+        Ok(document) => {
+            let faults = list_faults(alloc, &document)?;
+            report_first(alloc, text, &document, faults.as_slice())
+        }
+        Err(fault) => {
+            if fault.is_memory() {
+                return Err(AllocError);
+            }
+            Ok(no_reports(alloc))
+        }
+    }
+}
+
+/// Reports the first of these faults.
+fn report_first(
+    alloc: Global,
+    text: &str,
+    document: &Table,
+    faults: &[ConfigFault],
+) -> Result<FaultReports, AllocError>
+    ensures first { IfOk result (λ reports. map entry_told reports.listed.items ≡ take 50 (map (entry_of (table_view document.now)) faults.now)) }
+    ensures more { IfOk result (λ reports. reports.more ≡ length (map (entry_of (table_view document.now)) faults.now) - 50) }
+    ensures places { IfOk result (λ reports. All (IsPlacedIn text.now) reports.listed.items) }
+{
+    let count = faults.len().min(MOST_LISTED);
+    let mut listed = Vec::new(alloc);
+    for fault in &faults[..count] {
+        let report = report_of(alloc, text, document, *fault)?;
+        listed.push(report)?;
+    }
+    let more = faults.len() - count;
+    Ok(FaultReports { listed, more })
+}
+
+/// Reports a fault.
+fn report_of(
+    alloc: Global,
+    text: &str,
+    document: &Table,
+    fault: ConfigFault,
+) -> Result<FaultReport, AllocError>
+    ensures entry { IfOk result (λ report. entry_told report ≡ entry_of (table_view document.now) fault) }
+    ensures placed { IfOk result (λ report. IsPlacedIn text.now report) }
+{
+    let place = find_place(alloc, text, fault)?;
+    let value = show_value(alloc, document, fault)?;
+    let hint = hint_of(fault, text_at(document, fault));
+    let first = find_first(alloc, text, document, fault)?;
+    Ok(FaultReport {
+        fault,
+        place,
+        value,
+        hint,
+        first,
+    })
+}
+
+/// Returns the key of a fault, if it has one.
+fn spot_of(fault: ConfigFault) -> Option<Spot>
+    ensures { result ≡ spot_in fault }
+{
+    match fault {
+        ConfigFault::Toml | ConfigFault::OutOfMemory => None,
+        ConfigFault::Missing(spot)
+        | ConfigFault::WrongType(spot)
+        | ConfigFault::OutOfRange(spot)
+        | ConfigFault::DoubleName(spot)
+        | ConfigFault::UnknownHome(spot)
+        | ConfigFault::BadAddress(spot)
+        | ConfigFault::TooMany(spot) => Some(spot),
+    }
+}
+
+/// Returns the value at a key.
+fn find_value(document: &Table, spot: Spot) -> Option<&Value>
+    ensures { option_map (λ v. view v.now) result ≡ data_at spot (table_view document.now) }
+{
+    if spot.part == Part::Top {
+        return member(spot.key.name(), document);
+    }
+    let tables = member(spot.part.name(), document)?;
+    let table = item_of(tables, spot.index)?;
+    value_of(table, spot.key.name())
+}
+
+/// Returns the item of this index, if the value is an array that has it.
+fn item_of(value: &Value, index: usize) -> Option<&Value>
+    ensures { option_map (λ v. view v.now) result ≡ at index (view value.now) }
+{
+    value.get(index)
+}
+
+/// Returns the value of a key, if the value is a table that has it.
+fn value_of<'t>(value: &'t Value, key: &str) -> Option<&'t Value>
+    ensures { option_map (λ v. view v.now) result ≡ get key.now (view value.now) }
+{
+    value.get(key)
+}
+
+/// Returns the text at the key of a fault, if it is one.
+fn text_at(document: &Table, fault: ConfigFault) -> Option<&str>
+    ensures { option_map (λ s. s.now) result ≡ told_text fault (table_view document.now) }
+{
+    let value = find_value(document, spot_of(fault)?)?;
+    value.as_str()
+}
+
+/// Returns what is told of the value at the key of a fault.
+fn show_value(alloc: Global, document: &Table, fault: ConfigFault) -> Result<Shown, AllocError>
+    ensures { IfOk result (λ shown. shown_text shown ≡ value_text fault (table_view document.now)) }
+{
+    let Some(spot) = spot_of(fault) else {
+        return Ok(Shown::Nothing);
+    };
+    if spot.key == Key::Secret {
+        return Ok(Shown::Nothing);
+    }
+    match find_value(document, spot) {
+        Some(value) => show(alloc, value),
+        None => Ok(Shown::Nothing),
+    }
+}
+
+/// Returns what is told of a value.
+fn show(alloc: Global, value: &Value) -> Result<Shown, AllocError>
+    ensures { IfOk result (λ shown. shown_text shown ≡ data_text (Some (view value.now))) }
+{
+    if let Some(text) = value.as_str() {
+        let text = String::from_str(alloc, text)?;
+        return Ok(Shown::Text(text));
+    }
+    match value.as_integer() {
+        Some(number) => Ok(Shown::Number(number)),
+        None => Ok(Shown::Nothing),
+    }
+}
+
+/// Returns the place of a fault's key; or of the header of its table, if the key is absent there.
+fn find_place(alloc: Global, text: &str, fault: ConfigFault) -> Result<Option<Place>, AllocError>
+    ensures { IfOk result (λ found. IfSome found (BeginsAtPlace text.now (name_sought fault))) }
+{
+    if let ConfigFault::Missing(spot) = fault {
+        return place_missing(alloc, text, spot);
+    }
+    match spot_of(fault) {
+        Some(spot) => place_key(alloc, text, spot),
+        None => Ok(None),
+    }
+}
+
+/// Returns the place of a key at the top, or that of the header of the table that lacks it.
+fn place_missing(alloc: Global, text: &str, spot: Spot) -> Result<Option<Place>, AllocError>
+    ensures { IfOk result (λ found. IfSome found (BeginsAtPlace text.now (if is_top spot.part then key_name spot.key else part_name spot.part))) }
+{
+    match spot.part {
+        Part::Top => place_key(alloc, text, spot),
+        _ => place_table(alloc, text, spot.part, spot.index),
+    }
+}
+
+/// Returns the place of the header of a table.
+fn place_table(
+    alloc: Global,
+    text: &str,
+    part: Part,
+    index: usize,
+) -> Result<Option<Place>, AllocError>
+    ensures { IfOk result (λ found. IfSome found (BeginsAtPlace text.now (part_name part))) }
+{
+    match find_table(alloc, text, part, index)? {
+        Some(offset) => Ok(Some(place_of(text.as_bytes(), offset))),
+        None => Ok(None),
+    }
+}
+
+/// Returns the place of a key.
+fn place_key(alloc: Global, text: &str, spot: Spot) -> Result<Option<Place>, AllocError>
+    ensures { IfOk result (λ found. IfSome found (BeginsAtPlace text.now (key_name spot.key))) }
+{
+    match find_key(alloc, text, spot.part, spot.index, spot.key.name())? {
+        Some(offset) => Ok(Some(place_of(text.as_bytes(), offset))),
+        None => Ok(None),
+    }
+}
+
+/// Returns the place of the first key with the same value, if the fault is that two tables have it.
+fn find_first(
+    alloc: Global,
+    text: &str,
+    document: &Table,
+    fault: ConfigFault,
+) -> Result<Option<Place>, AllocError>
+    ensures { IfOk result (λ found. IfSome found (BeginsAtPlace text.now (key_sought (spot_in fault)))) }
+{
+    let ConfigFault::DoubleName(spot) = fault else {
+        return Ok(None);
+    };
+    let Some(name) = text_at(document, fault) else {
+        return Ok(None);
+    };
+    match (0..spot.index).find(|index| has_name(document, spot, *index, name)) {
+        Some(index) => place_key(alloc, text, Spot { index, ..spot }),
+        None => Ok(None),
+    }
+}
+
+/// Whether the table of this index has this name at the key of this spot. Realms are compared without case.
+fn has_name(document: &Table, spot: Spot, index: usize, name: &str) -> bool {
+    let other = match find_value(document, Spot { index, ..spot }) {
+        Some(value) => value.as_str(),
+        None => None,
+    };
+    match other {
+        Some(other) if spot.part == Part::Realm => other.eq_ignore_ascii_case(name),
+        Some(other) => other == name,
+        None => false,
+    }
+}
