@@ -82,6 +82,16 @@ impl Log for ErrorLines {
     }
 }
 
+/// Opens a log whose lines go the same way as those of `log`, and that accepts each level.
+///
+/// # Errors
+///
+/// `AllocError` if memory is refused.
+pub fn open_each_level(log: &Logged<(), ErrorLines>) -> Result<Logged<(), ErrorLines>, AllocError> {
+    let queue = Arc::try_clone(&log.sink().queue)?;
+    Ok(Logged::new((), LevelFilter::Trace, ErrorLines { queue }))
+}
+
 /// Opens the log on standard error, up to the level that `RAD_PROXY_LOG` names in the environment, or `info` if it
 /// names none. If its value is not a level, that is logged.
 ///

@@ -19,7 +19,7 @@ mod telling;
 mod told_stream;
 mod writer_state;
 
-pub use error_lines::{ErrorLines, open_log};
+pub use error_lines::{ErrorLines, open_each_level, open_log};
 pub use line_room::LineRoom;
 pub use log::kv::Source;
 pub use log::span::Spans;

@@ -30,13 +30,13 @@ sent_event (Some metric) = Some (plain metric)
 
 -- The event as which a report is counted for a worker.
 abbrev pub event_of : WorkerReport → Option Event
-event_of (report.Sends to octets) = sent_event (sent_metric (slice_get octets.now 0))
+event_of (report.Sends to octets origin) = sent_event (sent_metric (slice_get octets.now 0))
 event_of (report.SendFault to) = Some (plain SendFaults)
 event_of report.ReceiveFault = Some (plain ReceiveFaults)
 event_of (report.Dropped why from octets) = Some (event Dropped (reason.Dropped why))
 event_of (report.Refused why from octets) = Some (event Refused (reason.Refused why))
 event_of (report.NotHome from octets) = Some (event Unheard reason.NotHome)
-event_of (report.Unheard why octets) = Some (event Unheard (reason.Unheard why))
+event_of (report.Unheard why octets origin) = Some (event Unheard (reason.Unheard why))
 event_of (report.WentDown spent) = Some (plain WentDown)
 event_of (report.WentUp why) = Some (event WentUp (reason.Up why))
 event_of (report.Cut count) = Some (plain Cut)
@@ -48,8 +48,8 @@ event_of r = None
 abbrev pub client_event_of : WorkerReport → Option Event
 client_event_of (report.Received from octets) = Some (plain ClientReceived)
 client_event_of (report.Accepted lane number from octets) = Some (plain ClientAccepted)
-client_event_of (report.Repeated repeat from) = Some (event ClientRepeats (reason.Repeat repeat))
-client_event_of (report.Sends to octets) = Some (plain ClientResponses)
+client_event_of (report.Repeated repeat from octets) = Some (event ClientRepeats (reason.Repeat repeat))
+client_event_of (report.Sends to octets origin) = Some (plain ClientResponses)
 client_event_of (report.Refused why from octets) = Some (event ClientRefused (reason.Refused why))
 client_event_of (report.Dropped dropped.UnknownClient from octets) = None
 client_event_of (report.Dropped why from octets) = Some (event ClientDropped (reason.Dropped why))
@@ -61,10 +61,10 @@ peer_of (report.Received from octets) = Some from
 peer_of (report.Dropped why from octets) = Some from
 peer_of (report.Marked lane from marks) = Some from
 peer_of (report.Accepted lane number from octets) = Some from
-peer_of (report.Repeated repeat from) = Some from
+peer_of (report.Repeated repeat from octets) = Some from
 peer_of (report.Refused why from octets) = Some from
 peer_of (report.NotHome from octets) = Some from
-peer_of (report.Sends to octets) = Some to
+peer_of (report.Sends to octets origin) = Some to
 peer_of (report.SendFault to) = Some to
 peer_of r = None
 
@@ -78,5 +78,5 @@ worker_place (Lane lane) = lane + 1
 abbrev pub row_of : Worker → WorkerReport → ℕ
 row_of worker (report.Marked lane from marks) = lane + 1
 row_of worker (report.Accepted lane number from octets) = lane + 1
-row_of worker (report.Took lane serial) = lane + 1
+row_of worker (report.Took lane serial number client sent) = lane + 1
 row_of worker r = worker_place worker

@@ -2,8 +2,8 @@
 use Rattle.std.specs.Prelude.{ℕ, List, ◌++◌, codes, Option, Some, None}
 use Rattle.std.specs.Fmt.{decimal}
 use Rattle.rad_metrics.specs.LedgerFaults.{fault_text}
-use Rattle.rad_metrics.specs.declared.ledger_lines.LedgerLine.{LedgerLine}
-use Rattle.rad_metrics.specs.declared.ledger_lines.LedgerLine.TheVariants as line
+use Rattle.rad_metrics.specs.declared.ledger_state.LedgerLine.{LedgerLine}
+use Rattle.rad_metrics.specs.declared.ledger_state.LedgerLine.TheVariants as line
 
 -- The line of a fault whose text is known.
 abbrev pub fault_line : Option (List ℕ) → Option (List ℕ)
@@ -15,3 +15,4 @@ ledger_line (line.Fault fault) = fault_line (fault_text fault)
 ledger_line line.Back = Some (codes "event=ledger-back")
 ledger_line (line.Dropped count) = Some (codes "event=ledger-dropped count=" ++ decimal count)
 ledger_line (line.Left count) = Some (codes "event=ledger-left count=" ++ decimal count)
+ledger_line (line.Both count left) = Some (codes "event=ledger-left count=" ++ decimal count ++ codes " left=" ++ decimal left)

@@ -11,8 +11,8 @@ use Rattle.rad_metrics.specs.declared.home_metric.HomeMetric.{HomeMetric}
 use Rattle.rad_metrics.specs.declared.home_metric.HomeMetric.TheVariants as home
 use Rattle.rad_metrics.specs.declared.home_times.Timed.{Timed}
 use Rattle.rad_metrics.specs.declared.home_times.Timed.TheVariants as timed
-use Rattle.rad_metrics.specs.declared.socket_metric.SocketMetric.{SocketMetric}
-use Rattle.rad_metrics.specs.declared.socket_metric.SocketMetric.TheVariants as socket
+use Rattle.rad_metrics.specs.declared.socket_numbers.SocketMetric.{SocketMetric}
+use Rattle.rad_metrics.specs.declared.socket_numbers.SocketMetric.TheVariants as socket
 use Rattle.rad_metrics.specs.declared.home_metric.Reading.{Reading}
 use Rattle.rad_metrics.specs.declared.socket_numbers.SocketReading.{SocketReading}
 use Rattle.rad_metrics.specs.declared.ledger_metrics.LedgerReading.{LedgerReading}
@@ -42,6 +42,10 @@ counted_family counted.ClientResponses = counter (codes "client_responses_total"
 counted_family counted.ClientRefused = counter (codes "client_refused_total") (codes "New requests from the client that were refused.")
 counted_family counted.ClientDropped = counter (codes "client_dropped_total") (codes "Datagrams from the client that were dropped.")
 
+-- The requests of each realm.
+abbrev pub realm_family : Described
+realm_family = counter (codes "realm_requests_total") (codes "Requests for the realm: new ones, repeats, and those that were refused.")
+
 -- The limits of a lane, and what was read of it.
 abbrev pub home_family : HomeMetric → Described
 home_family home.BookLimit = gauge (codes "book_limit") (codes "The most requests that the book may hold.")
@@ -51,6 +55,7 @@ home_family home.RingLimit = gauge (codes "ring_limit") (codes "The most respons
 home_family home.Span = gauge (codes "span_seconds") (codes "How long after its answer a retransmitted request is answered again.")
 home_family home.Up = gauge (codes "home_up") (codes "Whether the home server is marked up.")
 home_family home.Since = gauge (codes "home_since_time_seconds") (codes "Since when the home server is marked up or down, in seconds since 1970.")
+home_family home.Down = counter (codes "home_down_seconds_total") (codes "How long the home server was marked down since the start.")
 home_family home.Told = gauge (codes "home_report_time_seconds") (codes "When the lane reported these metrics, in seconds since 1970.")
 home_family home.Draining = gauge (codes "draining") (codes "Whether the lane accepts no new requests.")
 home_family home.Accepted = counter (codes "accepted_total") (codes "Requests accepted since the start.")
@@ -81,6 +86,7 @@ home_value home.RingLimit reading = Count reading.limits.ring
 home_value home.Span reading = Milliseconds reading.limits.span
 home_value home.Up reading = value_of_bool reading.standing.counts.up
 home_value home.Since reading = Milliseconds reading.since
+home_value home.Down reading = Milliseconds reading.down
 home_value home.Told reading = Milliseconds reading.told
 home_value home.Draining reading = value_of_bool reading.standing.counts.draining
 home_value home.Accepted reading = Count reading.standing.counts.accepted
@@ -114,12 +120,20 @@ program_family program.BuildInfo = gauge (codes "build_info") (codes "The versio
 program_family program.Start = gauge (codes "start_time_seconds") (codes "When the program started, in seconds since 1970.")
 program_family program.Report = gauge (codes "report_time_seconds") (codes "When these metrics were collected, in seconds since 1970.")
 program_family program.Strangers = counter (codes "strangers_total") (codes "Datagrams from senders that are not clients.")
+program_family program.ProcessStart = gauge (codes "process_start_time_seconds") (codes "When the program started, in seconds since 1970.")
+program_family program.ProcessResident = gauge (codes "process_resident_memory_bytes") (codes "The memory of the program that is not swapped out.")
+program_family program.ProcessDescriptors = gauge (codes "process_open_fds") (codes "The file descriptors that the program has open.")
+program_family program.ProcessCpu = counter (codes "process_cpu_seconds_total") (codes "The processor time of the program, its own and the system's for it.")
 
 abbrev pub program_value : ProgramMetric → ProgramReading → Value
 program_value program.BuildInfo reading = Count 1
 program_value program.Start reading = Milliseconds reading.started
 program_value program.Report reading = Milliseconds reading.asked
 program_value program.Strangers reading = Count reading.strangers
+program_value program.ProcessStart reading = Milliseconds reading.started
+program_value program.ProcessResident reading = Count reading.process.resident
+program_value program.ProcessDescriptors reading = Count reading.process.descriptors
+program_value program.ProcessCpu reading = Milliseconds reading.process.cpu
 
 -- The ledger.
 abbrev pub ledger_family : LedgerMetric → Described

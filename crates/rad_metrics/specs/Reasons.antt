@@ -6,8 +6,8 @@ use Rattle.rad_rings.specs.Printed.{desk_fault_name, desk_fault_place}
 use Rattle.rad_desk.specs.declared.gate.Repeat.TheVariants as repeat
 use Rattle.rad_desk.specs.declared.gate.UpReason.{UpReason}
 use Rattle.rad_desk.specs.declared.gate.UpReason.TheVariants as up
-use Rattle.rad_metrics.specs.declared.label.Label.{Label}
-use Rattle.rad_metrics.specs.declared.label.Label.TheVariants as label
+use Rattle.rad_metrics.specs.declared.sample.Label.{Label}
+use Rattle.rad_metrics.specs.declared.sample.Label.TheVariants as label
 use Rattle.rad_metrics.specs.declared.reason.Reason.{Reason}
 use Rattle.rad_metrics.specs.declared.reason.Reason.TheVariants as reason
 

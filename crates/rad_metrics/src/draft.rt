@@ -3,8 +3,8 @@
 use crate::home_metric::Reading;
 use crate::ledger_metrics::LedgerReading;
 use crate::numbers::Numbers;
-use crate::socket_numbers::SocketReading;
-use crate::udp_sockets::UdpSockets;
+use crate::own_process::{OwnProcess, ProcessReading, read_process};
+use crate::socket_numbers::{SocketReading, UdpSockets};
 use crate::writing::{Known, write_metrics};
 use rad_realms::Config;
 use std::alloc::{AllocError, Global};
@@ -17,8 +17,9 @@ use std::time::Clock;
 pub struct Draft {
     text: Vec<u8>,
     readings: Vec<Reading>,
-    /// The system's text of its UDP sockets.
+    /// A text of the system: of the program's process, and then of its UDP sockets.
     table: Vec<u8>,
+    process: ProcessReading,
     sockets: Vec<SocketReading>,
 }
 
@@ -29,26 +30,32 @@ impl Draft {
             text: Vec::new(alloc),
             readings: Vec::new(alloc),
             table: Vec::new(alloc),
+            process: ProcessReading {
+                resident: 0,
+                descriptors: 0,
+                cpu: 0,
+            },
             sockets: Vec::new(alloc),
         }
     }
 
-    /// Reads what was last reported of each lane, and what the system reports of each socket.
+    /// Reads what was last reported of each lane, and what the system reports of the program's process and of each socket.
     ///
     /// # Errors
     ///
     /// `AllocError` if memory is refused.
-    pub fn read<S: Wait, U: UdpSockets, R>(
+    pub fn read<S: Wait, U: UdpSockets + OwnProcess, R>(
         &mut self,
         rt: &S,
-        sockets: &U,
+        system: &U,
         numbers: &Numbers<'_, R>,
     ) -> Result<(), AllocError> {
         self.readings.clear();
         for home in numbers.homes() {
             self.readings.push(home.reading(rt))?;
         }
-        sockets.read(&mut self.table);
+        self.process = read_process(system, &mut self.table);
+        UdpSockets::read(system, &mut self.table);
         let table = str::from_utf8(self.table.as_slice()).unwrap_or("");
         numbers.sockets().read(rt, table, &mut self.sockets)
     }
@@ -70,7 +77,9 @@ impl Draft {
             homes: config.homes(),
             counts: numbers.counts(),
             cells: numbers.homes(),
-            program: numbers.program(),
+            realms: config.realms(),
+            realm_numbers: numbers.realms(),
+            program: numbers.program(self.process),
             readings: self.readings.as_slice(),
             sockets: self.sockets.as_slice(),
             ledger,

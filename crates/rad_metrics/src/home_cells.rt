@@ -1,5 +1,7 @@
 //! What the workers reported of each home server.
 
+ghost use Rattle.std.specs.Prelude.{◌≡◌, ◌+◌, ◌-◌, ◌^◌, ◌==◌, if◌then◌else◌, min};
+
 use crate::home_metric::Reading;
 use crate::home_times::HomeTimes;
 use rad_desk::{Standing, WorkerReport};
@@ -17,6 +19,8 @@ pub(crate) struct HomeCell {
     is_asked: AtomicBool,
     /// Since when it is marked up or down.
     since: AtomicU64,
+    /// How long it was marked down.
+    down: DownTime,
     /// When it last answered; 0 before its first answer.
     last_answer: AtomicU64,
     /// When the program started, in milliseconds since 1970.
@@ -40,6 +44,7 @@ impl HomeCell {
         Ok(HomeCell {
             is_asked: AtomicBool::new(false),
             since: AtomicU64::new(start),
+            down: DownTime::new(),
             last_answer: AtomicU64::new(0),
             started: start,
             limits,
@@ -57,13 +62,18 @@ impl HomeCell {
             WorkerReport::FirstSent { number, slot } => {
                 self.times.first_sent(number, slot, front, turn);
             }
-            WorkerReport::Answered { serial, slot } => {
+            WorkerReport::Answered { serial, slot, .. } => {
                 self.times.replied(serial, slot, turn);
                 self.last_answer.store(time, Ordering::SeqCst);
             }
             WorkerReport::Took { serial, .. } => self.times.left(serial, front),
-            WorkerReport::WentDown(_) | WorkerReport::WentUp(_) => {
+            WorkerReport::WentDown(_) => {
                 self.since.store(time, Ordering::SeqCst);
+                self.down.begin(turn);
+            }
+            WorkerReport::WentUp(_) => {
+                self.since.store(time, Ordering::SeqCst);
+                self.down.end(turn);
             }
             WorkerReport::Stands { moment, standing } => {
                 self.set_standing(Reading {
@@ -72,6 +82,7 @@ impl HomeCell {
                     moment,
                     told: time,
                     since: self.since.load(Ordering::SeqCst),
+                    down: self.down.until(turn) / 1000,
                     last_answer: self.last_answer.load(Ordering::SeqCst),
                     sent,
                     oldest_outstanding: self.times.oldest(turn),
@@ -110,6 +121,50 @@ impl HomeCell {
     pub(crate) fn reading<R: Wait>(&self, rt: &R) -> Reading {
         let reading = self.reading.lock(rt);
         *reading
+    }
+}
+
+/// How long a home server was marked down, in microseconds. Only its worker writes it.
+#[derive(Drop)]
+struct DownTime {
+    /// How long it was marked down before it was last marked up.
+    before: AtomicU64,
+    /// When it was marked down; 0 while it is marked up.
+    since: AtomicU64,
+}
+
+impl DownTime {
+    fn new() -> DownTime {
+        DownTime {
+            before: AtomicU64::new(0),
+            since: AtomicU64::new(0),
+        }
+    }
+
+    fn begin(&self, now: u64) {
+        self.since.store(now.max(1), Ordering::SeqCst);
+    }
+
+    fn end(&self, now: u64) {
+        self.before.store(self.until(now), Ordering::SeqCst);
+        self.since.store(0, Ordering::SeqCst);
+    }
+
+    fn until(&self, now: u64) -> u64 {
+        let before = self.before.load(Ordering::SeqCst);
+        down_until(before, self.since.load(Ordering::SeqCst), now)
+    }
+}
+
+/// Returns how long a home server was marked down until `now`, in microseconds: `before`, and from `since` on, unless that
+/// is 0.
+fn down_until(before: u64, since: u64, now: u64) -> u64
+    ensures { result ≡ (if since == 0 then before else min (before + (now - since)) (2 ^ 64 - 1)) }
+{
+    if since == 0 {
+        before
+    } else {
+        before.saturating_add(now.saturating_sub(since))
     }
 }
 
@@ -165,6 +220,7 @@ fn first_reading(limits: LimitNumbers, start: u64) -> Reading {
         moment: Moment::new(0).unwrap(),
         told: start,
         since: start,
+        down: 0,
         last_answer: 0,
         sent: 0,
         oldest_outstanding: 0,

@@ -23,6 +23,8 @@ pub struct Reading {
     pub told: u64,
     /// Since when the home server is marked up or down.
     pub since: u64,
+    /// How long it was marked down since the start.
+    pub down: u64,
     /// When it last answered; 0 if it never did.
     pub last_answer: u64,
     /// How many Accounting-Requests were sent to it.
@@ -43,6 +45,8 @@ pub enum HomeMetric {
     Up,
     /// Since when it is marked up or down.
     Since,
+    /// How long it was marked down since the start.
+    Down,
     /// When its metrics were reported.
     Told,
     /// Whether its lane is drained.
@@ -75,6 +79,7 @@ impl HomeMetric {
             HomeMetric::Span => Gauge("span_seconds", "How long after its answer a retransmitted request is answered again."),
             HomeMetric::Up => Gauge("home_up", "Whether the home server is marked up."),
             HomeMetric::Since => Gauge("home_since_time_seconds", "Since when the home server is marked up or down, in seconds since 1970."),
+            HomeMetric::Down => Counter("home_down_seconds_total", "How long the home server was marked down since the start."),
             HomeMetric::Told => Gauge("home_report_time_seconds", "When the lane reported these metrics, in seconds since 1970."),
             HomeMetric::Draining => Gauge("draining", "Whether the lane accepts no new requests."),
             HomeMetric::Accepted => Counter("accepted_total", "Requests accepted since the start."),
@@ -104,6 +109,7 @@ impl HomeMetric {
             HomeMetric::Span => Value::Milliseconds(u64::from(limits.span)),
             HomeMetric::Up => Value::of_bool(counts.up),
             HomeMetric::Since => Value::Milliseconds(reading.since),
+            HomeMetric::Down => Value::Milliseconds(reading.down),
             HomeMetric::Told => Value::Milliseconds(reading.told),
             HomeMetric::Draining => Value::of_bool(counts.draining),
             HomeMetric::Accepted => Value::Count(counts.accepted),

@@ -40,7 +40,9 @@ pub enum Timed {
     Responses,
 }
 
-/// The times of a home server's unanswered requests, and how long the others took.
+/// The times of a home server's unanswered requests, and how long the others took. No request takes memory for that:
+/// each queued number, pair and serial has a place, which is allocated at the start. The place of a number or serial
+/// has both it and a time in one word. That of a pair has the time alone.
 #[derive(Drop)]
 pub(crate) struct HomeTimes {
     /// For each number that may be queued, at the remainder of its division by the length: when that request was

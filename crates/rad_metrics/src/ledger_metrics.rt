@@ -6,8 +6,7 @@ ghost use Rattle.rad_metrics.specs.Families.{described_by};
 ghost use Rattle.rad_metrics.specs.Metrics.{ledger_family, ledger_value, ledger_metric_text, ledger_text};
 
 use crate::family::{Family, Kind, families};
-use crate::label::Labels;
-use crate::sample::Sample;
+use crate::sample::{Labels, Sample};
 use crate::value::Value;
 use std::fmt;
 use std::io::{self, Write};

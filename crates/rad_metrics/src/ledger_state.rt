@@ -1,11 +1,11 @@
-//! What the thread that writes the ledger shares with the front and with the reporter.
+//! What the thread that writes the ledger shares with the front and with the reporter, and the log lines of the ledger.
 
 use crate::ledger_fault::LedgerFault;
-use crate::ledger_lines::LedgerLine;
 use crate::ledger_metrics::LedgerReading;
 use rad_log::{Level, Log, WriterState, tell};
-use std::sync::Wait;
+use std::fmt;
 use std::sync::atomic::{AtomicU64, Ordering};
+use std::sync::{OnceLock, Wait};
 use std::time::{Clock, Duration, Instant};
 
 /// The counts of a ledger's entries, what went wrong, and the state of the thread that writes them. No call of the
@@ -29,6 +29,12 @@ pub struct LedgerState {
     is_back: AtomicU64,
     /// How many dropped entries were logged.
     told: AtomicU64,
+    /// How many requests were told as left.
+    left: AtomicU64,
+    /// How many lines of requests that are left were written.
+    left_written: AtomicU64,
+    /// When the first request was told as left.
+    left_since: OnceLock<Instant>,
     /// 1 if the last line is to be written.
     is_clean: AtomicU64,
     state: WriterState,
@@ -46,6 +52,9 @@ impl LedgerState {
             fault: AtomicU64::new(0),
             is_back: AtomicU64::new(0),
             told: AtomicU64::new(0),
+            left: AtomicU64::new(0),
+            left_written: AtomicU64::new(0),
+            left_since: OnceLock::new(),
             is_clean: AtomicU64::new(0),
             state: WriterState::new(),
         }
@@ -75,6 +84,23 @@ impl LedgerState {
     /// Counts entries that were written.
     pub fn count_written(&self, count: u64) {
         self.written.fetch_add(count, Ordering::SeqCst);
+    }
+
+    /// Counts a request that was told as left, at this moment if the clock can be read. Returns the moment of the first
+    /// one, if it is known.
+    pub fn count_left<R: Clock>(&self, rt: &R) -> Option<Instant> {
+        self.left.fetch_add(1, Ordering::SeqCst);
+        if self.left_since.get().is_none()
+            && let Ok(now) = Instant::now(rt)
+        {
+            let _ = self.left_since.try_set(now);
+        }
+        self.left_since.get().copied()
+    }
+
+    /// Counts lines of requests that are left, which were written.
+    pub fn count_left_written(&self, count: u64) {
+        self.left_written.fetch_add(count, Ordering::SeqCst);
     }
 
     /// Records when the oldest entry was handed over that is not written; `None` if there is none.
@@ -114,12 +140,22 @@ impl LedgerState {
         self.state.finish();
     }
 
-    /// Makes the thread write what is left and end, with the line that ends the run if `is_clean` is set, and waits for
-    /// it, at most until `longest` after `start`.
-    pub fn end<R: Clock + Wait>(&self, rt: &R, is_clean: bool, start: Instant, longest: Duration) {
+    /// Makes the thread write what waits and end, with the line that ends the run if `is_clean` is set, and waits for
+    /// it: at most until `longest` after `start`, and if requests were told as left, `longest_left` after the first one.
+    pub fn end<R: Clock + Wait>(
+        &self,
+        rt: &R,
+        is_clean: bool,
+        start: Instant,
+        longest: Duration,
+        longest_left: Duration,
+    ) {
         self.is_clean.store(u64::from(is_clean), Ordering::SeqCst);
         self.state.end();
         self.state.wait(rt, start, longest);
+        if let Some(since) = self.left_since.get() {
+            self.state.wait(rt, *since, longest_left);
+        }
     }
 
     /// Returns whether the line that ends the run is to be written.
@@ -159,11 +195,15 @@ impl LedgerState {
         }
     }
 
-    /// Logs how many entries are not written at the end, if there are any.
+    /// Logs how many entries are not written at the end, and how many lines of requests that are left, if there are any.
     pub fn tell_left<L: Log>(&self, log: &L) {
         self.tell(log);
         let count = self.reading(0).waiting;
-        if count != 0 {
+        let written = self.left_written.load(Ordering::SeqCst);
+        let left = self.left.load(Ordering::SeqCst).saturating_sub(written);
+        if left != 0 {
+            tell(log, Level::Error, &LedgerLine::Both(count, left));
+        } else if count != 0 {
             tell(log, Level::Error, &LedgerLine::Left(count));
         }
     }
@@ -172,4 +212,37 @@ impl LedgerState {
 /// Logs that the ledger is not written, and why.
 pub fn log_ledger_fault<L: Log>(log: &L, fault: LedgerFault) {
     tell(log, Level::Error, &LedgerLine::Fault(fault));
+}
+
+/// A log line of the ledger.
+#[derive(Clone, Copy)]
+pub enum LedgerLine {
+    /// Entries can't be written.
+    Fault(LedgerFault),
+    /// Entries are written again.
+    Back,
+    /// This many entries found no room.
+    Dropped(u64),
+    /// This many entries are not written at the end.
+    Left(u64),
+    /// This many entries are not written at the end, and this many lines of requests that are left.
+    Both(u64, u64),
+}
+
+impl fmt::Display for LedgerLine {
+    ghost use Rattle.rad_metrics.specs.LedgerLines.{ledger_line};
+
+    ghost output = { λ line. ledger_line line };
+
+    fn fmt<W: fmt::Write>(&self, f: &mut fmt::Formatter<W>) -> fmt::Result {
+        match *self {
+            LedgerLine::Fault(fault) => write!(f, "event=ledger-fault reason=\"{fault}\""),
+            LedgerLine::Back => f.write_str("event=ledger-back"),
+            LedgerLine::Dropped(count) => write!(f, "event=ledger-dropped count={count}"),
+            LedgerLine::Left(count) => write!(f, "event=ledger-left count={count}"),
+            LedgerLine::Both(count, left) => {
+                write!(f, "event=ledger-left count={count} left={left}")
+            }
+        }
+    }
 }

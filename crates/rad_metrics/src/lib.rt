@@ -26,19 +26,17 @@ mod histogram;
 mod home_cells;
 mod home_metric;
 mod home_times;
-mod label;
 mod ledger_fault;
-mod ledger_lines;
 mod ledger_metrics;
 mod ledger_state;
 mod metric;
 mod numbers;
+mod own_process;
 mod program_metrics;
+mod realm_numbers;
 mod reason;
 mod sample;
-mod socket_metric;
 mod socket_numbers;
-mod udp_sockets;
 mod value;
 mod writing;
 
@@ -52,9 +50,11 @@ pub use ledger_fault::{LedgerFault, system_number};
 pub use ledger_metrics::{LedgerMetric, LedgerReading};
 pub use ledger_state::{LedgerState, log_ledger_fault};
 pub use numbers::Numbers;
+pub use own_process::{
+    OwnProcess, ProcessReading, count_own_descriptors, read_own_status, read_own_times,
+};
 pub use program_metrics::{ProgramMetric, ProgramReading, VERSION};
+pub use realm_numbers::{RealmNumbers, realm_family};
 pub use reason::Reason;
-pub use socket_metric::SocketMetric;
-pub use socket_numbers::SocketReading;
-pub use udp_sockets::{UdpSockets, read_udp_sockets};
+pub use socket_numbers::{SocketMetric, SocketReading, UdpSockets, read_udp_sockets};
 pub use value::Value;

@@ -4,7 +4,7 @@ use crate::counted::Counted;
 use crate::home_metric::HomeMetric;
 use crate::home_times::Timed;
 use crate::program_metrics::ProgramMetric;
-use crate::socket_metric::SocketMetric;
+use crate::socket_numbers::SocketMetric;
 
 /// What is written together: a metric, except for those of the ledger.
 #[derive(Clone, Copy)]
@@ -13,6 +13,8 @@ pub(crate) enum Metric {
     /// All of the ledger, if there is one.
     Ledger,
     Counted(Counted),
+    /// The requests of each realm.
+    Realms,
     Home(HomeMetric),
     Timed(Timed),
     Socket(SocketMetric),
@@ -34,12 +36,17 @@ pub(crate) const METRICS: &[Metric] = &[
     Metric::Program(ProgramMetric::Start),
     Metric::Program(ProgramMetric::Report),
     Metric::Program(ProgramMetric::Strangers),
+    Metric::Program(ProgramMetric::ProcessStart),
+    Metric::Program(ProgramMetric::ProcessResident),
+    Metric::Program(ProgramMetric::ProcessDescriptors),
+    Metric::Program(ProgramMetric::ProcessCpu),
     Metric::Counted(Counted::ClientReceived),
     Metric::Counted(Counted::ClientAccepted),
     Metric::Counted(Counted::ClientRepeats),
     Metric::Counted(Counted::ClientResponses),
     Metric::Counted(Counted::ClientRefused),
     Metric::Counted(Counted::ClientDropped),
+    Metric::Realms,
     Metric::Home(HomeMetric::BookLimit),
     Metric::Home(HomeMetric::QueueLimit),
     Metric::Home(HomeMetric::WindowLimit),
@@ -47,6 +54,7 @@ pub(crate) const METRICS: &[Metric] = &[
     Metric::Home(HomeMetric::Span),
     Metric::Home(HomeMetric::Up),
     Metric::Home(HomeMetric::Since),
+    Metric::Home(HomeMetric::Down),
     Metric::Home(HomeMetric::Told),
     Metric::Home(HomeMetric::Draining),
     Metric::Home(HomeMetric::Accepted),

@@ -4,7 +4,9 @@ use crate::counted::Counted;
 use crate::counts::{APART, Counts, atomics};
 use crate::event::{Event, report_peer, report_row};
 use crate::home_cells::{HomeCell, home_cells, is_of_home};
+use crate::own_process::ProcessReading;
 use crate::program_metrics::ProgramReading;
+use crate::realm_numbers::RealmNumbers;
 use crate::socket_numbers::SocketNumbers;
 use rad_desk::{Worker, WorkerReport};
 use rad_realms::{Config, Endpoint};
@@ -27,6 +29,7 @@ pub struct Numbers<'a, R> {
     counts: Counts,
     /// The number of datagrams that came from senders that are not clients.
     strangers: AtomicU64,
+    realms: RealmNumbers,
     /// When the turn of each worker began, in microseconds since the start: the front's, then those of the lanes in order,
     /// `APART` words from one to the next.
     turns: Vec<AtomicU64>,
@@ -56,6 +59,7 @@ impl<'a, R: Clock> Numbers<'a, R> {
             clients,
             counts,
             strangers: AtomicU64::new(0),
+            realms: RealmNumbers::new(alloc, config)?,
             turns,
             homes,
             sockets: SocketNumbers::new(alloc),
@@ -69,8 +73,10 @@ impl<'a, R: Clock> Numbers<'a, R> {
         if worker == Worker::Front {
             self.count_of_client(report);
         }
-        if let WorkerReport::Woke = *report {
-            self.begin_turn(row);
+        match *report {
+            WorkerReport::Woke => self.begin_turn(row),
+            WorkerReport::Requested { lane, rank } => self.realms.count(lane, rank),
+            _ => {}
         }
         if !is_of_home(report) {
             return;
@@ -92,12 +98,13 @@ impl<'a, R: Clock> Numbers<'a, R> {
         time_since_1970(self.rt)
     }
 
-    /// Returns what is known of the program now.
-    pub(crate) fn program(&self) -> ProgramReading {
+    /// Returns what is known of the program now, of whose process the system told this.
+    pub(crate) fn program(&self, process: ProcessReading) -> ProgramReading {
         ProgramReading {
             started: self.started,
             asked: self.now(),
             strangers: self.strangers.load(Ordering::SeqCst),
+            process,
         }
     }
 
@@ -177,6 +184,11 @@ impl<R> Numbers<'_, R> {
     /// Returns what is counted.
     pub fn counts(&self) -> &Counts {
         &self.counts
+    }
+
+    /// Returns how many requests came for each realm.
+    pub fn realms(&self) -> &RealmNumbers {
+        &self.realms
     }
 
     /// Returns what is known of each home server, in order.

@@ -1,9 +1,9 @@
 //! The reasons by which the events of one metric differ.
 
 ghost use Rattle.std.specs.Prelude.{◌≡◌};
-ghost use Rattle.rad_metrics.specs.Reasons.{reason_place, reason_name, reason_label, up_place, up_text};
+ghost use Rattle.rad_metrics.specs.Reasons.{reason_place, reason_name, reason_label};
 
-use crate::label::Label;
+use crate::sample::Label;
 use rad_desk::{DeskFault, Repeat, UpReason};
 use rad_lane::Refusal;
 use rad_realms::Dropped;
@@ -38,7 +38,9 @@ impl Reason {
             Reason::Refused(reason) => reason.place(),
             Reason::Unheard(fault) => fault.place() + 1,
             Reason::Repeat(Repeat::Answered) => 1,
-            Reason::Up(reason) => place_of_up(reason),
+            Reason::Up(UpReason::Answered) => 0,
+            Reason::Up(UpReason::ProbeAnswered) => 1,
+            Reason::Up(UpReason::DownWaitOver) => 2,
         }
     }
 
@@ -54,7 +56,9 @@ impl Reason {
             Reason::Unheard(fault) => fault.name(),
             Reason::Repeat(Repeat::Waiting) => "waiting",
             Reason::Repeat(Repeat::Answered) => "again",
-            Reason::Up(reason) => text_of_up(reason),
+            Reason::Up(UpReason::Answered) => "answered",
+            Reason::Up(UpReason::ProbeAnswered) => "probe answered",
+            Reason::Up(UpReason::DownWaitOver) => "down_wait over",
         }
     }
 
@@ -66,25 +70,5 @@ impl Reason {
             Reason::None => None,
             reason => Some(Label::Reason(reason)),
         }
-    }
-}
-
-fn place_of_up(reason: UpReason) -> usize
-    ensures { result ≡ up_place reason }
-{
-    match reason {
-        UpReason::Answered => 0,
-        UpReason::ProbeAnswered => 1,
-        UpReason::DownWaitOver => 2,
-    }
-}
-
-fn text_of_up(reason: UpReason) -> &'static str
-    ensures { result.now ≡ up_text reason }
-{
-    match reason {
-        UpReason::Answered => "answered",
-        UpReason::ProbeAnswered => "probe answered",
-        UpReason::DownWaitOver => "down_wait over",
     }
 }

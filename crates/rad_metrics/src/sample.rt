@@ -1,11 +1,148 @@
-//! Samples: a value under a name, with its labels.
+//! Samples: a value under a name, with its labels, which say whose it is, and by what else it differs from the others of
+//! its name.
 
-ghost use Rattle.std.specs.Prelude.{◌++◌};
-ghost use Rattle.rad_metrics.specs.Samples.{labels_text};
+ghost use Rattle.std.specs.Prelude.{◌≡◌, ◌++◌};
+ghost use Rattle.rad_metrics.specs.Samples.{reason_key, labels_text, is_plain};
 
-use crate::label::Labels;
+use crate::histogram::bound_label;
+use crate::reason::Reason;
 use crate::value::Value;
+use rad_realms::{AddressText, Endpoint};
 use std::fmt;
+
+/// A label of a sample.
+#[derive(Clone, Copy)]
+pub enum Label<'a> {
+    /// The version of the program.
+    Version(&'a str),
+    /// The clients' side.
+    Clients,
+    /// A client, by its address.
+    Client([u8; 4]),
+    /// A lane, and its home server's name. These are two labels.
+    Home(usize, &'a str),
+    /// A realm, by its name.
+    Realm(&'a str),
+    /// Why, or what is repeated.
+    Reason(Reason),
+    /// The bound of this bucket, in seconds.
+    Bound(usize),
+    /// The index of a socket among those of its lane.
+    Port(usize),
+    /// The address and port to which a socket is bound.
+    Socket(Endpoint),
+}
+
+/// The labels of a sample: its owner's, and another one.
+#[derive(Clone, Copy)]
+pub struct Labels<'a>(pub Option<Label<'a>>, pub Option<Label<'a>>);
+
+impl fmt::Display for Label<'_> {
+    ghost use Rattle.std.specs.Prelude.{Some};
+    ghost use Rattle.rad_metrics.specs.Samples.{label_text};
+
+    ghost output = { λ label. Some (label_text label) };
+
+    fn fmt<W: fmt::Write>(&self, f: &mut fmt::Formatter<W>) -> fmt::Result {
+        match *self {
+            Label::Version(version) => write!(f, "version=\"{version}\""),
+            Label::Clients => f.write_str("side=\"clients\""),
+            Label::Client(address) => {
+                let address = AddressText(address);
+                write!(f, "client=\"{address}\"")
+            }
+            Label::Home(lane, home) => write!(f, "lane=\"{lane}\",home=\"{home}\""),
+            Label::Realm(name) => {
+                let name = RealmName(name.as_bytes());
+                write!(f, "realm=\"{name}\"")
+            }
+            Label::Reason(reason) => {
+                let key = key_of(reason);
+                let name = reason.name();
+                write!(f, "{key}=\"{name}\"")
+            }
+            Label::Bound(bucket) => {
+                let bound = bound_label(bucket);
+                write!(f, "le=\"{bound}\"")
+            }
+            Label::Port(place) => write!(f, "port=\"{place}\""),
+            Label::Socket(at) => write!(f, "socket=\"{at}\""),
+        }
+    }
+}
+
+/// The octets of a realm's name. They are printed as in the log, and `\` is written as `%5c` too: so the label needs no
+/// escapes.
+#[derive(Clone, Copy)]
+struct RealmName<'a>(&'a [u8]);
+
+/// An octet of a realm's name.
+#[derive(Clone, Copy)]
+struct RealmOctet(u8);
+
+impl fmt::Display for RealmName<'_> {
+    ghost use Rattle.std.specs.Prelude.{Some};
+    ghost use Rattle.std.specs.List.{flat_map};
+    ghost use Rattle.rad_metrics.specs.Samples.{octet_text};
+
+    ghost output = { λ name. Some (flat_map octet_text name.0.now) };
+
+    fn fmt<W: fmt::Write>(&self, f: &mut fmt::Formatter<W>) -> fmt::Result {
+        for octet in self.0 {
+            let octet = RealmOctet(*octet);
+            write!(f, "{octet}")?;
+        }
+        Ok(())
+    }
+}
+
+impl fmt::Display for RealmOctet {
+    ghost use Rattle.std.specs.Prelude.{Some};
+    ghost use Rattle.rad_metrics.specs.Samples.{octet_text};
+
+    ghost output = { λ octet. Some (octet_text octet.0) };
+
+    fn fmt<W: fmt::Write>(&self, f: &mut fmt::Formatter<W>) -> fmt::Result {
+        let octet = self.0;
+        if is_printed(octet) {
+            let plain = char::from(octet);
+            return write!(f, "{plain}");
+        }
+        write!(f, "%{:x}{:x}", octet / 16, octet % 16)
+    }
+}
+
+/// Returns whether an octet is printed as it is: a visible ASCII character other than `%`, `"`, `=` and `\`.
+fn is_printed(octet: u8) -> bool
+    ensures { result ≡ is_plain octet }
+{
+    octet.is_ascii_graphic() && octet != b'%' && octet != b'"' && octet != b'=' && octet != b'\\'
+}
+
+/// Returns the key of a reason's label.
+fn key_of(reason: Reason) -> &'static str
+    ensures { result.now ≡ reason_key reason }
+{
+    match reason {
+        Reason::Repeat(_) => "repeat",
+        _ => "reason",
+    }
+}
+
+impl fmt::Display for Labels<'_> {
+    ghost use Rattle.std.specs.Prelude.{Some};
+    ghost use Rattle.rad_metrics.specs.Samples.{labels_text};
+
+    ghost output = { λ labels. Some (labels_text labels.0 labels.1) };
+
+    fn fmt<W: fmt::Write>(&self, f: &mut fmt::Formatter<W>) -> fmt::Result {
+        match *self {
+            Labels(None, None) => Ok(()),
+            Labels(Some(label), None) | Labels(None, Some(label)) => write!(f, "{{{label}}}"),
+            Labels(Some(owner), Some(label)) => write!(f, "{{{owner},{label}}}"),
+        }
+    }
+}
 
 /// A value under a name. It is printed as a line.
 #[derive(Clone, Copy)]

@@ -1,11 +1,57 @@
 //! The sockets of the workers: the receive buffer that the system granted each, and how many datagrams it dropped
-//! because that was full.
+//! because that was full. The system reports that in /proc/self/net/udp, in a line for each socket. The second word is
+//! the address and port that it is bound to, in hexadecimal, and the last one how many datagrams were dropped there.
 
-use crate::udp_sockets::dropped_at;
+ghost use Rattle.std.specs.Prelude.{◌≡◌};
+ghost use Rattle.rad_metrics.specs.Families.{described_by};
+ghost use Rattle.rad_metrics.specs.Metrics.{socket_family, socket_value};
+
+use crate::family::{Family, Kind, families};
+use crate::value::Value;
 use rad_desk::Worker;
 use rad_realms::Endpoint;
 use std::alloc::{AllocError, Global};
+use std::fs::{self, Files};
+use std::io::Read;
 use std::sync::{Mutex, Wait};
+
+/// The file in which Linux lists the UDP sockets of this program's network alone.
+const UDP_TABLE: &str = "/proc/self/net/udp";
+
+/// The most octets that are read of it: those of some 30,000 sockets.
+const MOST_OCTETS: u64 = 1 << 22;
+
+/// A metric of a socket.
+#[derive(Clone, Copy)]
+pub enum SocketMetric {
+    /// The size of its receive buffer.
+    Buffer,
+    /// How many datagrams were dropped because that buffer was full.
+    Dropped,
+}
+
+impl SocketMetric {
+    /// Returns the name, the kind and the help text of the family, which precede its samples.
+    pub fn family(self) -> Family
+        ensures { described_by result ≡ socket_family self }
+    {
+        families! {
+            self;
+            SocketMetric::Buffer => Gauge("socket_buffer_bytes", "The receive buffer that the system granted to the socket."),
+            SocketMetric::Dropped => Counter("socket_drops_total", "Datagrams that the system dropped because the socket's receive buffer was full."),
+        }
+    }
+
+    /// Returns the value of the metric for a socket.
+    pub fn value(self, reading: &SocketReading) -> Value
+        ensures { result ≡ socket_value self reading.now }
+    {
+        match self {
+            SocketMetric::Buffer => Value::Count(u64::from(reading.buffer)),
+            SocketMetric::Dropped => Value::Count(reading.dropped),
+        }
+    }
+}
 
 /// What is known of a socket.
 #[derive(Clone, Copy)]
@@ -76,4 +122,43 @@ impl SocketNumbers {
         }
         Ok(())
     }
+}
+
+/// A source of what the system reports of the UDP sockets of a machine.
+pub trait UdpSockets {
+    /// Replaces `table` with the text of /proc/self/net/udp, or with nothing if there is none.
+    fn read(&self, table: &mut Vec<u8>);
+}
+
+/// Replaces `table` with what the system reports of its UDP sockets, or with nothing if it reports nothing.
+pub fn read_udp_sockets<R: Files>(files: &R, table: &mut Vec<u8>)
+where
+    R::File: Drop,
+{
+    table.clear();
+    if let Ok(file) = fs::open(files, UDP_TABLE) {
+        let _ = file.take(MOST_OCTETS).read_to_end(table);
+    }
+}
+
+/// Returns how many datagrams were dropped, by a table, at the socket that is bound to `at`.
+pub(crate) fn dropped_at(table: &str, at: Endpoint) -> Option<u64> {
+    for line in table.lines() {
+        let mut words = line.split_ascii_whitespace();
+        let _ = words.next();
+        if words.next().and_then(read_endpoint) == Some(at) {
+            return words.last()?.parse::<u64>().ok();
+        }
+    }
+    None
+}
+
+/// Reads an address and a port in hexadecimal. The address is written as the number that its octets make in this
+/// machine's byte order.
+fn read_endpoint(word: &str) -> Option<Endpoint> {
+    let (address, port) = word.split_once(':')?;
+    Some(Endpoint {
+        address: u32::from_str_radix(address, 16).ok()?.to_ne_bytes(),
+        port: u16::from_str_radix(port, 16).ok()?,
+    })
 }

@@ -8,16 +8,15 @@ use crate::histogram::{BUCKETS, Histogram};
 use crate::home_cells::HomeCell;
 use crate::home_metric::{HomeMetric, Reading};
 use crate::home_times::Timed;
-use crate::label::{Label, Labels};
 use crate::ledger_metrics::{LedgerReading, write_ledger};
 use crate::metric::{METRICS, Metric};
 use crate::program_metrics::{ProgramMetric, ProgramReading, VERSION};
-use crate::sample::Sample;
-use crate::socket_metric::SocketMetric;
-use crate::socket_numbers::SocketReading;
+use crate::realm_numbers::{RealmNumbers, realm_family, realms_of};
+use crate::sample::{Label, Labels, Sample};
+use crate::socket_numbers::{SocketMetric, SocketReading};
 use crate::value::Value;
 use rad_desk::Worker;
-use rad_realms::{Client, Home};
+use rad_realms::{Client, Home, Realm};
 use std::io::{self, Write};
 
 /// What is written: what was reported so far, and what was read.
@@ -26,6 +25,8 @@ pub(crate) struct Known<'a> {
     pub(crate) clients: &'a [Client],
     pub(crate) homes: &'a [Home],
     pub(crate) counts: &'a Counts,
+    pub(crate) realms: &'a [Realm],
+    pub(crate) realm_numbers: &'a RealmNumbers,
     pub(crate) cells: &'a [HomeCell],
     pub(crate) program: ProgramReading,
     pub(crate) readings: &'a [Reading],
@@ -51,15 +52,11 @@ fn write_metric(text: &mut Vec<u8>, metric: Metric, known: &Known<'_>) -> io::Re
         Metric::Ledger => write_ledger(text, known.ledger),
         Metric::Counted(metric) if metric.is_of_clients() => write_clients(text, metric, known),
         Metric::Counted(metric) => write_workers(text, metric, known),
+        Metric::Realms => write_realms(text, known),
         Metric::Home(metric) => write_homes(text, metric, known),
         Metric::Timed(timed) => write_times(text, timed, known),
         Metric::Socket(metric) => write_sockets(text, metric, known),
     }
-}
-
-/// Writes the lines that precede the samples of a family.
-fn write_head(text: &mut Vec<u8>, family: Family) -> io::Result<()> {
-    write!(text, "{family}")
 }
 
 /// Writes a sample of a family, with this suffix to its name.
@@ -89,15 +86,16 @@ fn write_program(
         ProgramMetric::BuildInfo => Some(Label::Version(VERSION)),
         _ => None,
     };
-    write_head(text, metric.family())?;
-    let labels = Labels(label, None);
-    write_sample(text, metric.family(), "", labels, metric.value(program))
+    let family = metric.family();
+    write!(text, "{family}")?;
+    write_sample(text, family, "", Labels(label, None), metric.value(program))
 }
 
 /// Writes what a metric counts of the front, and then of the lanes in order. Only a metric that both sides have says of
 /// which side it is.
 fn write_workers(text: &mut Vec<u8>, metric: Counted, known: &Known<'_>) -> io::Result<()> {
-    write_head(text, metric.family())?;
+    let family = metric.family();
+    write!(text, "{family}")?;
     if metric.is_of_front() {
         let side = metric.is_of_lanes().then_some(Label::Clients);
         write_row(text, metric, side, 0, known.counts)?;
@@ -113,7 +111,8 @@ fn write_workers(text: &mut Vec<u8>, metric: Counted, known: &Known<'_>) -> io::
 
 /// Writes what a metric counts of the clients, in the order of the configuration.
 fn write_clients(text: &mut Vec<u8>, metric: Counted, known: &Known<'_>) -> io::Result<()> {
-    write_head(text, metric.family())?;
+    let family = metric.family();
+    write!(text, "{family}")?;
     for (row, client) in known.clients.iter().enumerate() {
         let owner = Some(Label::Client(client.address()));
         write_row(text, metric, owner, row, known.counts)?;
@@ -139,10 +138,26 @@ fn write_row(
     Ok(())
 }
 
+/// Writes how many requests came for each realm, in the order of the configuration.
+fn write_realms(text: &mut Vec<u8>, known: &Known<'_>) -> io::Result<()> {
+    let family = realm_family();
+    write!(text, "{family}")?;
+    for (place, realm) in known.realms.iter().enumerate() {
+        let lane = realm.lane();
+        let before = known.realms.get(..place).unwrap_or(&[]);
+        let count = known
+            .realm_numbers
+            .get(lane, realms_of(before, usize::from(lane)));
+        let labels = Labels(Some(Label::Realm(realm.name())), None);
+        write_sample(text, family, "", labels, Value::Count(count))?;
+    }
+    Ok(())
+}
+
 /// Writes a metric of each home server of which something was read.
 fn write_homes(text: &mut Vec<u8>, metric: HomeMetric, known: &Known<'_>) -> io::Result<()> {
     let family = metric.family();
-    write_head(text, family)?;
+    write!(text, "{family}")?;
     for (lane, (home, reading)) in known.homes.iter().zip(known.readings).enumerate() {
         let labels = Labels(Some(Label::Home(lane, home.name())), None);
         write_sample(text, family, "", labels, metric.value(reading))?;
@@ -153,7 +168,7 @@ fn write_homes(text: &mut Vec<u8>, metric: HomeMetric, known: &Known<'_>) -> io:
 /// Writes a histogram of each home server.
 fn write_times(text: &mut Vec<u8>, timed: Timed, known: &Known<'_>) -> io::Result<()> {
     let family = timed.family();
-    write_head(text, family)?;
+    write!(text, "{family}")?;
     for (lane, (home, cell)) in known.homes.iter().zip(known.cells).enumerate() {
         let owner = Label::Home(lane, home.name());
         write_histogram(text, family, owner, cell.times().histogram(timed))?;
@@ -183,7 +198,7 @@ fn write_histogram(
 /// Writes a metric of the sockets, in the order in which they were bound.
 fn write_sockets(text: &mut Vec<u8>, metric: SocketMetric, known: &Known<'_>) -> io::Result<()> {
     let family = metric.family();
-    write_head(text, family)?;
+    write!(text, "{family}")?;
     for socket in known.sockets {
         let labels = socket_labels(known.homes, socket);
         write_sample(text, family, "", labels, metric.value(socket))?;

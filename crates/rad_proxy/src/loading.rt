@@ -6,7 +6,7 @@ ghost use Rattle.rad_proxy.specs.Configurations.{IsLoaded};
 use crate::faults::Fault;
 use crate::file_name::FileName;
 use crate::machine::Host;
-use crate::reasons::{tell_file, tell_homes, tell_text};
+use crate::reasons::{tell_doubts, tell_faults, tell_file, tell_homes, tell_text};
 use rad_addresses::read_local_addresses;
 use rad_console::{read_at_most, read_configuration};
 use rad_log::Log;
@@ -64,8 +64,14 @@ pub fn load_text<R: Read + Drop, L: Log>(
     };
     tell_text(alloc, log, &text);
     match read_configuration(alloc, text.as_slice()) {
-        Ok(config) => Ok(config),
-        Err(fault) => Err(Fault::Configuration(fault)),
+        Ok(config) => {
+            tell_doubts(alloc, log, &text, &config);
+            Ok(config)
+        }
+        Err(fault) => {
+            tell_faults(alloc, log, &text);
+            Err(Fault::Configuration(fault))
+        }
     }
 }
 

@@ -2,7 +2,9 @@
 
 ghost use Rattle.std.specs.Prelude.{◌≡◌, ◌≢◌};
 
-use rad_advice::{UnreadKeys, advise_homes, syntax_error, unread_keys};
+use rad_advice::{
+    UnreadKeys, Warnings, advise_homes, fault_reports, list_warnings, syntax_error, unread_keys,
+};
 use rad_log::{Log, tell_error, tell_reason, tell_warning, warn_of_reason};
 use rad_realms::Config;
 use rad_telemetry::Escaped;
@@ -96,6 +98,38 @@ pub fn tell_file<L: Log>(log: &L, path: &str, error: &Error) {
     tell_error(log, &FileLine { path, error });
 }
 
+/// The log line of the number of faults that are not logged one by one.
+#[derive(Clone, Copy)]
+struct MoreFaultsLine(usize);
+
+impl Display for MoreFaultsLine {
+    ghost use Rattle.std.specs.Prelude.{Some};
+    ghost use Rattle.rad_proxy.specs.Reasons.{more_faults_line};
+
+    ghost output = { λ line. Some (more_faults_line line.0) };
+
+    fn fmt<W: fmt::Write>(&self, f: &mut fmt::Formatter<W>) -> fmt::Result {
+        let count = self.0;
+        write!(f, "event=configuration-faults count={count}")
+    }
+}
+
+/// The log line of the number of warnings that are not logged one by one.
+#[derive(Clone, Copy)]
+struct MoreWarningsLine(usize);
+
+impl Display for MoreWarningsLine {
+    ghost use Rattle.std.specs.Prelude.{Some};
+    ghost use Rattle.rad_proxy.specs.Reasons.{more_warnings_line};
+
+    ghost output = { λ line. Some (more_warnings_line line.0) };
+
+    fn fmt<W: fmt::Write>(&self, f: &mut fmt::Formatter<W>) -> fmt::Result {
+        let count = self.0;
+        write!(f, "event=configuration-warnings count={count}")
+    }
+}
+
 /// Logs where a text stops being TOML, or which of its keys are unread. If memory is refused, it logs nothing.
 pub fn tell_text<L: Log>(alloc: Global, log: &L, text: &[u8]) {
     if let Ok(Some(error)) = syntax_error(alloc, text) {
@@ -104,6 +138,38 @@ pub fn tell_text<L: Log>(alloc: Global, log: &L, text: &[u8]) {
     }
     if let Ok(keys) = unread_keys(alloc, text) {
         tell_keys(log, &keys);
+    }
+}
+
+/// Logs the faults of a text that is refused. If memory is refused, it logs nothing.
+pub fn tell_faults<L: Log>(alloc: Global, log: &L, text: &[u8]) {
+    let Ok(faults) = fault_reports(alloc, text) else {
+        return;
+    };
+    for fault in faults.listed() {
+        tell_reason(log, "configuration-fault", fault);
+    }
+    if faults.more() > 0 {
+        tell_error(log, &MoreFaultsLine(faults.more()));
+    }
+}
+
+/// Logs what is hardly meant in a configuration that was read from this text. If memory is refused, it logs nothing.
+pub fn tell_doubts<L: Log>(alloc: Global, log: &L, text: &[u8], config: &Config) {
+    if let Ok(text) = std::str::from_utf8(text)
+        && let Ok(warnings) = list_warnings(alloc, config, text)
+    {
+        tell_warnings(log, &warnings);
+    }
+}
+
+/// Logs warnings.
+fn tell_warnings<L: Log>(log: &L, warnings: &Warnings) {
+    for warning in warnings.listed() {
+        warn_of_reason(log, warning.doubtful.doubt.event(), warning);
+    }
+    if warnings.more() > 0 {
+        tell_warning(log, &MoreWarningsLine(warnings.more()));
     }
 }
 

@@ -8,12 +8,12 @@ use crate::machine::{Host, Machine};
 use crate::small_stack::SmallStack;
 use libc::{STDIN_FILENO, STDOUT_FILENO};
 use rad_console::EndLine;
-use rad_log::{ErrorLines, Log, Logged, ToldStream, open_log, tell_reason};
+use rad_log::{ErrorLines, Log, Logged, ToldStream, open_each_level, open_log, tell_reason};
 use rad_realms::Config;
 use rad_server::{Descriptors, ServeFault, Streams, run_with};
 use rad_telemetry::{
-    CounterFile, CounterTexts, LedgerState, StopFlag, Telemetry, find_counter_file, log_fault,
-    report, start_texts,
+    CounterFile, CounterTexts, LedgerState, StopFlag, Telemetry, TraceFile, Tracer,
+    find_counter_file, find_trace_file, log_fault, report, start_texts,
 };
 use rad_writer::{LedgerInlet, OpenedLedger, find_folder, open_ledger, start_writer};
 use std::alloc::{AllocError, Global};
@@ -31,6 +31,10 @@ const LAST_LINES: u64 = 1000;
 
 /// How long the program waits at its end for the ledger, in milliseconds.
 const LAST_ENTRIES: u64 = 1000;
+
+/// How long it waits for the ledger if requests are left, from the moment at which the first of them is handed over, in
+/// milliseconds.
+const LAST_LEFT: u64 = 10_000;
 
 /// The reason for which a thread can't be started. The system gives one error number for both causes.
 const NO_THREAD: &str = "the system has no thread more, or no memory for one";
@@ -58,7 +62,9 @@ pub fn serve_file<H: Host + Net, M: Machine>(
     let Ok(texts) = Arc::new(alloc, CounterTexts::new(alloc)) else {
         return Err(Fault::Memory);
     };
-    let telemetry = Telemetry::new(alloc, rt, &config, &log)?;
+    let trace = find_trace_file(rt, &log)?;
+    let tracer = Tracer::new(alloc, open_each_level(&log)?);
+    let telemetry = Telemetry::new(alloc, rt, &config, &log, &tracer)?;
     let service = Service {
         rt,
         machine,
@@ -68,6 +74,7 @@ pub fn serve_file<H: Host + Net, M: Machine>(
         telemetry: &telemetry,
         texts: &texts,
         is_reported: file.is_some(),
+        trace: trace.as_ref(),
     };
     service.start_writers(file)?;
     let outcome = match service.start_ledger() {
@@ -105,6 +112,8 @@ struct Service<'a, H, M> {
     texts: &'a Arc<CounterTexts>,
     /// Whether the texts of the counters go to a file.
     is_reported: bool,
+    /// The file that names what is traced, if there may be one.
+    trace: Option<&'a TraceFile>,
 }
 
 impl<H, M> Clone for Service<'_, H, M> {
@@ -155,7 +164,13 @@ impl<'a, H: Host + Net, M: Machine> Service<'a, H, M> {
             inlet,
             writer,
             state,
-        } = open_ledger(self.rt, self.alloc, folder, self.config)?;
+        } = open_ledger(
+            self.rt,
+            self.alloc,
+            folder,
+            self.config,
+            Duration::from_millis(LAST_LEFT),
+        )?;
         if !start_writer(self.rt, self.alloc, writer, self.machine.disk()) {
             return Err(self.tell(ServeFault::Threads));
         }
@@ -175,6 +190,7 @@ impl<'a, H: Host + Net, M: Machine> Service<'a, H, M> {
             log,
             config,
             telemetry,
+            trace,
             ..
         } = self;
         let texts = if self.is_reported {
@@ -182,7 +198,10 @@ impl<'a, H: Host + Net, M: Machine> Service<'a, H, M> {
         } else {
             None
         };
-        let reporter = telemetry.reporter(texts).with_ledger(ledger);
+        let reporter = telemetry
+            .reporter(texts)
+            .with_ledger(ledger)
+            .with_trace(trace);
         let stop = StopFlag::new();
         let stop = &stop;
         let served = thread::scope(
@@ -201,7 +220,7 @@ impl<'a, H: Host + Net, M: Machine> Service<'a, H, M> {
                     alloc,
                     config,
                     telemetry,
-                    inlet,
+                    telemetry.left_log(inlet),
                     Streams {
                         reader: ToldStream::new(rt.reader(), "input-fault", log),
                         writer: ToldStream::new(io::writer(rt), "output-fault", log),
@@ -240,12 +259,14 @@ impl<'a, H: Host + Net, M: Machine> Service<'a, H, M> {
     }
 }
 
-/// Lets the thread that writes the ledger, if there is one, write what is left, for at most a second. If the end is clean,
-/// it writes the line that ends the run too.
+/// Lets the thread that writes the ledger, if there is one, write what waits: for at most a second, or for ten if requests
+/// are left. If the end is clean, it writes the line that ends the run too.
 fn end_ledger<R: Clock + Wait>(rt: &R, ledger: Option<&LedgerState>, is_clean: bool) {
     if let Some(ledger) = ledger
         && let Ok(start) = Instant::now(rt)
     {
-        ledger.end(rt, is_clean, start, Duration::from_millis(LAST_ENTRIES));
+        let longest = Duration::from_millis(LAST_ENTRIES);
+        let longest_left = Duration::from_millis(LAST_LEFT);
+        ledger.end(rt, is_clean, start, longest, longest_left);
     }
 }

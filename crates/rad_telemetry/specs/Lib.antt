@@ -1,3 +1,4 @@
 pub mod Workers
 pub mod Lines
+pub mod Traced
 pub mod FileFaults

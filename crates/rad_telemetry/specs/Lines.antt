@@ -6,6 +6,8 @@ use Rattle.rad_realms.specs.Printed.{address_text}
 use Rattle.rad_metrics.specs.declared.counted.Counted.{Counted}
 use Rattle.rad_metrics.specs.declared.counted.Counted.TheVariants.{Dropped, Refused, Unheard, SendFaults, ReceiveFaults, Cut, Marked}
 use Rattle.rad_metrics.specs.Reasons.{reason_name, up_text}
+use Rattle.rad_desk.specs.declared.leaving.LeftState.{LeftState}
+use Rattle.rad_desk.specs.declared.leaving.LeftState.TheVariants.{Queued, Outstanding, Untaken}
 use Rattle.rad_telemetry.specs.declared.lines.Sum.{Sum}
 use Rattle.rad_telemetry.specs.declared.lines.UpLine.{UpLine}
 
@@ -76,3 +78,13 @@ sum_line name sum = line_of sum.event.metric name sum
 -- A home server that is marked up, and why.
 abbrev pub up_line : UpLine → List ℕ
 up_line line = codes "event=up home=" ++ line.home.now ++ codes " reason=\"" ++ up_text line.reason ++ codes "\""
+
+-- How many requests are left of a home server's lane, besides those that were logged.
+abbrev pub others_line : List ℕ → ℕ → List ℕ
+others_line home count = codes "event=left home=" ++ home ++ codes " count=" ++ decimal count
+
+-- The state in which a request is left.
+abbrev pub state_text : LeftState → List ℕ
+state_text Queued = codes "queued"
+state_text Outstanding = codes "outstanding"
+state_text Untaken = codes "untaken"

@@ -2,26 +2,74 @@
 
 use crate::lines::{ClientText, CutLine, PeerText, UpLine};
 use crate::packet_words::{DatagramWords, KeyWord, WordsOf};
+use crate::tracer::Tracer;
 use crate::workers::worker_name;
-use rad_desk::{Session, Spent, Worker, WorkerReport};
+use rad_desk::{Origin, Session, Spent, Worker, WorkerReport};
+use rad_lane::session_of;
 use rad_log::{Level, Log, tell, warn_of_reason};
-use rad_metrics::{report_row, worker_row};
+use rad_metrics::{Reason, report_row, worker_row};
+use rad_packet::read;
 use rad_realms::{Config, Endpoint};
-use std::fmt::Display;
+use std::fmt::{self, Display};
 use std::io::Error;
 use std::net::Ipv4Addr;
 
 /// Logs at once what the workers of a configuration report: rare events at `error`, `warn` or `info`; each drop, refusal,
-/// fault and cut at `debug`; each datagram, accepted request, answer and returned response at `trace`.
+/// fault and cut at `debug`; each datagram, accepted or repeated request, answer and returned response at `trace`. What is
+/// about something that is traced is logged whatever the level.
 #[derive(Drop)]
 pub struct EventLog<'a, L> {
     pub(crate) log: &'a L,
     pub(crate) config: &'a Config,
+    pub(crate) tracer: &'a Tracer<L>,
+    /// The number of what is traced that the lines are about.
+    trace: Option<usize>,
+}
+
+/// The last word of a line about something that is traced: its number.
+#[derive(Clone, Copy)]
+struct TraceWord(Option<usize>);
+
+/// The number and the session of a request, each with a space before it, as far as they are known.
+#[derive(Clone, Copy)]
+struct RequestWords<'a>(Option<u64>, Option<&'a [u8]>);
+
+impl<'a, L> EventLog<'a, L> {
+    /// Makes a log of lines about nothing that is traced.
+    pub(crate) fn new(log: &'a L, config: &'a Config, tracer: &'a Tracer<L>) -> EventLog<'a, L> {
+        EventLog {
+            log,
+            config,
+            tracer,
+            trace: None,
+        }
+    }
+
+    /// Returns a copy.
+    pub(crate) fn copy(&self) -> EventLog<'a, L> {
+        EventLog {
+            log: self.log,
+            config: self.config,
+            tracer: self.tracer,
+            trace: self.trace,
+        }
+    }
+
+    /// Returns the log of lines about what is traced under a number.
+    fn traced(&self, place: usize) -> EventLog<'a, L> {
+        EventLog {
+            log: self.tracer.log(),
+            config: self.config,
+            tracer: self.tracer,
+            trace: Some(place),
+        }
+    }
 }
 
 impl<L: Log> EventLog<'_, L> {
     fn tell<D: Display>(&self, level: Level, line: &D) {
-        tell(self.log, level, line);
+        let trace = TraceWord(self.trace);
+        tell(self.log, level, &format_args!("{line}{trace}"));
     }
 
     /// Logs that a worker ended by itself.
@@ -33,17 +81,45 @@ impl<L: Log> EventLog<'_, L> {
 
     /// Logs what a worker reports, if it is logged at once.
     pub(crate) fn report(&self, worker: Worker, report: &WorkerReport<'_>) {
+        match self.tracer.find(worker, report) {
+            Some(place) => self.traced(place).report_at_once(worker, report),
+            None => self.report_at_once(worker, report),
+        }
+    }
+
+    fn report_at_once(&self, worker: Worker, report: &WorkerReport<'_>) {
         let name = worker_name(self.config, report_row(worker, report));
         match *report {
             WorkerReport::Received { from, octets } => self.passed("came", name, from, octets),
-            WorkerReport::Sends { to, octets } => self.passed("went", name, to, octets),
+            WorkerReport::Sends { to, octets, .. } => self.passed("went", name, to, octets),
             WorkerReport::Accepted { number, octets, .. } => {
                 let words = WordsOf(octets);
                 let line = format_args!("event=accepted home={name} number={number}{words}");
                 self.tell(Level::Trace, &line);
             }
-            WorkerReport::Answered { serial, .. } => self.serial("answered", name, serial),
-            WorkerReport::Took { serial, .. } => self.serial("returned", name, serial),
+            WorkerReport::Repeated {
+                repeat,
+                from,
+                octets,
+            } => {
+                let client = ClientText(from);
+                let words = WordsOf(octets);
+                let repeat = Reason::Repeat(repeat).name();
+                let line = format_args!("event=repeated {client}{words} repeat={repeat}");
+                self.tell(Level::Trace, &line);
+            }
+            WorkerReport::Answered { serial, origin, .. } => {
+                self.serial("answered", name, serial, words_of_origin(origin));
+            }
+            WorkerReport::Took {
+                serial,
+                number,
+                sent,
+                ..
+            } => {
+                let words = RequestWords(Some(number), session_in(sent));
+                self.serial("returned", name, serial, words);
+            }
             WorkerReport::WentDown(Some(spent)) => self.went_down(name, spent),
             WorkerReport::WentUp(reason) => {
                 self.tell(Level::Info, &UpLine { home: name, reason });
@@ -89,7 +165,7 @@ impl<L: Log> EventLog<'_, L> {
                 );
                 self.tell(Level::Debug, &line);
             }
-            WorkerReport::Unheard { fault, octets } => {
+            WorkerReport::Unheard { fault, octets, .. } => {
                 let words = WordsOf(octets);
                 let line = format_args!("event=unheard home={name}{words} reason=\"{fault}\"");
                 self.tell(Level::Debug, &line);
@@ -120,8 +196,9 @@ impl<L: Log> EventLog<'_, L> {
         self.tell(Level::Trace, &line);
     }
 
-    fn serial(&self, event: &str, home: &str, serial: u64) {
-        let line = format_args!("event={event} home={home} serial={serial}");
+    /// Logs that a request was answered, or its response sent, under this serial.
+    fn serial(&self, event: &str, home: &str, serial: u64, words: RequestWords<'_>) {
+        let line = format_args!("event={event} home={home} serial={serial}{words}");
         self.tell(Level::Trace, &line);
     }
 
@@ -151,5 +228,43 @@ impl<L: Log> EventLog<'_, L> {
             Level::Warn,
             &format_args!("event=address-unbound address={address}"),
         );
+    }
+}
+
+/// Returns the words of a request of this origin, if that is known.
+fn words_of_origin(origin: Option<&Origin>) -> RequestWords<'_> {
+    match origin {
+        Some(origin) => RequestWords(
+            Some(origin.number),
+            origin.session.as_ref().map(Session::octets),
+        ),
+        None => RequestWords(None, None),
+    }
+}
+
+/// Returns the session of a packet, if it has one.
+fn session_in(octets: &[u8]) -> Option<&[u8]> {
+    match read(octets) {
+        Ok(packet) => session_of(&packet),
+        Err(_) => None,
+    }
+}
+
+impl Display for TraceWord {
+    fn fmt<W: fmt::Write>(&self, f: &mut fmt::Formatter<W>) -> fmt::Result {
+        match self.0 {
+            Some(place) => write!(f, " trace={place}"),
+            None => Ok(()),
+        }
+    }
+}
+
+impl Display for RequestWords<'_> {
+    fn fmt<W: fmt::Write>(&self, f: &mut fmt::Formatter<W>) -> fmt::Result {
+        let RequestWords(number, session) = *self;
+        if let Some(number) = number {
+            write!(f, " number={number}")?;
+        }
+        KeyWord("session", session).fmt(f)
     }
 }

@@ -2,9 +2,9 @@
 //! marked up, and the other end of a datagram in log lines.
 
 ghost use Rattle.std.specs.Prelude.{◌≡◌};
-ghost use Rattle.rad_telemetry.specs.Lines.{event_word};
+ghost use Rattle.rad_telemetry.specs.Lines.{event_word, state_text};
 
-use rad_desk::UpReason;
+use rad_desk::{LeftState, UpReason};
 use rad_metrics::{Counted, Event, Reason};
 use rad_realms::{AddressText, Endpoint};
 use std::fmt;
@@ -31,6 +31,14 @@ pub struct SumLine<'a> {
 /// The log line of requests that were removed from the book of a lane.
 #[derive(Clone, Copy)]
 pub struct CutLine<'a> {
+    /// The home server's name.
+    pub home: &'a str,
+    pub count: u64,
+}
+
+/// The log line of the requests that are left of a home server, besides those that were logged.
+#[derive(Clone, Copy)]
+pub struct OthersLine<'a> {
     /// The home server's name.
     pub home: &'a str,
     pub count: u64,
@@ -139,6 +147,18 @@ impl fmt::Display for CutLine<'_> {
     }
 }
 
+impl fmt::Display for OthersLine<'_> {
+    ghost use Rattle.std.specs.Prelude.{Some};
+    ghost use Rattle.rad_telemetry.specs.Lines.{others_line};
+
+    ghost output = { λ line. Some (others_line line.home.now line.count) };
+
+    fn fmt<W: fmt::Write>(&self, f: &mut fmt::Formatter<W>) -> fmt::Result {
+        let OthersLine { home, count } = *self;
+        write!(f, "event=left home={home} count={count}")
+    }
+}
+
 impl fmt::Display for UpLine<'_> {
     ghost use Rattle.std.specs.Prelude.{Some};
     ghost use Rattle.rad_telemetry.specs.Lines.{up_line};
@@ -215,5 +235,16 @@ fn word_of(metric: Counted) -> &'static str
         Counted::ReceiveFaults => "receive-fault",
         Counted::Marked => "marked",
         _ => "cut",
+    }
+}
+
+/// Returns the state in which a request is left, as a log line has it.
+pub(crate) fn state_word(state: LeftState) -> &'static str
+    ensures { result.now ≡ state_text state }
+{
+    match state {
+        LeftState::Queued => "queued",
+        LeftState::Outstanding => "outstanding",
+        LeftState::Untaken => "untaken",
     }
 }

@@ -4,8 +4,10 @@
 use crate::counter_file::log_fault;
 use crate::counter_texts::CounterTexts;
 use crate::sums::Sums;
+use crate::trace_file::{TraceFile, TraceLook, TraceText};
+use crate::tracer::Tracer;
 use rad_log::{Log, wait_until_set};
-use rad_metrics::{Draft, LedgerState, Numbers, UdpSockets};
+use rad_metrics::{Draft, LedgerState, Numbers, OwnProcess, UdpSockets};
 use rad_realms::Config;
 use std::alloc::{AllocError, Global};
 use std::io;
@@ -57,6 +59,9 @@ pub struct Reporter<'a, L, R> {
     pub(crate) numbers: &'a Numbers<'a, R>,
     pub(crate) sums: &'a Sums,
     pub(crate) log: &'a L,
+    pub(crate) tracer: &'a Tracer<L>,
+    /// The file that names what is traced, if there may be one.
+    pub(crate) trace: Option<&'a TraceFile>,
     /// What takes the texts of the counters, if they go to a file.
     pub(crate) texts: Option<&'a CounterTexts>,
     /// The ledger, if there is one.
@@ -76,26 +81,32 @@ impl<'a, L, R> Reporter<'a, L, R> {
     pub fn with_ledger(self, ledger: Option<&'a LedgerState>) -> Reporter<'a, L, R> {
         Reporter { ledger, ..self }
     }
+
+    /// Makes a reporter that also looks at this file for what is to be traced, if there is one.
+    pub fn with_trace(self, trace: Option<&'a TraceFile>) -> Reporter<'a, L, R> {
+        Reporter { trace, ..self }
+    }
 }
 
 /// Reports once a second until the flag is set, and then once more. A text of all numbers is made anew each time, in
 /// the memory of an earlier one. The workers are asked for the standings of their lanes right before, except for the
-/// last text.
+/// last text. It looks at least once a second at the file that names what is traced.
 pub fn report<R, U, L>(
     rt: &R,
-    sockets: &U,
+    system: &U,
     alloc: Global,
     reporter: Reporter<'_, L, R>,
     stop: &StopFlag,
 )
 where
     R: Clock + Wait,
-    U: UdpSockets,
+    U: UdpSockets + OwnProcess + TraceText,
     L: Log,
 {
     let mut draft = Draft::new(alloc);
+    let mut look = TraceLook::new(alloc);
     for _ in rt.forever() {
-        if report_once(rt, sockets, reporter, stop, &mut draft) {
+        if report_once(rt, system, reporter, stop, &mut draft, &mut look) {
             return;
         }
         stop.wait(rt, PERIOD - ASKED);
@@ -105,23 +116,26 @@ where
 /// Reports once, and returns whether that was the last time, since the flag was set before.
 fn report_once<R, U, L>(
     rt: &R,
-    sockets: &U,
+    system: &U,
     reporter: Reporter<'_, L, R>,
     stop: &StopFlag,
     draft: &mut Draft,
+    look: &mut TraceLook,
 ) -> bool
 where
     R: Clock + Wait,
-    U: UdpSockets,
+    U: UdpSockets + OwnProcess + TraceText,
     L: Log,
 {
     let is_last = stop.is_set();
+    reporter.look(rt, system, look);
     if !is_last {
         reporter.ask();
         stop.wait(rt, ASKED);
+        reporter.look(rt, system, look);
     }
     reporter.log_sums();
-    reporter.leave_text(rt, sockets, draft);
+    reporter.leave_text(rt, system, draft);
     is_last
 }
 
@@ -130,6 +144,13 @@ impl<L: Log, R> Reporter<'_, L, R> {
     fn ask(&self) {
         if self.texts.is_some() {
             self.numbers.ask_each();
+        }
+    }
+
+    /// Looks at the file that names what is traced, if there may be one.
+    fn look<W: Wait, S: TraceText>(&self, rt: &W, source: &S, look: &mut TraceLook) {
+        if let Some(file) = self.trace {
+            look.look(rt, source, file, self.tracer, self.log);
         }
     }
 
@@ -146,14 +167,19 @@ impl<L: Log, R> Reporter<'_, L, R> {
 impl<L: Log, R: Clock> Reporter<'_, L, R> {
     /// Leaves a text of all numbers to the thread that writes it to their file, if there is one. It also logs, once,
     /// why an earlier text was not written.
-    fn leave_text<S: Wait, U: UdpSockets>(&self, rt: &S, sockets: &U, draft: &mut Draft) {
+    fn leave_text<S: Wait, U: UdpSockets + OwnProcess>(
+        &self,
+        rt: &S,
+        system: &U,
+        draft: &mut Draft,
+    ) {
         let Some(texts) = self.texts else {
             return;
         };
         if let Some(fault) = texts.take_fault(rt) {
             log_fault(self.log, fault);
         }
-        if draft.read(rt, sockets, self.numbers).is_ok() && self.write(draft).is_ok() {
+        if draft.read(rt, system, self.numbers).is_ok() && self.write(draft).is_ok() {
             texts.leave(rt, draft.text());
         }
     }

@@ -1,11 +1,15 @@
 //! The gate to which the workers report everything that they do, and what it counted and logged.
 
+ghost use Rattle.std.specs.Prelude.{◌≡◌};
+
 use crate::counter_texts::CounterTexts;
 use crate::event_log::EventLog;
+use crate::left_log::LeftLog;
 use crate::reporter::Reporter;
 use crate::sums::Sums;
-use rad_desk::{Call, Gate, Go, Worker, WorkerReport};
-use rad_log::Log;
+use crate::tracer::Tracer;
+use rad_desk::{Call, Gate, Go, Ledger, Worker, WorkerReport};
+use rad_log::{Level, Log, logs_at};
 use rad_metrics::Numbers;
 use rad_realms::Config;
 use std::alloc::{AllocError, Global};
@@ -21,8 +25,8 @@ pub struct Telemetry<'a, L, R> {
 }
 
 impl<'a, L: Log, R: Clock> Telemetry<'a, L, R> {
-    /// Makes a gate that has counted nothing yet, and that writes its lines to `log`. The program counts as started
-    /// now.
+    /// Makes a gate that has counted nothing yet, and that writes its lines to `log`, and those of what is traced to that
+    /// of `tracer`. The program counts as started now.
     ///
     /// # Errors
     ///
@@ -32,13 +36,14 @@ impl<'a, L: Log, R: Clock> Telemetry<'a, L, R> {
         rt: &'a R,
         config: &'a Config,
         log: &'a L,
+        tracer: &'a Tracer<L>,
     ) -> Result<Telemetry<'a, L, R>, AllocError> {
         let sums = Sums::new(alloc, config.homes().len())?;
         let numbers = Numbers::new(alloc, rt, config)?;
         Ok(Telemetry {
             numbers,
             sums,
-            events: EventLog { log, config },
+            events: EventLog::new(log, config, tracer),
         })
     }
 
@@ -52,6 +57,17 @@ impl<'a, L: Log, R: Clock> Telemetry<'a, L, R> {
         self.events.ended(worker);
     }
 
+    /// Makes a ledger that logs what is left at the end, and hands everything on to this one.
+    pub fn left_log<K: Ledger + Drop>(&self, ledger: K) -> LeftLog<'a, L, K>
+        ensures { (result.ledger ≡ ledger) × (result.count ≡ 0) }
+    {
+        LeftLog {
+            events: self.events.copy(),
+            ledger,
+            count: 0,
+        }
+    }
+
     /// Makes a reporter of what is counted. It leaves the texts of the metrics to `texts`, if there is one.
     pub fn reporter<'b>(&'b self, texts: Option<&'b CounterTexts>) -> Reporter<'b, L, R> {
         Reporter {
@@ -59,6 +75,8 @@ impl<'a, L: Log, R: Clock> Telemetry<'a, L, R> {
             numbers: &self.numbers,
             sums: &self.sums,
             log: self.events.log,
+            tracer: self.events.tracer,
+            trace: None,
             texts,
             ledger: None,
         }
@@ -74,6 +92,10 @@ impl<L: Log, R: Clock> Gate for Telemetry<'_, L, R> {
 
     fn asks(&self, lane: u16) -> bool {
         self.numbers.asks(lane)
+    }
+
+    fn traces(&self) -> bool {
+        self.events.tracer.is_on() || logs_at(self.events.log, Level::Trace)
     }
 
     fn report(&self, worker: Worker, report: &WorkerReport<'_>) {

@@ -1,0 +1,182 @@
+//! What is traced: a user, a session or a client, of whose requests each line is logged, whatever the level of the log.
+
+ghost use Rattle.std.specs.Prelude.{◌≡◌, option_copied};
+ghost use Rattle.rad_telemetry.specs.Traced.{fits, is_one as the_one};
+
+use rad_desk::{Origin, Session, Worker, WorkerReport, user_of};
+use rad_lane::session_of;
+use rad_packet::read;
+use rad_realms::Endpoint;
+use std::alloc::Global;
+use std::hint::spin_loop;
+use std::mem;
+use std::sync::atomic::{AtomicBool, Ordering};
+use std::sync::{Mutex, Wait};
+
+/// How many times a worker tries the lock of what is traced. Each holder keeps it only for some steps.
+const TRIES: u32 = 2000;
+
+/// Something that is traced.
+#[derive(Drop)]
+pub enum Wanted {
+    /// The requests with this User-Name, whose octets are stored as those of a session.
+    User(Session),
+    /// The requests with this Acct-Session-Id.
+    Session(Session),
+    /// The datagrams from and to a client's address.
+    Client([u8; 4]),
+}
+
+/// What a line of the log is about, as far as that is traced.
+#[derive(Clone, Copy)]
+pub struct Subject<'a> {
+    /// The client's address.
+    pub client: [u8; 4],
+    /// The User-Name and the Acct-Session-Id of the request, if it has them.
+    pub user: Option<&'a [u8]>,
+    pub session: Option<&'a [u8]>,
+}
+
+impl Wanted {
+    /// Returns whether this is traced.
+    pub fn fits(&self, subject: &Subject<'_>) -> bool
+        ensures { result ≡ fits self.now subject.now }
+    {
+        match self {
+            Wanted::User(name) => is_one(subject.user, name.octets()),
+            Wanted::Session(session) => is_one(subject.session, session.octets()),
+            Wanted::Client(address) => subject.client == *address,
+        }
+    }
+}
+
+/// Returns whether there is a text, and it is this one.
+fn is_one(found: Option<&[u8]>, text: &[u8]) -> bool
+    ensures { result ≡ the_one (option_copied found.entry) text.now }
+{
+    match found {
+        Some(found) => found == text,
+        None => false,
+    }
+}
+
+/// What is traced, and the log of its lines. As long as nothing is, a worker reads a flag for each of its reports.
+#[derive(Drop)]
+pub struct Tracer<L> {
+    /// A log of each level.
+    log: L,
+    is_on: AtomicBool,
+    wanted: Mutex<Vec<Wanted>>,
+}
+
+impl<L> Tracer<L> {
+    /// Makes a tracer of nothing, which logs to a log that is to accept each level.
+    pub fn new(alloc: Global, log: L) -> Tracer<L> {
+        Tracer {
+            log,
+            is_on: AtomicBool::new(false),
+            wanted: Mutex::new(Vec::new(alloc)),
+        }
+    }
+
+    pub(crate) fn log(&self) -> &L {
+        &self.log
+    }
+
+    /// Returns whether anything is traced.
+    pub(crate) fn is_on(&self) -> bool {
+        self.is_on.load(Ordering::SeqCst)
+    }
+
+    /// Traces all of these from now on, and nothing else. `wanted` gets what was traced before.
+    pub(crate) fn set<R: Wait>(&self, rt: &R, wanted: &mut Vec<Wanted>) {
+        let mut own = self.wanted.lock(rt);
+        mem::swap(&mut *own, wanted);
+        self.is_on.store(!own.is_empty(), Ordering::SeqCst);
+    }
+
+    /// Returns the number of the first of those that are traced, from 1 on, that a worker's report is about. While
+    /// others hold the lock for too long, none is found.
+    pub(crate) fn find(&self, worker: Worker, report: &WorkerReport<'_>) -> Option<usize> {
+        if !self.is_on() {
+            return None;
+        }
+        let subject = subject_of(worker, report)?;
+        for _ in 0..TRIES {
+            if let Some(wanted) = self.wanted.try_lock() {
+                return place_of(wanted.as_slice(), &subject);
+            }
+            spin_loop();
+        }
+        None
+    }
+}
+
+fn place_of(wanted: &[Wanted], subject: &Subject<'_>) -> Option<usize> {
+    for (place, one) in wanted.iter().enumerate() {
+        if one.fits(subject) {
+            return Some(place.saturating_add(1));
+        }
+    }
+    None
+}
+
+/// Returns what a worker's report is about. Of a reply that a lane's worker receives only the report of what became of it
+/// tells that.
+fn subject_of<'a>(worker: Worker, report: &WorkerReport<'a>) -> Option<Subject<'a>> {
+    match *report {
+        WorkerReport::Received { from, octets } if worker == Worker::Front => {
+            Some(subject_of_packet(from, octets))
+        }
+        WorkerReport::Dropped { from, octets, .. }
+        | WorkerReport::Accepted { from, octets, .. }
+        | WorkerReport::Repeated { from, octets, .. }
+        | WorkerReport::Refused { from, octets, .. } => Some(subject_of_packet(from, octets)),
+        WorkerReport::Took { client, sent, .. } => Some(subject_of_packet(client, sent)),
+        WorkerReport::Sends { to, .. } | WorkerReport::SendFault { to }
+            if worker == Worker::Front => Some(subject_of_client(to)),
+        WorkerReport::Sends {
+            origin: Some(origin),
+            ..
+        }
+        | WorkerReport::Answered {
+            origin: Some(origin),
+            ..
+        }
+        | WorkerReport::Unheard {
+            origin: Some(origin),
+            ..
+        } => Some(subject_of_origin(origin)),
+        _ => None,
+    }
+}
+
+/// Returns the subject of a datagram of a client, which has a user and a session if it is a packet that has them.
+fn subject_of_packet(client: Endpoint, octets: &[u8]) -> Subject<'_> {
+    let Endpoint { address, .. } = client;
+    match read(octets) {
+        Ok(packet) => Subject {
+            client: address,
+            user: user_of(&packet),
+            session: session_of(&packet),
+        },
+        Err(_) => subject_of_client(client),
+    }
+}
+
+fn subject_of_client<'a>(client: Endpoint) -> Subject<'a> {
+    let Endpoint { address, .. } = client;
+    Subject {
+        client: address,
+        user: None,
+        session: None,
+    }
+}
+
+fn subject_of_origin(origin: &Origin) -> Subject<'_> {
+    Subject {
+        client: origin.client.address,
+        user: origin.user.as_ref().map(Session::octets),
+        session: origin.session.as_ref().map(Session::octets),
+    }
+}
