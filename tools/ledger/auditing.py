@@ -1,0 +1,256 @@
+"""Runs `rad_audit --rows` over the files of a ledger, and reads its rows and its verdict."""
+import contextlib
+import functools
+import os
+import pathlib
+import re
+import shutil
+import signal
+import subprocess
+import sys
+import tempfile
+import threading
+from dataclasses import dataclass
+
+from trial.faults import CONFIGURATION, FAILED, USAGE, Fault, shown_path
+
+from .rows import row_of, visible
+from .sources import STANDARD_INPUT, Source, files_of
+
+AT_ONCE, APART, MOST_LINES = 1 << 20, 0.5, 20
+# The name by which rad_audit gets the configuration.
+CONFIG = "configuration"
+PLACE = re.compile(r"(?<![^ ])(\d+)/[A-Za-z0-9._-]+(?=:\d+: |$)")
+
+
+def program_of(path):
+    found = shutil.which(path or "rad_audit")
+    if found is None:
+        raise Fault(f"no program {shown_path(path) if path else 'rad_audit'}: --program PATH names one")
+    return os.path.abspath(found)
+
+
+def sources_of(paths):
+    """The files of a ledger that these paths name: a folder stands for its files."""
+    found = [it for path in paths for it in (files_of(path) if path != STANDARD_INPUT and os.path.isdir(path) else [path])]
+    if found.count(STANDARD_INPUT) > 1:
+        raise Fault("standard input can be read once", USAGE)
+    return [Source(it) for it in found]
+
+
+@dataclass
+class Verdict:
+    """What rad_audit says of a ledger: its status, and its lines; and what is wrong with a file that it was not given whole. The tool
+    ends with that status, or with another one that is given here."""
+
+    status: int
+    lines: list
+    fault: Fault | None = None
+    other: int | None = None
+
+    @property
+    def ends_with(self):
+        return self.status if self.other is None else self.other
+
+    def told(self):
+        """The lines of it, of many the first ones."""
+        if self.fault:
+            yield str(self.fault)
+        yield "the searched ledger is whole" if self.status == 0 else f"the searched ledger is not whole: status {self.status}"
+        of_runs = [it for it in self.lines if it.startswith("run ")]
+        yield from first_of([it for it in self.lines if not it.startswith("run ")])
+        yield from first_of(of_runs)
+
+
+def first_of(lines):
+    """The first of many lines, and how many there are more."""
+    yield from lines[:MOST_LINES]
+    if len(lines) > MOST_LINES:
+        yield f"{len(lines) - MOST_LINES} such lines more, which rad_audit prints"
+
+
+class Audit:
+    """An audit of a ledger. It is given the configuration, and each file as the number of it and its name, in a folder of its own."""
+
+    def __init__(self, program, config, sources):
+        self.program, self.config, self.sources = program_of(program), config, sources
+        self.fault, self.found, self.at = None, 0, (0, 0)
+        self.shower, self.has_ended = threading.Thread(target=self.show, daemon=True), threading.Event()
+
+    def start(self, stack):
+        """Starts it, and has the stack end it."""
+        self.room = stack.enter_context(tempfile.TemporaryDirectory(prefix="rad_ledger-"))
+        self.errors = stack.enter_context(tempfile.TemporaryFile())
+        link(self.config, pathlib.Path(self.room, CONFIG))
+        paths = [self.put(number, source) for number, source in enumerate(self.sources)]
+        with undisturbed() as signals:
+            self.ran = self.begun([self.program, "--rows", CONFIG, *paths], signals)
+            stack.callback(self.stop)
+        threading.Thread(target=self.hand_on, daemon=True).start()
+        if sys.stderr.isatty():
+            self.shower.start()
+
+    def begun(self, words, signals):
+        """The process of it, which has these signals blocked."""
+        pipes = {"stdin": subprocess.DEVNULL, "stdout": subprocess.PIPE, "stderr": self.errors}
+        give_back = functools.partial(signal.pthread_sigmask, signal.SIG_SETMASK, signals)
+        try:
+            return subprocess.Popen(words, cwd=self.room, preexec_fn=give_back, **pipes)
+        except OSError as error:
+            raise Fault(f"{shown_path(self.program)}: {error.strerror}") from None
+
+    def stop(self):
+        if self.ran.poll() is None:
+            self.ran.kill()
+        self.ran.wait()
+        self.clear()
+        self.ran.stdout.close()
+
+    def put(self, number, source):
+        """Makes a file of a ledger known: by a link, or by a pipe that it is handed on through."""
+        path = pathlib.Path(self.room, str(number), source.name)
+        path.parent.mkdir()
+        if source.is_handed_on:
+            os.mkfifo(path)
+        else:
+            link(source.path, path)
+        return str(path.relative_to(self.room))
+
+    def hand_on(self):
+        """Hands on each file that rad_audit can't read itself, in order. What is wrong with one is told once the others are read."""
+        for number, source in enumerate(self.sources):
+            if source.is_handed_on:
+                try:
+                    with open(pathlib.Path(self.room, str(number), source.name), "wb", buffering=0) as pipe:
+                        self.fill(pipe, number, source)
+                except OSError:
+                    return
+
+    def fill(self, pipe, number, source):
+        """Hands on a file. What is wrong with it is known before rad_audit sees the end."""
+        try:
+            for octets in source.octets(lambda count: setattr(self, "at", (number, count))):
+                write_all(pipe, octets)
+        except Fault as fault:
+            self.fault = self.fault or fault
+
+    def chunks(self):
+        """Whole rows, many at once."""
+        rest = b""
+        while octets := self.ran.stdout.read1(AT_ONCE):
+            front, feed, behind = octets.rpartition(b"\n")
+            if feed:
+                yield rest + front
+                rest = behind
+            else:
+                rest += octets
+
+    def rows(self, choice):
+        """The records that have the words that are asked for, whenever they were."""
+        for octets in self.chunks():
+            if choice.may_fit(octets):
+                for line in octets.split(b"\n"):
+                    if choice.may_fit(line):
+                        row = row_of(line)
+                        if choice.fits(row):
+                            self.found += 1
+                            yield row
+
+    def place(self, row):
+        """The file of a row, and its line there."""
+        return f"{self.file(row)}:{row.line}"
+
+    def file(self, row):
+        number = row.file.partition("/")[0]
+        if number.isdecimal() and int(number) < len(self.sources):
+            return str(self.sources[int(number)])
+        raise Fault(f"{shown_path(self.program)} prints a row of a file that it was not given: {row.file}")
+
+    def named(self, line):
+        """A line of rad_audit with the name of the file that was given."""
+        if line == f"file: {CONFIG}":
+            return f"file: {shown_path(self.config)}"
+        found = PLACE.search(line)
+        if found and int(found[1]) < len(self.sources):
+            line = line[: found.start()] + str(self.sources[int(found[1])]) + line[found.end() :]
+        return visible(line)
+
+    def verdict(self):
+        """What rad_audit says, once all rows are read. That it can't judge at all is a fault."""
+        status = self.ran.wait()
+        self.clear()
+        self.errors.seek(0)
+        lines = [self.named(it) for it in self.errors.read().decode("utf-8", "replace").splitlines()]
+        last = lines[-1] if lines else f"status {status}"
+        if status == USAGE:
+            raise Fault(f"{shown_path(self.program)} does not know --rows: {last}")
+        if status in (CONFIGURATION, FAILED):
+            raise Fault(last, status)
+        if status < 0:
+            raise Fault(f"{shown_path(self.program)} was ended by signal {-status}")
+        return Verdict(FAILED if self.fault else status, lines, self.fault)
+
+    def show(self):
+        """Tells how far it is, as long as rad_audit runs."""
+        whole = sum(it.size for it in self.sources)
+        before = [sum(it.size for it in self.sources[:number]) for number in range(len(self.sources))]
+        numbers = {os.path.realpath(it.path): number for number, it in enumerate(self.sources)}
+        while not self.has_ended.is_set():
+            number, octets = self.position(numbers) or self.at
+            share = f"{100 * (before[number] + octets) // whole} % of " if whole else ""
+            text = f"\r{share}{whole / 1e6:.0f} MB, file {number + 1} of {len(self.sources)}, {self.found} found"
+            print(text, end="\x1b[K", file=sys.stderr, flush=True)
+            self.has_ended.wait(APART)
+
+    def position(self, numbers):
+        """Which file rad_audit reads, and where in it, if it reads it itself."""
+        folder = pathlib.Path(f"/proc/{self.ran.pid}")
+        try:
+            for link in (folder / "fd").iterdir():
+                number = numbers.get(os.readlink(link))
+                if number is not None:
+                    return number, int((folder / "fdinfo" / link.name).read_text().split()[1])
+        except (OSError, ValueError):
+            pass
+        return None
+
+    def clear(self):
+        """Takes away what was told of how far it is."""
+        self.has_ended.set()
+        if self.shower.is_alive():
+            self.shower.join()
+            print("\r\x1b[K", end="", file=sys.stderr, flush=True)
+
+
+@contextlib.contextmanager
+def audit_of(program, config, sources):
+    """An audit that runs meanwhile, and has ended behind that."""
+    with contextlib.ExitStack() as stack:
+        audit = Audit(program, config, sources)
+        audit.start(stack)
+        yield audit
+
+
+@contextlib.contextmanager
+def undisturbed():
+    """What would stop the tool waits meanwhile. Gives the signals that wait anyhow."""
+    kept = signal.pthread_sigmask(signal.SIG_BLOCK, {signal.SIGINT, signal.SIGTERM})
+    try:
+        yield kept
+    finally:
+        signal.pthread_sigmask(signal.SIG_SETMASK, kept)
+
+
+def link(path, name):
+    """Gives a file another name."""
+    try:
+        name.symlink_to(os.path.abspath(path))
+    except ValueError:
+        raise Fault(f"file: {shown_path(path)}: no name of a file") from None
+
+
+def write_all(pipe, octets):
+    """Writes octets, of which a pipe may take a part."""
+    at = 0
+    while at < len(octets):
+        at += pipe.write(octets[at:])

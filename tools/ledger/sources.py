@@ -1,0 +1,99 @@
+"""The files of a ledger: which there are, and how their lines get to rad_audit."""
+import itertools
+import os
+import re
+import stat
+import zlib
+
+from trial.faults import Fault, shown_path, told_by
+
+STANDARD_INPUT, GZIP, AT_ONCE = "-", b"\x1f\x8b", 1 << 16
+NAME = re.compile(r"(.*?)(\d+)\.jsonl(?:\.gz)?", re.DOTALL)
+# A name that is printed as it is. rad_audit gets each file under its own name, if it is such a one.
+PLAIN = re.compile(r"[A-Za-z0-9._-]{1,200}", re.ASCII)
+
+
+def order(name):
+    """By the name of the run, and by the number of the file in it."""
+    found = NAME.fullmatch(name)
+    return (found[1], int(found[2]), name) if found else (name, -1, name)
+
+
+def files_of(folder):
+    """The files of a ledger in a folder, in order. Of a file that is there compressed too it is the other one."""
+    try:
+        names = set(os.listdir(folder))
+    except OSError as error:
+        raise Fault(f"{shown_path(folder)}: {told_by(error)}") from None
+    found = {it for it in names if it.endswith(".jsonl") or it.endswith(".jsonl.gz") and it[:-3] not in names}
+    if not found:
+        raise Fault(f"{shown_path(folder)}: no file *.jsonl or *.jsonl.gz is in this folder")
+    return [os.path.join(folder, it) for it in sorted(found, key=order)]
+
+
+class Source:
+    """A file of a ledger, or standard input: whether it has to be handed on, since it is compressed or no file of a disk."""
+
+    def __init__(self, path):
+        self.path, self.is_input = path, path == STANDARD_INPUT
+        self.size, self.is_handed_on = 0, True
+        if not self.is_input:
+            self.look()
+
+    def look(self):
+        try:
+            status = os.stat(self.path)
+            self.size = status.st_size
+            if stat.S_ISREG(status.st_mode):
+                with open(self.path, "rb") as file:
+                    self.is_handed_on = file.read(2) == GZIP
+        except OSError as error:
+            raise Fault(f"file: {self}: {told_by(error)}") from None
+        except ValueError:
+            raise Fault(f"file: {self}: no name of a file") from None
+
+    def __str__(self):
+        return "standard input" if self.is_input else shown_path(self.path)
+
+    @property
+    def name(self):
+        """The name under which rad_audit gets it."""
+        name = os.path.basename(self.path).removesuffix(".gz")
+        return name if PLAIN.fullmatch(name) and not self.is_input else "ledger.jsonl"
+
+    def open(self):
+        return open(0, "rb", closefd=False) if self.is_input else open(self.path, "rb", buffering=0)
+
+    def octets(self, tell):
+        """What is in it, uncompressed. Tells how far it has read."""
+        try:
+            with self.open() as file:
+                pieces = read_pieces(file, tell)
+                first = next(pieces, b"")
+                pieces = itertools.chain([first], pieces)
+                yield from self.unpacked(pieces) if first.startswith(GZIP) else pieces
+        except OSError as error:
+            raise Fault(f"file: {self}: {told_by(error)}") from None
+
+    def unpacked(self, pieces):
+        """The octets of the members of a file of gzip (RFC 1952), which zeros may follow."""
+        member = None
+        try:
+            for octets in pieces:
+                while octets := octets if member else octets.lstrip(b"\0"):
+                    member = member or zlib.decompressobj(31)
+                    yield member.decompress(octets)
+                    octets, member = (member.unused_data, None) if member.eof else (b"", member)
+        except zlib.error:
+            raise Fault(f"file: {self}: it is damaged, and was read up to there") from None
+        if member:
+            raise Fault(f"file: {self}: it was cut short, and was read up to there")
+
+
+def read_pieces(file, tell):
+    """The octets of a file. Tells how far it has read."""
+    count = 0
+    while octets := file.read(AT_ONCE):
+        count += len(octets)
+        tell(count)
+        yield octets
