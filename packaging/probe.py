@@ -1,0 +1,144 @@
+"""Sends a proxy a Status-Server (RFC 5997) and tells how long it took to answer: the part of `rad_proxyctl probe` that talks.
+
+usage: python3 probe.py CONFIG ADDRESS:PORT|"" SECONDS
+
+The secret is that of the [[client]] with the address that this machine sends from. Without an address it asks `listen` of CONFIG.
+"""
+import hashlib
+import hmac
+import os
+import re
+import socket
+import sys
+import time
+
+ANSWERED, UNANSWERED, MISCONFIGURED, FAILED = 0, 1, 2, 4
+STATUS_SERVER, ACCOUNTING_RESPONSE, MESSAGE_AUTHENTICATOR = 12, 5, 80
+SHORTEST, LONGEST = 20, 4096
+# The most octets of a configuration, as the proxy reads it, and how many seconds after a sending the next one is due.
+MOST_OCTETS, APART = 1_048_576, 1.0
+PLACE = re.compile(r"((?:\d{1,3}\.){3}\d{1,3}):(\d{1,5})", re.ASCII)
+
+
+class Fault(Exception):
+    """What keeps this from an answer, with the status that it ends with."""
+
+    def __init__(self, text, status=FAILED):
+        super().__init__(text)
+        self.status = status
+
+
+def place_of(text, name):
+    """The address and port that a text names."""
+    found = isinstance(text, str) and PLACE.fullmatch(text)
+    if not found or any(int(part) > 255 for part in found[1].split(".")) or not 1 <= int(found[2]) <= 65_535:
+        raise Fault(f"{name} is no ADDRESS:PORT", MISCONFIGURED)
+    return found[1], int(found[2])
+
+
+def configuration(path):
+    """The tables of a configuration."""
+    try:
+        import tomllib
+    except ImportError:
+        raise Fault("the probe wants Python 3.11 or later, which reads TOML") from None
+    try:
+        with open(path, "rb") as file:
+            octets = file.read(MOST_OCTETS + 1)
+    except OSError as error:
+        raise Fault(f"{path}: {error.strerror}", MISCONFIGURED) from None
+    try:
+        if len(octets) > MOST_OCTETS:
+            raise ValueError
+        return tomllib.loads(octets.decode())
+    except (ValueError, RecursionError):
+        raise Fault(f"{path} is no configuration", MISCONFIGURED) from None
+
+
+def secret_of(table, path, address):
+    """The secret of the client with this address."""
+    clients = table.get("client")
+    for client in clients if isinstance(clients, list) else ():
+        if isinstance(client, dict) and client.get("address") == address:
+            secret = client.get("secret")
+            if not isinstance(secret, str) or not 1 <= len(secret.encode()) <= 128:
+                raise Fault(f"{path}: the [[client]] {address} has no secret of 1 to 128 octets", MISCONFIGURED)
+            return secret.encode()
+    raise Fault(f"{path} has no [[client]] {address}, the address that this machine sends from", MISCONFIGURED)
+
+
+def status_server(identifier, authenticator, secret):
+    """A Status-Server with a Message-Authenticator alone: the HMAC-MD5 of the packet that has zeros in its place (RFC 5997 section 3)."""
+    head = bytes([STATUS_SERVER, identifier, 0, SHORTEST + 18]) + authenticator + bytes([MESSAGE_AUTHENTICATOR, 18])
+    return head + hmac.new(secret, head + bytes(16), hashlib.md5).digest()
+
+
+def is_answer(octets, asked, secret):
+    """Whether a datagram is the Accounting-Response to a Status-Server: by Code, Identifier, Length and Response Authenticator."""
+    length = int.from_bytes(octets[2:4], "big")
+    if not SHORTEST <= length <= min(len(octets), LONGEST) or octets[:2] != bytes([ACCOUNTING_RESPONSE, asked[1]]):
+        return False
+    made = hashlib.md5(octets[:4] + asked[4:20] + octets[20:length] + secret).digest()
+    return hmac.compare_digest(made, octets[4:20])
+
+
+def await_answer(made, asked, secret, seconds):
+    """Sends a packet, once a second, until it is answered: how many seconds that took. Fails when the time is over."""
+    begun = time.monotonic()
+    last, due, others = begun + seconds, begun, 0
+    while (now := time.monotonic()) < last:
+        if now >= due:
+            made.send(asked)
+            due += APART
+        made.settimeout(max(min(due, last) - now, 0.001))
+        try:
+            octets = made.recv(LONGEST + 1)
+        except TimeoutError:
+            continue
+        if is_answer(octets, asked, secret):
+            return time.monotonic() - begun
+        others += 1
+    more = f", but {others} datagrams that are no answer: look at the secret" if others else ""
+    raise Fault(f"in {seconds:g} seconds{more}", UNANSWERED)
+
+
+def probe(path, server, seconds):
+    """Asks, and prints how long it took."""
+    table = configuration(path)
+    address, port = place_of(server, server) if server else place_of(table.get("listen"), f"{path}: listen")
+    if not server and address == "0.0.0.0":
+        address = "127.0.0.1"
+    with socket.socket(socket.AF_INET, socket.SOCK_DGRAM) as made:
+        try:
+            made.connect((address, port))
+        except OSError as error:
+            raise Fault(f"cannot send to {address}:{port}: {error.strerror}") from None
+        secret = secret_of(table, path, made.getsockname()[0])
+        authenticator = os.urandom(17)
+        asked = status_server(authenticator[0], authenticator[1:], secret)
+        try:
+            took = await_answer(made, asked, secret, seconds)
+        except Fault as fault:
+            raise Fault(f"no answer from {address}:{port} {fault}", fault.status) from None
+        except OSError as error:
+            raise Fault(f"no answer from {address}:{port}: {error.strerror}", UNANSWERED) from None
+    print(f"answer from {address}:{port} in {1000 * took:.1f} ms")
+
+
+def main(path, server, seconds):
+    try:
+        probe(path, server, float(seconds))
+        sys.stdout.flush()
+        return ANSWERED
+    except Fault as fault:
+        print(f"rad_proxyctl: {fault}", file=sys.stderr)
+        return fault.status
+    except OSError as error:
+        print(f"rad_proxyctl: {error.strerror}", file=sys.stderr)
+        os.dup2(os.open(os.devnull, os.O_WRONLY), 1)
+        return FAILED
+
+
+if __name__ == "__main__":
+    sys.stderr.reconfigure(errors="backslashreplace")
+    sys.exit(main(*sys.argv[1:]))
