@@ -48,7 +48,6 @@ def main():
     panels = [panel_of(url, wanted[title], end, seconds) for title in titles]
     names = list(dict.fromkeys(name for panel in panels for name in panel.lines))
     pictures.NAMES = names
-    pictures.LEGEND_EACH = min(pictures.LEGEND_EACH, pictures.BESIDE * len(panels) // max(1, len(names)))
     pictures.COLOURS = {name: COLOURS[place % len(COLOURS)] for place, name in enumerate(names)}
     pictures.DASHES = {name: "" if place < len(COLOURS) else "6 3" for place, name in enumerate(names)}
     pathlib.Path(file).write_text(pictures.picture("Panels of the dashboard", panels))

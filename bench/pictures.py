@@ -9,7 +9,8 @@ COLOURS = dict(zip(NAMES, ["#8a8a8a", "#7a3fa0", "#0060a8", "#d35400", "#1b8a5a"
 DASHES = dict(zip(NAMES, ["2 4", "4 2", "", "8 4", "12 3 2 3", "1 2"]))
 ALONE, BESIDE = 720, 400
 HEIGHT, LEFT, RIGHT, TOP, BOTTOM = 320, 64, 16, 40, 48
-LEGEND, LEGEND_EACH = 34, 140
+# The legend: its first row and each further one, the least width of a name with its line, and what a character and the rest take of it.
+LEGEND, LEGEND_ROW, LEGEND_EACH, CHARACTER, LEGEND_REST = 34, 20, 140, 7, 60
 
 
 @dataclass
@@ -106,20 +107,32 @@ def drawn_line(name, places, has_points):
     return parts
 
 
+def legend(names, wide):
+    """Rows of names with their lines, of which none runs into the next, and how high they are."""
+    each = max([LEGEND_EACH, *(LEGEND_REST + CHARACTER * len(name) for name in names)])
+    in_a_row = max(1, wide // each)
+    parts = []
+    for place, name in enumerate(names):
+        row, column = divmod(place, in_a_row)
+        of_row = min(in_a_row, len(names) - row * in_a_row)
+        at, y = (wide - of_row * each) / 2 + column * each, HEIGHT + LEGEND / 2 + row * LEGEND_ROW
+        parts += drawn_line(name, [(at, y), (at + 30, y)], False) + [text(at + 36, y + 4, name, "start")]
+    return parts, LEGEND + LEGEND_ROW * ((len(names) - 1) // in_a_row)
+
+
 def picture(words, panels):
     """Panels side by side, with one legend below them."""
     names = [name for name in NAMES if any(name in panel.lines for panel in panels)]
     width = ALONE if len(panels) == 1 else BESIDE
-    wide, high = width * len(panels), HEIGHT + LEGEND
+    wide = width * len(panels)
+    below, legend_high = legend(names, wide)
+    high = HEIGHT + legend_high
     parts = [f'<svg xmlns="http://www.w3.org/2000/svg" viewBox="0 0 {wide} {high}" width="{wide}" height="{high}" '
              f'font-family="sans-serif" fill="#222222" role="img"><title>{escape(words)}</title>',
              f'<rect width="{wide}" height="{high}" fill="#ffffff"/>']
     for place, panel in enumerate(panels):
         parts += drawn_panel(panel, place * width, width)
-    for place, name in enumerate(names):
-        at, y = (wide - len(names) * LEGEND_EACH) / 2 + place * LEGEND_EACH, HEIGHT + LEGEND / 2
-        parts += drawn_line(name, [(at, y), (at + 30, y)], False) + [text(at + 36, y + 4, name, "start")]
-    return "\n".join([*parts, "</svg>\n"])
+    return "\n".join([*parts, *below, "</svg>\n"])
 
 
 def middles(figures, key, measure, by, **wanted):

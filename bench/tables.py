@@ -188,8 +188,9 @@ def of_idle(figures):
 
 def of_growth(figures):
     helds = figures.each("held", "growth")
-    tenths = [min(helds, key=lambda held: abs(held - wanted)) for wanted in range(BOOK // 10, BOOK, BOOK // 10)]
-    shown = [helds[0], *tenths, helds[-1]]
+    apart = 3 * BOOK // 10
+    between = [min(helds, key=lambda held: abs(held - wanted)) for wanted in range(apart, BOOK, apart)]
+    shown = [helds[0], *between, helds[-1]]
     rows = []
     for held in dict.fromkeys(shown):
         keys = [("time_us", 1), ("cpu_us", 1), ("longest_us", 0)]

@@ -1,6 +1,7 @@
-"""Checks the pages: their links and anchors, the paths that they name, their figures, and the list of definitions of docs/map.md.
+"""Checks the links, paths and figures of the pages, the list of definitions of docs/map.md, and the libraries of crates.txt.
 
-usage: python3 -m tests.gate.docs --check    what is wrong, a line for each; the last line is `N passed, M failed`, of links, paths and stretches
+usage: python3 -m tests.gate.docs --check    what is wrong, a line for each; the last line is `N passed, M failed`, of links, paths,
+       stretches and libraries
        python3 -m tests.gate.docs --write    writes the stretches of the pages that are made from other files
 
 A stretch stands between `<!-- NAME: begin -->` and `<!-- NAME: end -->`. `definitions` is made from the first comment of each file of
@@ -11,7 +12,7 @@ import re
 import subprocess
 import sys
 
-from tests.lib import TOP
+from tests.lib import TOP, progress
 
 PAGES = [TOP / name for name in ("README.md", "SECURITY.md", "CHANGELOG.md")] + sorted(TOP.glob("docs/**/*.md"))
 TEXTS = ["man/**/*.[158]", "packaging/**/*", "examples/**/*", "bench/**/*", "tests/**/*.py", "tests/**/*.c", "tests/**/*.yml",
@@ -19,6 +20,8 @@ TEXTS = ["man/**/*.[158]", "packaging/**/*", "examples/**/*", "bench/**/*", "tes
 STRETCH = re.compile(r"(<!-- (\w+): begin -->)(.*?)(<!-- \2: end -->)", re.DOTALL)
 FOLDERS = ("bench", "crates", "docs", "examples", "man", "packaging", "tests")
 PATH = re.compile(r"(?<![\w./@~$-])(?:[\w.-]+/)*[\w-]+\.(?:rt|antt|py|md|c|h|toml|yml|json|jsonl|svg|replay|answers|edit|row|conf|in)(?![\w/-]|\.\w)")
+# What a Rattle file names: a crate before two colons, or behind `Rattle.` in a definition.
+NAMED = re.compile(r"\b([a-z]\w*)::|\bRattle\.([a-z]\w*)\.")
 PLACE = re.compile(r"(?<![\w./@~$-])(?:" + "|".join(FOLDERS) + r")(?:/[\w.@-]+)+/?")
 
 
@@ -175,25 +178,20 @@ def number(cell):
     return float(cell.replace(",", ""))
 
 
+def least_to_greatest(cells):
+    """The least and the greatest of the ratios in cells, of which one without a ratio does not count."""
+    found = [number(cell) for cell in cells if re.fullmatch(r"[\d,.]+", cell)]
+    return f"{min(found):.2f} to {max(found):.2f}"
+
+
 def beside_others():
-    """How much the program carries beside the others, from the tables of throughput and of times to the answer."""
-    machine = dict(table("machine"))
+    """How the program compares with radsecproxy, from the worst to the best figure of the tables of throughput and of times to the answer."""
     head, *rows = table("throughput")
-    of = {name: head.index(name) for name in ("out at once", "home servers", "rad_proxy", "FreeRADIUS", "rad_proxy to radsecproxy")}
-    one = [row for row in rows if row[of["home servers"]] == "1"]
-    few = [row for row in one if number(row[0]) <= 64]
-    to_radsecproxy = [number(row[of["rad_proxy to radsecproxy"]]) for row in few]
-    to_freeradius = [number(row[of["rad_proxy"]]) / number(row[of["FreeRADIUS"]]) for row in few]
-    many = next(row for row in one if row[0] == "256")[of["rad_proxy to radsecproxy"]]
-    times = {}
-    for rate, who, _, p99, _ in table("latency")[1:]:
-        times.setdefault(rate, {})[who] = number(p99) if re.fullmatch(r"[\d,.]+", p99) else float("inf")
-    lower = sum(row["rad_proxy"] < min(row["radsecproxy"], row["FreeRADIUS"]) for row in times.values())
-    rounds, seconds = re.match(r"(\d+) of (\d+) s", machine["rounds and seconds"]).groups()
-    return (f"measured at commit {machine['rad_proxy']}, on {machine['processors'].split()[0]} processors, in {rounds} rounds of {seconds} "
-            f"seconds: {min(to_radsecproxy):.2f} to {max(to_radsecproxy):.2f} times as many as radsecproxy, and {min(to_freeradius):.1f} to "
-            f"{max(to_freeradius):.1f} times as many as FreeRADIUS, by the middle figures. With 256 outstanding at one home server it is {many} of radsecproxy's. The "
-            f"middle p99 of the rounds was lower than that of both at {lower} of {len(times)} rates")
+    carried = least_to_greatest(row[head.index("rad_proxy to radsecproxy")] for row in rows)
+    head, *rows = table("latency")
+    slowest = least_to_greatest(row[head.index("p99.9")] for row in rows if row[1] == "rad_proxy to radsecproxy")
+    return (f"At commit {dict(table('machine'))['rad_proxy']} it [carried](docs/performance.md) {carried} times as many requests a second as radsecproxy, and its "
+            f"slowest answer in a thousand took {slowest} times as long")
 
 
 MADE_STRETCHES = {"definitions": lambda: f"\n{definitions()}\n", "beside": beside_others}
@@ -211,9 +209,18 @@ def stretches(text):
             yield None if MADE_STRETCHES[found[2]]() == found[3] else f"`{found[2]}` is not as it is made: run python3 -m tests.gate.docs --write"
 
 
+def listed():
+    """For each library that crates.txt lists of a crate: nothing, or that neither a file of the crate nor the line's comment names it."""
+    told = {line.partition(":")[0]: line.partition("#")[2] for line in (TOP / "crates.txt").read_text("utf-8").splitlines()}
+    for name, libraries in progress.libraries(TOP).items():
+        files = [file for part in ("src", "specs", "proofs") for file in (TOP / "crates" / name / part).rglob("*") if file.is_file()]
+        named = {word for file in files for pair in NAMED.findall(file.read_text("utf-8")) for word in pair}
+        yield from (None if it in named or it in told[name] else f"{name} lists {it}, which no file of it names" for it in libraries)
+
+
 def check():
-    """Prints what is wrong with the pages, and returns whether nothing is."""
-    found = []
+    """Prints what is wrong with the pages and with crates.txt, and returns whether nothing is."""
+    found = [(TOP / "crates.txt", finding) for finding in listed()]
     for page in PAGES:
         text = page.read_text("utf-8")
         findings = [*dead_links(page, text), *stretches(text)] + ([] if page.name == "CHANGELOG.md" else [*lost_paths(page, text)])

@@ -46,13 +46,6 @@ RUNNING = set()
 STOPPED = threading.Event()
 
 
-def crates():
-    """The libraries that each crate names, by crate, lowest first."""
-    lines = (line.partition("#")[0] for line in (TOP / "crates.txt").read_text().splitlines())
-    named = (line.partition(":") for line in lines if line.strip())
-    return {head.split()[0]: tail.split() for head, _, tail in named}
-
-
 def places():
     """How many rounds run side by side: as many as JOBS says, or as there are processors and memory holds."""
     if os.environ.get("JOBS"):
@@ -62,7 +55,7 @@ def places():
 
 def height(name, uses):
     """How many crates of this repository a check of the crate reads beside its own: the more, the dearer it is."""
-    return sum(it in uses for it in uses[name])
+    return len(progress.below(uses, name))
 
 
 @dataclasses.dataclass(frozen=True)
@@ -153,11 +146,7 @@ def told(words, folder, **more):
 
 def prove(names, uses):
     """Builds the libraries below these crates and proves these, over the work that is kept, and says where one is not proved."""
-    below, left = set(), list(names)
-    while left:
-        more = [it for it in uses[left.pop()] if it in uses and it not in below]
-        below.update(more)
-        left += more
+    below = {other for name in names for other in progress.below(uses, name)}
     tried = [it for it in names if any((TOP / "crates" / it).glob("wrong-bodies/*.edit"))]
     for name in (it for it in uses if it in below or it in tried):
         verb = "lib" if name in below else "check"
@@ -177,7 +166,8 @@ def link(file, other):
 
 def copy_to(room, uses, name):
     """A copy of the repository without its edits, in which one crate's are to be tried, and the folder of that crate there. The
-    libraries that are built are in it by links: no check changes one that is up to date."""
+    libraries that are built are in it by links: no check changes one that is up to date. What is kept of the proof of that crate is
+    copied, so that only what an edit changes is proved anew."""
     (room / "tmp").mkdir()
     for file in ("crates.txt", "HANDLES"):
         shutil.copy(TOP / file, room)
@@ -188,6 +178,9 @@ def copy_to(room, uses, name):
         built = TOP / "crates" / it / "out" / "rlib"
         if it != name and built.is_dir():
             shutil.copytree(built, crate / "out" / "rlib", copy_function=link)
+    kept = TOP / "crates" / name / "out" / "incremental"
+    if kept.is_dir():
+        shutil.copytree(kept, room / "crates" / name / "out" / "incremental")
     return room / "crates" / name
 
 
@@ -301,7 +294,7 @@ def applied(crate, edit):
 def check():
     """Says which edits can't be applied, or make the same as another one of their crate."""
     passed, failed = 0, 0
-    for name in crates():
+    for name in progress.crates(TOP):
         crate, made = TOP / "crates" / name, {}
         for edit in sorted([*crate.glob("must-fail/*.edit"), *crate.glob("wrong-bodies/*.edit")]):
             texts, why = applied(crate, edit)
@@ -329,7 +322,7 @@ def stop(*_):
 def main():
     if sys.argv[1:] == ["--check"]:
         check()
-    uses, words = crates(), sys.argv[1:]
+    uses, words = progress.libraries(TOP), sys.argv[1:]
     passes = [(try_together, MOST_OF_A_ROUND), (try_together, MOST_OF_A_ROUND // 4), (try_alone, MOST_OF_A_ROUND // 4)]
     if "--alone" in words[:1]:
         words, passes = words[1:], [(try_alone, MOST_OF_A_ROUND)]

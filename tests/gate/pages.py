@@ -1,10 +1,10 @@
-"""Writes the list of the scripts in docs/working.md, by the first line of each.
+"""Writes the list of the scripts in docs/working.md, by the first line of each; of what they share it has the folders alone.
 
 usage: python3 -m tests.gate.pages            writes it, between its two marks
        python3 -m tests.gate.pages --check    compares it, and looks that the gate runs each script of the other folders
 
 What a script says of itself is the first line of its docstring, or of the comment that it begins with; the words that it is called
-with are those of its first line of usage. The last line of --check is `N passed, M failed`.
+with are those of its first line of usage, without those in brackets. The last line of --check is `N passed, M failed`.
 """
 import re
 import sys
@@ -25,11 +25,16 @@ FOLDERS = {
     "ledger": "the ledger, and the auditor over ledgers",
     "service": "`serve` and `rad_proxyctl`",
     "tools": "the tools of a move, over other proxies' files and captures",
+    "cluster": "the recipes of examples/cluster/ and examples/container/, in network namespaces, as root",
     "packaging": "the package and the service in a clean system",
     "preload": "libraries that are loaded into the program before its own, by `LD_PRELOAD`",
     "lib": "what the others share",
     "lib/tools": "what those of `tools/` share",
+    "lib/cluster": "what those of `cluster/` share",
+    "lib/tables": "what those of `configuration/` share",
 }
+# Folders of what is no script. The list leaves out what is in them.
+SHARED = ("preload", "lib", "lib/tools", "lib/cluster", "lib/tables")
 MOST_OF_A_FOLDER = 15
 
 
@@ -41,9 +46,9 @@ def first_line(file):
 
 
 def usage(file):
-    """The words that a script is called with, where it says that it is."""
+    """The words that a script has to be called with, where it says that it is called."""
     found = re.search(rf"^(?:# )?usage: (?:python3 -m )?\S*\b{file.stem}(?:\.py)?((?: \S+)*)", file.read_text("utf-8"), re.M)
-    return found and found[1]
+    return found and re.sub(r" \[(?:[^][]|\[[^][]*\])*\]", "", found[1])
 
 
 def shown(file):
@@ -68,8 +73,9 @@ def text():
     """The list."""
     parts = []
     for folder, title in FOLDERS.items():
-        parts += [f"`tests/{folder}/`: {title}.", "", *(f"* {shown(file)}: {first_line(file)}" for file in files_of(folder)), ""]
-    return "\n".join(parts[:-1] + [""])
+        listed = [] if folder in SHARED else [f"* {shown(file)}: {first_line(file)}" for file in files_of(folder)]
+        parts += [f"`tests/{folder}/`: {title}.", "", *listed, *([""] if listed else [])]
+    return "\n".join(parts)
 
 
 def is_whole(line):
@@ -89,7 +95,7 @@ def faults():
         if len(files) > MOST_OF_A_FOLDER:
             yield f"tests/{folder}: {len(files)} scripts, and at most {MOST_OF_A_FOLDER} may be in a folder"
         yield from (f"{file}: its first line is no whole sentence" for file in files if not is_whole(first_line(file)))
-        if folder not in ("gate", "lib", "lib/tools"):
+        if folder != "gate" and folder not in SHARED:
             run = {script.file for script in SCRIPTS}
             yield from (f"{file}: the gate does not run it" for file in files if file.suffix == ".py" and file not in run)
     yield from (f"{script.file}: there is no such script" for script in SCRIPTS if not script.file.is_file())

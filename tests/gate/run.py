@@ -8,7 +8,7 @@ processes takes a fifth to a third more processor time. It takes that from the v
 What `rt ci` says goes to out/gate.txt, what each script says to out/FOLDER-NAME.txt, and what each crate and each script
 took, as tables in Markdown, to out/times.md. Where `rt ci` passed, out/rad_proxy.stamp says that the program is built, and of when the
 sources are that it was built from. The last line is `N passed, M failed`, of all of it together; what ends badly or
-without such a line of its own counts as a failure.
+without such a line of its own counts as a failure. Before it stand the last lines of each log that tells of one.
 """
 import os
 import re
@@ -25,6 +25,8 @@ RT = os.environ.get("RT", "rt").split()
 # What the largest checks take, in octets.
 MEMORY_OF_A_CHECK = 5_000_000_000
 COUNTS = re.compile(r"(\d+) passed, (\d+) failed")
+# Of the log of what failed so many lines are shown at the end, each cut to so many characters.
+LAST_LINES, LINE_CHARACTERS = 12, 400
 
 
 def parts():
@@ -48,13 +50,12 @@ def counted(status, log):
 
 def told_by(script, program):
     """Runs one of the scripts, whose output goes to its log and is shown at its end. Gives what passed, what failed and the seconds."""
-    log = TOP / "out" / f"{script.name}.txt"
     words = [sys.executable, "-m", script.module, program if script.word == PROGRAM else script.word]
     began = time.time()
-    with log.open("w", encoding="utf-8") as kept:
+    with script.log.open("w", encoding="utf-8") as kept:
         status = subprocess.run(words, stdout=kept, cwd=TOP).returncode
-    print(f"{script.name}: {log.read_text('utf-8', 'replace')}", end="", flush=True)
-    return *counted(status, log), time.time() - began
+    print(f"{script.name}: {script.log.read_text('utf-8', 'replace')}", end="", flush=True)
+    return *counted(status, script.log), time.time() - began
 
 
 def told_by_all(program):
@@ -62,6 +63,12 @@ def told_by_all(program):
     with ThreadPoolExecutor(2) as pool:
         together = {script: pool.submit(told_by, script, program) for script in SCRIPTS if not script.is_alone}
     return {script: it.result() for script, it in together.items()} | {it: told_by(it, program) for it in SCRIPTS if it.is_alone}
+
+
+def last_lines(log):
+    """The last lines of a log, as they are shown at the end."""
+    lines = log.read_text("utf-8", "replace").splitlines()[-LAST_LINES:]
+    return "\n".join([f"--- {log.name}", *(line[:LINE_CHARACTERS] for line in lines)])
 
 
 def processor_minutes():
@@ -102,8 +109,10 @@ def main():
     told = told_by_all(sys.argv[1])
     with times.open("a") as kept:
         kept.write(taken_by_scripts(told, began))
-    counts = [counted(status, gate), *(counts[:2] for counts in told.values())]
-    passed, failed = map(sum, zip(*counts))
+    counts = {gate: counted(status, gate)} | {script.log: it[:2] for script, it in told.items()}
+    for log in (it for it, (_, failed) in counts.items() if failed):
+        print(last_lines(log))
+    passed, failed = map(sum, zip(*counts.values()))
     print(f"{passed} passed, {failed} failed")
     sys.exit(1 if failed else 0)
 

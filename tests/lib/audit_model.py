@@ -14,13 +14,19 @@ import tomllib
 
 MOST_CONFIG, MOST_LINE = 1_048_576, 65_536
 REQUEST, RESPONSE, PROXY_STATE, MESSAGE_AUTHENTICATOR = 4, 5, 33, 80
-USAGE = "usage: rad_audit CONFIG FILE.."
+USER_NAME, STATUS_TYPE, SESSION_ID = 1, 40, 44
+MOST_RANGES = 4096
+USAGE = "usage: rad_audit [--rows] CONFIG FILE.."
 OCTETS, ADDRESS = re.compile(r"([0-9a-fA-F]{2})*"), re.compile(r"(0|[1-9][0-9]{0,2})(\.(0|[1-9][0-9]{0,2})){3}")
 TIME = re.compile(r"[0-9]{4}-[0-9]{2}-[0-9]{2}T[0-9]{2}:[0-9]{2}:[0-9]{2}\.[0-9]{3}Z")
 HEAD = {"type", "run", "time"}
 ENTRY = HEAD | {"home", "lane", "serial", "record", "client", "port", "identifier", "authenticator", "sent", "reply", "response"}
-OPTIONAL = {"realm", "realm_octets", "session", "session_octets", "status"}
-LIMITS = {"lane": 2**16, "serial": 2**63, "record": 2**64, "port": 2**16, "identifier": 2**8, "status": 2**32, "file": 2**64, "entries": 2**64}
+WORDS = {"realm", "session", "user"}
+OPTIONAL = WORDS | {f"{word}_octets" for word in WORDS} | {"status"}
+LEFT = HEAD | {"home", "lane", "record", "client", "port", "identifier", "authenticator", "state", "request"}
+STATES = {"queued", "outstanding", "untaken"}
+LIMITS = {"lane": 2**16, "serial": 2**63, "record": 2**64, "port": 2**16, "identifier": 2**8, "status": 2**32, "file": 2**64, "entries": 2**64,
+          "accepted": 2**64, "left": 2**64, "sendings": 2**32}
 
 
 class Ends(Exception):
@@ -65,15 +71,25 @@ def are_right(keys, line):
     for key in keys:
         value, limit = line[key], LIMITS.get(key)
         need(type(value) is str if limit is None else type(value) is int and 0 <= value < limit)
-        if key in ("sent", "reply", "response", "realm_octets", "session_octets"):
+        if key in ("sent", "reply", "response", "request") or key.endswith("_octets"):
             need(OCTETS.fullmatch(value))
 
 
-def read_lanes(line, keys):
+def read_lanes(line, *forms):
+    """The lanes of a line, each of which has the keys of one of these forms."""
     need(type(line["lanes"]) is list)
     for lane in line["lanes"]:
-        need(type(lane) is dict and set(lane) == keys)
-        are_right(keys, lane)
+        need(type(lane) is dict and set(lane) in forms)
+        are_right(lane.keys(), lane)
+
+
+def read_request(keys, least, more, line):
+    """What an entry and a request that was left both have."""
+    need(least <= keys <= least | OPTIONAL | more)
+    need(not any({word, f"{word}_octets"} <= keys for word in WORDS))
+    are_right(keys - {"accepted"}, line)
+    need(ADDRESS.fullmatch(line["client"]) and all(int(number) < 256 for number in line["client"].split(".")))
+    need(re.fullmatch("[0-9a-fA-F]{32}", line["authenticator"]))
 
 
 def read_line(octets):
@@ -87,20 +103,20 @@ def read_line(octets):
     are_right(HEAD, line)
     need(re.fullmatch("[0-9a-fA-F]{16}", line["run"]) and TIME.fullmatch(line["time"]))
     keys, kind = set(line), line["type"]
-    need(kind in ("begin", "entry", "end"))
+    need(kind in ("begin", "entry", "left", "end"))
     if kind == "begin":
         need(keys == HEAD | {"version", "file", "lanes"})
         are_right({"version", "file"}, line)
         read_lanes(line, {"lane", "home", "serial"})
     elif kind == "end":
         need(keys == HEAD | {"lanes"})
-        read_lanes(line, {"lane", "entries"})
+        read_lanes(line, {"lane", "entries"}, {"lane", "entries", "accepted", "left"})
+    elif kind == "entry":
+        read_request(keys, ENTRY, set(), line)
     else:
-        need(ENTRY <= keys <= ENTRY | OPTIONAL)
-        need(not {"realm", "realm_octets"} <= keys and not {"session", "session_octets"} <= keys)
-        are_right(keys, line)
-        need(ADDRESS.fullmatch(line["client"]) and all(int(number) < 256 for number in line["client"].split(".")))
-        need(re.fullmatch("[0-9a-fA-F]{32}", line["authenticator"]))
+        read_request(keys, LEFT, {"sendings", "accepted"}, line)
+        accepted = line.get("accepted", line["time"])
+        need(line["state"] in STATES and type(accepted) is str and TIME.fullmatch(accepted))
     return line
 
 
@@ -130,6 +146,49 @@ def is_right(packet, authenticator, secret):
 def last_proxy_state(found):
     places = [at for at, attribute in enumerate(found) if attribute[0] == PROXY_STATE]
     return places[-1] if places else None
+
+
+def value_of(packet, kind):
+    """The Value of the first attribute of a Type."""
+    return next((attribute[2:] for attribute in attributes(packet) if attribute[0] == kind), None)
+
+
+def word_of(line, key):
+    """A word of a line, as octets."""
+    octets = line.get(f"{key}_octets")
+    return line[key].encode() if key in line else None if octets is None else bytes.fromhex(octets)
+
+
+def words_of(packet):
+    """What a request says of its realm, session, user and status."""
+    user, status = value_of(packet, USER_NAME), value_of(packet, STATUS_TYPE)
+    realm = user.rpartition(b"@")[2] if user is not None and b"@" in user else None
+    number = int.from_bytes(status, "big") if status is not None and len(status) == 4 else None
+    return realm, value_of(packet, SESSION_ID), user, number
+
+
+class Numbers:
+    """The numbers of a lane's requests, and from which one on it is known which are there."""
+
+    def __init__(self):
+        self.numbers, self.ranges, self.exact_from = set(), 0, 0
+
+    def has(self, number):
+        return number >= self.exact_from and number in self.numbers
+
+    def add(self, number):
+        """Adds one that is not there. If there are too many ranges then, all is there from the lowest one on to the next one."""
+        if number in self.numbers:
+            return
+        self.numbers.add(number)
+        self.ranges += 1 - (number - 1 in self.numbers) - (number + 1 in self.numbers)
+        if self.ranges > MOST_RANGES:
+            end = min(self.numbers)
+            while end in self.numbers:
+                end += 1
+            first = min(other for other in self.numbers if other > end)
+            self.numbers.update(range(end, first))
+            self.ranges, self.exact_from = self.ranges - 1, max(self.exact_from, first)
 
 
 class Audit:
@@ -181,14 +240,39 @@ class Audit:
         reason = self.packets(entry) or ("UnknownLane" if lane is None else None)
         if reason is None and entry["serial"] < lane["next"]:
             reason = "SerialNotAbove"
+        if reason is None and lane["numbers"].has(entry["record"]):
+            reason = "RecordTwice"
         if reason is not None:
             return self.is_wrong(place, reason)
+        lane["numbers"].add(entry["record"])
         lane["not judged"] += entry["home"] not in self.homes
         if lane["next"] < entry["serial"]:
             gap = lane["next"], entry["serial"] - 1
             lane["gap"] = lane["gap"] or gap
             self.lacks(place, named(run, lane), *gap)
         lane["next"], lane["entries"] = entry["serial"] + 1, lane["entries"] + 1
+
+    def request(self, left):
+        """What is wrong with the packet of a request that was left."""
+        request, client = bytes.fromhex(left["request"]), self.clients.get(left["client"])
+        if not is_packet(request):
+            return "NoPacket"
+        is_its = request[:2] == bytes([REQUEST, left["identifier"]]) and request[4:20] == bytes.fromhex(left["authenticator"])
+        return None if is_its and (client is None or is_right(request, bytes(16), client)) else "WrongSent"
+
+    def take_left(self, place, left):
+        lane = self.lane(left["run"].lower(), left["lane"])
+        lane = lane if lane and lane["home"] == left["home"] else None
+        reason = self.request(left) or ("UnknownLane" if lane is None else None)
+        if reason is None and lane["numbers"].has(left["record"]):
+            reason = "RecordTwice"
+        words = *(word_of(left, key) for key in ("realm", "session", "user")), left.get("status")
+        if reason is None and words != words_of(bytes.fromhex(left["request"])):
+            reason = "WrongWords"
+        if reason is not None:
+            return self.is_wrong(place, reason)
+        lane["numbers"].add(left["record"])
+        lane["left"] += 1
 
     def take_end(self, place, end):
         run = end["run"].lower()
@@ -197,18 +281,20 @@ class Audit:
             if lane is None:
                 self.is_wrong(place, "UnknownLane")
                 continue
-            lane["end"] = count["entries"]
+            lane["end"], lane["told"] = count["entries"], (count["accepted"], count["left"]) if "left" in count else None
             if lane["next"] < lane["end"]:
                 self.lacks(place, named(run, lane), lane["next"], lane["end"] - 1)
 
     def take(self, place, line):
         if line["type"] == "entry":
             self.take_entry(place, line)
+        elif line["type"] == "left":
+            self.take_left(place, line)
         elif line["type"] == "end":
             self.take_end(place, line)
         else:
-            fresh = {"gap": None, "end": None, "entries": 0, "not judged": 0}
-            lanes = [{**lane, **fresh, "next": lane["serial"]} for lane in line["lanes"]]
+            fresh = {"gap": None, "end": None, "told": None, "entries": 0, "left": 0, "not judged": 0}
+            lanes = [{**lane, **fresh, "numbers": Numbers(), "next": lane["serial"]} for lane in line["lanes"]]
             self.runs.setdefault(line["run"].lower(), lanes)
 
     def read(self, file, octets):
@@ -234,11 +320,26 @@ class Audit:
                 gap = lane["gap"]
                 if gap is None and lane["end"] is not None and lane["next"] < lane["end"]:
                     gap = lane["next"], lane["end"] - 1
-                self.gap = self.gap or gap is not None
-                verdict = f"gap {gap[0]} to {gap[1]}" if gap else "whole" if lane["end"] == lane["next"] else "open"
+                whole = "whole" if is_settled(lane) else "unaccounted"
+                verdict = f"gap {gap[0]} to {gap[1]}" if gap else whole if lane["end"] == lane["next"] else "open"
+                self.gap = self.gap or gap is not None or verdict == "unaccounted"
                 counts = f"from {lane['serial']} entries {lane['entries']} not judged {lane['not judged']}"
                 self.printed.append(f"{named(run, lane)} {counts} {verdict}")
+                if lane["told"]:
+                    self.printed.append(f"{named(run, lane)} accepted {lane['told'][0]} answered {lane['entries']} left {lane['left']}")
+                if lane["numbers"].exact_from:
+                    self.printed.append(f"{named(run, lane)} more than {MOST_RANGES} ranges")
         return 5 if self.wrong else 3 if self.gap else 0
+
+
+def is_settled(lane):
+    """Whether each request that was accepted has a line, and only one, as far as an end line says how many were accepted."""
+    numbers = lane["numbers"]
+    if numbers.exact_from or not lane["told"]:
+        return not numbers.exact_from
+    accepted, left = lane["told"]
+    are_all = len(numbers.numbers) == accepted and all(number < accepted for number in numbers.numbers)
+    return are_all and left == lane["left"]
 
 
 def named(run, lane):

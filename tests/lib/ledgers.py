@@ -11,7 +11,7 @@ class Lane:
 
     def __init__(self, number, home, secret, serial=0, record=None):
         self.number, self.home, self.secret, self.serial = number, home, secret, serial
-        self.record = serial if record is None else record
+        self.record, self.left = serial if record is None else record, 0
 
 
 class Run:
@@ -36,6 +36,36 @@ class Run:
     def end(self):
         lanes = [{"lane": lane.number, "entries": lane.serial} for lane in self.lanes]
         return {**self.head("end"), "lanes": lanes}
+
+    def end_of_all(self):
+        """The end line with what became of each request that was accepted."""
+        end = self.end()
+        lanes = [{**counted, "accepted": lane.record, "left": lane.left} for counted, lane in zip(end["lanes"], self.lanes)]
+        return {**end, "lanes": lanes}
+
+    def left(self, place=0, state="queued", client=("192.0.2.10", b"nas-secret"), user=b"bob@example.org", session=b"S1", status=1, more=b""):
+        """The next request of the lane at this place, which was left."""
+        lane, (address, secret) = self.lanes[place], client
+        attributes = (packets.user_name(user) if user else b"") + (attribute(ACCT_SESSION_ID, session) if session else b"")
+        attributes += attribute(ACCT_STATUS_TYPE, status.to_bytes(4, "big")) if status is not None else b""
+        identifier = lane.record * 7 % 256
+        asked = packets.request(identifier, attributes + more, secret)
+        line = {
+            **self.head("left"),
+            "home": lane.home,
+            "lane": lane.number,
+            "record": lane.record,
+            "client": address,
+            "port": 40000 + lane.record % 1000,
+            "identifier": identifier,
+            "authenticator": asked[4:20].hex(),
+        }
+        line.update(worded("realm", user.rpartition(b"@")[2] if b"@" in user else None))
+        line.update(worded("session", session or None))
+        line.update({"status": status} if status is not None else {})
+        line.update(worded("user", user or None))
+        lane.record, lane.left = lane.record + 1, lane.left + 1
+        return {**line, "state": state, "request": asked.hex()}
 
     def entry(self, place=0, client=("192.0.2.10", b"nas-secret"), user=b"bob@example.org", session=b"S1", status=1, more=b""):
         """The next response of the lane at this place."""
@@ -68,7 +98,7 @@ class Run:
 
 
 def worded(key, octets):
-    """A realm or a session: under its key where it is UTF-8, and else as digits."""
+    """A realm, a session or a user: under its key where it is UTF-8, and else as digits."""
     if octets is None:
         return {}
     try:

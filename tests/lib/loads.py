@@ -42,10 +42,12 @@ def build(work):
 class Loaded(Proxy):
     """The program under a load, whose live octets are counted in a file."""
 
+    linger = None
+
     def __init__(self, program, folder, load, homes, library):
         self.load, self.folder, port = load, folder, free_port()
         servers = [Server(f"h{number}", home, self.keys(), f"r{number:02}.bench") for number, home in enumerate(homes)]
-        text = configured(f"{HERE}:{port}", servers, linger=None)
+        text = configured(f"{HERE}:{port}", servers, linger=self.linger)
         super().__init__(program, folder, text, (HERE, port))
         self.start(env={**os.environ, **self.settings(library, folder)}, bufsize=0, preexec_fn=end_with_parent)
 

@@ -17,8 +17,8 @@ UPS = ["answered", "probe answered", "down_wait over"]
 BOUNDS = ["0.00025", "0.0005", "0.001", "0.0025", "0.005", "0.01", "0.025", "0.05", "0.1", "0.25", "0.5", "1", "2.5", "5", "10", "30",
           "60"]
 LARGEST_BUFFER = 1 << 20
-# Of whom a metric is: the program, all clients, both sides, each client, each home server, or the sockets.
-PROGRAM, CLIENTS, SIDES, CLIENT, HOME, SOCKET = range(6)
+# Of whom a metric is: the program, all clients, both sides, each client, each realm, each home server, or the sockets.
+PROGRAM, CLIENTS, SIDES, CLIENT, REALM, HOME, SOCKET = range(7)
 # Each metric: its name, kind and help text, of whom it is, the reasons or the like that it is told apart by, and its value where none
 # is known.
 METRICS = [
@@ -36,6 +36,10 @@ METRICS = [
     ("start_time_seconds", GAUGE, "When the program started, in seconds since 1970.", PROGRAM, None, "TIME"),
     ("report_time_seconds", GAUGE, "When these metrics were collected, in seconds since 1970.", PROGRAM, None, "TIME"),
     ("strangers_total", COUNTER, "Datagrams from senders that are not clients.", PROGRAM, None, "0"),
+    ("process_start_time_seconds", GAUGE, "When the program started, in seconds since 1970.", PROGRAM, None, "TIME"),
+    ("process_resident_memory_bytes", GAUGE, "The memory of the program that is not swapped out.", PROGRAM, None, "SOME"),
+    ("process_open_fds", GAUGE, "The file descriptors that the program has open.", PROGRAM, None, "SOME"),
+    ("process_cpu_seconds_total", COUNTER, "The processor time of the program, its own and the system's for it.", PROGRAM, None, "AGE"),
     ("client_received_total", COUNTER, "Datagrams received from the client.", CLIENT, None, "0"),
     ("client_accepted_total", COUNTER, "New requests from the client that were accepted.", CLIENT, None, "0"),
     ("client_repeats_total", COUNTER, "Retransmitted requests from the client: unanswered, or answered less than a span ago.", CLIENT,
@@ -44,6 +48,7 @@ METRICS = [
      "0"),
     ("client_refused_total", COUNTER, "New requests from the client that were refused.", CLIENT, ("reason", REFUSALS), "0"),
     ("client_dropped_total", COUNTER, "Datagrams from the client that were dropped.", CLIENT, ("reason", DROPS[1:]), "0"),
+    ("realm_requests_total", COUNTER, "Requests for the realm: new ones, repeats, and those that were refused.", REALM, None, "0"),
     ("book_limit", GAUGE, "The most requests that the book may hold.", HOME, None, "100000"),
     ("queue_limit", GAUGE, "The most requests that may wait to be sent.", HOME, None, "4096"),
     ("window_limit", GAUGE, "The most requests that may be outstanding.", HOME, None, "64"),
@@ -51,6 +56,7 @@ METRICS = [
     ("span_seconds", GAUGE, "How long after its answer a retransmitted request is answered again.", HOME, None, "30.000"),
     ("home_up", GAUGE, "Whether the home server is marked up.", HOME, None, "0"),
     ("home_since_time_seconds", GAUGE, "Since when the home server is marked up or down, in seconds since 1970.", HOME, None, "TIME"),
+    ("home_down_seconds_total", COUNTER, "How long the home server was marked down since the start.", HOME, None, "0.000"),
     ("home_report_time_seconds", GAUGE, "When the lane reported these metrics, in seconds since 1970.", HOME, None, "TIME"),
     ("draining", GAUGE, "Whether the lane accepts no new requests.", HOME, None, "0"),
     ("accepted_total", COUNTER, "Requests accepted since the start.", HOME, None, "0"),
@@ -82,9 +88,9 @@ def buffer():
     return str(min(int(pathlib.Path("/proc/sys/net/core/rmem_max").read_text("utf-8")), LARGEST_BUFFER))
 
 
-def labels_of(whose, apart, client, homes, socket):
+def labels_of(whose, apart, client, homes, socket, realms):
     """The labels of each line of a metric, in order."""
-    owners = {PROGRAM: [""], CLIENTS: [""], SIDES: ['side="clients"', *homes], CLIENT: [f'client="{client}"'], HOME: homes,
+    owners = {PROGRAM: [""], CLIENTS: [""], SIDES: ['side="clients"', *homes], CLIENT: [f'client="{client}"'], REALM: realms, HOME: homes,
               SOCKET: [f'side="clients",socket="{socket}"', *(f'{home},port="0"' for home in homes)]}[whose]
     if apart is None:
         return owners
@@ -101,13 +107,13 @@ def names_of(name, kind, labels):
     return [*buckets, (last, None), (f"{name}_sum{{{labels}}}", "SECONDS"), (f"{name}_count{{{labels}}}", None)]
 
 
-def text_of(numbers, client, homes, socket):
-    """The lines of all metrics, where these numbers are known, by their names and labels: of this client, of the home servers with
-    these labels, and of the clients' socket at this address."""
+def text_of(numbers, client, homes, socket, realms):
+    """The lines of all metrics, where these numbers are known, by their names and labels: of this client, of the home servers and
+    the realms with these labels, and of the clients' socket at this address."""
     lines = []
     for name, kind, about, whose, apart, value in METRICS:
         lines += [f"# HELP rad_proxy_{name} {about}", f"# TYPE rad_proxy_{name} {kind}"]
-        for labels in labels_of(whose, apart, client, homes, socket):
+        for labels in labels_of(whose, apart, client, homes, socket, realms):
             for each, word in names_of(name, kind, labels):
                 lines.append(f"rad_proxy_{each} {numbers.get(each, word or value or buffer())}")
     return lines

@@ -61,7 +61,7 @@ A_CLASS = attribute(CLASS, b"CLS")
 
 
 def of_nas():
-    """What a NAS sends that is not as it should be, or leads nowhere. tests/configuration/datagrams.py sends these."""
+    """What a NAS sends that is not as it should be, or leads nowhere. tests/configuration/replayed_datagrams.py sends these."""
     secret, octets = b"nas-secret", bytes([0xA5] * 16)
     return {
         "SPOILED_REQUEST": turned(request(7, SESSION, secret), 19),

@@ -169,7 +169,18 @@ def run(words, folder, log, parts, is_in_order=False):
     return status, watch
 
 
+def libraries(top):
+    """The libraries that each crate of a repository names, by crate, lowest first."""
+    lines = (line.partition("#")[0].strip() for line in (top / "crates.txt").read_text("utf-8").splitlines())
+    named = (line.partition(":") for line in lines if line)
+    return {head.split()[0]: tail.split() for head, _, tail in named}
+
+
 def crates(top):
     """The crates of a repository, lowest first."""
-    lines = (line.partition("#")[0].strip() for line in (top / "crates.txt").read_text().splitlines())
-    return [line.partition(":")[0].split()[0] for line in lines if line]
+    return list(libraries(top))
+
+
+def below(named, name):
+    """All crates that a crate rests on, by the libraries that each one names."""
+    return {other for it in named[name] if it in named for other in {it} | below(named, it)}

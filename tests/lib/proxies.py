@@ -1,20 +1,23 @@
-"""The program under `run`, the NAS and the home servers at its sides, and a stage that has all of them."""
+"""The program under `run`, the NAS and the home servers at its sides, a stage that has all of them, and the scripts of the service."""
 import contextlib
+import os
 import pathlib
 import re
 import select
+import signal
 import subprocess
 import time
 
 from tests.lib.model import read
 from tests.lib.packets import ACCOUNTING_REQUEST, STATUS_SERVER, answer, reply, request, status, user_name
-from tests.lib.starting import Server, configured, environment
-from tests.lib.trying import need
+from tests.lib.starting import TOP, Server, configuration, configured, environment
+from tests.lib.trying import hope, need
 from tests.lib.waiting import HERE, PATIENCE, bound, free_port, is_so, until
 
 SECRET = b"one secret for all"
 VALUE = re.compile(r'(\S+?)=("[^"]*"|\S*)')
 NOTHING_LEFT = "end: queued 0 outstanding 0 untaken 0"
+NEW_LANE = "lane 0 h1 up open accepted 0 queued 0 outstanding 0 answered 0 opening 0\n"
 
 
 def pairs_of(line):
@@ -23,10 +26,10 @@ def pairs_of(line):
 
 
 class Home:
-    """A home server: it keeps what comes, and answers what it is told to."""
+    """A home server: it keeps what comes, and answers what it is told to. Without a place it has a port that nobody has."""
 
-    def __init__(self):
-        self.ear = bound()
+    def __init__(self, place=(HERE, 0), secret=SECRET):
+        self.ear, self.secret = bound(*place), secret
         self.port = self.ear.getsockname()[1]
         self.came = []
 
@@ -47,14 +50,14 @@ class Home:
         return list(first.values())
 
     def answer(self, packet, sender):
-        self.ear.sendto(reply(packet, SECRET), sender)
+        self.ear.sendto(reply(packet, self.secret), sender)
 
     def answers_a_probe(self):
         """Answers the last probe, where one came."""
         self.hear()
         probes = [each for each in self.came if each[0].code == STATUS_SERVER]
         for packet, sender in probes[-1:]:
-            self.ear.sendto(answer(packet.octets, packet.identifier, b"", SECRET), sender)
+            self.ear.sendto(answer(packet.octets, packet.identifier, b"", self.secret), sender)
         return bool(probes)
 
 
@@ -87,10 +90,11 @@ class Proxy:
 
     def listens(self):
         """Waits for the line that says where it listens, and gives that."""
-        if not select.select([self.ran.stdout], [], [], PATIENCE)[0]:
+        line = self.ran.stdout.readline() if select.select([self.ran.stdout], [], [], PATIENCE)[0] else b""
+        if not line.startswith(b"listening "):
             self.kill()
-            raise OSError("it does not begin to listen")
-        return self.ran.stdout.readline()
+            raise OSError(f"it does not listen: {line.decode()}{self.log.read_text('utf-8', 'replace')}")
+        return line
 
     def start_printing(self, variables, **options):
         """Starts it so that it prints to a file, in an environment of these variables, and waits until it listens."""
@@ -104,7 +108,8 @@ class Proxy:
         return [pairs for pairs in told if pairs.get("event") == event and home in (None, pairs.get("home"))]
 
     def counter(self, name):
-        """The sum of a counter over all its labels."""
+        """The sum of a counter over all its labels, once there are some."""
+        until("there are counters", self.counters.exists)
         lines = self.counters.read_text("utf-8").splitlines()
         return sum(int(line.rsplit(" ", 1)[1]) for line in lines if line.startswith(f"rad_proxy_{name}{{"))
 
@@ -221,3 +226,86 @@ class Stage:
         begun = time.monotonic()
         printed, _ = self.proxy.ran.communicate(timeout=PATIENCE)
         return time.monotonic() - begun, printed.decode().splitlines()[-1], self.proxy.ran.returncode
+
+
+class Service:
+    """The scripts, installed in a folder of this test, with a configuration of one client and one home server."""
+
+    def __init__(self, program, room):
+        self.program, self.room, self.run = program, room, room / "run"
+        subprocess.run(["make", "-s", "install", f"DESTDIR={room}", "PREFIX=/usr", f"PROGRAM={program}"], cwd=TOP, check=True)
+        self.serve, self.ctl = room / "usr/libexec/rad_proxy/serve", room / "usr/sbin/rad_proxyctl"
+        self.home, self.nas = bound(), bound()
+        self.port = free_port()
+        self.file = room / "one.toml"
+        self.configure()
+        installed = str(room / "usr/sbin/rad_proxy")
+        self.environment = os.environ | {"RUNTIME_DIRECTORY": str(self.run), "RAD_PROXY_PROGRAM": installed}
+        for name in ("RAD_PROXY_COUNTERS", "RAD_PROXY_LEDGER", "RAD_PROXY_LOG", "NOTIFY_SOCKET", "JOURNAL_STREAM"):
+            self.environment.pop(name, None)
+        self.started = []
+
+    def configure(self, linger=5000):
+        self.file.write_text(configuration(self.port, client=HERE, home_port=self.home.getsockname()[1], linger=linger))
+
+    def start(self, **options):
+        """Starts the service in a process group of its own, and waits until it listens."""
+        wait, name = options.pop("wait", True), f"printed{len(self.started)}"
+        self.printed, self.log = self.room / name, self.room / f"{name}.log"
+        with open(self.printed, "wb") as out, open(self.log, "wb") as err:
+            given = {"stdin": subprocess.DEVNULL, "stdout": out, "stderr": err, "env": self.environment,
+                     "start_new_session": True} | options
+            made = subprocess.Popen([self.serve, self.file], **given)
+        self.started.append(made)
+        if wait:
+            until("it listens", lambda: "listening" in self.printed.read_text())
+        return made
+
+    def ask(self, *words, **options):
+        given = {"capture_output": True, "text": True, "env": self.environment, "timeout": PATIENCE} | options
+        return subprocess.run([self.ctl, *words], **given)
+
+    def send(self, octets):
+        self.nas.sendto(octets, ("127.0.0.1", self.port))
+
+    def state_is(self, text="it answers"):
+        done = self.ask("state")
+        hope(text, (done.returncode, done.stdout), (0, NEW_LANE))
+
+    def children(self, process):
+        """The processes whose parent this one is, with the names of their programs."""
+        done = subprocess.run(["ps", "--ppid", str(process.pid), "-o", "pid=,comm="], capture_output=True, text=True)
+        return [(int(pid), name) for pid, name in (line.split() for line in done.stdout.splitlines())]
+
+    def living(self):
+        """The processes of all that was started, but for those that ended and that nobody has waited for yet."""
+        groups = {str(process.pid) for process in self.started}
+        done = subprocess.run(["ps", "-eo", "pgid=,stat=,args="], capture_output=True, text=True)
+        return [line for line in map(str.split, done.stdout.splitlines()) if line[0] in groups and line[1][0] != "Z"]
+
+    def stop(self):
+        for process in self.started:
+            with contextlib.suppress(ProcessLookupError):
+                os.killpg(process.pid, signal.SIGKILL)
+            process.wait()
+            self.wait_for_group(process.pid)
+
+    def wait_for_group(self, group):
+        """Waits until a group that was killed has no process left, which could still write into the folder."""
+        is_so(lambda: is_gone(group), 5, 0.05)
+
+
+def is_gone(group):
+    """Whether no process is left in a group."""
+    try:
+        os.killpg(group, 0)
+    except ProcessLookupError:
+        return True
+    return False
+
+
+def heed_signals():
+    """Has what is started here end by the signals that are meant to end it, also where this was started to ignore them, as by nohup."""
+    for number in (signal.SIGHUP, signal.SIGINT, signal.SIGQUIT, signal.SIGTERM):
+        if signal.getsignal(number) == signal.SIG_IGN:
+            signal.signal(number, signal.SIG_DFL)

@@ -14,6 +14,8 @@ TOP = pathlib.Path(__file__).resolve().parent.parent.parent
 NOBODY = "192.0.2.7"
 # How many seconds a process has to end, and the number of what a process asks Linux for where its parent ends.
 SECONDS_TO_END, DEATH_OF_PARENT = 10, 1
+# How many allocations a program has at most where each is refused in turn, and how many seconds such a run takes.
+MOST_ALLOCATIONS, SECONDS = 1_000_000, 60
 LIBC = ctypes.CDLL(None, use_errno=True)
 
 
@@ -90,3 +92,29 @@ def end(process):
             if asked:
                 asked()
     return None
+
+
+class Refuser:
+    """Runs programs with allocations refused, by a library that it builds from refused_memory.c."""
+
+    def __init__(self, folder):
+        self.library, self.note = built(folder, "refused_memory"), pathlib.Path(folder, "note")
+
+    def settings(self, numbers):
+        """The environment in which what has these numbers is refused; `run` logs so much that it takes all its memory."""
+        texts = {f"REFUSE_{name}": str(number) for name, number in numbers.items()}
+        more = {"REFUSE_NOTE": str(self.note), "LD_PRELOAD": self.library, "RAD_PROXY_LOG": "debug"}
+        return {**os.environ, **texts, **more}
+
+    def has_refused(self):
+        return self.note.exists()
+
+    def run(self, words, given, more=None, **numbers):
+        """What came of a program with what has these numbers refused, in an environment with more; none where it has no such."""
+        self.note.unlink(missing_ok=True)
+        how = {"input": given, "env": self.settings(numbers) | (more or {}), "capture_output": True, "timeout": SECONDS}
+        try:
+            ran = subprocess.run(words, **how)
+        except subprocess.TimeoutExpired as late:
+            ran = subprocess.CompletedProcess(words, -signal.SIGKILL, late.stdout or b"", b"")
+        return ran if self.has_refused() else None

@@ -1,8 +1,8 @@
 """What runs the tests of a script and counts them: tests that are functions, and trials that look at one thing after the other."""
 import pathlib
-import subprocess
 import sys
 import tempfile
+import traceback
 
 # Of a bound of time the best of so many tries counts, since a machine may have much else to do.
 TRIES = 5
@@ -60,11 +60,15 @@ def try_each(tests, fault_on):
 
 
 def fault_of(test, *given):
-    """What is wrong with a test, where something is, by the exception that it ends with."""
+    """What is wrong with a test, where something is, by the exception that it ends with, and where that was."""
     try:
         test(*given)
-    except (AssertionError, KeyError, OSError, ValueError, subprocess.SubprocessError) as fault:
-        return f"{type(fault).__name__}: {fault}"
+    except LeftOut:
+        raise
+    except Exception as fault:
+        last = traceback.extract_tb(fault.__traceback__)[-1]
+        where = "" if isinstance(fault, AssertionError) else f" ({pathlib.Path(last.filename).name}:{last.lineno})"
+        return f"{type(fault).__name__}: {fault}{where}"
     return None
 
 
@@ -88,26 +92,26 @@ def try_named(tests, stage_of, usage):
     """Tries the tests that are chosen, over what `stage_of` makes for each of the program, in a folder of its own, and ends the script."""
     program, tests = chosen(tests, usage)
 
-    def fault_on(test):
+    def staged(test):
         with tempfile.TemporaryDirectory() as folder:
             stage = stage_of(program, pathlib.Path(folder))
             try:
-                return fault_of(test, stage)
+                test(stage)
             finally:
                 stage.stop()
 
-    try_each(tests, fault_on)
+    try_each(tests, lambda test: fault_of(staged, test))
 
 
 def try_in_folders(tests, usage):
     """Tries the tests that are chosen, each with the program and a folder of its own, and ends the script."""
     program, tests = chosen(tests, usage)
 
-    def fault_in(test):
+    def in_a_folder(test):
         with tempfile.TemporaryDirectory() as folder:
-            return fault_of(test, program, pathlib.Path(folder))
+            test(program, pathlib.Path(folder))
 
-    try_each(tests, fault_in)
+    try_each(tests, lambda test: fault_of(in_a_folder, test))
 
 
 class Trial:
@@ -145,7 +149,9 @@ def run_trial(trial_of, usage):
     with tempfile.TemporaryDirectory() as folder:
         trial = trial_of(str(pathlib.Path(sys.argv[1]).resolve()), folder)
         try:
-            trial.run()
+            fault = fault_of(trial.run)
         finally:
             trial.stop()
+    if fault is not None:
+        trial.see(fault, False)
     conclude(trial.passed, trial.failed)

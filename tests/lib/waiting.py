@@ -3,6 +3,7 @@ import contextlib
 import ctypes
 import os
 import pathlib
+import random
 import signal
 import socket
 import time
@@ -10,6 +11,10 @@ import time
 HERE = "127.0.0.1"
 # How many seconds are waited for what has to come, since a slow machine is no fault of the program, and how many from look to look.
 PATIENCE, APART = 40, 0.02
+# The least port that a test takes where any will do, and how many are tried for some.
+LEAST_PORT, TRIED_PORTS = 10_000, 1000
+# Two scripts that run at once take other ones.
+LOTS = random.SystemRandom()
 
 # The number of a system call; and what Linux says of the receive buffer and the send buffer of a socket of which a mebibyte was asked.
 PIDFD_GETFD = 438
@@ -25,12 +30,16 @@ def bound(address=HERE, port=0, patience=PATIENCE):
 
 
 def free_ports(count):
-    """Ports of loopback that nobody has."""
-    tried = [bound() for _ in range(count)]
-    ports = [each.getsockname()[1] for each in tried]
-    for each in tried:
-        each.close()
-    return ports
+    """Ports of loopback that nobody has. Linux gives them to no socket that is bound to any port, as long as there are such."""
+    given = int(pathlib.Path("/proc/sys/net/ipv4/ip_local_port_range").read_text().split()[0])
+    asked = LOTS.sample(range(LEAST_PORT, given), TRIED_PORTS) if given - LEAST_PORT > TRIED_PORTS else []
+    with contextlib.ExitStack() as stack:
+        held = []
+        for port in [*asked, *[0] * count]:
+            if len(held) < count:
+                with contextlib.suppress(OSError):
+                    held.append(stack.enter_context(bound(port=port)))
+        return [each.getsockname()[1] for each in held]
 
 
 def free_port():

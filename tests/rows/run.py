@@ -4,8 +4,9 @@ usage: python3 -m tests.rows.run PROGRAM [ROW ..]     over all rows, or over tho
        python3 -m tests.rows.run --input ROW          writes the input of a row, for a run by hand
 
 tests/lib/rows.py tells what a row is. Why `run` ends, or can't write a file, is told by its log, and that is no part of a row:
-failures.py, files.py and reasons.py look at it. So where `run` ends by a fault, the line of the log that tells its reason is left out,
-and in another line of the log the reason is. The last line is `N passed, M failed`.
+exit_reasons.py, counters_and_log_files.py and reasons_by_command.py look at it. So where `run` ends by a fault, the line of the log that
+tells its reason is left out, and in another line of the log the reason is. What `run` tells of a configuration is left out too. The last
+line is `N passed, M failed`.
 """
 import pathlib
 import re
@@ -15,12 +16,18 @@ import sys
 from tests.lib.rows import ROWS, SECONDS, Row, difference
 
 REASON = rb' reason="[^"\n]*"'
+# What is told of a configuration: configuration/told_faults.py looks at that.
+OF_CONFIGURATION = (rb"^level=(?:warn|error) event=(?:configuration-fault|no-realm|unused-home|shared-address|weak-secret|short-span|"
+                    rb"realm-name) [^\n]*\n")
 FAULT = rb"^level=error event=(?:file-fault|no-toml|unbound|output-fault)(?: [a-z_]+=[^ \"\n]+)*" + REASON + rb"\n(?=[^\n]*\n?\Z)"
 
 
 def without_reasons(row, errors):
-    """What `run` wrote to standard error, without the reasons that its log tells, where the row has none."""
-    if row.words[:1] != ["run"] or b" reason=" in row.streams["!"]:
+    """What `run` wrote to standard error, without what is told of a configuration, and without the reasons where the row has none."""
+    if row.words[:1] != ["run"]:
+        return errors
+    errors = re.sub(OF_CONFIGURATION, b"", errors, flags=re.MULTILINE)
+    if b" reason=" in row.streams["!"]:
         return errors
     if row.status:
         errors = re.sub(FAULT, b"", errors, flags=re.MULTILINE)

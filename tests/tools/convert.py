@@ -18,6 +18,7 @@ import shutil
 import subprocess
 import tempfile
 import tomllib
+from multiprocessing.pool import ThreadPool
 
 from tests.lib import TOP, LeftOut, environment, free_ports, hope, try_in_folders
 from tests.lib.tools import running, table, talking, texts
@@ -372,9 +373,9 @@ def default_of_freeradius(program, room):
 def all_sites_of_freeradius_are_read(program, room):
     """Each site and policy that is shipped is read as far as it goes."""
     folder = shipped("freeradius-config", "radiusd.conf").parent
-    for file in sorted([*folder.glob("sites-available/*"), *folder.glob("policy.d/*")]):
-        if file.name != "README":
-            _, _, told = convert("freeradius", file)
+    files = [it for it in (*folder.glob("sites-available/*"), *folder.glob("policy.d/*")) if it.name != "README"]
+    with ThreadPool(4) as pool:
+        for file, (_, _, told) in zip(files, pool.map(lambda it: convert("freeradius", it), files)):
             hope(file.name, told[-1].endswith("so there is no configuration") or told, True)
 
 

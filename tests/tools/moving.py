@@ -1,4 +1,4 @@
-"""Tries the steps of docs/moving.md in network namespaces, with two or three NASes and a home server around the proxies.
+"""Tries the steps of docs/moving.md, the source address, and connection tracking, in network namespaces, with NASes and home servers.
 
 usage: python3 -m tests.tools.moving PROGRAM [NAME ..]
 
@@ -11,13 +11,14 @@ import ctypes
 import functools
 import os
 import pathlib
+import re
 import select
 import subprocess
 import threading
 import time
 from dataclasses import dataclass, replace
 
-from tests.lib import ACCT_SESSION_ID, bound, environment, hope, read, reply, try_in_folders, until
+from tests.lib import ACCT_SESSION_ID, TOP, Proxy, bound, environment, hope, read, reply, try_in_folders, until
 from tests.lib.starting import LIBC
 from tests.lib.tools import running, talking
 from tests.lib.tools.running import want
@@ -129,6 +130,10 @@ ONE_RULE = "nft add rule ip moving in ip saddr 10.20.0.11 udp dport 1813 counter
 ALL_RULE = "nft add rule ip moving in udp dport 1813 counter redirect to :11813"
 BLOCK = ("nft add table ip block\nnft add chain ip block in { type nat hook input priority 100 ; }\n"
          "nft add rule ip block in ip saddr 10.20.0.0/24 udp dport 1813 counter snat to 192.0.2.254")
+TRACKED = ("nft add table ip tracked\nnft add chain ip tracked in { type filter hook prerouting priority 0 ; }\n"
+           "nft add rule ip tracked in ct state new counter")
+SOURCE = ("nft add table ip source\nnft add chain ip source out { type nat hook postrouting priority 100 ; }\n"
+          "nft add rule ip source out ip daddr 198.51.100.20 udp dport 1813 counter snat to 198.51.100.2")
 
 
 def run(*words):
@@ -193,7 +198,7 @@ class HomeServer:
 
     def __init__(self, address=BILLING):
         self.delay = 0
-        self.sessions = []
+        self.sessions, self.addresses = [], []
         self.where = socket_in(HOME, address, 1813)
         threading.Thread(target=self._serve, daemon=True).start()
 
@@ -206,6 +211,7 @@ class HomeServer:
             packet = read(octets)
             if talking.is_request(packet, HOME_SECRET):
                 self.sessions.append((sender[1], talking.value(packet, ACCT_SESSION_ID).decode()))
+                self.addresses.append(sender[0])
                 threading.Timer(self.delay, self._answer, (packet, sender)).start()
 
     def _answer(self, packet, sender):
@@ -244,18 +250,16 @@ class Room:
         file.write_text(OLD)
         self.background("radsecproxy", "-f", "-c", str(file))
         converted = running.run("rad_convert", "radsecproxy", file, text=True, check=True).stdout
-        return Proxy(converted.replace('"0.0.0.0:1813"', '"0.0.0.0:11813"'), self)
+        return Asked(converted.replace('"0.0.0.0:1813"', '"0.0.0.0:11813"'), self)
 
 
-class Proxy:
-    """rad_proxy, as a program that is asked by its standard input."""
+class Asked(Proxy):
+    """rad_proxy at the proxies' machine, which is asked by its standard input."""
 
     def __init__(self, configuration, room):
-        path = room.folder / "it.toml"
-        path.write_text(configuration)
-        self.counters = room.folder / "counters"
-        self.ran = room.started([room.program, "run", path], stdin=subprocess.PIPE, stdout=subprocess.PIPE, stderr=subprocess.DEVNULL,
-                                text=True, env=environment() | {"RAD_PROXY_COUNTERS": str(self.counters)})
+        super().__init__(room.program, room.folder, configuration, (HERE, 11813), "it")
+        room.stack.callback(self.kill)
+        self.start(["ip", "netns", "exec", PROXY], text=True, env=environment() | {"RAD_PROXY_COUNTERS": str(self.counters)})
         hope("listening", self.ran.stdout.readline().split()[:1], ["listening"])
 
     def ask(self, word):
@@ -345,7 +349,7 @@ def all_are_moved_and_the_new_proxy_takes_the_port(room):
         proxy.ran.stdin.close()
         hope("the end", (proxy.ran.wait(10), proxy.ran.stdout.read()), (0, "end: queued 0 outstanding 0 untaken 0\n"))
         text = (room.folder / "it.toml").read_text()
-    proxy = Proxy(text.replace(":11813", ":1813"), room)
+    proxy = Asked(text.replace(":11813", ":1813"), room)
     at_proxy("nft delete table ip moving")
     forget("--dport", "1813")
     hope("at its port", (asks(11, "c"), asks(12, "d"), proxy.accepted()), (1813, 1813, 2))
@@ -354,7 +358,7 @@ def all_are_moved_and_the_new_proxy_takes_the_port(room):
 def a_block_by_source_translation_is_one_client(room):
     """All addresses of a block are one client, and NASes that send from one port get several."""
     HomeServer()
-    proxy = Proxy(NEW.format(listen="0.0.0.0:1813", client="192.0.2.254"), room)
+    proxy = Asked(NEW.format(listen="0.0.0.0:1813", client="192.0.2.254"), room)
     hope("without it", (asks(11, "a", ONE_SECRET), proxy.accepted()), (None, 0))
     at_proxy(BLOCK)
     forget()
@@ -365,7 +369,7 @@ def a_block_by_source_translation_is_one_client(room):
 def a_mapping_that_is_too_short_loses_answers(room):
     """An answer after the mapping's end is lost, and the repeat is a new record. A longer mapping keeps both."""
     home = HomeServer()
-    proxy = Proxy(NEW.format(listen="0.0.0.0:1813", client="192.0.2.254"), room)
+    proxy = Asked(NEW.format(listen="0.0.0.0:1813", client="192.0.2.254"), room)
     at_proxy(BLOCK + "\nsysctl -w net.netfilter.nf_conntrack_udp_timeout=3")
     hope("two NASes", [asks(number, f"a{number}", ONE_SECRET) for number in (11, 12)], [1813] * 2)
     forget()
@@ -380,7 +384,7 @@ def a_mapping_that_is_too_short_loses_answers(room):
 def a_catch_all_by_freeradius_in_front(room):
     """FreeRADIUS sends known realms to rad_proxy and all else to another home server, and repeats stay repeats."""
     home, hub = HomeServer(), HomeServer(HUB)
-    proxy = Proxy(NEW.format(listen="127.0.0.1:11813", client="127.0.0.1"), room)
+    proxy = Asked(NEW.format(listen="127.0.0.1:11813", client="127.0.0.1"), room)
     (room.folder / "radiusd.conf").write_text(FRONT)
     room.background("freeradius", "-f", "-l", "stdout", "-d", str(room.folder))
     users = ("bob@example.org", "eve@elsewhere.example", "norealm")
@@ -391,9 +395,48 @@ def a_catch_all_by_freeradius_in_front(room):
     hope("repeats", proxy.counter('rad_proxy_client_repeats_total{client="127.0.0.1",repeat="waiting"}'), 2)
 
 
+def the_source_address_is_chosen_by_a_route_or_a_rule(room):
+    """Of two addresses a home server sees that of its route at once, or that of a rule of nft once mappings are deleted."""
+    home = HomeServer()
+    at_proxy("ip address add 198.51.100.2/24 dev h0\n" + TRACKED)
+    Asked(NEW.format(listen="0.0.0.0:1813", client="10.20.0.11"), room)
+
+    def seen(session):
+        hope("answered", asks(11, session, ONE_SECRET), 1813)
+        return home.addresses[-1]
+
+    hope("the first one", seen("a"), "198.51.100.1")
+    at_proxy("ip route add 198.51.100.20/32 dev h0 src 198.51.100.2")
+    hope("by a route", seen("b"), "198.51.100.2")
+    at_proxy("ip route del 198.51.100.20/32\n" + SOURCE)
+    hope("by a rule beside a mapping", seen("c"), "198.51.100.1")
+    forget("--dst", BILLING)
+    hope("by a rule", seen("d"), "198.51.100.2")
+
+
+def what_is_not_tracked_has_no_entry(room):
+    """With the table of docs/operating/sizing.md neither side of the proxy takes an entry of connection tracking, and without it both do."""
+    HomeServer()
+    at_proxy(TRACKED)
+    Asked(NEW.format(listen="0.0.0.0:1813", client="10.20.0.11"), room)
+
+    def entries(session):
+        hope("answered", asks(11, session, ONE_SECRET), 1813)
+        listed = subprocess.run(["ip", "netns", "exec", PROXY, "conntrack", "-L", "-p", "udp"], check=True, capture_output=True, text=True)
+        return listed.stdout.count("dport=1813 ")
+
+    hope("tracked", entries("a"), 2)
+    page = (TOP / "docs" / "operating" / "sizing.md").read_text("utf-8")
+    table = re.search(r"    table ip rad_proxy_untracked \{\n.*?\n    \}\n", page, re.DOTALL)[0]
+    subprocess.run(["ip", "netns", "exec", PROXY, "nft", "-f", "-"], input=table, check=True, text=True)
+    forget()
+    hope("not tracked", entries("b"), 0)
+
+
 CASES = [one_nas_is_moved_and_comes_back, a_mapping_that_is_not_deleted_stays, an_unanswered_request_that_is_moved_comes_twice,
          all_are_moved_and_the_new_proxy_takes_the_port, a_block_by_source_translation_is_one_client,
-         a_mapping_that_is_too_short_loses_answers, a_catch_all_by_freeradius_in_front]
+         a_mapping_that_is_too_short_loses_answers, a_catch_all_by_freeradius_in_front,
+         the_source_address_is_chosen_by_a_route_or_a_rule, what_is_not_tracked_has_no_entry]
 
 
 def test_of(case):

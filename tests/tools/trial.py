@@ -15,11 +15,13 @@ import shutil
 import signal
 import subprocess
 import sys
+import tempfile
 import time
 from collections import Counter
+from multiprocessing.pool import ThreadPool
 
 from tests.lib import (ACCT_SESSION_ID, ACCT_STATUS_TYPE, CLASS, answer, attribute, hope, is_asked, is_so, mark, packet, request, status,
-                       try_in_folders, user_name)
+                       try_in_folders, until, user_name)
 from tests.lib.tools.capturing import COOKED_2, ETHERNET, START, fragments, framed, ipv4, pcap, pcapng, udp
 from tests.lib.tools.running import TOOLS, is_root, run, want
 
@@ -244,6 +246,26 @@ def answers_take_their_time(program, folder):
     hope("not less than the bucket of 300 ms", low >= 0.25, True)
 
 
+def datagrams_that_the_system_drops_are_lost(program, folder):
+    """While the program stands still, the receive buffer fills: what the system drops then is told, all of it."""
+    trial, traffic = Trial(program, folder), Traffic(0.0002)
+    trial.program = trial.write("stands", STANDS.replace("PROGRAM", str(program)).encode())
+    os.chmod(trial.program, 0o755)
+    for _ in range(10_000):
+        traffic.ask(more=b"".join(attribute(CLASS, bytes(250)) for _ in range(14)))
+    text = trial.played(pcap(traffic.frames()))
+    lost = re.search(r"^lost: (\d+) datagrams before the program, (\d+) of them since the receive buffer", text, re.MULTILINE)
+    hope(f"lost: {text}", bool(lost) and int(lost[1]) > 1000 and lost[1] == lost[2], True)
+    hope(text, sum(it["came"] for (_, realm), (it, _) in rows(text).items() if realm == "all"), 10_000 - int(lost[1]))
+
+
+# The program, which stands still for a second and a half a while after it began.
+STANDS = """#!/bin/sh
+test "$1" = run && { sleep 1; kill -STOP $$; sleep 1.5; kill -CONT $$; } </dev/null >/dev/null 2>&1 &
+exec PROGRAM "$@"
+"""
+
+
 def odd_names_are_played(program, folder):
     """Secrets with quotes, and realms and sessions with control characters and octets that are not UTF-8."""
     secret = '\\"\\\\\\u0001\\t é%='
@@ -347,7 +369,7 @@ def alone(test):
 @alone
 def nothing_else_is_touched(program, folder):
     """Addresses, routes, mounts and files are as before: after a trial, and after one that was stopped."""
-    trial, traffic = Trial(program, folder), Traffic(0.5)
+    trial, traffic = Trial(program, folder, configuration(second_home=("127.0.0.1", 5813))), Traffic(0.5)
     before = snapshot()
     trial.played(pcap(mixed().frames()))
     hope("after a trial", snapshot(), before)
@@ -363,13 +385,15 @@ def nothing_else_is_touched(program, folder):
 
 
 def begun(trial, traffic):
-    """A trial that was begun a while ago, and the processes that it has started."""
+    """A trial that plays, and the processes that it has started: those that hear the log and play home servers, and the program."""
     words = trial.words([pcap(traffic.frames())], [])
     # A shell has what it runs in the background ignore SIGINT, and a process hands that on.
     ran = subprocess.Popen([sys.executable, TOOL, *words], stdout=subprocess.PIPE, stderr=subprocess.PIPE,
                            preexec_fn=lambda: signal.signal(signal.SIGINT, signal.SIG_DFL))
-    time.sleep(3)
-    return ran, [int(it) for it in pathlib.Path(f"/proc/{ran.pid}/task/{ran.pid}/children").read_text().split()]
+    children = lambda: [int(it) for it in pathlib.Path(f"/proc/{ran.pid}/task/{ran.pid}/children").read_text().split()]
+    until("the trial has three processes", lambda: len(children()) >= 3)
+    time.sleep(0.7)
+    return ran, children()
 
 
 @alone
@@ -440,14 +464,19 @@ def configurations_are_read_alike(program, folder):
     """Each fault of a configuration is the one that the program tells."""
     capture = pathlib.Path(folder, "capture")
     capture.write_bytes(pcap(mixed().frames()))
-    for number, text in enumerate(WRONG):
+
+    def compare(number):
+        text = WRONG[number]
         for word, part in PARTS.items():
             text = re.sub(rf"\b{word}\b", lambda _: part, text)
         path = pathlib.Path(folder, f"{number}.toml")
         path.write_bytes(text.encode("utf-8", "surrogateescape"))
         ran = subprocess.run([program, "check", path], capture_output=True, check=False, env={})
-        mine = tool("--script", os.path.join(folder, "script"), path, capture)
+        mine = tool("--script", os.path.join(folder, f"script-{number}"), path, capture)
         hope(f"{text!r}", (mine.stderr.decode().removeprefix("rad_trial: "), mine.returncode), (ran.stderr.decode(), ran.returncode))
+
+    with ThreadPool(4) as pool:
+        pool.map(compare, range(len(WRONG)))
 
 
 def users_are_told_of_root(program, folder):
@@ -458,11 +487,26 @@ def users_are_told_of_root(program, folder):
     hope(ran.stderr, (ran.returncode, ran.stderr.count(b"\n"), b"wants root" in ran.stderr), (4, 1, True))
 
 
+def a_capture_is_begun(program, folder):
+    """NASes talk to radsecproxy in a network of its own, while the other tests run."""
+    want("ip", "tcpdump", "radsecproxy", root=True)
+    captured(program)
+
+
+@functools.cache
+def captured(program):
+    """A process that makes a capture, and the folder that it makes it in."""
+    made = tempfile.TemporaryDirectory()
+    words = [sys.executable, "-m", "tests.lib.tools.losses", "radsecproxy", program, made.name, "0", "-i", "any"]
+    return made, subprocess.Popen(["unshare", "--net", *words])
+
+
 def a_capture_of_a_proxy_is_played(program, folder):
     """What tcpdump saw of NASes of radsecproxy, with their retransmissions: each request is accepted once."""
     want("ip", "tcpdump", "radsecproxy", root=True)
-    losses = [sys.executable, "-m", "tests.lib.tools.losses"]
-    subprocess.run(["unshare", "--net", *losses, "radsecproxy", program, folder, "0", "-i", "any"], check=True, timeout=300)
+    made, ran = captured(program)
+    hope("how losses.py ended", ran.wait(300), 0)
+    folder = made.name
     trial = Trial(program, folder, pathlib.Path(folder, "rad_proxy.toml").read_text())
     text = trial.played(os.path.join(folder, "capture"), words=["--speed", "10"])
     judged = tool("judge", trial.config, os.path.join(folder, "capture")).stdout.decode()
@@ -508,10 +552,11 @@ def see_bounds(program, folder, count, more):
     hope(text, (home["accepted"], home["left"]), (sum(it["accepted"] for it in found), 0))
 
 
-TESTS = [each_fate_is_counted, each_form_is_played, both_sides_are_in_the_capture, an_outage_fills_the_queue, an_outage_may_come_later,
-         answers_take_their_time, odd_names_are_played, warnings_are_told, two_homes_of_one_address_are_two, a_script_has_the_same,
-         a_script_is_never_too_long, nothing_else_is_touched, nothing_is_left_after_a_kill, faults_are_one_line,
-         configurations_are_read_alike, users_are_told_of_root, a_capture_of_a_proxy_is_played, requests_take_bounded_time_and_memory]
+TESTS = [a_capture_is_begun, each_fate_is_counted, each_form_is_played, both_sides_are_in_the_capture, an_outage_fills_the_queue,
+         an_outage_may_come_later, answers_take_their_time, datagrams_that_the_system_drops_are_lost, odd_names_are_played,
+         warnings_are_told, two_homes_of_one_address_are_two, a_script_has_the_same, a_script_is_never_too_long, nothing_else_is_touched,
+         nothing_is_left_after_a_kill, faults_are_one_line, configurations_are_read_alike, users_are_told_of_root,
+         a_capture_of_a_proxy_is_played, requests_take_bounded_time_and_memory]
 LONG = [as_many_requests_as_it_takes_have_bounds]
 
 

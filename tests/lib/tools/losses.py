@@ -48,7 +48,7 @@ class Sides:
         self.chance, self.selector = chance, selectors.DefaultSelector()
         self.home = self.bound(HOME)
         self.nases = [self.bound((address, 0)) for address in addresses]
-        self.asked, self.open, self.wrong, self.later = {}, [], 0, []
+        self.asked, self.open, self.wrong, self.later, self.is_lossy = {}, [], 0, [], True
         self.under, self.arrived, self.replied = defaultdict(set), [], {}
 
     def bound(self, place):
@@ -59,7 +59,7 @@ class Sides:
         return made
 
     def is_lost(self):
-        return self.chance.random() < LOST
+        return self.is_lossy and self.chance.random() < LOST
 
     def ask(self, nas, number, session, kind, count):
         octets = user_name(b"user%d@r00.bench" % session) + attribute(ACCT_STATUS_TYPE, bytes([0, 0, 0, kind]))
@@ -143,7 +143,7 @@ class Sides:
 
 def play(sides, seconds):
     """Sessions of which each has a start, two interim updates and a stop, all without waiting for answers. Behind them, after a
-    while, one more."""
+    while, three more without losses, so that the end of the capture has nothing that might still be answered."""
     numbers = Counter()
     for step in range(SESSIONS + 10 * len(KINDS)):
         for place, kind in enumerate(KINDS):
@@ -154,10 +154,11 @@ def play(sides, seconds):
                 numbers[nas] += 1
         sides.turn(PACE)
     sides.turn(TRIES * WAIT + seconds)
+    sides.is_lossy = False
     for count in range(3):
         sides.ask(0, numbers[0] + count, SESSIONS + count, 1, 0)
         sides.turn(0.3)
-    sides.turn(TRIES * WAIT + 1)
+    sides.turn(2 * WAIT)
 
 
 def main():

@@ -1,0 +1,108 @@
+"""Has the built auditor read ledgers that Python makes, one for each reason and verdict, and compares what it prints and its status.
+
+usage: python3 -m tests.ledger.auditor_verdicts AUDITOR    the path of rad_audit
+
+The last line is `N passed, M failed`.
+"""
+import pathlib
+import subprocess
+import sys
+import tempfile
+
+from tests.lib import TOP, ledgers, text
+from tests.lib.ledger_cases import LEFT_REASONS, NAME, REASONS, accounts, config, counted, lines_of, one, runs
+
+SECONDS = 60
+
+
+def calls(folder):
+    """Calls that end early: the words, and what has to come out, on standard error, and as the status."""
+    good, bad, long = folder / "good.toml", folder / "bad.toml", folder / "long.toml"
+    good.write_text(config())
+    bad.write_text("listen = 1\n")
+    long.write_text("#" * 1048577)
+    (folder / "none.jsonl").write_text("")
+    usage = "usage: rad_audit [--rows] CONFIG FILE.."
+    yield [], usage, 1
+    yield [str(good)], usage, 1
+    yield ["--all", str(good), "x"], usage, 1
+    yield [str(folder / "absent.toml"), "none.jsonl"], f"file: {folder}/absent.toml", 4
+    yield [str(folder), "none.jsonl"], f"file: {folder}", 4
+    yield [str(long), "none.jsonl"], f"file: {long}", 4
+    yield [str(bad), "none.jsonl"], "configuration: ", 2
+    yield [str(good), "absent.jsonl"], "file: absent.jsonl", 4
+    yield [str(good), "none.jsonl", "."], "file: .", 4
+    yield [str(good), "a\nb"], "file: a%0ab", 4
+
+
+def audited(program, words, folder):
+    how = {"capture_output": True, "timeout": SECONDS, "cwd": folder}
+    ran = subprocess.run([program, *words], **how)
+    return ran.stdout.decode("utf-8", "replace"), ran.stderr.decode("utf-8", "replace"), ran.returncode
+
+
+def ended_early(program, folder):
+    """What is told where a file can't be read behind one that can: what was found until then, and no more."""
+    (folder / "good.toml").write_text(config())
+    lines = lines_of(one(), 2)
+    (folder / "a").write_text(text([lines[0], lines[2], lines[1]]))
+    out, err, status = audited(program, ["good.toml", "a", "absent", "a"], folder)
+    wanted = f"a:2: run {NAME:016x} lane 0 h1 gap 0 to 0\na:3: SerialNotAbove\n", "file: absent\n", 4
+    yield "a file that is absent behind another", None if (out, err, status) == wanted else f"{(out, err, status)} and not {wanted}"
+
+
+def to_full_disk(program, folder):
+    """What the program tells where nothing can be printed: nothing, and by its status that it failed."""
+    (folder / "good.toml").write_text(config())
+    (folder / "a").write_text(text(lines_of(one(), 2)))
+    (folder / "none").write_text("")
+    for name, file, wanted in (("what can't be printed", "a", 4), ("nothing to print", "none", 0)):
+        with open("/dev/full", "wb") as full:
+            ran = subprocess.run([program, "good.toml", file], cwd=folder, stdout=full, stderr=subprocess.PIPE, timeout=SECONDS)
+        found = ran.stderr, ran.returncode
+        yield name, None if found == (b"", wanted) else f"{found} and not {wanted}"
+
+
+def shown(program):
+    """The name of each case, and what was wrong with it: nothing where it is as it has to be."""
+    cases = [(name, *case) for name, case in {**REASONS, **LEFT_REASONS}.items()] + [tuple(case) for case in [*runs(), *accounts()]]
+    for name, files, lines, status, *rest in cases:
+        with tempfile.TemporaryDirectory() as made:
+            folder = pathlib.Path(made)
+            (folder / "config.toml").write_text(rest[0] if rest else config())
+            for file, content in files.items():
+                (folder / file).write_bytes(content.encode("utf-8", "surrogateescape"))
+            found = audited(program, ["config.toml", *files], folder)
+        wanted = "".join(f"{line}\n" for line in lines), "", status
+        yield name, None if found == wanted else f"{found}\nand not {wanted}"
+    with tempfile.TemporaryDirectory() as made:
+        for words, line, status in calls(pathlib.Path(made)):
+            out, err, ended = audited(program, words, made)
+            right = out == "" and err.startswith(line) and err.endswith("\n") and ended == status
+            yield " ".join(words), None if right else f"{(out, err, ended)} and not {(line, status)}"
+    for ends in ended_early, to_full_disk:
+        with tempfile.TemporaryDirectory() as made:
+            yield from ends(program, pathlib.Path(made))
+    example = audited(program, ["one-home.toml", "one-home.jsonl"], TOP / "examples")
+    wanted = counted(0, "billing", 0, 4, "whole", run=0x0123456789ABCDEF) + "\n", "", 0
+    yield "the example", None if example == wanted else f"{example} and not {wanted}"
+    yield "the example is as it is made", None if ledgers.EXAMPLE.read_text("utf-8") == ledgers.example() else "it is not"
+
+
+def main():
+    if len(sys.argv) != 2:
+        sys.exit(__doc__)
+    program = str(pathlib.Path(sys.argv[1]).resolve())
+    passed = failed = 0
+    for name, wrong in shown(program):
+        if wrong is None:
+            passed += 1
+        else:
+            failed += 1
+            print(f"{name}: {wrong}")
+    print(f"{passed} passed, {failed} failed")
+    sys.exit(1 if failed else 0)
+
+
+if __name__ == "__main__":
+    main()

@@ -1,0 +1,1 @@
+"""Configurations as tables, with what `check` tells of each."""

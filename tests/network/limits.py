@@ -1,0 +1,412 @@
+"""Has the program serve at its limits: the most of each, the least of each, the longest, and what lies behind 16 and 32 bits.
+
+usage: python3 -m tests.network.limits PROGRAM [TEST ..]
+
+Each test is a function below, and its first line tells what holds. The last line is `N passed, M failed`.
+"""
+import json
+import pathlib
+import re
+import select
+import signal
+import socket
+import sys
+import time
+
+from tests.lib import (ACCT_STATUS_TYPE, HERE, NOTHING_LEFT, PATIENCE, SECRET, STATUS_SERVER, Home, Proxy, Server, Stage, answer, attribute,
+                       bound, built, classes, configured, environment, free_port, hope, is_so, loads, mark, need, read, request,
+                       states_of, try_in_folders, until, user_name)
+
+# The greatest numbers of a configuration, and how many requests pass one lane.
+HOMES, CLIENTS, PORTS, LONGEST, MANY = 64, 256, 4, 4096, 70_000
+# Milliseconds of which a count in 31 or 32 bits ends.
+ENDS = (1 << 31, 1 << 32)
+LONGEST_LINGER, LONGEST_SPAN, LONGEST_RING = 65_536, 600_000, 4096
+HALF_OF_A_BOOK = 65_536
+# How many responses the front sends together, at most.
+AT_ONCE = 9
+# How many milliseconds before and behind a moment it is looked, and how many seconds nothing may come.
+EARLY, LATE, QUIET = 20_000, 100, 0.2
+
+
+def arrived(stage, asked, lane=0):
+    """The next packet that has the attributes of a request in front. What is sent again of others, and probes, are passed over."""
+    while True:
+        packet, sender = stage.came(lane)
+        if packet.octets[20:].startswith(asked[20:]):
+            return packet, sender
+
+
+def served(stage, lane):
+    """Whether a request of a lane is answered."""
+    asked = stage.nas.ask(f"h{lane}")
+    stage.homes[lane].answer(*arrived(stage, asked, lane))
+    return stage.nas.is_answered(asked)
+
+
+def values(stage, name):
+    """The values of a number, by the text of its labels, in the order of the text."""
+    return [value for key, value in stage.counters().items() if key.startswith(f"rad_proxy_{name}{{")]
+
+
+def last_lines(folder):
+    """The entries of a ledger in this folder, and its last line."""
+    lines = [json.loads(line) for file in sorted(folder.iterdir()) for line in file.read_text("utf-8").splitlines()]
+    return [line for line in lines if line["type"] == "entry"], lines[-1]
+
+
+def sixty_four_home_servers_each_answer_once(program, folder):
+    """Each lane answers, is counted, has its entry and its count in the ledger, and the end waits for none of them."""
+    ledger = folder / "ledger"
+    ledger.mkdir()
+    with Stage(program, folder, "", HOMES, variables={"RAD_PROXY_LEDGER": str(ledger)}, linger=LONGEST_LINGER) as stage:
+        hope("answered", [served(stage, lane) for lane in range(HOMES)], [True] * HOMES)
+        until("each is counted", lambda: values(stage, "answered_total") == [1] * HOMES)
+        hope("the end", stage.ends()[1:], (NOTHING_LEFT, 0))
+        entries, last = last_lines(ledger)
+        hope("the entries", sorted(entry["lane"] for entry in entries), list(range(HOMES)))
+        hope("the end line", [(lane["lane"], lane["entries"]) for lane in last["lanes"]], [(lane, 1) for lane in range(HOMES)])
+
+
+def a_drain_of_sixty_four_lanes_drains_each(program, folder):
+    """The last home server alone is marked down. After `drain` each other lane is at its end, and all refuse what is new."""
+    with Stage(program, folder, "tries = 1\nfirst_wait = 100\n", HOMES) as stage:
+        stage.nas.ask(f"h{HOMES - 1}")
+        until("the last one is down", lambda: values(stage, "home_up") == [1] * (HOMES - 1) + [0])
+        hope("the state", [line.split()[3] for line in stage.say(b"state", HOMES)], ["up"] * (HOMES - 1) + ["down"])
+        stage.say(b"drain", HOMES)
+        hope("the modes", [line.split()[4] for line in stage.say(b"state", HOMES)], ["done"] * (HOMES - 1) + ["draining"])
+        for lane in (0, 31, 32, HOMES - 1):
+            stage.nas.ask(f"h{lane}")
+        until("refused", lambda: sum(values(stage, "refused_total")) == 4)
+        hope("the end", stage.ends()[1:], ("end: queued 0 outstanding 1 untaken 0", 3))
+
+
+def two_hundred_fifty_six_clients_are_counted(program, folder):
+    """The counters of the last client are as those of the first."""
+    home, port = Home(), free_port()
+    home.ear.settimeout(PATIENCE)
+    clients = [f"127.0.{1 + place // 128}.{1 + place % 128}" for place in range(CLIENTS)]
+    server = Server("h0", home.port, "first_wait = 60000\n", "h0.example", SECRET.decode())
+    text = configured(f"{HERE}:{port}", [server], clients, SECRET.decode())
+    proxy = Proxy(program, folder, text, (HERE, port))
+    try:
+        proxy.start(env=environment("off") | {"RAD_PROXY_COUNTERS": str(proxy.counters)})
+        proxy.listens()
+        for place, client in enumerate(clients):
+            with bound(client) as nas:
+                nas.sendto(request(place, user_name(b"bob@h0.example"), SECRET), (HERE, port))
+                octets, sender = home.ear.recvfrom(LONGEST)
+                home.answer(read(octets), sender)
+                nas.recv(LONGEST)
+        for name in ("received", "accepted", "responses"):
+            until(name, lambda: proxy.counters.exists() and len(re.findall(rf"^rad_proxy_client_{name}_total\{{.*\}} 1$",
+                                                                         proxy.counters.read_text(), re.M)) == CLIENTS)
+    finally:
+        proxy.kill()
+        home.ear.close()
+
+
+def the_widest_window_is_out_at_once(program, folder):
+    """As many as four ports have Identifiers for, but two, are out at once, and the time of each is measured."""
+    count = 256 * PORTS - 2
+    with Stage(program, folder, f"ports = {PORTS}\nwindow = {count}\nfirst_wait = 60000\n") as stage:
+        out = [(stage.nas.ask(), *stage.came()) for _ in range(count)]
+        hope("the ports", len({sender for _, _, sender in out}), PORTS)
+        for asked, packet, sender in out:
+            stage.homes[0].answer(packet, sender)
+            need(stage.nas.is_answered(asked), "another response came")
+        for name in ("reply_seconds_count", "response_seconds_count"):
+            until(name, lambda: values(stage, name) == [count])
+
+
+def the_longest_packets_pass_both_ways(program, folder):
+    """A request that has just room for the mark, the longest reply, and a status of four octets; the ledger has each octet.
+    Asked again, the longest response is sent again."""
+    ledger = folder / "ledger"
+    ledger.mkdir()
+    with Stage(program, folder, variables={"RAD_PROXY_LEDGER": str(ledger)}) as stage:
+        head = user_name(b"bob@h0.example") + attribute(ACCT_STATUS_TYPE, bytes([1, 2, 3, 4]))
+        asked = request(1, head + classes(LONGEST - 20 - 12 - len(head)), SECRET)
+        stage.nas.socket.sendto(asked, stage.proxy.listen)
+        packet, sender = stage.came()
+        hope("the longest request", (len(asked), packet.octets), (LONGEST - 12, request(packet.identifier, asked[20:] + mark(0, 0), SECRET)))
+        states = states_of(packet)
+        more = classes(LONGEST - 20 - len(states))
+        stage.homes[0].ear.sendto(answer(packet.octets, packet.identifier, more + states, SECRET), sender)
+        response = stage.nas.socket.recv(2 * LONGEST)
+        hope("the longest response", response, answer(asked, 1, more, SECRET))
+        stage.nas.socket.sendto(asked, stage.proxy.listen)
+        hope("sent again", stage.nas.socket.recv(2 * LONGEST), response)
+        hope("the end", stage.ends()[1:], (NOTHING_LEFT, 0))
+        entries, _ = last_lines(ledger)
+        hope("the entries", [(len(entry["sent"]), len(entry["reply"]), entry["response"], entry["status"]) for entry in entries],
+             [(2 * LONGEST, 2 * LONGEST, response.hex(), 0x01020304)])
+
+
+def one_of_each(program, folder):
+    """With a ring, a queue, a book and a window of one each request is served, and the time of each is measured."""
+    count = 40
+    limits = "ring = 1\nqueue = 1\nbook = 1\nwindow = 1\nspan = 0\n"
+    with Stage(program, folder, limits) as stage:
+        for _ in range(count):
+            asked = stage.nas.ask()
+            need(stage.is_answered_in_the_end(asked, 0), "a request is not answered")
+        # What the NAS sends again once it is answered is another request, since the span is over.
+        until("as many are measured as are answered", lambda: are_measured(stage, count))
+
+
+def are_measured(stage, least):
+    """Whether at least so many were answered, and the time of each was measured."""
+    counts = [sum(values(stage, name)) for name in ("answered_total", "reply_seconds_count", "response_seconds_count")]
+    return min(counts) >= least and len(set(counts)) == 1
+
+
+class ManyProxy(loads.Loaded):
+    """The program under a load of which nothing but the answers is looked at, with a clock that can be moved."""
+
+    linger = LONGEST_LINGER
+
+    def settings(self, library, folder):
+        self.clock = Ahead(folder)
+        return {"LD_PRELOAD": str(library), "RAD_PROXY_LOG": "info", **self.clock.variables()}
+
+
+def seventy_thousand_requests_pass_one_lane(program, folder):
+    """More requests than 16 bits count pass a lane whose book is cut again and again, and are answered."""
+    loads.build(folder)
+    load = loads.Load("many", book=2000, span=0, out=[64])
+    with loads.serving(program, folder, load, built(folder, "wrong_clock"), ManyProxy) as (proxy, generator):
+        hope("accepted", generator.ask_until(64, MANY) >= MANY, True)
+        until("at rest", proxy.is_at_rest)
+        proxy.end_well()
+
+
+def all_that_is_over_is_cut_at_once(program, folder):
+    """Of 65,536 requests, which fill half a book, none is cut before the longest span is over, and then all are, which is logged."""
+    loads.build(folder)
+    load = loads.Load("cut", book=2 * HALF_OF_A_BOOK, span=LONGEST_SPAN, out=[64])
+    with loads.serving(program, folder, load, built(folder, "wrong_clock"), ManyProxy) as (proxy, generator):
+        while (missing := HALF_OF_A_BOOK - settled(proxy)) > 0:
+            generator.ask(64, missing, PATIENCE)
+        hope("accepted and cut", tuple(proxy.counts()), (HALF_OF_A_BOOK, 0, 0, 0))
+        proxy.clock.move(LONGEST_SPAN - 100_000)
+        need(not is_so(lambda: tuple(proxy.counts())[3], 0.5), "some are cut before the span is over")
+        proxy.clock.move(LONGEST_SPAN)
+        until("all are cut", lambda: tuple(proxy.counts())[3] == HALF_OF_A_BOOK)
+        until("the sum", lambda: proxy.lines("cut"))
+        hope("the sums", [line["count"] for line in proxy.lines("cut")], [str(HALF_OF_A_BOOK)])
+        begun = time.monotonic()
+        proxy.end_well()
+        need(time.monotonic() - begun < PATIENCE, "it waits at its end")
+
+
+def settled(proxy):
+    """How many requests were accepted, once all are answered and no more is under way."""
+    before = -1, -1, -1
+    while (now := tuple(proxy.counts())[:3]) != (before[0], 0, 0):
+        before = now
+        time.sleep(QUIET)
+    return now[0]
+
+
+class Ahead:
+    """A clock that is ahead by the milliseconds that a file says."""
+
+    def __init__(self, folder):
+        self.file = folder / "ahead"
+        self.move(0)
+
+    def variables(self):
+        return {"CLOCK_MOVED": str(self.file)}
+
+    def move(self, milliseconds):
+        """Moves the clock on, to so many milliseconds ahead."""
+        new = self.file.with_suffix(".new")
+        new.write_text(str(milliseconds))
+        new.replace(self.file)
+
+
+class Moved(Stage):
+    """A stage whose program has a clock that can be moved."""
+
+    def __init__(self, program, folder, linger, limits):
+        self.clock = Ahead(folder)
+        super().__init__(program, folder, limits, linger=linger, variables={"LD_PRELOAD": built(folder, "wrong_clock"), **self.clock.variables()})
+        self.begun = time.monotonic()
+
+    def go_to(self, milliseconds):
+        """Has so many milliseconds pass, by the clock of the program, since `begun`."""
+        self.clock.move(milliseconds - int(1000 * (time.monotonic() - self.begun)))
+
+    def is_silent(self):
+        """Whether nothing comes to the home server for a while."""
+        return not select.select([self.homes[0].ear], [], [], QUIET)[0]
+
+
+def moments_go_on_behind_32_bits(program, folder):
+    """Where the clock passes what 31 and 32 bits count, requests are answered, sent again, and the home server goes down and up."""
+    with Moved(program, folder, 0, "tries = 2\nfirst_wait = 500\ndown_wait = 1000\nspan = 0\n") as stage:
+        for end in ENDS:
+            stage.clock.move(end - 300)
+            need(served(stage, 0), "not answered before", end)
+            asked = stage.nas.ask()
+            packet, _ = arrived(stage, asked)
+            again, sender = arrived(stage, asked)
+            hope("sent again", again.octets, packet.octets)
+            stage.clock.move(end + 5000)
+            stage.homes[0].answer(again, sender)
+            need(stage.nas.is_answered(asked), "not answered across", end)
+            need(served(stage, 0), "not answered behind", end)
+
+
+def the_longest_linger_is_no_short_one(program, folder):
+    """With 65,536 milliseconds the program waits for an answer at its end, and ends when they are over."""
+    with Moved(program, folder, LONGEST_LINGER, "first_wait = 60000\n") as stage:
+        stage.nas.ask()
+        stage.came()
+        stage.proxy.ran.stdin.close()
+        need(not is_so(lambda: stage.proxy.ran.poll() is not None, 1.5), "it ends at once")
+        stage.clock.move(LONGEST_LINGER + 100)
+        need(is_so(lambda: stage.proxy.ran.poll() is not None), "it does not end")
+        hope("the end", (stage.proxy.ran.stdout.read().splitlines()[-1], stage.proxy.ran.returncode),
+             (b"end: queued 0 outstanding 1 untaken 0", 3))
+
+
+def no_linger_ends_at_once(program, folder):
+    """Without a wait the program ends with what is outstanding."""
+    with Stage(program, folder, "first_wait = 60000\n", linger=0) as stage:
+        stage.nas.ask()
+        stage.came()
+        took, line, status = stage.ends()
+        hope("the end", (line, status), ("end: queued 0 outstanding 1 untaken 0", 3))
+        need(took < 5, "it took", took)
+
+
+def the_longest_times_pass(program, folder):
+    """With the longest times a request is sent ten times, at most two minutes apart, the home server is probed each ten minutes for an
+    hour, and a response is sent again for ten minutes."""
+    limits = "tries = 10\nfirst_wait = 60000\nprobe_every = 600000\ndown_wait = 3600000\nspan = 600000\n"
+    with Moved(program, folder, 0, limits) as stage:
+        asked = stage.nas.ask()
+        sent, _ = stage.came()
+        due = 0
+        for wait in [60_000] + 8 * [120_000]:
+            stage.go_to(due + wait - EARLY)
+            need(stage.is_silent(), "it is sent again before", wait)
+            due += wait
+            stage.go_to(due + LATE)
+            hope("sent again", stage.came()[0].octets, sent.octets)
+        stage.go_to(due + 120_000 - EARLY)
+        need(stage.is_silent(), "it is sent an eleventh time")
+        hope("not down yet", stage.proxy.lines("down"), [])
+        down = due + 120_000 + LATE
+        stage.go_to(down)
+        for number in range(6):
+            hope("a probe", stage.came()[0].code, STATUS_SERVER)
+            stage.go_to(down + number * 600_000 + 600_000 - EARLY)
+            need(stage.is_silent(), "it is probed before ten minutes")
+            stage.go_to(down + number * 600_000 + 600_000 + LATE)
+        again, sender = arrived(stage, asked)
+        hope("sent again", again.octets, sent.octets)
+        until("it is up", lambda: [line["reason"] for line in stage.proxy.lines("up")] == ["down_wait over"])
+        stage.homes[0].answer(again, sender)
+        need(stage.nas.is_answered(asked), "another response came")
+        until("its times are measured", lambda: are_measured(stage, 1))
+        answered = down + 3_600_000 + LATE
+        stage.go_to(answered + LONGEST_SPAN - EARLY)
+        stage.nas.socket.sendto(asked, stage.proxy.listen)
+        need(stage.nas.is_answered(asked), "another response came again")
+        need(stage.is_silent(), "it is another request before the span is over")
+        stage.go_to(answered + LONGEST_SPAN + EARLY)
+        stage.nas.socket.sendto(asked, stage.proxy.listen)
+        hope("another request", arrived(stage, asked)[0].octets[-12:], mark(0, 1))
+
+
+def an_identifier_wraps_beside_a_probe(program, folder):
+    """A probe has the first Identifier behind the last one, while the last one is that of a request, and its answer is heard."""
+    with Stage(program, folder, "tries = 2\nfirst_wait = 1000\nprobe_every = 1000\ndown_wait = 600000\n") as stage:
+        for number in range(255):
+            asked = stage.nas.ask()
+            packet, sender = arrived(stage, asked)
+            hope("the Identifier", packet.identifier, number)
+            stage.homes[0].answer(packet, sender)
+            need(stage.nas.is_answered(asked), "another response came")
+        asked = stage.nas.ask()
+        hope("the last Identifier", [arrived(stage, asked)[0].identifier for _ in range(2)], [255, 255])
+        for number in range(3):
+            packet, sender = stage.came()
+            hope("a probe", (packet.code, packet.identifier), (STATUS_SERVER, number))
+        stage.homes[0].ear.sendto(answer(packet.octets, packet.identifier, b"", SECRET), sender)
+        until("it is up", lambda: [line["reason"] for line in stage.proxy.lines("up")] == ["probe answered"])
+        again, sender = arrived(stage, asked)
+        stage.homes[0].answer(again, sender)
+        need(stage.nas.is_answered(asked), "another response came")
+
+
+def the_longest_ring_fills(program, folder):
+    """While the front sends, 4096 responses find room, and no more is heard."""
+    nas = bound()
+    slow = {"LD_PRELOAD": built(folder, "slow_files"), "SLOW_PORT": str(nas.getsockname()[1]), "SLOW_SEND": "300000"}
+    limits = f"ring = {LONGEST_RING}\nwindow = 254\nfirst_wait = 60000\n"
+    with Stage(program, folder, limits, variables=slow) as stage, nas:
+        home = stage.homes[0]
+        stage.nas.socket.close()
+        stage.nas.socket = nas
+
+        def answers():
+            before = len(home.came)
+            home.hear(0.1)
+            for packet, sender in home.came[before:]:
+                home.answer(packet, sender)
+            return int(stage.say(b"state", 1)[0].split()[12])
+
+        for number in range(1, LONGEST_RING + 2 * AT_ONCE):
+            stage.nas.ask()
+            if number % 100 == 0:
+                until("accepted", lambda: int(stage.say(b"state", 1)[0].split()[6]) >= number)
+        # The front has taken some, and is sending the first of them.
+        until("the ring is full", lambda: LONGEST_RING < answers() <= LONGEST_RING + AT_ONCE)
+        full = answers()
+        need(not is_so(lambda: answers() != full, 0.5), "more is heard")
+
+
+def drops_are_counted_behind_16_bits(program, folder):
+    """What the system drops of a socket is counted, where it is more than 16 bits count."""
+    with Stage(program, folder) as stage:
+        stage.next_report()
+        stage.proxy.ran.send_signal(signal.SIGSTOP)
+        while dropped_at(stage.proxy.listen) <= 1 << 16:
+            for _ in range(1000):
+                stage.nas.socket.sendto(bytes(20), stage.proxy.listen)
+        stage.proxy.ran.send_signal(signal.SIGCONT)
+        until("the drops", lambda: values(stage, "socket_drops_total")[0] == dropped_at(stage.proxy.listen) > 1 << 16)
+
+
+def dropped_at(place):
+    """How many datagrams Linux dropped at a socket of this address and port."""
+    address, port = int.from_bytes(socket.inet_aton(place[0]), sys.byteorder), place[1]
+    rows = [line.split() for line in pathlib.Path("/proc/net/udp").read_text().splitlines()]
+    return next(int(row[-1]) for row in rows if row[1] == f"{address:08X}:{port:04X}")
+
+
+TESTS = [
+    sixty_four_home_servers_each_answer_once,
+    a_drain_of_sixty_four_lanes_drains_each,
+    two_hundred_fifty_six_clients_are_counted,
+    the_widest_window_is_out_at_once,
+    the_longest_packets_pass_both_ways,
+    one_of_each,
+    seventy_thousand_requests_pass_one_lane,
+    all_that_is_over_is_cut_at_once,
+    moments_go_on_behind_32_bits,
+    the_longest_linger_is_no_short_one,
+    no_linger_ends_at_once,
+    the_longest_times_pass,
+    an_identifier_wraps_beside_a_probe,
+    the_longest_ring_fills,
+    drops_are_counted_behind_16_bits,
+]
+
+if __name__ == "__main__":
+    try_in_folders(TESTS, __doc__)
