@@ -21,7 +21,11 @@ SEED ?= 1
 SEEDS ?= 1000
 FIRST ?= 1
 
-.PHONY: build run test edits simulate growths spoiled soak bench figures bench-queue
+.PHONY: help build run serve replay test edits simulate growths spoiled soak cluster bench figures bench-queue
+
+# What `make` alone does: the line above each target that is called by hand.
+help:
+	@sed -n 's/^#: /make /p' Makefile
 
 # The mark of a program that was proved and built: made by `make build` and by the gate, and as old as the sources that they saw.
 STAMP = out/rad_proxy.stamp
@@ -32,34 +36,44 @@ IS_NEW = test -f $(STAMP) && \
 	test -z "$$(find crates/*/src crates/*/specs crates/*/proofs crates.txt $(KIT)bin -newer $(STAMP) -print -quit)"
 IS_BUILT = test -x $(PROGRAM) && $(IS_NEW)
 
+# Prints the path of the program: where it is not built, of one with nothing proved, which is made first.
+AT_HAND = if $(IS_BUILT); then echo $(PROGRAM); else $(TESTS).gate.unproved; fi
+
+# Where the auditor is built too, it judges the ledger of the conversation.
+#: run         the program at work over UDP, with a NAS and a home server; one to two minutes the first time, then ten seconds
+run:
+	@program=$$($(AT_HAND)) && $(TESTS).gate.first_run run $$program $$(if $(IS_BUILT) && test -x $(AUDITOR); then echo $(AUDITOR); fi)
+
+#: serve       serves examples/try.toml on this machine until Ctrl-D, with a home server that answers
+serve:
+	@program=$$($(AT_HAND)) && $(TESTS).gate.first_run serve $$program
+
+#: replay      how one request is answered, without sockets
+replay:
+	@program=$$($(AT_HAND)) && cat $(EXAMPLE) && echo "--- rad_proxy replay < $(EXAMPLE)" && $$program replay < $(EXAMPLE)
+
 # Proves and builds the program and the auditor, over what earlier checks kept, and runs the one as stored and the other over the
 # example.
+#: build       proves and builds the program and the auditor; more than an hour of processor time the first time
 build:
 	@mkdir -p out && touch out/rad_proxy.begun
 	@$(TESTS).gate.progress out/build.txt crates/rad_proxy $(RT) run < crates/rad_proxy/stdin
 	@$(TESTS).gate.progress out/build-audit.txt crates/rad_audit $(RT) run -- ../../examples/one-home.toml ../../examples/one-home.jsonl
 	@mv out/rad_proxy.begun $(STAMP)
 
-# Shows how the example's request is answered: by the program, where it is built, and else by a run that is not proved.
-run:
-	@if $(IS_BUILT); then program="$(PROGRAM)"; else \
-		program=tests/gate/unproved; \
-		echo "The program is not built: this run is not proved. 'make build' proves it, and leaves it at $(PROGRAM)."; \
-	fi; \
-	cat $(EXAMPLE); \
-	echo "--- $(PROGRAM) replay < $(EXAMPLE)"; \
-	$$program replay < $(EXAMPLE)
-
 # The whole gate: all proofs from nothing, the edits of must-fail/, the tests, the stored runs; and then each script that
 # tests/gate/scripts.py lists. The last line counts it all.
+#: test        the gate: all proofs from nothing, edits that have to be refused, tests; one to two hours on two processors
 test:
 	@$(TESTS).gate.run $(PROGRAM)
 
 # The wrong bodies that the gate leaves out: the prover has to refuse each one. ALONE=1 tries each by itself.
+#: edits       more edits that the prover has to refuse; CRATES="rad_lane" names crates
 edits:
 	@$(TESTS).gate.edits $(if $(ALONE),--alone) $(CRATES)
 
 # The simulation of the whole proxy, run with so many seeds. Where the gate did not leave it, it is proved and built first.
+#: simulate    the simulation of the whole proxy, by SEEDS seeds from FIRST on
 simulate:
 	@mkdir -p out
 	@if ! { test -x $(SIMULATION) && $(IS_NEW); }; then \
@@ -68,26 +82,41 @@ simulate:
 	@$(TESTS).models.simulations $(SIMULATION) $(SEEDS) $(FIRST)
 
 # Each growth refused in turn, in the program that was built and in the tests that were; the gate does it in the program.
+#: growths     each growth of memory refused in turn
 growths:
-	@$(TESTS).faults.growths $(PROGRAM) $(wildcard crates/*/out/*_tests)
+	@$(TESTS).faults.refused_memory $(PROGRAM) $(wildcard crates/*/out/*_tests)
 
 # Spoiled datagrams by chance, over the program that was built; the gate has a shorter run of a fixed chance.
+#: spoiled     DATAGRAMS corrupted datagrams to the program
 spoiled:
-	@$(TESTS).models.mutations $(PROGRAM) $(DATAGRAMS) $(SEED)
+	@$(TESTS).models.spoiled_datagrams $(PROGRAM) $(DATAGRAMS) $(SEED)
 
 # The program over UDP and a network that loses, for SECONDS, and then, for as long, whether its memory grows under a load
 # that does not; the gate has short runs of a fixed count of requests. Then fifty runs that are killed at random moments, and a
 # disk that takes ten seconds for each write, whose ledgers are compared with what was acknowledged.
+#: soak        the program over a network that loses, for SECONDS seconds; kills; a slow disk
 soak:
 	@status=0; \
-	$(TESTS).network.soak $(PROGRAM) --seconds $(SECONDS) $(SEED) || status=1; \
-	$(TESTS).faults.memory $(PROGRAM) --seconds $(SECONDS) || status=1; \
-	$(TESTS).network.soak $(PROGRAM) --kills 50 $(SEED) || status=1; \
-	$(TESTS).ledger.files $(PROGRAM) --long || status=1; \
+	$(TESTS).network.lossy_network $(PROGRAM) --seconds $(SECONDS) $(SEED) || status=1; \
+	$(TESTS).faults.memory_leaks $(PROGRAM) --seconds $(SECONDS) || status=1; \
+	$(TESTS).network.lossy_network $(PROGRAM) --kills 50 $(SEED) || status=1; \
+	$(TESTS).ledger.written_ledgers $(PROGRAM) --long || status=1; \
+	exit $$status
+
+# Tries the recipes of examples/cluster/ and the container of examples/container/ with machines in namespaces, as root: the tests that
+# the gate runs, and then all events in turn, of which each recipe prints what they cost. It takes some twelve minutes.
+#: cluster     tries the recipes of examples/cluster/ with machines in namespaces, as root
+cluster:
+	@status=0; \
+	for recipe in keepalived nft ecmp container; do \
+		$(TESTS).cluster.$$recipe $(PROGRAM) || status=1; \
+		$(TESTS).cluster.$$recipe $(PROGRAM) --long || status=1; \
+	done; \
 	exit $$status
 
 # Measures the program that was built, a bare relay, and radsecproxy and FreeRADIUS where they are installed; docs/performance.md
 # says how.
+#: bench       measures the program beside radsecproxy and FreeRADIUS, where they are installed
 bench: ROUNDS = 5
 bench: SECONDS = 3
 bench: RATE = 20000
@@ -99,11 +128,13 @@ bench:
 		$(if $(LONG),--long $(LONG)) $(if $(ONLY),--only "$(ONLY)") $(if $(SUBJECTS),--subjects "$(SUBJECTS)")
 
 # Puts the figures of the last `make bench` into docs/performance.md.
+#: figures     puts the figures of the last `make bench` into docs/performance.md
 figures:
 	@python3 -m bench.page out/bench
 	@$(TESTS).gate.docs --write
 
 # What a push and a pop of the chain of blocks cost beside those of std's `VecDeque`, and what memory a long queue takes.
+#: bench-queue measures the queue of blocks beside std's `VecDeque`
 bench-queue:
 	@python3 bench/queue/run.py
 
@@ -118,6 +149,8 @@ DOCDIR ?= $(PREFIX)/share/doc/rad_proxy
 TOOLSDIR ?= $(PREFIX)/share/rad_proxy
 UNITDIR ?= $(PREFIX)/lib/systemd/system
 SYSUSERSDIR ?= $(PREFIX)/lib/sysusers.d
+COMPLETIONSDIR ?= $(PREFIX)/share/bash-completion/completions
+SCHEMADIR ?= $(PREFIX)/share/rad_proxy
 SYSCONFDIR ?= /etc
 RUNDIR ?= /run
 STATEDIR ?= /var/lib
@@ -125,16 +158,17 @@ DESTDIR ?=
 
 # What is made of the sources of packaging/: the folders, and for the unit the configuration's name.
 FOLDERS = -e 's,@sbindir@,$(SBINDIR),g' -e 's,@libexecdir@,$(LIBEXECDIR),g' -e 's,@sysconfdir@,$(SYSCONFDIR),g' \
-	-e 's,@rundir@,$(RUNDIR),g' -e 's,@statedir@,$(STATEDIR),g'
+	-e 's,@rundir@,$(RUNDIR),g' -e 's,@statedir@,$(STATEDIR),g' -e 's,@version@,$(VERSION),g'
 ONE = -e 's,@of@,,' -e 's,@config@,rad_proxy,g' -e 's,@runtime@,rad_proxy,'
 UNITS = rad_proxy.service rad_proxy@.service rad_proxy-metrics.socket rad_proxy-metrics@.service
 MANY = -e 's,@of@, %i,' -e 's,@config@,%i,g' -e 's,@runtime@,rad_proxy-%i,'
 
-# The tools of a move, which are Python programs with modules beside them.
-TOOLS = rad_convert rad_trial
+# The tools, which are Python programs with modules beside them.
+TOOLS = rad_convert rad_ledger rad_resend rad_trial
 
 .PHONY: install install-proxy install-tools uninstall manual deb service
 
+#: install     installs what `make build` left, below PREFIX; `make uninstall` removes it
 install: install-proxy install-tools
 
 # Installs the program and the auditor that `make build` left, the scripts of the service, the units, the manual, the pages and the
@@ -150,6 +184,12 @@ install-proxy:
 	sed $(FOLDERS) packaging/rad_proxyctl.in > $(DESTDIR)$(SBINDIR)/rad_proxyctl
 	sed $(FOLDERS) packaging/serve.in > $(DESTDIR)$(LIBEXECDIR)/rad_proxy/serve
 	chmod 755 $(DESTDIR)$(SBINDIR)/rad_proxyctl $(DESTDIR)$(LIBEXECDIR)/rad_proxy/serve
+	install -m 644 packaging/probe.py $(DESTDIR)$(LIBEXECDIR)/rad_proxy
+	install -d $(DESTDIR)$(COMPLETIONSDIR)
+	sed $(FOLDERS) packaging/completion.bash.in > $(DESTDIR)$(COMPLETIONSDIR)/rad_proxyctl
+	chmod 644 $(DESTDIR)$(COMPLETIONSDIR)/rad_proxyctl
+	ln -sf rad_proxyctl $(DESTDIR)$(COMPLETIONSDIR)/rad_proxy
+	install -D -m 644 packaging/rad_proxy.schema.json $(DESTDIR)$(SCHEMADIR)/rad_proxy.schema.json
 	sed $(FOLDERS) $(ONE) packaging/rad_proxy.service.in > $(DESTDIR)$(UNITDIR)/rad_proxy.service
 	sed $(FOLDERS) $(MANY) packaging/rad_proxy.service.in > $(DESTDIR)$(UNITDIR)/rad_proxy@.service
 	sed $(FOLDERS) packaging/rad_proxy-metrics.socket.in > $(DESTDIR)$(UNITDIR)/rad_proxy-metrics.socket
@@ -175,25 +215,29 @@ install-tools:
 uninstall:
 	rm -f $(DESTDIR)$(SBINDIR)/rad_proxy $(DESTDIR)$(SBINDIR)/rad_proxyctl $(DESTDIR)$(BINDIR)/rad_audit
 	test ! -d $(DESTDIR)$(UNITDIR) || (cd $(DESTDIR)$(UNITDIR) && rm -f $(UNITS))
+	rm -f $(DESTDIR)$(COMPLETIONSDIR)/rad_proxyctl $(DESTDIR)$(COMPLETIONSDIR)/rad_proxy $(DESTDIR)$(SCHEMADIR)/rad_proxy.schema.json
 	rm -f $(DESTDIR)$(SYSUSERSDIR)/rad_proxy.conf $(DESTDIR)$(MANDIR)/man8/rad_proxy.8
 	rm -f $(DESTDIR)$(MANDIR)/man8/rad_proxyctl.8 $(DESTDIR)$(MANDIR)/man5/rad_proxy.toml.5 $(DESTDIR)$(MANDIR)/man1/rad_audit.1
 	rm -f $(TOOLS:%=$(DESTDIR)$(BINDIR)/%) $(TOOLS:%=$(DESTDIR)$(MANDIR)/man1/%.1)
 	rm -rf $(DESTDIR)$(LIBEXECDIR)/rad_proxy $(DESTDIR)$(TOOLSDIR) $(DESTDIR)$(DOCDIR)
 
 # Looks at the manual and at the scripts of the shell: mandoc and shellcheck have to find nothing.
+#: manual      lints the manual and the scripts of the shell
 manual:
 	mandoc -T lint -W warning man/man8/rad_proxy.8 man/man8/rad_proxyctl.8 man/man5/rad_proxy.toml.5 man/man1/rad_audit.1 \
 		$(TOOLS:%=man/man1/%.1)
-	shellcheck packaging/serve.in packaging/rad_proxyctl.in packaging/deb packaging/deb-tools packaging/debian/postinst \
-		packaging/debian/prerm packaging/debian/postrm tests/packaging/* tests/gate/unproved
+	shellcheck packaging/serve.in packaging/rad_proxyctl.in packaging/completion.bash.in packaging/deb packaging/deb-tools packaging/debian/postinst \
+		packaging/debian/prerm packaging/debian/postrm tests/packaging/*
 
 # A Debian package of the programs that `make build` left, and one of the tools, in out/.
+#: deb         makes Debian packages of it in out/
 deb:
 	@VERSION=$(VERSION) packaging/deb
 	@VERSION=$(VERSION) packaging/deb-tools
 
 # Tries the installed scripts and the program over UDP on this machine's own address: as they are used, and as they are misused.
+#: service     tests the scripts of the service over the program
 service:
 	@tests/packaging/try-service
-	@$(TESTS).service.run $(PROGRAM)
-	@$(TESTS).service.names $(PROGRAM)
+	@$(TESTS).service.serve_and_rad_proxyctl $(PROGRAM)
+	@$(TESTS).service.rad_proxyctl_metrics $(PROGRAM)
