@@ -1,4 +1,4 @@
--- The faults as they are printed (own).
+-- The printed names of the faults of reading and of writing a packet, and the place of an invalid attribute (own).
 use Rattle.std.specs.Prelude.{ℕ, List, ◌++◌, codes}
 use Rattle.std.specs.Fmt.{decimal}
 use Rattle.rad_packet.specs.declared.faults.ReadFault.{ReadFault}
