@@ -27,6 +27,11 @@ class Script:
         return TOP / "out" / f"{self.name}.txt"
 
     @property
+    def first_log(self):
+        """Its log of before, where it failed and ran once more."""
+        return self.log.with_suffix(".first.txt")
+
+    @property
     def file(self):
         return TOP / "tests" / f"{self.place}.py"
 
