@@ -139,7 +139,7 @@ bench-queue:
 	@python3 bench/queue/run.py
 
 # Where `make install` puts things. DESTDIR stands before each of them.
-VERSION = 0.1.0
+VERSION := $(shell sed -n 's/^VERSION = "\(.*\)"$$/\1/p' tools/version.py)
 PREFIX ?= /usr/local
 BINDIR ?= $(PREFIX)/bin
 SBINDIR ?= $(PREFIX)/sbin

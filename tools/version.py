@@ -1,2 +1,2 @@
-"""The version of the tools, which is that of rad_proxy."""
+"""The version of rad_proxy and its tools. What can't read it here, the gate compares with it."""
 VERSION = "0.1.0"

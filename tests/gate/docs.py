@@ -1,7 +1,7 @@
-"""Checks the links, paths and figures of the pages, the list of definitions of docs/map.md, and the libraries of crates.txt.
+"""Checks the links, paths and figures of the pages, the list of definitions of docs/map.md, the libraries of crates.txt, and versions.
 
 usage: python3 -m tests.gate.docs --check    what is wrong, a line for each; the last line is `N passed, M failed`, of links, paths,
-       stretches and libraries
+       stretches, libraries and versions
        python3 -m tests.gate.docs --write    writes the stretches of the pages that are made from other files
 
 A stretch stands between `<!-- NAME: begin -->` and `<!-- NAME: end -->`. `definitions` is made from the first comment of each file of
@@ -22,6 +22,8 @@ FOLDERS = ("bench", "crates", "docs", "examples", "man", "packaging", "tests")
 PATH = re.compile(r"(?<![\w./@~$-])(?:[\w.-]+/)*[\w-]+\.(?:rt|antt|py|md|c|h|toml|yml|json|jsonl|svg|replay|answers|edit|row|conf|in)(?![\w/-]|\.\w)")
 # What a Rattle file names: a crate before two colons, or behind `Rattle.` in a definition.
 NAMED = re.compile(r"\b([a-z]\w*)::|\bRattle\.([a-z]\w*)\.")
+# A version, as a constant or as the heading of the newest one.
+VERSION = re.compile(r"^(?:(?:pub )?(?:const )?VERSION(?:: &str)? = \"|## )(\d+\.\d+\.\d+)\b", re.MULTILINE)
 PLACE = re.compile(r"(?<![\w./@~$-])(?:" + "|".join(FOLDERS) + r")(?:/[\w.@-]+)+/?")
 
 
@@ -218,9 +220,18 @@ def listed():
         yield from (None if it in named or it in told[name] else f"{name} lists {it}, which no file of it names" for it in libraries)
 
 
+def versions():
+    """For each file that has a version of its own: nothing, or that it is not that of the tools."""
+    ours = VERSION.search((TOP / "tools/version.py").read_text("utf-8"))[1]
+    for path in [*sorted(TOP.glob("crates/*/src/**/*.rt")), TOP / "CHANGELOG.md"]:
+        its = VERSION.search(path.read_text("utf-8"))
+        if its:
+            yield path, None if its[1] == ours else f"its version is {its[1]}, and that of tools/version.py is {ours}"
+
+
 def check():
-    """Prints what is wrong with the pages and with crates.txt, and returns whether nothing is."""
-    found = [(TOP / "crates.txt", finding) for finding in listed()]
+    """Prints what is wrong with the pages, with crates.txt and with the versions, and returns whether nothing is."""
+    found = [*versions(), *((TOP / "crates.txt", finding) for finding in listed())]
     for page in PAGES:
         text = page.read_text("utf-8")
         findings = [*dead_links(page, text), *stretches(text)] + ([] if page.name == "CHANGELOG.md" else [*lost_paths(page, text)])
