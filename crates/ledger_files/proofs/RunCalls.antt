@@ -184,7 +184,7 @@ pub begun : (before after : Option (List File)) (path : List ℕ) (first next : 
 begun None after path first next old new last again lines e n keeps d w o z h = let P : Option (List File) → Type 0 = λ x. Of x next new again lines in subst P (sym e) h
 begun (Some fs) after path first next old new last again lines e n keeps d w o z h =
     let P : Option (List File) → Type 0 = λ x. Of x next new again lines in
-    let to : List File = record { path = path; octets = [] } ∷ fs in
+    let to : List File = record { path = path; octets = []; synced = 0 } ∷ fs in
     let Q : ℕ → Type 0 = λ k. IsRunWith to next.octets.items k h.left 0 last.octets.items 0 lines in
     let R : List ℕ → Type 0 = λ x. IsRunWith to next.octets.items next.done h.left 0 x 0 lines in
     let S : ℕ → Type 0 = λ k. IsRunWith to next.octets.items next.done h.left 0 again.octets.items k lines in

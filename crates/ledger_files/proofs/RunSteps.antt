@@ -77,7 +77,7 @@ module _ (first : List ℕ) (begun : ℕ) (line : List ℕ) (more : List (List �
 
 module _ (files : List File) (first : List ℕ) (begun : ℕ) (left : List (List ℕ)) (written : ℕ) (last : List ℕ) (ended : ℕ) (lines : List (List ℕ)) where
   pub begin_step : (path next : List ℕ) → IsRunWith files first begun left written last ended lines
-      → IsRunWith (record { path = path; octets = [] } ∷ files) next 0 left 0 last 0 lines
+      → IsRunWith (record { path = path; octets = []; synced = 0 } ∷ files) next 0 left 0 last 0 lines
   begin_step path next h = record {
     parts = record { begin = next; lines = [] } ∷ h.parts;
     lines_are = h.lines_are ∙ ap (λ (x : List (List ℕ)). x ++ left) (sym (append-nil (lines_of h.parts)));

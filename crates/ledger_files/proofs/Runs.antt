@@ -72,7 +72,7 @@ module _ (file : File) (part : Part) (first left last : List ℕ) (begun written
 -- ---- octets are written
 
 abbrev pub written_to : File → List ℕ → File
-written_to file octets = record { path = file.path; octets = file.octets ++ octets }
+written_to file octets = record { path = file.path; octets = file.octets ++ octets; synced = file.synced }
 
 take_more : (xs : List ℕ) (n m : ℕ) → n ≤ m → take n xs ++ slice_range xs n m ≡ take m xs
 take_more xs n m l =

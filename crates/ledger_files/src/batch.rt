@@ -136,6 +136,7 @@ impl Batch {
         ensures written { (self.old.done ≤ self.new.done) × (D.files disk.new ≡ wrote (D.files disk.old) (slice_range self.old.octets.items self.old.done self.new.done)) }
         ensures all { OnOk result (self.new.done ≡ vec_len self.old.octets) }
         ensures whole { self.new.whole ≡ self.old.whole }
+        ensures same { (self.new.octets ≡ self.old.octets) × (self.new.heads ≡ self.old.heads) × (self.new.ends ≡ self.old.ends) }
         ensures none { self.old.done ≡ vec_len self.old.octets → (disk.new ≡ disk.old) × IsOk result }
     {
         let (done, outcome) = write_rest(disk, self.octets.as_slice(), self.done);
@@ -147,7 +148,7 @@ impl Batch {
     #[tactic(auto, using(crate::proofs::Ends::holds_same, crate::proofs::Ends::holds_passed))]
     pub fn pass_line(&mut self) -> Option<LineHead>
         ensures lines { (lines : List (List ℕ)) → HoldsLines self.old lines → HoldsLines self.new lines }
-        ensures done { self.new.done ≡ self.old.done }
+        ensures same { (self.new.done ≡ self.old.done) × (self.new.octets ≡ self.old.octets) × (self.new.heads ≡ self.old.heads) × (self.new.ends ≡ self.old.ends) }
         ensures passed { MatchOption result (self.new.whole ≡ self.old.whole) (λ head. (self.new.whole ≡ self.old.whole + 1) × IsHeadOf self.old head × (slice_index self.old.ends.items self.old.whole ≤ self.old.done)) }
         ensures rest { MatchOption result (self.old.whole < vec_len self.old.ends → self.old.done < slice_index self.old.ends.items self.old.whole) (λ _. Unit {0}) }
     {

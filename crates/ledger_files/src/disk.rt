@@ -1,7 +1,7 @@
 //! What the thread that writes a ledger needs of a disk.
 
 ghost use Rattle.std.specs.Prelude.{◌≡◌, ◌↔◌, ◌≤◌, ◌<◌, ◌^◌, ℕ, List, length, take, Option, None, IfSome, IsTrue, MatchResult, string_bytes};
-ghost use Rattle.ledger_files.specs.Files.{File, made, wrote, IsOpen, octets_of_open};
+ghost use Rattle.ledger_files.specs.Files.{File, made, wrote, synced, IsOpen, octets_of_open};
 
 /// Why a step on a disk failed. A step that the system refused has the system's error number, or 0 if it gave none.
 #[derive(Clone, Copy, Debug, PartialEq, Eq)]
@@ -23,8 +23,8 @@ pub enum DiskFault {
 pub trait LedgerDisk {
     ghost files: { Self → Option (List File) } = { λ _. None };
 
-    /// Makes a file of this path, which must not exist yet, in place of the one that is open. That one is synced and
-    /// closed.
+    /// Makes a file of this path, which must not exist yet, in place of the one that is open. That one is closed, and what
+    /// was not synced of it stays so.
     ///
     /// # Errors
     ///
@@ -55,11 +55,11 @@ pub trait LedgerDisk {
     fn write(&mut self, octets: &[u8]) -> Result<usize, DiskFault>
         ensures { MatchResult result (λ count. (count ≤ length octets.now) × (files self.new ≡ wrote (files self.old) (take count octets.now))) (λ _. files self.new ≡ files self.old) };
 
-    /// Has the system put on its disk what was written to the file that is open.
+    /// Has the system put on its disk what was written to the file that is open, if there is one.
     ///
     /// # Errors
     ///
-    /// `Sync` if the system refuses it.
+    /// `Sync` if the system refuses it. What was not synced stays so.
     fn sync(&mut self) -> Result<(), DiskFault>
-        ensures { files self.new ≡ files self.old };
+        ensures { MatchResult result (λ _. files self.new ≡ synced (files self.old)) (λ _. files self.new ≡ files self.old) };
 }

@@ -1,8 +1,9 @@
 //! The files of a run, and the lines that are to be written to the one that is open.
 
-ghost use Rattle.std.specs.Prelude.{◌≡◌, ◌↔◌, ◌<◌, ◌+◌, [], ◌∷◌, ◌++◌, List, ℕ, Some, vec_len, IfSome, IsTrue, MatchResult};
+ghost use Rattle.std.specs.Prelude.{◌≡◌, ◌↔◌, ◌≤◌, ◌<◌, ◌+◌, [], ◌∷◌, ◌++◌, List, ℕ, Some, vec_len, slice_index, slice_range, IfSome, IsTrue, MatchOption, MatchResult, OnOk};
 ghost use Rattle.ledger_files.specs.Batches.{HoldsLines, IsHeadOf};
-ghost use Rattle.ledger_files.specs.Runs.{IsRun};
+ghost use Rattle.ledger_files.specs.Files.{IsOpen, synced, wrote};
+ghost use Rattle.ledger_files.specs.Runs.{HoldsSame, IsRun};
 
 use crate::batch::{Batch, LineHead};
 use crate::disk::{DiskFault, LedgerDisk};
@@ -125,7 +126,10 @@ impl<D: LedgerDisk + Drop> RunFiles<D> {
     ///
     /// `Gone` if no file is open or it is not at its path any more, and that of [`LedgerDisk::write`].
     pub fn write(&mut self) -> Result<(), DiskFault>
-        ensures { (lines : List (List ℕ)) → IsRun (D.files self.old.disk) self.old lines → IsRun (D.files self.new.disk) self.new lines }
+        ensures same { HoldsSame self.old self.new × (self.new.last.done ≡ self.old.last.done) }
+        ensures written { (self.old.first.done ≤ self.new.first.done) × (self.old.batch.done ≤ self.new.batch.done) × (D.files self.new.disk ≡ wrote (wrote (D.files self.old.disk) (slice_range self.old.first.octets.items self.old.first.done self.new.first.done)) (slice_range self.old.batch.octets.items self.old.batch.done self.new.batch.done)) }
+        ensures all { OnOk result ((self.new.first.done ≡ vec_len self.old.first.octets) × (self.new.batch.done ≡ vec_len self.old.batch.octets)) }
+        ensures run { (lines : List (List ℕ)) → IsRun (D.files self.old.disk) self.old lines → IsRun (D.files self.new.disk) self.new lines }
     {
         if !self.disk.is_open() {
             return Err(DiskFault::Gone);
@@ -138,7 +142,9 @@ impl<D: LedgerDisk + Drop> RunFiles<D> {
 
     /// Counts the next line of an entry as written whole, if it is, and returns what it is of.
     pub fn pass_line(&mut self) -> Option<LineHead>
-        ensures passed { IfSome result (λ head. (self.new.batch.whole ≡ self.old.batch.whole + 1) × IsHeadOf self.old.batch head) }
+        ensures same { (self.new.disk ≡ self.old.disk) × (self.new.first ≡ self.old.first) × (self.new.last ≡ self.old.last) × (self.new.batch.done ≡ self.old.batch.done) × (self.new.batch.octets ≡ self.old.batch.octets) × (self.new.batch.heads ≡ self.old.batch.heads) × (self.new.batch.ends ≡ self.old.batch.ends) }
+        ensures passed { MatchOption result (self.new.batch.whole ≡ self.old.batch.whole) (λ head. (self.new.batch.whole ≡ self.old.batch.whole + 1) × IsHeadOf self.old.batch head × (slice_index self.old.batch.ends.items self.old.batch.whole ≤ self.old.batch.done)) }
+        ensures rest { MatchOption result (IfSome (D.files self.old.disk) (λ files. IsOpen files → self.old.first.done ≡ vec_len self.old.first.octets → self.old.batch.whole < vec_len self.old.batch.ends → self.old.batch.done < slice_index self.old.batch.ends.items self.old.batch.whole)) (λ _. Unit {0}) }
         ensures run { (lines : List (List ℕ)) → IsRun (D.files self.old.disk) self.old lines → IsRun (D.files self.new.disk) self.new lines }
     {
         if !self.disk.is_open() || !self.first.is_done() {
@@ -148,28 +154,36 @@ impl<D: LedgerDisk + Drop> RunFiles<D> {
         Some(head)
     }
 
-    /// Writes the line that ends the run, as far as it is not written, once all lines before it are.
+    /// Writes the line that ends the run, as far as it is not written, if all lines before it are.
     ///
     /// # Errors
     ///
-    /// That of [`LedgerDisk::write`].
+    /// `Gone` if no file is open, and that of [`LedgerDisk::write`].
     pub fn write_end(&mut self) -> Result<(), DiskFault>
-        ensures { (lines : List (List ℕ)) → IsRun (D.files self.old.disk) self.old lines → IsRun (D.files self.new.disk) self.new lines }
+        ensures same { HoldsSame self.old self.new × (self.new.first ≡ self.old.first) × (self.new.batch ≡ self.old.batch) }
+        ensures written { (self.old.last.done ≤ self.new.last.done) × (D.files self.new.disk ≡ wrote (D.files self.old.disk) (slice_range self.old.last.octets.items self.old.last.done self.new.last.done)) }
+        ensures all { OnOk result (self.old.first.done ≡ vec_len self.old.first.octets → self.old.batch.done ≡ vec_len self.old.batch.octets → self.new.last.done ≡ vec_len self.old.last.octets) }
+        ensures run { (lines : List (List ℕ)) → IsRun (D.files self.old.disk) self.old lines → IsRun (D.files self.new.disk) self.new lines }
     {
-        if !self.disk.is_open() || !self.first.is_done() || self.batch.left() != 0 {
+        if !self.disk.is_open() {
+            return Err(DiskFault::Gone);
+        }
+        if !self.first.is_done() || self.batch.left() != 0 {
             return Ok(());
         }
         self.last.write(&mut self.disk)?;
         Ok(())
     }
 
-    /// Has the system put on its disk what was written.
+    /// Has the system put on its disk what was written to the file that is open.
     ///
     /// # Errors
     ///
-    /// That of [`LedgerDisk::sync`].
+    /// That of [`LedgerDisk::sync`]. What was not synced stays so.
     pub fn sync(&mut self) -> Result<(), DiskFault>
-        ensures { (lines : List (List ℕ)) → IsRun (D.files self.old.disk) self.old lines → IsRun (D.files self.new.disk) self.new lines }
+        ensures same { (self.new.first ≡ self.old.first) × (self.new.batch ≡ self.old.batch) × (self.new.last ≡ self.old.last) }
+        ensures synced { MatchResult result (λ _. D.files self.new.disk ≡ synced (D.files self.old.disk)) (λ _. D.files self.new.disk ≡ D.files self.old.disk) }
+        ensures run { (lines : List (List ℕ)) → IsRun (D.files self.old.disk) self.old lines → IsRun (D.files self.new.disk) self.new lines }
     {
         self.disk.sync()
     }

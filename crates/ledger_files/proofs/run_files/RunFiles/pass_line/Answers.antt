@@ -6,7 +6,7 @@ pub returns-in_err-head-clause-run : goal.returns-in_err-head-clause-run
 returns-in_err-head-clause-run g c = λ lines h.
     let run = c.args.self.now in
     batch_kept (g.D.LedgerDisk.files run.disk) run.first run.batch c.pass_line.new.self run.last lines
-    (λ held k. c.pass_line.ensures.lines held k) c.pass_line.ensures.done c.in_err-head.ensures.passed h
+    (λ held k. c.pass_line.ensures.lines held k) c.pass_line.ensures.same.0 c.in_err-head.ensures.passed h
 
 pub returns-clause-run : goal.returns-clause-run
 returns-clause-run g c = λ lines h.
@@ -14,5 +14,5 @@ returns-clause-run g c = λ lines h.
     let opens = is_open (g.D.LedgerDisk.files run.disk) c.is_open.result c.is_open.ensures c.if-not-is_open.false in
     passed (g.D.LedgerDisk.files run.disk) run.first run.batch c.pass_line.new.self run.last lines opens
     (omega (arith, c.is_done.ensures.0 c.if-not-is_done.false, run.first.octets.ok.0))
-    (λ held k. c.pass_line.ensures.lines held k) c.pass_line.ensures.done c.in_ok-head.ensures.passed.0
+    (λ held k. c.pass_line.ensures.lines held k) c.pass_line.ensures.same.0 c.in_ok-head.ensures.passed.0
     (omega (arith, c.in_ok-head.ensures.passed.1.some, run.batch.counted.0, run.batch.heads.ok.0, run.batch.ends.ok.0)) c.in_ok-head.ensures.passed.2 h
