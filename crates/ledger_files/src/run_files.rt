@@ -160,19 +160,19 @@ impl<D: LedgerDisk + Drop> RunFiles<D> {
     ///
     /// `Gone` if no file is open, and that of [`LedgerDisk::write`].
     pub fn write_end(&mut self) -> Result<(), DiskFault>
-        ensures same { HoldsSame self.old self.new × (self.new.first ≡ self.old.first) × (self.new.batch ≡ self.old.batch) }
+        ensures same { (self.new.first ≡ self.old.first) × (self.new.batch ≡ self.old.batch) × (self.new.last.octets ≡ self.old.last.octets) }
         ensures written { (self.old.last.done ≤ self.new.last.done) × (D.files self.new.disk ≡ wrote (D.files self.old.disk) (slice_range self.old.last.octets.items self.old.last.done self.new.last.done)) }
         ensures all { OnOk result (self.old.first.done ≡ vec_len self.old.first.octets → self.old.batch.done ≡ vec_len self.old.batch.octets → self.new.last.done ≡ vec_len self.old.last.octets) }
         ensures run { (lines : List (List ℕ)) → IsRun (D.files self.old.disk) self.old lines → IsRun (D.files self.new.disk) self.new lines }
     {
-        if !self.disk.is_open() {
-            return Err(DiskFault::Gone);
-        }
         if !self.first.is_done() || self.batch.left() != 0 {
             return Ok(());
         }
-        self.last.write(&mut self.disk)?;
-        Ok(())
+        if self.disk.is_open() {
+            self.last.write(&mut self.disk)
+        } else {
+            Err(DiskFault::Gone)
+        }
     }
 
     /// Has the system put on its disk what was written to the file that is open.
