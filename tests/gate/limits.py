@@ -121,7 +121,9 @@ NUMBERS = {
         "RESPONSE": ("0", FORM), "QUEUED": ("1", FORM), "OUTSTANDING": ("2", FORM), "UNTAKEN": ("3", FORM),
         "UNKNOWN_SENDINGS": ("u16::MAX", FORM), "UNKNOWN_TIME": ("u64::MAX", FORM)},
     "rad_writer/src/runtime_disk.rt": {"MODE": ("0o640", "ledger/written_ledgers TESTS")},
-    "rad_writer/src/writer.rt": {"PAUSE": ("50", "ledger/written_ledgers WRITTEN"), "AGAIN": ("1000", CHOICE), "SYNC": ("900", "ledger/written_ledgers SYNCED")},
+    "rad_writer/src/writer.rt": {
+        "PAUSE": ("50", "ledger/written_ledgers WRITTEN"), "AGAIN": ("1000", CHOICE), "SYNC": ("900", "ledger/written_ledgers SYNCED"),
+        "ANEW": ("60_000", "ledger/disk_faults FAILS")},
 }
 
 # By key of a home server: the least and the most, and what sees that a lane works at both. That they are the bounds is proved.

@@ -97,6 +97,7 @@ SCRIPTS = [
     Script("faults/memory_leaks", is_alone=True),
     Script("network/parallel_lanes", is_alone=True),
     Script("ledger/written_ledgers", is_alone=True),
+    Script("ledger/disk_faults", is_alone=True),
     Script("ledger/auditor_spoiled_lines", AUDITOR, is_alone=True),
     Script("tools/judge"),
     Script("tools/trial", is_alone=True),

@@ -306,7 +306,8 @@ def a_folder_that_is_made_anew(trial):
     trial.ask(300)
     trial.ends()
     trial.is_all_there(files=[*trial.files(other), *trial.files()])
-    hope("the second file", trial.ledger_lines()[0]["lanes"][0]["serial"], 300)
+    hope("the second file", trial.ledger_lines()[0]["lanes"][0]["serial"], 0)
+    hope("what is told", [line.partition("lost ")[2] for line in trial.events("ledger-lost")], ["lane=0 count=300 from=0 to=299"])
 
 
 def a_limit_of_size_is_a_next_file(trial):
@@ -524,10 +525,11 @@ def midnight_is_a_next_file(trial):
 class Steered:
     """A time of day that this test sets while the program runs. It begins at noon of a day, and days are counted from that one."""
 
-    def __init__(self, trial):
+    def __init__(self, trial, *preloads, **variables):
         self.file, self.noon = trial.room / "ahead", (int(time.time()) // 86_400 + 1) * 86_400 + 43_200
         self.set(0)
-        trial.begin(LD_PRELOAD=built(trial.room, "wrong_clock"), CLOCK_FILE=str(self.file))
+        preloaded = ":".join(str(built(trial.room, name)) for name in ("wrong_clock", *preloads))
+        trial.begin(LD_PRELOAD=preloaded, CLOCK_FILE=str(self.file), **variables)
         until("the first file", trial.files)
 
     def set(self, days, seconds=0):

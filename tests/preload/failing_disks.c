@@ -5,7 +5,7 @@
  * line to the file SYNC_LOG. Before the program first makes a file whose path begins with TAKEN_PATH, another one is there already,
  * with the text "taken". And it lets steps of the files whose path begins with DISK_PATH fail: so many times the mode can't be set
  * (MODE_FAULTS) and a file can't be looked at (LOOK_FAULTS). A write takes at most WRITE_MOST octets. Once all writes took ROOM octets,
- * so many fail for want of room (WRITE_FAULTS), and the others take all.
+ * so many fail for want of room (WRITE_FAULTS), and the others take all. While the file SYNC_FAILS is there each sync fails.
  */
 #define _GNU_SOURCE
 #include <dlfcn.h>
@@ -99,18 +99,26 @@ static void note_sync(void)
     }
 }
 
+static int sync_by(const char *call, int file)
+{
+    int (*next)(int) = dlsym(RTLD_NEXT, call);
+    const char *fails = getenv("SYNC_FAILS");
+    note_sync();
+    if (fails && access(fails, F_OK) == 0) {
+        errno = EIO;
+        return -1;
+    }
+    return next(file);
+}
+
 int fdatasync(int file)
 {
-    int (*next)(int) = dlsym(RTLD_NEXT, "fdatasync");
-    note_sync();
-    return next(file);
+    return sync_by("fdatasync", file);
 }
 
 int fsync(int file)
 {
-    int (*next)(int) = dlsym(RTLD_NEXT, "fsync");
-    note_sync();
-    return next(file);
+    return sync_by("fsync", file);
 }
 
 static void take(opening next, const char *path)

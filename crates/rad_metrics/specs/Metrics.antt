@@ -140,13 +140,17 @@ abbrev pub ledger_family : LedgerMetric → Described
 ledger_family ledger.Written = counter (codes "ledger_written_total") (codes "Entries that were written to the ledger.")
 ledger_family ledger.Waiting = gauge (codes "ledger_waiting") (codes "Entries that wait to be written to the ledger.")
 ledger_family ledger.Dropped = counter (codes "ledger_dropped_total") (codes "Entries that are missing from the ledger because too many waited.")
+ledger_family ledger.Lost = counter (codes "ledger_lost_total") (codes "Entries that were written to a file of the ledger that is gone.")
 ledger_family ledger.Age = gauge (codes "ledger_oldest_waiting_seconds") (codes "The age of the oldest entry that waits.")
+ledger_family ledger.Unsynced = gauge (codes "ledger_unsynced_seconds") (codes "The age of the oldest part of the ledger that is not synced.")
 
 abbrev pub ledger_value : LedgerMetric → LedgerReading → Value
 ledger_value ledger.Written reading = Count reading.written
 ledger_value ledger.Waiting reading = Count reading.waiting
 ledger_value ledger.Dropped reading = Count reading.dropped
+ledger_value ledger.Lost reading = Count reading.lost
 ledger_value ledger.Age reading = Milliseconds reading.age
+ledger_value ledger.Unsynced reading = Milliseconds reading.unsynced
 
 -- The lines of a metric of the ledger.
 unfoldable pub ledger_metric_text : LedgerMetric → LedgerReading → List ℕ
@@ -158,4 +162,5 @@ abbrev pub ledger_text : Option LedgerReading → List ℕ
 ledger_text None = codes ""
 ledger_text (Some reading) =
     ledger_metric_text ledger.Written reading ++ ledger_metric_text ledger.Waiting reading
-    ++ ledger_metric_text ledger.Dropped reading ++ ledger_metric_text ledger.Age reading
+    ++ ledger_metric_text ledger.Dropped reading ++ ledger_metric_text ledger.Lost reading
+    ++ ledger_metric_text ledger.Age reading ++ ledger_metric_text ledger.Unsynced reading

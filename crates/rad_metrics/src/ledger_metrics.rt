@@ -20,8 +20,12 @@ pub struct LedgerReading {
     pub waiting: u64,
     /// How many entries were dropped, since too many waited.
     pub dropped: u64,
+    /// How many entries were written to a file that was gone while it was open.
+    pub lost: u64,
     /// How many milliseconds ago the oldest entry was handed over that waits.
     pub age: u64,
+    /// How many milliseconds ago the oldest octet was written that is not synced.
+    pub unsynced: u64,
 }
 
 /// A metric of the ledger.
@@ -30,8 +34,11 @@ pub enum LedgerMetric {
     Written,
     Waiting,
     Dropped,
+    Lost,
     /// How long the oldest entry that waits has waited.
     Age,
+    /// How long the oldest octet that is not synced has been written.
+    Unsynced,
 }
 
 /// The lines of a metric of the ledger, with what is known of it.
@@ -52,7 +59,9 @@ impl LedgerMetric {
             LedgerMetric::Written => Counter("ledger_written_total", "Entries that were written to the ledger."),
             LedgerMetric::Waiting => Gauge("ledger_waiting", "Entries that wait to be written to the ledger."),
             LedgerMetric::Dropped => Counter("ledger_dropped_total", "Entries that are missing from the ledger because too many waited."),
+            LedgerMetric::Lost => Counter("ledger_lost_total", "Entries that were written to a file of the ledger that is gone."),
             LedgerMetric::Age => Gauge("ledger_oldest_waiting_seconds", "The age of the oldest entry that waits."),
+            LedgerMetric::Unsynced => Gauge("ledger_unsynced_seconds", "The age of the oldest part of the ledger that is not synced."),
         }
     }
 
@@ -64,7 +73,9 @@ impl LedgerMetric {
             LedgerMetric::Written => Value::Count(reading.written),
             LedgerMetric::Waiting => Value::Count(reading.waiting),
             LedgerMetric::Dropped => Value::Count(reading.dropped),
+            LedgerMetric::Lost => Value::Count(reading.lost),
             LedgerMetric::Age => Value::Milliseconds(reading.age),
+            LedgerMetric::Unsynced => Value::Milliseconds(reading.unsynced),
         }
     }
 }
@@ -115,7 +126,9 @@ impl fmt::Display for LedgerMetrics {
         let written = MetricLines(LedgerMetric::Written, reading);
         let waiting = MetricLines(LedgerMetric::Waiting, reading);
         let dropped = MetricLines(LedgerMetric::Dropped, reading);
+        let lost = MetricLines(LedgerMetric::Lost, reading);
         let age = MetricLines(LedgerMetric::Age, reading);
-        write!(f, "{written}{waiting}{dropped}{age}")
+        let unsynced = MetricLines(LedgerMetric::Unsynced, reading);
+        write!(f, "{written}{waiting}{dropped}{lost}{age}{unsynced}")
     }
 }

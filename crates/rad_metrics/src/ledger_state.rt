@@ -1,8 +1,10 @@
 //! What the thread that writes the ledger shares with the front and with the reporter, and the log lines of the ledger.
 
+use crate::lane_serials::{LaneSerials, LostSerials};
 use crate::ledger_fault::LedgerFault;
 use crate::ledger_metrics::LedgerReading;
 use rad_log::{Level, Log, WriterState, tell};
+use std::alloc::{AllocError, Global};
 use std::fmt;
 use std::sync::atomic::{AtomicU64, Ordering};
 use std::sync::{OnceLock, Wait};
@@ -23,6 +25,12 @@ pub struct LedgerState {
     /// When the oldest entry was handed over that the thread took and did not write yet, in milliseconds since 1970; 0
     /// if there is none.
     oldest: AtomicU64,
+    /// When the oldest octet was written that is not synced, in milliseconds since 1970; 0 if all are.
+    unsynced: AtomicU64,
+    /// How many entries were written to a file that was gone while it was open.
+    lost: AtomicU64,
+    /// The lanes, in order.
+    lanes: Vec<LaneSerials>,
     /// The fault that is to be logged, as a number; 0 if there is none.
     fault: AtomicU64,
     /// 1 if it is to be logged that entries are written again.
@@ -41,14 +49,22 @@ pub struct LedgerState {
 }
 
 impl LedgerState {
-    /// Makes a state without a thread and without entries.
-    pub fn new() -> LedgerState {
-        LedgerState {
+    /// Makes a state of so many lanes without a thread and without entries.
+    ///
+    /// # Errors
+    ///
+    /// `AllocError` if memory is refused.
+    pub fn new(alloc: Global, lanes: usize) -> Result<LedgerState, AllocError> {
+        let lanes = LaneSerials::of_lanes(alloc, lanes)?;
+        Ok(LedgerState {
             begun: AtomicU64::new(0),
             put: AtomicU64::new(0),
             written: AtomicU64::new(0),
             dropped: AtomicU64::new(0),
             oldest: AtomicU64::new(0),
+            unsynced: AtomicU64::new(0),
+            lost: AtomicU64::new(0),
+            lanes,
             fault: AtomicU64::new(0),
             is_back: AtomicU64::new(0),
             told: AtomicU64::new(0),
@@ -57,7 +73,7 @@ impl LedgerState {
             left_since: OnceLock::new(),
             is_clean: AtomicU64::new(0),
             state: WriterState::new(),
-        }
+        })
     }
 
     /// Makes the thread begin the first file, since entries may come.
@@ -109,8 +125,23 @@ impl LedgerState {
         self.oldest.store(oldest, Ordering::SeqCst);
     }
 
-    /// Records a fault, which is to be logged.
+    /// Records when the oldest octet was written that is not synced; `None` if all are.
+    pub fn set_unsynced(&self, milliseconds: Option<u64>) {
+        let unsynced = milliseconds.unwrap_or(0);
+        self.unsynced.store(unsynced, Ordering::SeqCst);
+    }
+
+    /// Counts entries of a lane that were written to a file that is gone: so many, from the serial `from` to `to`.
+    pub fn lose(&self, lane: u16, count: u64, from: u64, to: u64) {
+        self.lost.fetch_add(count, Ordering::SeqCst);
+        if let Some(serials) = self.lanes.get(usize::from(lane)) {
+            serials.lose(LostSerials { count, from, to });
+        }
+    }
+
+    /// Records a fault, which is to be logged. The ledger is not written again before [`LedgerState::goes_on`].
     pub fn fail(&self, fault: LedgerFault) {
+        self.is_back.store(0, Ordering::SeqCst);
         self.fault.store(fault.number(), Ordering::SeqCst);
     }
 
@@ -166,21 +197,17 @@ impl LedgerState {
     /// Returns the counts, at this moment in milliseconds since 1970.
     pub fn reading(&self, now: u64) -> LedgerReading {
         let written = self.written.load(Ordering::SeqCst);
-        let oldest = self.oldest.load(Ordering::SeqCst);
-        let age = if oldest == 0 {
-            0
-        } else {
-            now.saturating_sub(oldest)
-        };
         LedgerReading {
             written,
             waiting: self.put.load(Ordering::SeqCst).saturating_sub(written),
             dropped: self.dropped.load(Ordering::SeqCst),
-            age,
+            lost: self.lost.load(Ordering::SeqCst),
+            age: age_of(&self.oldest, now),
+            unsynced: age_of(&self.unsynced, now),
         }
     }
 
-    /// Logs what is not logged yet: a fault, that entries are written again, and how many were dropped.
+    /// Logs what is not logged yet: a fault, that entries are written again, and which ones are lost, or dropped how many.
     pub fn tell<L: Log>(&self, log: &L) {
         if let Some(fault) = LedgerFault::of_number(self.fault.swap(0, Ordering::SeqCst)) {
             log_ledger_fault(log, fault);
@@ -188,10 +215,22 @@ impl LedgerState {
         if self.is_back.swap(0, Ordering::SeqCst) != 0 {
             tell(log, Level::Info, &LedgerLine::Back);
         }
+        self.tell_lost(log);
         let dropped = self.dropped.load(Ordering::SeqCst);
         let count = dropped.saturating_sub(self.told.swap(dropped, Ordering::SeqCst));
         if count != 0 {
             tell(log, Level::Error, &LedgerLine::Dropped(count));
+        }
+    }
+
+    /// Logs which entries are lost, if that is not logged yet.
+    fn tell_lost<L: Log>(&self, log: &L) {
+        for (lane, serials) in self.lanes.iter().enumerate() {
+            if let Some(lost) = serials.take_lost() {
+                let lane = lane as u64;
+                let line = LedgerLine::Lost(lane, lost.count, lost.from, lost.to);
+                tell(log, Level::Error, &line);
+            }
         }
     }
 
@@ -209,6 +248,14 @@ impl LedgerState {
     }
 }
 
+/// Returns how many milliseconds ago the moment was that a word has; 0 if it has none.
+fn age_of(moment: &AtomicU64, now: u64) -> u64 {
+    match moment.load(Ordering::SeqCst) {
+        0 => 0,
+        moment => now.saturating_sub(moment),
+    }
+}
+
 /// Logs that the ledger is not written, and why.
 pub fn log_ledger_fault<L: Log>(log: &L, fault: LedgerFault) {
     tell(log, Level::Error, &LedgerLine::Fault(fault));
@@ -221,6 +268,8 @@ pub enum LedgerLine {
     Fault(LedgerFault),
     /// Entries are written again.
     Back,
+    /// Entries were written to a file that is gone: of this lane, so many, from this serial to that one.
+    Lost(u64, u64, u64, u64),
     /// This many entries found no room.
     Dropped(u64),
     /// This many entries are not written at the end.
@@ -239,6 +288,12 @@ impl fmt::Display for LedgerLine {
             LedgerLine::Fault(fault) => write!(f, "event=ledger-fault reason=\"{fault}\""),
             LedgerLine::Back => f.write_str("event=ledger-back"),
             LedgerLine::Dropped(count) => write!(f, "event=ledger-dropped count={count}"),
+            LedgerLine::Lost(lane, count, from, to) => {
+                write!(
+                    f,
+                    "event=ledger-lost lane={lane} count={count} from={from} to={to}"
+                )
+            }
             LedgerLine::Left(count) => write!(f, "event=ledger-left count={count}"),
             LedgerLine::Both(count, left) => {
                 write!(f, "event=ledger-left count={count} left={left}")

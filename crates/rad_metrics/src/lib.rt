@@ -26,6 +26,7 @@ mod histogram;
 mod home_cells;
 mod home_metric;
 mod home_times;
+mod lane_serials;
 mod ledger_fault;
 mod ledger_metrics;
 mod ledger_state;

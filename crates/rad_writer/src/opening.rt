@@ -78,9 +78,10 @@ pub fn open_ledger<'a, R: Clock + RandomSource>(
     ensures names { IfOk result (λ opened. AreNamesOf config.now.homes opened.writer.source.names.homes.items) }
     ensures lanes { IfOk result (λ opened. vec_len opened.writer.source.next ≡ length config.now.homes) }
 {
+    let lanes = config.homes().len();
     let shared = Shared {
-        counts: Arc::new(alloc, RunCounts::new(alloc, config.homes().len())?)?,
-        state: Arc::new(alloc, LedgerState::new())?,
+        counts: Arc::new(alloc, RunCounts::new(alloc, lanes)?)?,
+        state: Arc::new(alloc, LedgerState::new(alloc, lanes)?)?,
     };
     let (producer, consumer) = RingBuffer::new(alloc, ROOM)?;
     let inlet = open_inlet(rt, alloc, producer, &shared, longest)?;
@@ -156,23 +157,26 @@ fn open_source(
         names: RunNames::new(alloc, run, homes)?,
         entries: EntryBuffer::new(alloc, buffer)?,
         room: Vec::with_capacity(alloc, LINE)?,
-        next: first_serials(alloc, homes.len())?,
+        next: zeros(alloc, homes.len())?,
+        from: zeros(alloc, homes.len())?,
+        first: zeros(alloc, homes.len())?,
+        held: zeros(alloc, homes.len())?,
         counts: Arc::try_clone(&shared.counts)?,
         state: Arc::try_clone(&shared.state)?,
     })
 }
 
-/// Makes the serial of the next entry of each of so many lanes.
+/// Makes a number for each of so many lanes, 0 at first.
 ///
 /// # Errors
 ///
 /// `AllocError` if memory is refused.
-fn first_serials(alloc: Global, lanes: usize) -> Result<Vec<u64>, AllocError>
-    ensures { IfOk result (λ next. vec_len next ≡ lanes) }
+fn zeros(alloc: Global, lanes: usize) -> Result<Vec<u64>, AllocError>
+    ensures { IfOk result (λ numbers. vec_len numbers ≡ lanes) }
 {
-    let mut next = Vec::with_capacity(alloc, lanes)?;
-    next.resize(lanes, 0)?;
-    Ok(next)
+    let mut numbers = Vec::with_capacity(alloc, lanes)?;
+    numbers.resize(lanes, 0)?;
+    Ok(numbers)
 }
 
 /// Draws what names a run. If the system gives no random octets, it is the time.

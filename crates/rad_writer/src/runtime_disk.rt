@@ -49,7 +49,7 @@ impl<R: Files<File = F>, F: Drop> RuntimeDisk<R, F> {
         }
     }
 
-    /// Makes a file of this path, or takes the one that was made for it.
+    /// Makes a file of this path, or takes the one that was made for it. It is written at its end, also where others cut it.
     fn make(&mut self, path: String) -> io::Result<MadeFile<F>> {
         if let Some(made) = self.made.take()
             && made.path == path
@@ -57,7 +57,7 @@ impl<R: Files<File = F>, F: Drop> RuntimeDisk<R, F> {
             return Ok(made);
         }
         let file = OpenOptions::new()
-            .write(true)
+            .append(true)
             .create_new(true)
             .mode(MODE)
             .open(&self.rt, path.as_str())?;
@@ -88,7 +88,6 @@ impl<R: Files<File = F>, F: Write + OpenFile + Drop> LedgerDisk for RuntimeDisk<
                 return Err(create_fault(error));
             }
         };
-        let _ = self.sync();
         self.open = Some(OpenedFile {
             device: found.dev(),
             inode: found.ino(),

@@ -24,8 +24,12 @@ const PAUSE: u64 = 50;
 /// How many milliseconds after a fault it tries again.
 const AGAIN: u64 = 1000;
 
-/// How many milliseconds after a sync the next one is due. A round is late by at most its own writes and [`PAUSE`].
+/// How many milliseconds after a sync the next one is due, and a look whether the file is still at its path. A round is
+/// late by at most its own writes and [`PAUSE`].
 const SYNC: u64 = 900;
+
+/// How many milliseconds pass at least between two files that are begun since the one before can't be synced.
+const ANEW: u64 = 60_000;
 
 /// What the thread that writes a ledger has, before it is started.
 #[derive(Drop)]
@@ -45,6 +49,12 @@ pub(crate) struct LineSource {
     pub(crate) room: Vec<u8>,
     /// The serial behind the last entry of each lane that was written.
     pub(crate) next: Vec<u64>,
+    /// The serial of each lane that the file that is open begins with, as its first line says.
+    pub(crate) from: Vec<u64>,
+    /// The serial of the first entry of each lane that was written to that file.
+    pub(crate) first: Vec<u64>,
+    /// How many entries of each lane were written to it.
+    pub(crate) held: Vec<u64>,
     pub(crate) counts: Arc<RunCounts>,
     pub(crate) state: Arc<LedgerState>,
 }
@@ -62,8 +72,14 @@ struct Session<'a, R, D: Drop> {
     file: FileDay,
     /// Whether the last round failed.
     is_failing: bool,
-    /// When the file was synced.
+    /// When a sync was tried last.
     synced: Option<Instant>,
+    /// Why that failed, if it did.
+    sync_fault: Option<LedgerFault>,
+    /// Whether something was written since the last sync that held.
+    is_unsynced: bool,
+    /// When a file was begun last since the one before could not be synced.
+    anew: Option<Instant>,
     /// When the thread began, if the clock could be read.
     began: Option<Instant>,
 }
@@ -82,6 +98,9 @@ impl LedgerWriter {
             file: FileDay { day: 0, back: None },
             is_failing: false,
             synced: began,
+            sync_fault: None,
+            is_unsynced: false,
+            anew: None,
             began,
         };
         for _ in rt.forever() {
@@ -122,10 +141,30 @@ impl LineSource {
         )
     }
 
-    /// Puts the serial behind an entry that is written into `next`, at the place of its lane.
+    /// Counts an entry of this lane and serial as written to the file that is open.
     fn pass(&mut self, lane: u16, serial: u64) {
-        if let Some(next) = self.next.get_mut(usize::from(lane)) {
-            *next = serial.saturating_add(1);
+        let lane = usize::from(lane);
+        put_at(&mut self.next, lane, serial.saturating_add(1));
+        let held = number_at(&self.held, lane);
+        if held == 0 {
+            put_at(&mut self.first, lane, serial);
+        }
+        put_at(&mut self.held, lane, held.saturating_add(1));
+    }
+
+    /// Records that the next file is begun. If the one before is gone, the entries that were written to it are lost.
+    fn leave_file(&mut self, is_gone: bool) {
+        for lane in 0..self.next.len() {
+            let held = number_at(&self.held, lane);
+            let next = number_at(&self.next, lane);
+            if !is_gone {
+                put_at(&mut self.from, lane, next);
+            } else if held != 0 {
+                let first = number_at(&self.first, lane);
+                let number = u16::try_from(lane).unwrap_or(u16::MAX);
+                self.state.lose(number, held, first, next.saturating_sub(1));
+            }
+            put_at(&mut self.held, lane, 0);
         }
     }
 }
@@ -140,10 +179,39 @@ impl<R: Clock, D: LedgerDisk + Drop> Session<'_, R, D> {
             return;
         };
         self.fail(fault);
-        let is_lost = fault == LedgerFault::Gone || (was_failing && self.files.disk().size() > 0);
         let day = self.day_now();
-        if is_lost && self.begin_file(day).is_ok() && self.write_round(is_last).is_ok() {
+        if self.gives_up(fault, was_failing)
+            && self.begin_file(day).is_ok()
+            && self.write_round(is_last).is_ok()
+        {
             self.succeed();
+        }
+    }
+
+    /// Returns whether the next file is to be begun after a fault. One that can't be synced is given up at most once a
+    /// minute.
+    fn gives_up(&mut self, fault: LedgerFault, was_failing: bool) -> bool {
+        let is_again = was_failing && self.files.disk().size() > 0;
+        match fault {
+            LedgerFault::Gone => true,
+            LedgerFault::Sync(_) if is_again && self.is_past(self.anew, ANEW) => {
+                self.anew = Instant::now(self.rt).ok();
+                true
+            }
+            LedgerFault::Sync(_) => false,
+            _ => is_again,
+        }
+    }
+
+    /// Returns whether so many milliseconds have passed since a moment, if there is one. If the clock can't be read, they
+    /// have.
+    fn is_past(&self, moment: Option<Instant>, milliseconds: u64) -> bool {
+        match moment {
+            Some(moment) => match moment.elapsed(self.rt) {
+                Ok(passed) => passed >= Duration::from_millis(milliseconds),
+                Err(_) => true,
+            },
+            None => true,
         }
     }
 
@@ -164,7 +232,8 @@ impl<R: Clock, D: LedgerDisk + Drop> Session<'_, R, D> {
     }
 
     /// Writes all entries that wait, and in the last round the line that ends the run, if there is to be one. Syncs the
-    /// file if that is due. Until entries may come it does nothing, so a program that can't serve leaves no file.
+    /// file if that is due; a sync that fails holds up no entry. Until entries may come it does nothing, so a program that
+    /// can't serve leaves no file.
     fn write_round(&mut self, is_last: bool) -> Result<(), LedgerFault> {
         if !self.source.state.is_begun() {
             return Ok(());
@@ -176,10 +245,18 @@ impl<R: Clock, D: LedgerDisk + Drop> Session<'_, R, D> {
             if is_done && is_last {
                 self.make_last_line()?;
             }
-            self.write_pending()?;
-            self.sync(is_last && is_done)?;
+            let is_due = self.is_past(self.synced, SYNC);
+            let outcome = self.write_pending(is_due || is_last);
+            let is_end = is_done && (is_last || self.sync_fault.is_some());
+            if is_due || is_end || outcome.is_err() {
+                let _ = self.sync();
+            }
+            outcome?;
             if is_done {
-                return Ok(());
+                return match self.sync_fault {
+                    Some(fault) => Err(fault),
+                    None => Ok(()),
+                };
             }
         }
         Ok(())
@@ -199,7 +276,8 @@ impl<R: Clock, D: LedgerDisk + Drop> Session<'_, R, D> {
     }
 
     /// Begins the next file if there is none, if the entries are of a later day, or if the file would have too many
-    /// octets. A clock that went back begins none ([`FileDay::see`]).
+    /// octets. A clock that went back begins none ([`FileDay::see`]). The file before is synced first: if that fails for
+    /// the first time it stays open.
     fn have_file(&mut self) -> Result<(), LedgerFault> {
         self.file = self.file.see(self.clock_day(), self.passed());
         let day = self.day_now();
@@ -214,6 +292,11 @@ impl<R: Clock, D: LedgerDisk + Drop> Session<'_, R, D> {
         };
         let left = self.files.batch().left() as u64;
         if is_next_due(open, day, left) && self.files.is_begun() {
+            let has_failed = self.sync_fault.is_some();
+            let outcome = self.sync();
+            if !has_failed {
+                outcome?;
+            }
             self.begin_file(day)?;
         }
         Ok(())
@@ -255,16 +338,19 @@ impl<R: Clock, D: LedgerDisk + Drop> Session<'_, R, D> {
     }
 
     /// Begins the next file, for entries of this day. The line of an entry that was not written whole is written to it from
-    /// its start.
+    /// its start. If the file before is no longer at its path, its entries are lost.
     fn begin_file(&mut self, day: u64) -> Result<(), LedgerFault> {
         let now = time_since_1970(self.rt).unwrap_or(0);
+        let disk = self.files.disk();
+        let is_gone = disk.is_open() && disk.check_place().is_err();
         let Ok(path) = self.next_path() else {
             return Err(LedgerFault::Memory);
         };
-        let Ok(line) = self.first_line(now) else {
+        let Ok(line) = self.first_line(now, is_gone) else {
             return Err(LedgerFault::Memory);
         };
         self.files.begin_file(path, line).map_err(ledger_fault)?;
+        self.source.leave_file(is_gone);
         self.number = self.number.saturating_add(1);
         self.file.day = self.file.day.max(day);
         Ok(())
@@ -280,14 +366,19 @@ impl<R: Clock, D: LedgerDisk + Drop> Session<'_, R, D> {
         format!(in self.alloc; "{name}")
     }
 
-    /// Returns the line that begins the next file.
-    fn first_line(&self, now: u64) -> Result<Vec<u8>, AllocError> {
+    /// Returns the line that begins the next file. If the one before is gone, it says from which serials on.
+    fn first_line(&self, now: u64, is_gone: bool) -> Result<Vec<u8>, AllocError> {
+        let serials = if is_gone {
+            &self.source.from
+        } else {
+            &self.source.next
+        };
         begin_line(
             self.alloc,
             &self.source.names,
             now,
             self.number,
-            self.source.next.as_slice(),
+            serials.as_slice(),
             Vec::new(self.alloc),
         )
     }
@@ -314,12 +405,19 @@ impl<R: Clock, D: LedgerDisk + Drop> Session<'_, R, D> {
         }
     }
 
-    /// Writes what is not written, if there is anything.
-    fn write_pending(&mut self) -> Result<(), LedgerFault> {
-        if self.files.is_done() {
+    /// Writes what is not written, if there is anything. If `looks` is set, it looks whether the file is still at its path
+    /// in any case.
+    fn write_pending(&mut self, looks: bool) -> Result<(), LedgerFault> {
+        if self.files.is_done() && !looks {
             return Ok(());
         }
-        self.write_lines().map_err(ledger_fault)
+        let before = self.files.disk().size();
+        let outcome = self.write_lines();
+        if !self.is_unsynced && self.files.disk().size() > before {
+            self.is_unsynced = true;
+            self.source.state.set_unsynced(time_since_1970(self.rt));
+        }
+        outcome.map_err(ledger_fault)
     }
 
     /// Writes the line that begins the file, the lines of entries and the line that ends the run, as far as they are
@@ -352,21 +450,37 @@ impl<R: Clock, D: LedgerDisk + Drop> Session<'_, R, D> {
         self.source.state.count_left_written(left);
     }
 
-    /// Syncs the file, if that is due or `is_now` is set.
-    fn sync(&mut self, is_now: bool) -> Result<(), LedgerFault> {
-        let now = Instant::now(self.rt).ok();
-        let is_due = match &self.synced {
-            Some(synced) => match synced.elapsed(self.rt) {
-                Ok(passed) => passed >= Duration::from_millis(SYNC),
-                Err(_) => true,
-            },
-            None => true,
-        };
-        if !is_due && !is_now {
-            return Ok(());
+    /// Syncs the file that is open.
+    fn sync(&mut self) -> Result<(), LedgerFault> {
+        self.synced = Instant::now(self.rt).ok();
+        match self.files.sync() {
+            Ok(()) => {
+                self.sync_fault = None;
+                self.is_unsynced = false;
+                self.source.state.set_unsynced(None);
+                Ok(())
+            }
+            Err(fault) => {
+                let fault = ledger_fault(fault);
+                self.sync_fault = Some(fault);
+                Err(fault)
+            }
         }
-        self.synced = now;
-        self.files.sync().map_err(ledger_fault)
+    }
+}
+
+/// Returns the number of a lane, or 0 if there is none.
+fn number_at(numbers: &[u64], lane: usize) -> u64 {
+    match numbers.get(lane) {
+        Some(number) => *number,
+        None => 0,
+    }
+}
+
+/// Sets the number of a lane, if there is one.
+fn put_at(numbers: &mut Vec<u64>, lane: usize, number: u64) {
+    if let Some(place) = numbers.get_mut(lane) {
+        *place = number;
     }
 }
 

@@ -4,6 +4,8 @@ use crate::comparing::holds;
 use crate::telemetry::logs::{MemoryLog, has_logged, log_up_to};
 use rad_log::LevelFilter;
 use rad_telemetry::{LedgerFault, LedgerState};
+use std::alloc::Global;
+use std::test::Fail;
 use std::time::Clock;
 
 /// What happens to a ledger.
@@ -19,6 +21,8 @@ enum Step {
     Fail(LedgerFault),
     /// Entries are written again.
     GoOn,
+    /// Entries of a lane are lost, so many, from one serial to another.
+    Lose(u16, u64, u64, u64),
     /// What happened is logged.
     Tell,
     /// A request is told as left.
@@ -47,6 +51,14 @@ const STEPS: &[Step] = &[
     Step::Fail(LedgerFault::Sync(u32::MAX)),
     Step::Tell,
     Step::GoOn,
+    Step::Fail(LedgerFault::Sync(u32::MAX)),
+    Step::Tell,
+    Step::GoOn,
+    Step::Lose(1, 3, 7, 10),
+    Step::Lose(0, 2, 0, 1),
+    Step::Lose(1, 1, 11, 11),
+    Step::Lose(2, 1, 0, 0),
+    Step::Tell,
     Step::Put,
     Step::Put,
     Step::Put,
@@ -72,7 +84,10 @@ const LINES: &str =
     event=ledger-dropped count=2\n\
     event=ledger-dropped count=1\n\
     event=ledger-fault reason=\"can't sync\"\n\
+    event=ledger-fault reason=\"can't sync\"\n\
     event=ledger-back\n\
+    event=ledger-lost lane=0 count=2 from=0 to=1\n\
+    event=ledger-lost lane=1 count=4 from=7 to=11\n\
     event=ledger-left count=2\n\
     event=ledger-fault reason=\"no memory\"\n\
     event=ledger-left count=0 left=2\n\
@@ -85,6 +100,9 @@ const ERRORS: &str =
     event=ledger-dropped count=2\n\
     event=ledger-dropped count=1\n\
     event=ledger-fault reason=\"can't sync\"\n\
+    event=ledger-fault reason=\"can't sync\"\n\
+    event=ledger-lost lane=0 count=2 from=0 to=1\n\
+    event=ledger-lost lane=1 count=4 from=7 to=11\n\
     event=ledger-left count=2\n\
     event=ledger-fault reason=\"no memory\"\n\
     event=ledger-left count=0 left=2\n\
@@ -98,6 +116,7 @@ fn happen(rt: &impl Clock, ledger: &LedgerState, log: &MemoryLog, step: Step) {
         Step::Drop => ledger.count_dropped(),
         Step::Fail(fault) => ledger.fail(fault),
         Step::GoOn => ledger.goes_on(),
+        Step::Lose(lane, count, from, to) => ledger.lose(lane, count, from, to),
         Step::Tell => ledger.tell(log),
         Step::Leave => {
             let _ = ledger.count_left(rt);
@@ -108,7 +127,7 @@ fn happen(rt: &impl Clock, ledger: &LedgerState, log: &MemoryLog, step: Step) {
 }
 
 /// Returns whether the entries of these steps are counted, and whether the oldest one has its age, which is 0 if the
-/// clock went back and if there is none.
+/// clock went back and if there is none; and so of what is not synced.
 fn is_counted(ledger: &LedgerState) -> bool {
     let reading = ledger.reading(9_000);
     ledger.set_oldest(Some(8_433));
@@ -116,32 +135,37 @@ fn is_counted(ledger: &LedgerState) -> bool {
     let before = ledger.reading(8_000).age;
     ledger.set_oldest(None);
     let without = ledger.reading(9_000).age;
+    ledger.set_unsynced(Some(8_000));
+    let unsynced = ledger.reading(9_000).unsynced;
+    ledger.set_unsynced(None);
+    let synced = ledger.reading(9_000).unsynced;
     reading.written == 3
         && reading.waiting == 1
         && reading.dropped == 3
+        && reading.lost == 7
         && reading.age == 0
         && age == 567
         && before == 0
         && without == 0
+        && unsynced == 1000
+        && synced == 0
 }
 
-/// Lets all steps happen to a ledger, and returns whether exactly these lines are logged.
-fn tells(rt: &impl Clock, log: &MemoryLog, expected: &str) -> bool {
-    let ledger = LedgerState::new();
+/// Lets all steps happen to a ledger of two lanes, and returns whether exactly these lines are logged.
+fn tells(rt: &impl Clock, alloc: Global, log: &MemoryLog, expected: &str) -> Result<bool, Fail> {
+    let ledger = LedgerState::new(alloc, 2)?;
     for next in STEPS {
         happen(rt, &ledger, log, *next);
     }
-    is_counted(&ledger) && has_logged(log, expected)
+    Ok(is_counted(&ledger) && has_logged(log, expected))
 }
 
 #[test]
-fn what_happens_to_a_ledger_is_logged_once(rt: HostRuntime) {
-    holds(
-        &rt,
-        tells(&rt, &log_up_to(rt.alloc(), LevelFilter::Info), LINES),
-    );
-    holds(
-        &rt,
-        tells(&rt, &log_up_to(rt.alloc(), LevelFilter::Error), ERRORS),
-    );
+fn what_happens_to_a_ledger_is_logged_once(rt: HostRuntime) -> Result<(), Fail> {
+    let alloc = rt.alloc();
+    let all = tells(&rt, alloc, &log_up_to(alloc, LevelFilter::Info), LINES)?;
+    holds(&rt, all);
+    let errors = tells(&rt, alloc, &log_up_to(alloc, LevelFilter::Error), ERRORS)?;
+    holds(&rt, errors);
+    Ok(())
 }

@@ -1,0 +1,66 @@
+//! Which serials of a lane are written to the ledger, and which are lost.
+
+use std::alloc::{AllocError, Global};
+use std::sync::atomic::{AtomicU64, Ordering};
+
+/// The entries of a lane that are lost.
+#[derive(Clone, Copy, Debug, PartialEq, Eq)]
+pub(crate) struct LostSerials {
+    /// How many there are.
+    pub(crate) count: u64,
+    /// The serial of the first one.
+    pub(crate) from: u64,
+    /// The serial of the last one.
+    pub(crate) to: u64,
+}
+
+/// What the thread that writes the ledger tells of a lane's entries that are lost.
+#[derive(Drop)]
+pub(crate) struct LaneSerials {
+    /// How many are lost and not logged yet.
+    count: AtomicU64,
+    /// The serial of the first one of these.
+    from: AtomicU64,
+    /// The serial of the last one.
+    to: AtomicU64,
+}
+
+impl LaneSerials {
+    /// Makes it for each of so many lanes, none of whose entries is lost.
+    ///
+    /// # Errors
+    ///
+    /// `AllocError` if memory is refused.
+    pub(crate) fn of_lanes(alloc: Global, lanes: usize) -> Result<Vec<LaneSerials>, AllocError> {
+        let mut all = Vec::with_capacity(alloc, lanes)?;
+        for _ in 0..lanes {
+            all.push(LaneSerials {
+                count: AtomicU64::new(0),
+                from: AtomicU64::new(0),
+                to: AtomicU64::new(0),
+            })?;
+        }
+        Ok(all)
+    }
+
+    /// Records that entries are lost, beside those that are not logged yet.
+    pub(crate) fn lose(&self, lost: LostSerials) {
+        if self.count.load(Ordering::SeqCst) == 0 {
+            self.from.store(lost.from, Ordering::SeqCst);
+        }
+        self.to.store(lost.to, Ordering::SeqCst);
+        self.count.fetch_add(lost.count, Ordering::SeqCst);
+    }
+
+    /// Returns what is lost and not logged yet, if anything is. From now on it counts as logged.
+    pub(crate) fn take_lost(&self) -> Option<LostSerials> {
+        match self.count.swap(0, Ordering::SeqCst) {
+            0 => None,
+            count => Some(LostSerials {
+                count,
+                from: self.from.load(Ordering::SeqCst),
+                to: self.to.load(Ordering::SeqCst),
+            }),
+        }
+    }
+}
