@@ -78,7 +78,7 @@ NUMBERS = {
     "rad_proxy/src/main.rt": {"LEFT_OVER": ("3", f"{LIMITS} no_linger_ends_at_once")},
     "rad_proxy/src/run_command.rt": {
         "LAST_TEXT": ("500", "faults/counters_and_log_files TESTS"), "LAST_LINES": ("1000", "faults/counters_and_log_files TESTS"),
-        "LAST_ENTRIES": ("1000", f"{LEFT} names_them_after_an_input_fault"), "LAST_LEFT": ("10_000", f"{LEFT} writes_all_of_many")},
+        "LAST_ENTRIES": ("10_000", "ledger/disk_faults TRIES")},
     "rad_proxy/src/small_stack.rt": {"LEAST": ("1 << 20", "timing/start_and_unread_output tells_that_a_stack_is_too_small")},
     "rad_realms/src/checking.rt": {"USER_NAME": ("1", PROVED)},
     "rad_replay/src/datagrams.rt": {"MOST_OCTETS": ("65_507", "rows requests/greatest-datagram"), "MOST_ATTRIBUTES": ("4076", PROVED)},

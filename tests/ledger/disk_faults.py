@@ -1,27 +1,29 @@
-"""Has the program write a ledger while its files are cut, removed or not synced, and looks at what it tells and writes.
+"""Has the program write a ledger while its disk or its clock fails, and its files are cut or removed, and looks at what it tells and writes.
 
 usage: python3 -m tests.ledger.disk_faults PROGRAM [NAME ..]
 
-Each test is a function below, and its first line tells what holds. Names choose tests. failing_disks.c lets syncs fail while a file is
-there, and wrong_clock.c sets the time of day. The last line is `N passed, M failed`.
+Each test is a function below, and its first line tells what holds. Names choose tests. failing_disks.c lets syncs and writes fail while a
+file is there, and wrong_clock.c sets the time of day or lets the clock fail. slow_files.c makes writes slow. The last line is `N passed, M failed`.
 """
 import contextlib
 import os
 import time
 
-from tests.ledger.written_ledgers import Steered, Trial
-from tests.lib import built, hope, try_named, until
+from tests.ledger.written_ledgers import PATIENCE, Steered, Trial
+from tests.lib import NAS_SECRET, START, built, hope, request, try_named, until
 
 # How long syncs fail, and for how long at least the number then says so.
 FAILS, UNSYNCED = 8, 4.0
+# For how many seconds the program tries to write what is left at its end, and how much later it may end.
+TRIES, LATE = 10.0, 2.0
 
 
 class Failing:
-    """Syncs of the ledger that fail, while this is on."""
+    """Syncs of the ledger, or writes, that fail while this is on."""
 
-    def __init__(self, trial):
+    def __init__(self, trial, word="SYNC_FAILS"):
         self.file, self.log = trial.room / "fails", trial.room / "syncs"
-        self.variables = {"SYNC_FAILS": str(self.file), "SYNC_LOG": str(self.log), "RAD_PROXY_LOG": "info"}
+        self.variables = {word: str(self.file), "SYNC_LOG": str(self.log), "DISK_PATH": str(trial.folder), "RAD_PROXY_LOG": "info"}
 
     def count(self):
         return len(self.log.read_text().split()) if self.log.exists() else 0
@@ -120,9 +122,84 @@ def a_sync_that_fails_at_midnight_is_told(trial):
     hope("what is told", told(trial), [1, 1, 0])
 
 
+def end_of(trial, status=0):
+    """Closes the program's input, and gives how many seconds it took to end."""
+    began = time.monotonic()
+    trial.ran.stdin.close()
+    hope("status", trial.ran.wait(2 * TRIES), status)
+    return time.monotonic() - began
+
+
+def a_full_disk_that_has_room_soon_after_the_end_is_whole(trial):
+    """Where the disk is full at a clean end and has room again three seconds later, all is written, with the line that ends the run."""
+    failing = Failing(trial, "WRITE_FAILS")
+    trial.begin(LD_PRELOAD=built(trial.room, "failing_disks"), **failing.variables)
+    writes(trial, 100)
+    with failing.on():
+        hope("acknowledged", trial.ask(200), 200)
+        trial.ran.stdin.close()
+        time.sleep(3)
+    hope("status", trial.ran.wait(TRIES), 0)
+    trial.is_all_there()
+    hope("what is told", told(trial) + [len(trial.events("ledger-left"))], [1, 1, 0, 0])
+
+
+def a_disk_that_stays_full_is_told_with_the_serials(trial):
+    """Where the disk is full at a clean end and stays so, the program tries for ten seconds, and tells at error which serials are missing."""
+    failing = Failing(trial, "WRITE_FAILS")
+    trial.begin(LD_PRELOAD=built(trial.room, "failing_disks"), **failing.variables)
+    writes(trial, 100)
+    with failing.on():
+        hope("acknowledged", trial.ask(200), 200)
+        took = end_of(trial)
+    hope("the seconds", (TRIES - LATE < took < TRIES + LATE, took), (True, took))
+    hope("what is told", [line for line in trial.log.read_text().splitlines() if "level=error" in line][1:],
+         ["level=error event=ledger-left count=200", "level=error event=ledger-missing lane=0 from=100 to=299"])
+    hope("verdict", trial.verdict(), "open")
+
+
+def a_disk_that_takes_all_but_the_end_is_told(trial):
+    """Where only the line that ends the run can't be written, that is told."""
+    failing = Failing(trial, "WRITE_FAILS")
+    trial.begin(LD_PRELOAD=built(trial.room, "failing_disks"), **failing.variables)
+    writes(trial, 100)
+    with failing.on():
+        end_of(trial)
+    hope("what is told", [line for line in trial.log.read_text().splitlines() if "ledger-fault" not in line], ["level=error event=ledger-left count=0"])
+    hope("verdict", trial.verdict(), "open")
+
+
+def a_slow_disk_has_ten_seconds(trial):
+    """Where each write takes two seconds, a clean end is whole."""
+    trial.begin(LD_PRELOAD=built(trial.room, "slow_files"), SLOW_PATH=str(trial.folder), SLOW_WRITE="2000")
+    hope("acknowledged", trial.ask(300), 300)
+    end_of(trial)
+    trial.is_all_there()
+    hope("what is told", trial.log.read_text(), "")
+
+
+def a_clock_that_stays_away_leaves_all_in_the_ledger(trial):
+    """Where the clock fails for good, which ends the program, what is left is written all the same, to a slow disk too."""
+    out = trial.room / "out"
+    loaded = ":".join(built(trial.room, name) for name in ("slow_files", "wrong_clock"))
+    trial.begin(LD_PRELOAD=loaded, CLOCK_OUT=str(out), SLOW_PATH=str(trial.folder), SLOW_WRITE="400")
+    hope("acknowledged", trial.ask(30), 30)
+    for identifier in range(20):
+        trial.nas.sendto(request(identifier, START, NAS_SECRET), trial.listen)
+    trial.home.settimeout(PATIENCE)
+    for _ in range(20):
+        trial.home.recv(4096)
+    out.touch()
+    hope("status", trial.ran.wait(2 * TRIES), 4)
+    kinds = [line["type"] for line in trial.ledger_lines()]
+    hope("lines", [kinds.count(kind) for kind in ("entry", "left", "end")], [30, 20, 0])
+
+
 TESTS = [
     a_file_that_is_cut_has_no_hole, a_file_that_is_removed_is_lost, a_sync_that_fails_begins_no_file_each_second,
-    a_sync_that_fails_at_midnight_is_told,
+    a_sync_that_fails_at_midnight_is_told, a_full_disk_that_has_room_soon_after_the_end_is_whole,
+    a_disk_that_stays_full_is_told_with_the_serials, a_disk_that_takes_all_but_the_end_is_told, a_slow_disk_has_ten_seconds,
+    a_clock_that_stays_away_leaves_all_in_the_ledger,
 ]
 
 if __name__ == "__main__":

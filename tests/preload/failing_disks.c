@@ -5,7 +5,8 @@
  * line to the file SYNC_LOG. Before the program first makes a file whose path begins with TAKEN_PATH, another one is there already,
  * with the text "taken". And it lets steps of the files whose path begins with DISK_PATH fail: so many times the mode can't be set
  * (MODE_FAULTS) and a file can't be looked at (LOOK_FAULTS). A write takes at most WRITE_MOST octets. Once all writes took ROOM octets,
- * so many fail for want of room (WRITE_FAULTS), and the others take all. While the file SYNC_FAILS is there each sync fails.
+ * so many fail for want of room (WRITE_FAULTS), and the others take all. While the file SYNC_FAILS is there each sync fails, and
+ * while WRITE_FAILS is there each write.
  */
 #define _GNU_SOURCE
 #include <dlfcn.h>
@@ -29,6 +30,13 @@ static long number_in(const char *name)
 {
     const char *text = getenv(name);
     return text ? strtol(text, NULL, 10) : 0;
+}
+
+/* Whether the file that a variable names is there. */
+static int is_there(const char *name)
+{
+    const char *path = getenv(name);
+    return path && access(path, F_OK) == 0;
 }
 
 static int is_on_disk(int file)
@@ -78,6 +86,10 @@ ssize_t write(int file, const void *octets, size_t count)
     if (!is_on_disk(file)) {
         return next(file, octets, count);
     }
+    if (is_there("WRITE_FAILS")) {
+        errno = ENOSPC;
+        return -1;
+    }
     if (written == number_in("ROOM") && fails("WRITE_FAULTS", &failed_writes, ENOSPC)) {
         return -1;
     }
@@ -102,9 +114,8 @@ static void note_sync(void)
 static int sync_by(const char *call, int file)
 {
     int (*next)(int) = dlsym(RTLD_NEXT, call);
-    const char *fails = getenv("SYNC_FAILS");
     note_sync();
-    if (fails && access(fails, F_OK) == 0) {
+    if (is_there("SYNC_FAILS")) {
         errno = EIO;
         return -1;
     }

@@ -2,7 +2,7 @@
  * Has the clock of the program fail, or tell another time of day.
  *
  * Has the clock of the program that it is loaded into (LD_PRELOAD) fail, after CLOCK_CALLS calls that do not. Or one call of its first thread
- * fails, the next one once the file CLOCK_FAILS is there, which it takes away. The time of day is
+ * fails, the next one once the file CLOCK_FAILS is there, which it takes away; or all fail while the file CLOCK_OUT is there. The time of day is
  * CLOCK_AHEAD seconds later, or as many as the file CLOCK_FILE says at that moment, or always CLOCK_AT milliseconds after 1970. The
  * clock that never goes back is ahead by the milliseconds that the file CLOCK_MOVED says.
  */
@@ -52,7 +52,8 @@ static void move_on(struct timespec *moment)
 int clock_gettime(clockid_t clock, struct timespec *moment)
 {
     const char *text = getenv("CLOCK_CALLS"), *fails = getenv("CLOCK_FAILS");
-    int is_out = text && atomic_fetch_add(&calls, 1) >= strtol(text, NULL, 10);
+    const char *out = getenv("CLOCK_OUT");
+    int is_out = (out && access(out, F_OK) == 0) || (text && atomic_fetch_add(&calls, 1) >= strtol(text, NULL, 10));
     if (is_out || (fails && gettid() == getpid() && unlink(fails) == 0)) {
         errno = EINVAL;
         return -1;

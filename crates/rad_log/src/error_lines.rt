@@ -53,7 +53,7 @@ impl ErrorLines {
     }
 
     /// Makes the thread write what is left, and waits for it at most until `longest` after `start`.
-    pub fn end<R: Clock + Wait>(&self, rt: &R, start: Instant, longest: Duration) {
+    pub fn end<R: Clock + Wait>(&self, rt: &R, start: Option<Instant>, longest: Duration) {
         self.queue.end(rt, start, longest);
     }
 }

@@ -141,7 +141,7 @@ impl LineQueue {
 
     /// Makes the thread, if there is one, write what waits and end, and waits for it at most until `longest` after
     /// `start`.
-    pub fn end<R: Clock + Wait>(&self, rt: &R, start: Instant, longest: Duration) {
+    pub fn end<R: Clock + Wait>(&self, rt: &R, start: Option<Instant>, longest: Duration) {
         self.state.end();
         self.state.wait(rt, start, longest);
     }

@@ -1,5 +1,6 @@
 //! How a thread that writes is woken, and how it is made to end.
 
+use std::mem;
 use std::sync::Wait;
 use std::sync::atomic::{AtomicU64, Ordering};
 use std::time::{Clock, Duration, Instant};
@@ -78,8 +79,15 @@ impl WriterState {
         self.finished.wake_all();
     }
 
+    /// Returns whether the thread, if there is one, was to end and has not written everything.
+    pub fn is_late(&self) -> bool {
+        self.is_started()
+            && self.ended.load(Ordering::SeqCst) != 0
+            && self.finished.load(Ordering::SeqCst) == 0
+    }
+
     /// Waits until the thread, if there is one, has written everything, at most until `longest` after `start`.
-    pub fn wait<R: Clock + Wait>(&self, rt: &R, start: Instant, longest: Duration) {
+    pub fn wait<R: Clock + Wait>(&self, rt: &R, start: Option<Instant>, longest: Duration) {
         if self.is_started() {
             wait_until_set(rt, &self.finished, start, longest);
         }
@@ -87,15 +95,19 @@ impl WriterState {
 }
 
 /// Waits until a word is not 0, at most until `longest` after `start`. Whoever sets the word wakes those that wait for
-/// it. If the clock fails, it does not wait.
+/// it. If the clock fails, or `start` is not known, it waits once for that long.
 pub fn wait_until_set<R: Clock + Wait>(
     rt: &R,
     word: &AtomicU64,
-    start: Instant,
+    start: Option<Instant>,
     longest: Duration,
 ) {
+    let mut unseen = longest;
     for _ in rt.forever() {
-        let left = time_left(rt, start, longest);
+        let left = match time_left(rt, start, longest) {
+            Some(left) => left,
+            None => mem::replace(&mut unseen, Duration::ZERO),
+        };
         if left.is_zero() || word.load(Ordering::SeqCst) != 0 {
             return;
         }
@@ -103,10 +115,8 @@ pub fn wait_until_set<R: Clock + Wait>(
     }
 }
 
-/// Returns how long it is until `longest` after `start`; 0 if that is over, or if the clock fails.
-fn time_left<R: Clock>(rt: &R, start: Instant, longest: Duration) -> Duration {
-    match start.elapsed(rt) {
-        Ok(passed) => longest.saturating_sub(passed),
-        Err(_) => Duration::ZERO,
-    }
+/// Returns how long it is until `longest` after `start`, if that is known.
+fn time_left<R: Clock>(rt: &R, start: Option<Instant>, longest: Duration) -> Option<Duration> {
+    let passed = start?.elapsed(rt).ok()?;
+    Some(longest.saturating_sub(passed))
 }

@@ -18,3 +18,4 @@ ledger_line (line.Lost lane count from to) =
     Some (codes "event=ledger-lost lane=" ++ decimal lane ++ codes " count=" ++ decimal count ++ codes " from=" ++ decimal from ++ codes " to=" ++ decimal to)
 ledger_line (line.Left count) = Some (codes "event=ledger-left count=" ++ decimal count)
 ledger_line (line.Both count left) = Some (codes "event=ledger-left count=" ++ decimal count ++ codes " left=" ++ decimal left)
+ledger_line (line.Missing lane from to) = Some (codes "event=ledger-missing lane=" ++ decimal lane ++ codes " from=" ++ decimal from ++ codes " to=" ++ decimal to)

@@ -1,4 +1,4 @@
-//! Which serials of a lane are written to the ledger, and which are lost.
+//! Which serials of a lane are handed over to the ledger, which are written, and which are lost.
 
 use std::alloc::{AllocError, Global};
 use std::sync::atomic::{AtomicU64, Ordering};
@@ -14,9 +14,13 @@ pub(crate) struct LostSerials {
     pub(crate) to: u64,
 }
 
-/// What the thread that writes the ledger tells of a lane's entries that are lost.
+/// What the front and the thread that writes the ledger tell of a lane's entries.
 #[derive(Drop)]
 pub(crate) struct LaneSerials {
+    /// The serial behind the last response that was handed over.
+    handed: AtomicU64,
+    /// The serial behind the last entry that was written.
+    written: AtomicU64,
     /// How many are lost and not logged yet.
     count: AtomicU64,
     /// The serial of the first one of these.
@@ -35,12 +39,37 @@ impl LaneSerials {
         let mut all = Vec::with_capacity(alloc, lanes)?;
         for _ in 0..lanes {
             all.push(LaneSerials {
+                handed: AtomicU64::new(0),
+                written: AtomicU64::new(0),
                 count: AtomicU64::new(0),
                 from: AtomicU64::new(0),
                 to: AtomicU64::new(0),
             })?;
         }
         Ok(all)
+    }
+
+    /// Records that the response of this serial was handed over. A lane's serials are 0, 1, 2 and so on.
+    pub(crate) fn hand_over(&self, serial: u64) {
+        self.handed
+            .store(serial.saturating_add(1), Ordering::SeqCst);
+    }
+
+    /// Records that the entry of this serial was written.
+    pub(crate) fn write(&self, serial: u64) {
+        self.written
+            .store(serial.saturating_add(1), Ordering::SeqCst);
+    }
+
+    /// Returns the first and the last serial behind the last entry that was written, if there are any.
+    pub(crate) fn missing(&self) -> Option<(u64, u64)> {
+        let from = self.written.load(Ordering::SeqCst);
+        let behind = self.handed.load(Ordering::SeqCst);
+        if from < behind {
+            Some((from, behind - 1))
+        } else {
+            None
+        }
     }
 
     /// Records that entries are lost, beside those that are not logged yet.

@@ -87,6 +87,20 @@ impl LedgerState {
         self.begun.load(Ordering::SeqCst) != 0
     }
 
+    /// Records that the response of this serial of a lane was handed over.
+    pub fn hand_over(&self, lane: u16, serial: u64) {
+        if let Some(serials) = self.lanes.get(usize::from(lane)) {
+            serials.hand_over(serial);
+        }
+    }
+
+    /// Records that the entry of this serial of a lane was written.
+    pub fn write(&self, lane: u16, serial: u64) {
+        if let Some(serials) = self.lanes.get(usize::from(lane)) {
+            serials.write(serial);
+        }
+    }
+
     /// Counts an entry that was put into the buffer.
     pub fn count_put(&self) {
         self.put.fetch_add(1, Ordering::SeqCst);
@@ -172,21 +186,15 @@ impl LedgerState {
     }
 
     /// Makes the thread write what waits and end, with the line that ends the run if `is_clean` is set, and waits for
-    /// it: at most until `longest` after `start`, and if requests were told as left, `longest_left` after the first one.
-    pub fn end<R: Clock + Wait>(
-        &self,
-        rt: &R,
-        is_clean: bool,
-        start: Instant,
-        longest: Duration,
-        longest_left: Duration,
-    ) {
+    /// it: at most until `longest` after the first request was told as left, or from now on if there is none.
+    pub fn end<R: Clock + Wait>(&self, rt: &R, is_clean: bool, longest: Duration) {
         self.is_clean.store(u64::from(is_clean), Ordering::SeqCst);
         self.state.end();
-        self.state.wait(rt, start, longest);
-        if let Some(since) = self.left_since.get() {
-            self.state.wait(rt, *since, longest_left);
-        }
+        let since = match self.left_since.get() {
+            Some(since) => Some(*since),
+            None => Instant::now(rt).ok(),
+        };
+        self.state.wait(rt, since, longest);
     }
 
     /// Returns whether the line that ends the run is to be written.
@@ -234,7 +242,8 @@ impl LedgerState {
         }
     }
 
-    /// Logs how many entries are not written at the end, and how many lines of requests that are left, if there are any.
+    /// Logs how many entries are not written at the end, and how many lines of requests that are left, if there are any, or
+    /// the thread is not done; and from which serials on.
     pub fn tell_left<L: Log>(&self, log: &L) {
         self.tell(log);
         let count = self.reading(0).waiting;
@@ -242,8 +251,21 @@ impl LedgerState {
         let left = self.left.load(Ordering::SeqCst).saturating_sub(written);
         if left != 0 {
             tell(log, Level::Error, &LedgerLine::Both(count, left));
-        } else if count != 0 {
+        } else if count != 0 || self.state.is_late() {
             tell(log, Level::Error, &LedgerLine::Left(count));
+        }
+        if count != 0 {
+            self.tell_missing(log);
+        }
+    }
+
+    /// Logs which serials of each lane are not written, behind the last one that is.
+    fn tell_missing<L: Log>(&self, log: &L) {
+        for (lane, serials) in self.lanes.iter().enumerate() {
+            if let Some((from, to)) = serials.missing() {
+                let line = LedgerLine::Missing(lane as u64, from, to);
+                tell(log, Level::Error, &line);
+            }
         }
     }
 }
@@ -276,6 +298,8 @@ pub enum LedgerLine {
     Left(u64),
     /// This many entries are not written at the end, and this many lines of requests that are left.
     Both(u64, u64),
+    /// The entries of this lane from this serial to that one are not written at the end.
+    Missing(u64, u64, u64),
 }
 
 impl fmt::Display for LedgerLine {
@@ -297,6 +321,9 @@ impl fmt::Display for LedgerLine {
             LedgerLine::Left(count) => write!(f, "event=ledger-left count={count}"),
             LedgerLine::Both(count, left) => {
                 write!(f, "event=ledger-left count={count} left={left}")
+            }
+            LedgerLine::Missing(lane, from, to) => {
+                write!(f, "event=ledger-missing lane={lane} from={from} to={to}")
             }
         }
     }

@@ -29,12 +29,9 @@ const LAST_TEXT: u64 = 500;
 /// How long it waits for that text and for the log together, in milliseconds.
 const LAST_LINES: u64 = 1000;
 
-/// How long the program waits at its end for the ledger, in milliseconds.
-const LAST_ENTRIES: u64 = 1000;
-
-/// How long it waits for the ledger if requests are left, from the moment at which the first of them is handed over, in
-/// milliseconds.
-const LAST_LEFT: u64 = 10_000;
+/// How long the program waits at its end for the ledger, from the moment at which the first request that is left is handed
+/// over, if there is one, in milliseconds.
+const LAST_ENTRIES: u64 = 10_000;
 
 /// The reason for which a thread can't be started. The system gives one error number for both causes.
 const NO_THREAD: &str = "the system has no thread more, or no memory for one";
@@ -141,9 +138,7 @@ impl<'a, H: Host + Net, M: Machine> Service<'a, H, M> {
     /// Lets these threads write what is left, for at most a second; a thread that writes for longer ends with the
     /// program.
     fn end_writers(self) {
-        let Ok(start) = Instant::now(self.rt) else {
-            return;
-        };
+        let start = Instant::now(self.rt).ok();
         self.texts.end();
         self.texts
             .wait(self.rt, start, Duration::from_millis(LAST_TEXT));
@@ -169,7 +164,7 @@ impl<'a, H: Host + Net, M: Machine> Service<'a, H, M> {
             self.alloc,
             folder,
             self.config,
-            Duration::from_millis(LAST_LEFT),
+            Duration::from_millis(LAST_ENTRIES),
         )?;
         if !start_writer(self.rt, self.alloc, writer, self.machine.disk()) {
             return Err(self.tell(ServeFault::Threads));
@@ -259,14 +254,10 @@ impl<'a, H: Host + Net, M: Machine> Service<'a, H, M> {
     }
 }
 
-/// Lets the thread that writes the ledger, if there is one, write what waits: for at most a second, or for ten if requests
-/// are left. If the end is clean, it writes the line that ends the run too.
+/// Lets the thread that writes the ledger, if there is one, write what waits, for at most ten seconds. If the end is clean,
+/// it writes the line that ends the run too.
 fn end_ledger<R: Clock + Wait>(rt: &R, ledger: Option<&LedgerState>, is_clean: bool) {
-    if let Some(ledger) = ledger
-        && let Ok(start) = Instant::now(rt)
-    {
-        let longest = Duration::from_millis(LAST_ENTRIES);
-        let longest_left = Duration::from_millis(LAST_LEFT);
-        ledger.end(rt, is_clean, start, longest, longest_left);
+    if let Some(ledger) = ledger {
+        ledger.end(rt, is_clean, Duration::from_millis(LAST_ENTRIES));
     }
 }

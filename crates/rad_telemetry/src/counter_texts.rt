@@ -81,7 +81,7 @@ impl CounterTexts {
     }
 
     /// Waits until the thread, if there is one, has written the last text, at most until `longest` after `start`.
-    pub fn wait<R: Clock + Wait>(&self, rt: &R, start: Instant, longest: Duration) {
+    pub fn wait<R: Clock + Wait>(&self, rt: &R, start: Option<Instant>, longest: Duration) {
         self.state.wait(rt, start, longest);
     }
 }

@@ -47,9 +47,8 @@ impl StopFlag {
 
     /// Waits for `milliseconds`, or until the flag is set.
     pub(crate) fn wait<R: Clock + Wait>(&self, rt: &R, milliseconds: u64) {
-        if let Ok(start) = Instant::now(rt) {
-            wait_until_set(rt, &self.is_set, start, Duration::from_millis(milliseconds));
-        }
+        let start = Instant::now(rt).ok();
+        wait_until_set(rt, &self.is_set, start, Duration::from_millis(milliseconds));
     }
 }
 

@@ -55,6 +55,7 @@ impl<R: Clock + Wait> Ledger for LedgerInlet<'_, R> {
         let time = self.read_time();
         let head = ParcelHead::of(time, outgoing);
         self.counts.took(head.lane, head.serial);
+        self.state.hand_over(head.lane, head.serial);
         let is_packed = pack(&head, outgoing, &mut self.parcel).is_ok();
         if is_packed
             && self

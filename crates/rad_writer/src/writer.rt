@@ -70,6 +70,8 @@ struct Session<'a, R, D: Drop> {
     number: u64,
     /// The day of the entries in the file.
     file: FileDay,
+    /// The last time that was read, in milliseconds since 1970.
+    time: u64,
     /// Whether the last round failed.
     is_failing: bool,
     /// When a sync was tried last.
@@ -85,7 +87,7 @@ struct Session<'a, R, D: Drop> {
 }
 
 impl LedgerWriter {
-    /// Writes the entries as they come, until the ledger is ended. The thread does nothing else.
+    /// Writes the entries as they come, until the ledger is ended and all is written. The thread does nothing else.
     pub fn write_all<R: Clock + Wait, D: LedgerDisk + Drop>(self, rt: &R, alloc: Global, disk: D) {
         let LedgerWriter { source, batch } = self;
         let began = Instant::now(rt).ok();
@@ -96,6 +98,7 @@ impl LedgerWriter {
             files: RunFiles::new(alloc, disk, batch),
             number: 0,
             file: FileDay { day: 0, back: None },
+            time: 0,
             is_failing: false,
             synced: began,
             sync_fault: None,
@@ -106,7 +109,7 @@ impl LedgerWriter {
         for _ in rt.forever() {
             let is_last = session.source.state.begin_round();
             session.do_round(is_last);
-            if is_last {
+            if is_last && !session.is_failing {
                 session.source.state.finish();
                 return;
             }
@@ -143,6 +146,7 @@ impl LineSource {
 
     /// Counts an entry of this lane and serial as written to the file that is open.
     fn pass(&mut self, lane: u16, serial: u64) {
+        self.state.write(lane, serial);
         let lane = usize::from(lane);
         put_at(&mut self.next, lane, serial.saturating_add(1));
         let held = number_at(&self.held, lane);
@@ -326,6 +330,12 @@ impl<R: Clock, D: LedgerDisk + Drop> Session<'_, R, D> {
         }
     }
 
+    /// Returns the time, in milliseconds since 1970. It is the last one if the clock can't be read.
+    fn read_time(&mut self) -> u64 {
+        self.time = time_since_1970(self.rt).unwrap_or(self.time);
+        self.time
+    }
+
     /// Returns how many milliseconds have passed since the thread began, or 0 if the clock can't be read.
     fn passed(&self) -> u64 {
         let Some(began) = &self.began else {
@@ -340,7 +350,7 @@ impl<R: Clock, D: LedgerDisk + Drop> Session<'_, R, D> {
     /// Begins the next file, for entries of this day. The line of an entry that was not written whole is written to it from
     /// its start. If the file before is no longer at its path, its entries are lost.
     fn begin_file(&mut self, day: u64) -> Result<(), LedgerFault> {
-        let now = time_since_1970(self.rt).unwrap_or(0);
+        let now = self.read_time();
         let disk = self.files.disk();
         let is_gone = disk.is_open() && disk.check_place().is_err();
         let Ok(path) = self.next_path() else {
@@ -388,7 +398,7 @@ impl<R: Clock, D: LedgerDisk + Drop> Session<'_, R, D> {
         if !self.source.state.is_clean() || self.files.is_ended() {
             return Ok(());
         }
-        let now = time_since_1970(self.rt).unwrap_or(0);
+        let now = self.read_time();
         let line = end_line(
             self.alloc,
             &self.source.names,

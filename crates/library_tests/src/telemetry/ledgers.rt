@@ -13,6 +13,10 @@ use std::time::Clock;
 enum Step {
     /// An entry is put into the buffer.
     Put,
+    /// The response of this lane and serial is handed over.
+    HandOver(u16, u64),
+    /// The entry of this lane and serial is written.
+    Pass(u16, u64),
     /// This many entries are written.
     Write(u64),
     /// An entry finds no room.
@@ -59,11 +63,18 @@ const STEPS: &[Step] = &[
     Step::Lose(1, 1, 11, 11),
     Step::Lose(2, 1, 0, 0),
     Step::Tell,
+    Step::HandOver(0, 0),
+    Step::HandOver(1, 8),
+    Step::HandOver(1, 9),
+    Step::HandOver(2, 9),
+    Step::Pass(1, 7),
     Step::Put,
     Step::Put,
     Step::Put,
     Step::Write(1),
     Step::TellLeft,
+    Step::Pass(0, 0),
+    Step::Pass(1, 8),
     Step::Write(2),
     Step::Fail(LedgerFault::Memory),
     Step::TellLeft,
@@ -89,9 +100,12 @@ const LINES: &str =
     event=ledger-lost lane=0 count=2 from=0 to=1\n\
     event=ledger-lost lane=1 count=4 from=7 to=11\n\
     event=ledger-left count=2\n\
+    event=ledger-missing lane=0 from=0 to=0\n\
+    event=ledger-missing lane=1 from=8 to=9\n\
     event=ledger-fault reason=\"no memory\"\n\
     event=ledger-left count=0 left=2\n\
-    event=ledger-left count=1 left=2\n";
+    event=ledger-left count=1 left=2\n\
+    event=ledger-missing lane=1 from=9 to=9\n";
 
 /// Those of them that are logged at `error`.
 const ERRORS: &str =
@@ -104,14 +118,19 @@ const ERRORS: &str =
     event=ledger-lost lane=0 count=2 from=0 to=1\n\
     event=ledger-lost lane=1 count=4 from=7 to=11\n\
     event=ledger-left count=2\n\
+    event=ledger-missing lane=0 from=0 to=0\n\
+    event=ledger-missing lane=1 from=8 to=9\n\
     event=ledger-fault reason=\"no memory\"\n\
     event=ledger-left count=0 left=2\n\
-    event=ledger-left count=1 left=2\n";
+    event=ledger-left count=1 left=2\n\
+    event=ledger-missing lane=1 from=9 to=9\n";
 
 /// Lets a step happen to a ledger.
 fn happen(rt: &impl Clock, ledger: &LedgerState, log: &MemoryLog, step: Step) {
     match step {
         Step::Put => ledger.count_put(),
+        Step::HandOver(lane, serial) => ledger.hand_over(lane, serial),
+        Step::Pass(lane, serial) => ledger.write(lane, serial),
         Step::Write(count) => ledger.count_written(count),
         Step::Drop => ledger.count_dropped(),
         Step::Fail(fault) => ledger.fail(fault),
