@@ -165,7 +165,7 @@ def leaves_other_files_alone(trial):
     """A file that is not one of counters stays: the configuration, also by another name, a file of a ledger, and any text."""
     other = trial.room / "other.toml"
     os.link(trial.file, other)
-    ledger, text = trial.folder / "0123456789abcdef-000000.jsonl", trial.folder / "text"
+    ledger, text = trial.folder / "2026-01-31-0123456789abcdef-000000.jsonl", trial.folder / "text"
     ledger.write_text('{"type":"begin"}\n')
     text.write_text("# HELP rad_prox")
     for path in (trial.file, other, ledger, text):

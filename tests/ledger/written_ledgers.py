@@ -29,7 +29,7 @@ from tests.lib import (ACCT_SESSION_ID, A_CLASS, CLASS, HERE, HOME_SECRET, NAS_S
                        until, user_name, worded)
 
 PATIENCE = 60
-NAME = re.compile("([0-9a-f]{16})-([0-9]{6})[.]jsonl")
+NAME = re.compile("([0-9]{4}-[0-9]{2}-[0-9]{2})-([0-9a-f]{16})-([0-9]{6})[.]jsonl")
 TIME = re.compile(r'"time":"(\d{4}-\d\d-\d\dT\d\d:\d\d:\d\d[.]\d{3})Z"')
 SECOND_SECRET = b"home2-secret"
 # The run that lines have here until it is known how the program named its own.
@@ -128,7 +128,7 @@ class Trial(Proxy):
             raise AssertionError(f"it ended {ended:.1f} s after its last line")
 
     def files(self, folder=None):
-        return sorted((folder or self.folder).glob("*.jsonl"))
+        return sorted((folder or self.folder).glob("*.jsonl"), key=lambda file: file.name[11:])
 
     def ledger_lines(self, files=None):
         """The lines that stand whole."""
@@ -219,7 +219,8 @@ def writes_what_was_acknowledged(trial):
     trial.is_all_there()
     (file,) = trial.files()
     first, *_, last = trial.ledger_lines()
-    run, number = NAME.fullmatch(file.name).groups()
+    date, run, number = NAME.fullmatch(file.name).groups()
+    hope("its date", date, first["time"][:10])
     hope("the file", (int(number), file.stat().st_mode & 0o7777), (0, 0o640))
     hope("the first line", (first["run"], first["file"], first["lanes"]), (run, 0, [{"lane": 0, "home": "h1", "serial": 0}]))
     hope("the last line", (last["type"], last["lanes"]), ("end", [{"lane": 0, "entries": 2000, "accepted": 2000, "left": 0}]))
@@ -520,7 +521,7 @@ def midnight_is_a_next_file(trial):
     trial.is_all_there()
     for file in trial.files():
         days = {line["time"][:10] for line in trial.ledger_lines([file])}
-        hope("days of a file", len(days), 1)
+        hope("days of a file", days, {file.name[:10]})
 
 
 class Steered:
@@ -602,6 +603,7 @@ def moments_are_those_that_python_prints(trial):
         (file,) = set(trial.files()) - set(before)
         moment = (datetime(1970, 1, 1) + timedelta(milliseconds=milliseconds)).isoformat(timespec="milliseconds")
         hope("moments", TIME.findall(file.read_text()), [moment, moment])
+        hope("the date of its name", file.name[:10], moment[:10])
 
 
 def a_long_ledger_is_several_files(trial):
@@ -661,8 +663,8 @@ class TwoLanes:
     def has_files(self, *files):
         """Sees that the files of the run are these, but for the name of the run and the moments, which are of this test."""
         found = self.trial.files()
-        run = NAME.fullmatch(found[0].name)[1] if found else "none"
-        hope("names", [file.name for file in found], [f"{run}-{number:06}.jsonl" for number in range(len(files))])
+        run = NAME.fullmatch(found[0].name)[2] if found else "none"
+        hope("names", [file.name[11:] for file in found], [f"{run}-{number:06}.jsonl" for number in range(len(files))])
         for file, wanted in zip(found, files):
             written = file.read_bytes().decode()
             hope(file.name, TIME.sub("TIME", written), TIME.sub("TIME", wanted.replace(f"{A_RUN:016x}", run)))

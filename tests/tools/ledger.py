@@ -258,17 +258,17 @@ def many_records_are_all_told(program, folder):
 
 
 def each_form_is_read(program, folder):
-    """Folders in order, gzip with several members, standard input, and a pipe."""
+    """Folders in order, also of a run whose clock went back, gzip with several members, standard input, and a pipe."""
     stage, room = Stage(program, folder), pathlib.Path(folder, "ledger")
     room.mkdir()
-    first, second = Ledger(room, 7, "2026-RUN-999999.jsonl"), Ledger(room, 8, "x-000000.jsonl")
+    first, second = Ledger(room, 7, "2026-02-01-RUN-999999.jsonl"), Ledger(room, 8, "x-000000.jsonl")
     for _ in range(20):
         first.add()
         second.add()
     first.write()
     second.write()
     lines = text([first.made.begin()]).splitlines(True)
-    more = Ledger(room, 7, "2026-RUN-1000000.jsonl")
+    more = Ledger(room, 7, "2026-01-31-RUN-1000000.jsonl")
     octets = first.octets(False).splitlines(True)
     first.path.write_bytes(b"".join(octets[:11]))
     parts = gzip.compress(lines[0].encode().replace(b'"serial":20', b'"serial":10')) + bytes(7) + gzip.compress(b"".join(octets[11:]))

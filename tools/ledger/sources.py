@@ -8,15 +8,24 @@ import zlib
 from trial.faults import Fault, shown_path, told_by
 
 STANDARD_INPUT, GZIP, AT_ONCE = "-", b"\x1f\x8b", 1 << 16
-NAME = re.compile(r"(.*?)(\d+)\.jsonl(?:\.gz)?", re.DOTALL)
+# The date of its first line, which old files have not, the name of the run, and the number of the file in it.
+NAME = re.compile(r"(\d{4,}-\d\d-\d\d-)?(.*?)(\d+)\.jsonl(?:\.gz)?", re.DOTALL)
 # A name that is printed as it is. rad_audit gets each file under its own name, if it is such a one.
 PLAIN = re.compile(r"[A-Za-z0-9._-]{1,200}", re.ASCII)
 
 
-def order(name):
-    """By the name of the run, and by the number of the file in it."""
+def parts_of(name):
+    """The run of a file, its number in that, and its date."""
     found = NAME.fullmatch(name)
-    return (found[1], int(found[2]), name) if found else (name, -1, name)
+    return (found[2], int(found[3]), found[1] or "") if found else (name, -1, "")
+
+
+def in_order(names):
+    """By the date of the first file of each run, by the run, and by the number of the file in it: a clock may go back."""
+    firsts = {}
+    for run, number, date in map(parts_of, names):
+        firsts[run] = min(firsts.get(run, (number, date)), (number, date))
+    return sorted(names, key=lambda name: (firsts[parts_of(name)[0]][1], *parts_of(name)[:2], name))
 
 
 def files_of(folder):
@@ -28,7 +37,7 @@ def files_of(folder):
     found = {it for it in names if it.endswith(".jsonl") or it.endswith(".jsonl.gz") and it[:-3] not in names}
     if not found:
         raise Fault(f"{shown_path(folder)}: no file *.jsonl or *.jsonl.gz is in this folder")
-    return [os.path.join(folder, it) for it in sorted(found, key=order)]
+    return [os.path.join(folder, it) for it in in_order(found)]
 
 
 class Source:

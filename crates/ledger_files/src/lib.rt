@@ -1,6 +1,6 @@
 //! What stands in the files of a ledger: their names, the moments in them, and which octets are written to which file.
 //!
-//! A file is named `RUN-NNNNNN.jsonl` ([`FileName`]), and its lines have moments of UTC ([`UtcTime`]). [`Pending`] and
+//! A file is named `DATE-RUN-NNNNNN.jsonl` ([`FileName`]), and its lines have moments of UTC ([`UtcTime`]). [`Pending`] and
 //! [`Batch`] are lines that are to be written to a [`LedgerDisk`], and how far they are written. [`RunFiles`] writes them to
 //! the files of a run, and `specs/Runs.antt` says what these hold then. [`is_next_due`] says when the next file is begun, and
 //! [`FileDay`] how a clock that went back counts.

@@ -4,7 +4,8 @@
 //! buffer, takes no memory and waits for nobody. [`LedgerWriter`] is that of the thread that writes the entries to files,
 //! in the form of `ledger_lines`, by the rules of `ledger_files`.
 //!
-//! A file is named `RUN-NNNNNN.jsonl`: RUN is what names the run, and NNNNNN the number of the file in the run. The next
+//! A file is named `DATE-RUN-NNNNNN.jsonl`: DATE is that of its first line, as `2026-01-31`, RUN is what names the run, and
+//! NNNNNN the number of the file in the run. The next
 //! one is begun before a file has more than 256 MiB, and at midnight UTC. No file is ever removed or replaced.
 //!
 //! The definitions that the contracts cite are in specs: `Parcels` has the form of a response in the buffer, `Entries` the

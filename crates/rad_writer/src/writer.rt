@@ -10,7 +10,7 @@ use crate::inlet::time_since_1970;
 use crate::lines::{begin_line, end_line};
 use crate::run_names::RunNames;
 use ledger_files::{
-    Batch, DiskFault, FileDay, FileName, LedgerDisk, LineHead, OpenFile, RunFiles, day_of,
+    Batch, DiskFault, FileDay, FileName, LedgerDisk, LineHead, OpenFile, RunFiles, date_of, day_of,
     is_next_due,
 };
 use rad_metrics::{LedgerFault, LedgerState};
@@ -353,7 +353,7 @@ impl<R: Clock, D: LedgerDisk + Drop> Session<'_, R, D> {
         let now = self.read_time();
         let disk = self.files.disk();
         let is_gone = disk.is_open() && disk.check_place().is_err();
-        let Ok(path) = self.next_path() else {
+        let Ok(path) = self.next_path(now) else {
             return Err(LedgerFault::Memory);
         };
         let Ok(line) = self.first_line(now, is_gone) else {
@@ -366,10 +366,11 @@ impl<R: Clock, D: LedgerDisk + Drop> Session<'_, R, D> {
         Ok(())
     }
 
-    /// Returns the path of the next file.
-    fn next_path(&self) -> Result<String, AllocError> {
+    /// Returns the path of the next file, whose first line has this time.
+    fn next_path(&self, now: u64) -> Result<String, AllocError> {
         let name = FileName {
             folder: self.source.folder.as_str(),
+            date: date_of(day_of(now)),
             run: self.source.names.run,
             number: self.number,
         };
