@@ -3,6 +3,7 @@ pub mod Values
 pub mod Buckets
 pub mod Reasons
 pub mod Samples
+pub mod Times
 pub mod Events
 pub mod Metrics
 pub mod LedgerFaults

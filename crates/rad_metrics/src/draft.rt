@@ -44,15 +44,16 @@ impl Draft {
     /// # Errors
     ///
     /// `AllocError` if memory is refused.
-    pub fn read<S: Wait, U: UdpSockets + OwnProcess, R>(
+    pub fn read<S: Wait, U: UdpSockets + OwnProcess, R: Clock>(
         &mut self,
         rt: &S,
         system: &U,
         numbers: &Numbers<'_, R>,
     ) -> Result<(), AllocError> {
         self.readings.clear();
+        let started = numbers.started_by_now();
         for home in numbers.homes() {
-            self.readings.push(home.reading(rt))?;
+            self.readings.push(home.reading(rt, started))?;
         }
         self.process = read_process(system, &mut self.table);
         UdpSockets::read(system, &mut self.table);

@@ -1,6 +1,7 @@
 //! What the workers reported of each home server.
 
 ghost use Rattle.std.specs.Prelude.{◌≡◌, ◌+◌, ◌-◌, ◌^◌, ◌==◌, if◌then◌else◌, min};
+ghost use Rattle.rad_metrics.specs.Times.{IsSince1970};
 
 use crate::home_metric::Reading;
 use crate::home_times::HomeTimes;
@@ -17,14 +18,12 @@ use std::sync::{Mutex, Wait};
 pub(crate) struct HomeCell {
     /// Whether its worker is to report the standing of its lane.
     is_asked: AtomicBool,
-    /// Since when it is marked up or down.
+    /// Since when it is marked up or down, in milliseconds since the start.
     since: AtomicU64,
     /// How long it was marked down.
     down: DownTime,
-    /// When it last answered; 0 before its first answer.
+    /// One more than when it last answered, in milliseconds since the start; 0 before its first answer.
     last_answer: AtomicU64,
-    /// When the program started, in milliseconds since 1970.
-    started: u64,
     /// The limits of its lane.
     limits: LimitNumbers,
     times: HomeTimes,
@@ -32,31 +31,29 @@ pub(crate) struct HomeCell {
 }
 
 impl HomeCell {
-    /// Makes the cell of a home server of which nothing was reported yet, at this time since 1970: it is up, and its
-    /// lane is empty.
+    /// Makes the cell of a home server of which nothing was reported yet: it is up, and its lane is empty.
     ///
     /// # Errors
     ///
     /// `AllocError` if memory is refused.
-    fn new(alloc: Global, home: &Home, start: u64) -> Result<HomeCell, AllocError> {
+    fn new(alloc: Global, home: &Home) -> Result<HomeCell, AllocError> {
         let limits = home.limits().numbers();
         let times = HomeTimes::new(alloc, limits)?;
         Ok(HomeCell {
             is_asked: AtomicBool::new(false),
-            since: AtomicU64::new(start),
+            since: AtomicU64::new(0),
             down: DownTime::new(),
             last_answer: AtomicU64::new(0),
-            started: start,
             limits,
             times,
-            reading: Mutex::new(first_reading(limits, start)),
+            reading: Mutex::new(first_reading(limits)),
         })
     }
 
     /// Records what its worker reports of it, or the front. The front's turn began `front` microseconds after the start, that
     /// of its worker `turn` microseconds after it, and this number of Accounting-Requests were sent to it.
     pub(crate) fn report(&self, report: &WorkerReport<'_>, front: u64, turn: u64, sent: u64) {
-        let time = self.started.saturating_add(turn / 1000);
+        let time = turn / 1000;
         match *report {
             WorkerReport::Accepted { number, .. } => self.times.was_accepted(number, front),
             WorkerReport::FirstSent { number, slot } => {
@@ -64,7 +61,7 @@ impl HomeCell {
             }
             WorkerReport::Answered { serial, slot, .. } => {
                 self.times.replied(serial, slot, turn);
-                self.last_answer.store(time, Ordering::SeqCst);
+                self.last_answer.store(time + 1, Ordering::SeqCst);
             }
             WorkerReport::Took { serial, .. } => self.times.left(serial, front),
             WorkerReport::WentDown(_) => {
@@ -117,10 +114,10 @@ impl HomeCell {
         }
     }
 
-    /// Returns what was last reported.
-    pub(crate) fn reading<R: Wait>(&self, rt: &R) -> Reading {
+    /// Returns what was last reported, where the program started at this time, in milliseconds since 1970.
+    pub(crate) fn reading<R: Wait>(&self, rt: &R, started: u64) -> Reading {
         let reading = self.reading.lock(rt);
-        *reading
+        since_1970(*reading, started)
     }
 }
 
@@ -182,25 +179,38 @@ pub(crate) fn is_of_home(report: &WorkerReport<'_>) -> bool {
     )
 }
 
+/// Returns a reading whose times are in milliseconds since 1970, of one whose times are in milliseconds since the start,
+/// which was at this time. That of the last answer is one more there, and 0 if there is none.
+fn since_1970(read: Reading, started: u64) -> Reading
+    ensures { IsSince1970 read started result }
+{
+    let last_answer = match read.last_answer {
+        0 => 0,
+        time => started.saturating_add(time - 1),
+    };
+    Reading {
+        told: started.saturating_add(read.told),
+        since: started.saturating_add(read.since),
+        last_answer,
+        ..read
+    }
+}
+
 /// Makes a cell for each of these home servers.
 ///
 /// # Errors
 ///
 /// `AllocError` if memory is refused.
-pub(crate) fn home_cells(
-    alloc: Global,
-    homes: &[Home],
-    start: u64,
-) -> Result<Vec<HomeCell>, AllocError> {
+pub(crate) fn home_cells(alloc: Global, homes: &[Home]) -> Result<Vec<HomeCell>, AllocError> {
     let mut cells = Vec::new(alloc);
     for home in homes {
-        cells.push(HomeCell::new(alloc, home, start)?)?;
+        cells.push(HomeCell::new(alloc, home)?)?;
     }
     Ok(cells)
 }
 
 /// Returns the reading before a worker reported anything.
-fn first_reading(limits: LimitNumbers, start: u64) -> Reading {
+fn first_reading(limits: LimitNumbers) -> Reading {
     Reading {
         limits,
         standing: Standing {
@@ -218,8 +228,8 @@ fn first_reading(limits: LimitNumbers, start: u64) -> Reading {
             last_answered: None,
         },
         moment: Moment::new(0).unwrap(),
-        told: start,
-        since: start,
+        told: 0,
+        since: 0,
         down: 0,
         last_answer: 0,
         sent: 0,

@@ -1,5 +1,7 @@
 //! All metrics of a running proxy.
 
+ghost use Rattle.rad_metrics.specs.Times.{IsStartBy};
+
 use crate::counted::Counted;
 use crate::counts::{APART, Counts, atomics};
 use crate::event::{Event, report_peer, report_row};
@@ -15,6 +17,9 @@ use std::collections::BTreeMap;
 use std::sync::atomic::{AtomicU64, Ordering};
 use std::time::{Clock, Instant, SystemTime, UNIX_EPOCH};
 
+/// How many milliseconds the clock of the day may move against the other one before that counts as a step.
+const STEP: u64 = 1000;
+
 /// What the workers of a configuration reported. Reporting takes no memory, except for the socket of
 /// [`Numbers::bound`], and waits for no lock.
 #[derive(Drop)]
@@ -24,6 +29,8 @@ pub struct Numbers<'a, R> {
     start: Option<Instant>,
     /// The same in milliseconds since 1970.
     started: u64,
+    /// The same by what the clock of the day shows now, if that was set since.
+    set: AtomicU64,
     /// The row of each client's address.
     clients: BTreeMap<[u8; 4], usize>,
     counts: Counts,
@@ -51,11 +58,12 @@ impl<'a, R: Clock> Numbers<'a, R> {
         let turns = lanes.saturating_add(1).saturating_mul(APART);
         let turns = atomics(alloc, turns, 0)?;
         let clients = rows_of(alloc, config)?;
-        let homes = home_cells(alloc, config.homes(), started)?;
+        let homes = home_cells(alloc, config.homes())?;
         Ok(Numbers {
             rt,
             start: Instant::now(rt).ok(),
             started,
+            set: AtomicU64::new(started),
             clients,
             counts,
             strangers: AtomicU64::new(0),
@@ -106,6 +114,20 @@ impl<'a, R: Clock> Numbers<'a, R> {
             strangers: self.strangers.load(Ordering::SeqCst),
             process,
         }
+    }
+
+    /// Returns when the program started, in milliseconds since 1970, by what the clock of the day shows now. A clock that was
+    /// set moves it, so that all times are of one clock.
+    pub(crate) fn started_by_now(&self) -> u64 {
+        let before = self.set.load(Ordering::SeqCst);
+        let passed = self.microseconds() / 1000;
+        let now = self.now();
+        if now == 0 || passed == 0 {
+            return before;
+        }
+        let start = set_start(before, now, passed);
+        self.set.store(start, Ordering::SeqCst);
+        start
     }
 
     /// Returns how many microseconds the program has run.
@@ -194,6 +216,19 @@ impl<R> Numbers<'_, R> {
     /// Returns what is known of each home server, in order.
     pub(crate) fn homes(&self) -> &[HomeCell] {
         self.homes.as_slice()
+    }
+}
+
+/// Returns when the program started by a clock that shows `now` after so long, all in milliseconds, if that is more than a
+/// second from `before`, when it started until now.
+fn set_start(before: u64, now: u64, passed: u64) -> u64
+    ensures { IsStartBy before now passed result }
+{
+    let start = now.saturating_sub(passed);
+    if start.abs_diff(before) > STEP {
+        start
+    } else {
+        before
     }
 }
 
