@@ -69,6 +69,7 @@ NUMBERS = {
         "IDENTIFIERS": ("256", f"{LIMITS} the_widest_window_is_out_at_once"), "BESIDE": ("256", CHOICE), "SERIALS": ("1 << 23", CHOICE),
         "UNTOLD": ("u64::MAX", FORM), "NUMBERS": ("1 << 24", PROVED), "TIMES": ("1 << 40", PROVED)},
     "rad_metrics/src/ledger_fault.rt": {"NUMBERS": ("1 << 32", CHOICE)},
+    "rad_metrics/src/numbers.rt": {"STEP": ("1000", "ledger/disk_faults a_clock_that_is_set_moves_the_times")},
     "rad_metrics/src/socket_numbers.rt": {"MOST_OCTETS": ("1 << 22", CHOICE)},
     "rad_packet/src/datagram.rt": {"GREATEST_VALUE_LENGTH": ("253", PROVED)},
     "rad_packet/src/lib.rt": {"HEADER_LENGTH": ("20", PROVED), "GREATEST_LENGTH": ("4096", PROVED)},

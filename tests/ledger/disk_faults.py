@@ -1,4 +1,4 @@
-"""Has the program write a ledger while its disk or its clock fails, and its files are cut or removed, and looks at what it tells and writes.
+"""Has the program write a ledger while its disk, its clock or its sends fail, and its files are cut, and looks at what it tells and writes.
 
 usage: python3 -m tests.ledger.disk_faults PROGRAM [NAME ..]
 
@@ -7,10 +7,11 @@ file is there, and wrong_clock.c sets the time of day or lets the clock fail. sl
 """
 import contextlib
 import os
+import re
 import time
 
 from tests.ledger.written_ledgers import PATIENCE, Steered, Trial
-from tests.lib import NAS_SECRET, START, built, hope, request, try_named, until
+from tests.lib import ACCT_SESSION_ID, HOME_SECRET, NAS_SECRET, START, answer, attribute, built, hope, request, try_named, until
 
 # How long syncs fail, and for how long at least the number then says so.
 FAILS, UNSYNCED = 8, 4.0
@@ -195,11 +196,66 @@ def a_clock_that_stays_away_leaves_all_in_the_ledger(trial):
     hope("lines", [kinds.count(kind) for kind in ("entry", "left", "end")], [30, 20, 0])
 
 
+def labelled(trial, name, label=""):
+    """The sum of the last numbers of a metric with this label."""
+    found = re.findall(rf"^rad_proxy_{name}{{(.*)}} ([0-9.]+)$", trial.counters.read_text(), re.MULTILINE)
+    return sum(float(value) for labels, value in found if label in labels)
+
+
+def a_clock_that_is_set_moves_the_times(trial):
+    """Where the clock is set an hour back, or ahead, the times of a home server's metrics are of the new hour, and none is late by it."""
+    clock = Steered(trial)
+    writes(trial, 1)
+    for hours in (-1, 1):
+        clock.set(0, 3600 * hours)
+        time.sleep(2.5)
+        now, told, answered = trial.number("report_time_seconds"), labelled(trial, "home_report_time_seconds"), labelled(trial, "last_answer_time_seconds")
+        hope("it is set", abs(now - clock.noon - 3600 * hours) < 60, True)
+        hope(f"how late, {hours}", (abs(now - told) < LATE, 0 < now - answered < 60), (True, True))
+    hope("the start", abs(trial.number("start_time_seconds") - clock.noon) < 60, True)
+
+
+def what_the_system_refuses_to_send_is_counted_apart(trial):
+    """What is sent less what the system refused is what came to the home server, and to the client."""
+    trial.begin(LD_PRELOAD=built(trial.room, "failing_sockets"), SEND_FAULTS="3")
+    waiting = {it: request(it, START + attribute(ACCT_SESSION_ID, b"S%d" % it), NAS_SECRET) for it in range(5)}
+    came, got = [], []
+    trial.home.setblocking(False)
+    trial.nas.setblocking(False)
+
+    def pass_on():
+        """Takes what came to either side, and sends what is not answered again each second."""
+        if time.monotonic() > pass_on.last + 1:
+            pass_on.last = time.monotonic()
+            for octets in waiting.values():
+                trial.nas.sendto(octets, trial.listen)
+        with contextlib.suppress(BlockingIOError):
+            octets, proxy = trial.home.recvfrom(4096)
+            came.append(octets)
+            trial.home.sendto(answer(octets, octets[1], octets[-12:], HOME_SECRET), proxy)
+        with contextlib.suppress(BlockingIOError):
+            got.append(trial.nas.recv(4096))
+            waiting.pop(got[-1][1], None)
+        return not waiting
+
+    pass_on.last = 0
+    until("all are answered", pass_on)
+    time.sleep(2.5)
+    refused = [labelled(trial, "send_faults_total", label) for label in ('home="h1"', 'side="clients"')]
+    hope("refused", refused, [3, 3])
+    hope("what the home server got", labelled(trial, "sent_total") + labelled(trial, "probes_total") - refused[0], len(came))
+    hope("what the client got", labelled(trial, "client_responses_total") - refused[1], len(got))
+    trial.ends()
+    trial.text = trial.counters.read_text()
+    hope("its help", [line for line in trial.text.splitlines() if "HELP rad_proxy_sent_total" in line][0].count("refused"), 1)
+
+
 TESTS = [
     a_file_that_is_cut_has_no_hole, a_file_that_is_removed_is_lost, a_sync_that_fails_begins_no_file_each_second,
     a_sync_that_fails_at_midnight_is_told, a_full_disk_that_has_room_soon_after_the_end_is_whole,
     a_disk_that_stays_full_is_told_with_the_serials, a_disk_that_takes_all_but_the_end_is_told, a_slow_disk_has_ten_seconds,
-    a_clock_that_stays_away_leaves_all_in_the_ledger,
+    a_clock_that_stays_away_leaves_all_in_the_ledger, a_clock_that_is_set_moves_the_times,
+    what_the_system_refuses_to_send_is_counted_apart,
 ]
 
 if __name__ == "__main__":

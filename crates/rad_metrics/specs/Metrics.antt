@@ -30,7 +30,7 @@ counted_family counted.Unheard = counter (codes "unheard_total") (codes "Datagra
 counted_family counted.SendFaults = counter (codes "send_faults_total") (codes "Sends that failed.")
 counted_family counted.ReceiveFaults = counter (codes "receive_faults_total") (codes "Receives that failed.")
 counted_family counted.WentDown = counter (codes "downs_total") (codes "How often the home server was marked down.")
-counted_family counted.Sent = counter (codes "sent_total") (codes "Accounting-Requests sent to the home server, for the first time and again.")
+counted_family counted.Sent = counter (codes "sent_total") (codes "Accounting-Requests for the home server, for the first time and again, also those that the system refused to send.")
 counted_family counted.Probed = counter (codes "probes_total") (codes "Status-Servers sent to the home server.")
 counted_family counted.Cut = counter (codes "cut_total") (codes "Answered requests that were removed from the book.")
 counted_family counted.Marked = counter (codes "marked_total") (codes "Requests for the home server that arrived with a Proxy-State of this proxy's form.")
@@ -38,7 +38,7 @@ counted_family counted.WentUp = counter (codes "ups_total") (codes "How often th
 counted_family counted.ClientReceived = counter (codes "client_received_total") (codes "Datagrams received from the client.")
 counted_family counted.ClientAccepted = counter (codes "client_accepted_total") (codes "New requests from the client that were accepted.")
 counted_family counted.ClientRepeats = counter (codes "client_repeats_total") (codes "Retransmitted requests from the client: unanswered, or answered less than a span ago.")
-counted_family counted.ClientResponses = counter (codes "client_responses_total") (codes "Responses sent to the client, including those to repeats and to Status-Servers.")
+counted_family counted.ClientResponses = counter (codes "client_responses_total") (codes "Responses to the client, also to repeats and to Status-Servers, and those that the system refused to send.")
 counted_family counted.ClientRefused = counter (codes "client_refused_total") (codes "New requests from the client that were refused.")
 counted_family counted.ClientDropped = counter (codes "client_dropped_total") (codes "Datagrams from the client that were dropped.")
 

@@ -121,7 +121,7 @@ impl Counted {
             Counted::SendFaults => Counter("send_faults_total", "Sends that failed."),
             Counted::ReceiveFaults => Counter("receive_faults_total", "Receives that failed."),
             Counted::WentDown => Counter("downs_total", "How often the home server was marked down."),
-            Counted::Sent => Counter("sent_total", "Accounting-Requests sent to the home server, for the first time and again."),
+            Counted::Sent => Counter("sent_total", "Accounting-Requests for the home server, for the first time and again, also those that the system refused to send."),
             Counted::Probed => Counter("probes_total", "Status-Servers sent to the home server."),
             Counted::Cut => Counter("cut_total", "Answered requests that were removed from the book."),
             Counted::Marked => Counter("marked_total", "Requests for the home server that arrived with a Proxy-State of this proxy's form."),
@@ -129,7 +129,7 @@ impl Counted {
             Counted::ClientReceived => Counter("client_received_total", "Datagrams received from the client."),
             Counted::ClientAccepted => Counter("client_accepted_total", "New requests from the client that were accepted."),
             Counted::ClientRepeats => Counter("client_repeats_total", "Retransmitted requests from the client: unanswered, or answered less than a span ago."),
-            Counted::ClientResponses => Counter("client_responses_total", "Responses sent to the client, including those to repeats and to Status-Servers."),
+            Counted::ClientResponses => Counter("client_responses_total", "Responses to the client, also to repeats and to Status-Servers, and those that the system refused to send."),
             Counted::ClientRefused => Counter("client_refused_total", "New requests from the client that were refused."),
             Counted::ClientDropped => Counter("client_dropped_total", "Datagrams from the client that were dropped."),
         }
