@@ -1,5 +1,5 @@
 #!/usr/bin/env python3
-"""What `rad_audit` answers, written a second time: from docs/formats.md, by Python's json, hashlib and tomllib.
+"""What `rad_audit` answers, written a second time: from docs/formats.md, by Python's datetime, json, hashlib and tomllib.
 
 usage: audit_model.py CONFIG FILE..    audits as the program does
 
@@ -11,6 +11,7 @@ import pathlib
 import re
 import sys
 import tomllib
+from datetime import date
 
 MOST_CONFIG, MOST_LINE = 1_048_576, 65_536
 REQUEST, RESPONSE, PROXY_STATE, MESSAGE_AUTHENTICATOR = 4, 5, 33, 80
@@ -60,6 +61,18 @@ def no_number(text):
     raise NoLine
 
 
+def is_time(text):
+    """Whether a text has the form of a moment, and is one. Before the year 1 this looks at a year that has as many days in each month."""
+    if not TIME.fullmatch(text):
+        return False
+    year, month, day = int(text[:4]), int(text[5:7]), int(text[8:10])
+    try:
+        date(year or 400, month, day)
+    except ValueError:
+        return False
+    return text[11:13] < "24" and text[14:16] < "60" and text[17:19] < "60"
+
+
 def whole(text):
     """A number without sign: `-0` is none."""
     need(not text.startswith("-"))
@@ -101,7 +114,7 @@ def read_line(octets):
         raise NoLine from None
     need(type(line) is dict and HEAD <= set(line))
     are_right(HEAD, line)
-    need(re.fullmatch("[0-9a-fA-F]{16}", line["run"]) and TIME.fullmatch(line["time"]))
+    need(re.fullmatch("[0-9a-fA-F]{16}", line["run"]) and is_time(line["time"]))
     keys, kind = set(line), line["type"]
     need(kind in ("begin", "entry", "left", "end"))
     if kind == "begin":
@@ -116,7 +129,7 @@ def read_line(octets):
     else:
         read_request(keys, LEFT, {"sendings", "accepted"}, line)
         accepted = line.get("accepted", line["time"])
-        need(line["state"] in STATES and type(accepted) is str and TIME.fullmatch(accepted))
+        need(line["state"] in STATES and type(accepted) is str and is_time(accepted))
     return line
 
 
@@ -157,6 +170,11 @@ def word_of(line, key):
     """A word of a line, as octets."""
     octets = line.get(f"{key}_octets")
     return line[key].encode() if key in line else None if octets is None else bytes.fromhex(octets)
+
+
+def told_words(line):
+    """What a line says of its realm, session, user and status."""
+    return *(word_of(line, key) for key in ("realm", "session", "user")), line.get("status")
 
 
 def words_of(packet):
@@ -242,8 +260,11 @@ class Audit:
             reason = "SerialNotAbove"
         if reason is None and lane["numbers"].has(entry["record"]):
             reason = "RecordTwice"
+        if reason is None and told_words(entry) != words_of(bytes.fromhex(entry["sent"])):
+            reason = "WrongWords"
         if reason is not None:
             return self.is_wrong(place, reason)
+        lane["back"], lane["last"] = lane["back"] + (entry["time"] < lane["last"]), entry["time"]
         lane["numbers"].add(entry["record"])
         lane["not judged"] += entry["home"] not in self.homes
         if lane["next"] < entry["serial"]:
@@ -266,8 +287,7 @@ class Audit:
         reason = self.request(left) or ("UnknownLane" if lane is None else None)
         if reason is None and lane["numbers"].has(left["record"]):
             reason = "RecordTwice"
-        words = *(word_of(left, key) for key in ("realm", "session", "user")), left.get("status")
-        if reason is None and words != words_of(bytes.fromhex(left["request"])):
+        if reason is None and told_words(left) != words_of(bytes.fromhex(left["request"])):
             reason = "WrongWords"
         if reason is not None:
             return self.is_wrong(place, reason)
@@ -293,7 +313,7 @@ class Audit:
         elif line["type"] == "end":
             self.take_end(place, line)
         else:
-            fresh = {"gap": None, "end": None, "told": None, "entries": 0, "left": 0, "not judged": 0}
+            fresh = {"gap": None, "end": None, "told": None, "entries": 0, "left": 0, "not judged": 0, "last": "", "back": 0}
             lanes = [{**lane, **fresh, "numbers": Numbers(), "next": lane["serial"]} for lane in line["lanes"]]
             self.runs.setdefault(line["run"].lower(), lanes)
 
@@ -329,6 +349,8 @@ class Audit:
                     self.printed.append(f"{named(run, lane)} accepted {lane['told'][0]} answered {lane['entries']} left {lane['left']}")
                 if lane["numbers"].exact_from:
                     self.printed.append(f"{named(run, lane)} more than {MOST_RANGES} ranges")
+                if lane["back"]:
+                    self.printed.append(f"{named(run, lane)} steps back in time {lane['back']}")
         return 5 if self.wrong else 3 if self.gap else 0
 
 

@@ -91,8 +91,8 @@ class Run:
         }
         line.update(worded("realm", user.rpartition(b"@")[2] if b"@" in user else None))
         line.update(worded("session", session or None))
-        if status is not None:
-            line["status"] = status
+        line.update({"status": status} if status is not None else {})
+        line.update(worded("user", user or None))
         lane.serial, lane.record = lane.serial + 1, lane.record + 1
         return {**line, "sent": sent.hex(), "reply": reply.hex(), "response": response.hex()}
 

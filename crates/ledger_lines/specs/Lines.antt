@@ -14,6 +14,7 @@ use Rattle.rad_ledger.specs.declared.entry.Entry.{Entry}
 use Rattle.rad_ledger.specs.declared.left.Left.{Left}
 use Rattle.rad_ledger.specs.declared.left.LeftState.{LeftState}
 use Rattle.rad_ledger.specs.declared.left.LeftState.TheVariants.{Queued, Outstanding, Untaken}
+use Rattle.ledger_lines.specs.Moments.{IsMoment}
 use Rattle.ledger_lines.specs.declared.begin.Begin.{Begin}
 use Rattle.ledger_lines.specs.declared.begin.End.{End}
 use Rattle.ledger_lines.specs.declared.begin.LaneStart.{LaneStart}
@@ -70,9 +71,13 @@ HasOnly known (object members) = All (Contains known) (keys members)
 abbrev pub has_form : ℕ → ℕ → Bool
 has_form form octet = cond (form == 100) (is_ascii_digit octet) (octet == form)
 
-pub record IsTime (text : List ℕ) : Type 0 where
+pub record HasTimeForm (text : List ℕ) : Type 0 where
   pub long : length text ≡ 24
   pub formed : (place : ℕ) → place < 24 → IsTrue (has_form (get_or (codes "dddd-dd-ddTdd:dd:dd.dddZ") place 0) (get_or text place 0))
+
+pub record IsTime (text : List ℕ) : Type 0 where
+  pub form : HasTimeForm text
+  pub exists : IsMoment text
 
 -- So many octets, as twice as many digits.
 pub record HasArray (key : List ℕ) (count : ℕ) (value : Json) (octets : List ℕ) : Type 0 where

@@ -8,11 +8,13 @@
 mod begin;
 mod digits;
 mod faults;
+mod moments;
 mod reading;
 mod values;
 mod writing;
 
 pub use begin::{Begin, End, LaneCount, LaneStart};
 pub use faults::LineFault;
+pub use moments::moment_of;
 pub use reading::{Line, MOST_LINE_OCTETS, Room, read_line};
 pub use writing::{write_begin, write_end, write_entry, write_left};

@@ -7,10 +7,11 @@ ghost use Rattle.json.specs.Strict.{keys};
 ghost use Rattle.json.specs.Value.{items_view, members_view, value_view};
 ghost use Rattle.ledger_lines.specs.internal.Known.{IsAbsent};
 ghost use Rattle.rad_ledger.specs.declared.left.LeftState.{LeftState as TheState};
-ghost use Rattle.ledger_lines.specs.Lines.{as_items, Denies, HasAuthenticator, HasClient, HasList, HasNumber, HasOctets, HasOnly, HasRun, HasText, HasState, HasTime, has_form, IsTime, IsValue, MayHaveNumber, MayHaveTime, MayHaveWords};
+ghost use Rattle.ledger_lines.specs.Lines.{as_items, Denies, HasAuthenticator, HasClient, HasList, HasNumber, HasOctets, HasOnly, HasRun, HasText, HasState, HasTime, HasTimeForm, has_form, IsTime, IsValue, MayHaveNumber, MayHaveTime, MayHaveWords};
 
 use crate::digits::{fill, octets_of};
 use crate::faults::LineFault;
+use crate::moments::is_moment;
 use json::{Error, Scratch, Value};
 use rad_ledger::LeftState;
 use rad_realms::read_address;
@@ -222,9 +223,16 @@ pub(crate) fn state_at(value: &Value<'_>) -> Result<LeftState, LineFault>
 /// The form of a moment: `d` stands for a digit.
 const FORM: [u8; 24] = *b"dddd-dd-ddTdd:dd:dd.dddZ";
 
-/// A moment of the form `2026-01-31T23:59:59.999Z`.
+/// A moment that exists, of the form `2026-01-31T23:59:59.999Z`.
 fn is_time(octets: &[u8]) -> bool
     ensures { IsTrue result ↔ IsTime octets.now }
+{
+    has_time_form(octets) && is_moment(octets)
+}
+
+/// Octets of the form `2026-01-31T23:59:59.999Z`.
+fn has_time_form(octets: &[u8]) -> bool
+    ensures { IsTrue result ↔ HasTimeForm octets.now }
 {
     if octets.len() != 24 {
         return false;

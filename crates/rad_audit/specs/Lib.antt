@@ -6,3 +6,4 @@ pub mod Rows
 pub mod Shown
 pub mod Statuses
 pub mod Taking
+pub mod Times

@@ -13,6 +13,7 @@ use Rattle.rad_audit.specs.declared.printing.LaneLine.{LaneLine}
 use Rattle.rad_audit.specs.declared.printing.FateCounts.{FateCounts}
 use Rattle.rad_audit.specs.declared.printing.FatesLine.{FatesLine}
 use Rattle.rad_audit.specs.declared.printing.RangesLine.{RangesLine}
+use Rattle.rad_audit.specs.declared.printing.BackLine.{BackLine}
 
 abbrev pub place_text : Place → List ℕ
 place_text place = word_text place.file.now ++ codes ":" ++ decimal place.line
@@ -50,3 +51,6 @@ fates_line line = name_text line.name ++ codes " " ++ fates_text line.fates
 
 abbrev pub ranges_line : RangesLine → List ℕ
 ranges_line line = name_text line.name ++ codes " more than 4096 ranges"
+
+abbrev pub back_line : BackLine → List ℕ
+back_line line = name_text line.name ++ codes " steps back in time " ++ decimal line.steps

@@ -2,7 +2,7 @@
 use Rattle.std.specs.Prelude.{◌≡◌, ◌≤◌, ◌+◌, ◌-◌, ◌^◌, min, ℕ, List, [], ◌∷◌, ◌++◌, Option, Some, None, option_copied, ⊤}
 use Rattle.rad_config.specs.Realm.{realm_of_packet}
 use Rattle.rad_lane.specs.Session.{session_id}
-use Rattle.rad_ledger.specs.Judging.{ArePacketsRight, IsWrong}
+use Rattle.rad_ledger.specs.Judging.{ArePacketsRight, IsInPlace, IsWrong}
 use Rattle.rad_ledger.specs.Leaving.{IsRightlyLeft, IsWronglyLeft}
 use Rattle.rad_ledger.specs.Counting.{Counts, LeavesGap}
 use Rattle.rad_ledger.specs.Numbers.{IsAsBefore, IsKnown, Keeps}
@@ -14,6 +14,7 @@ use Rattle.rad_ledger.specs.declared.reason.Reason.TheVariants.{NotEntry, NoPack
 use Rattle.rad_ledger.specs.declared.tally.Gap.{Gap}
 use Rattle.rad_ledger.specs.declared.tally.Tally.{Tally}
 use Rattle.rad_audit.specs.Facts.{number_at, value_at}
+use Rattle.rad_audit.specs.declared.wording.LineWords.{LineWords}
 use Rattle.rad_audit.specs.declared.taking.Taken.{Taken}
 use Rattle.rad_audit.specs.declared.taking.Taken.TheVariants.{Wrong, Counted}
 
@@ -29,9 +30,23 @@ pub record IsUnchanged (old new : Account) : Type 0 where
   pub left : new.left ≡ old.left
   pub told : new.told ≡ old.told
 
+-- The words of a line are those of its packet.
+pub record HasItsWords (packet : List ℕ) (words : LineWords) : Type 0 where
+  pub realm : option_copied words.realm ≡ realm_of_packet packet
+  pub session : option_copied words.session ≡ session_id packet
+  pub user : option_copied words.user ≡ value_at 1 packet
+  pub status : words.status ≡ number_at 40 packet
+
+abbrev pub words_of : Entry → LineWords
+words_of e = record { realm = e.realm; session = e.session; user = e.user; status = e.status }
+
+abbrev pub words_of_left : Left → LineWords
+words_of_left l = record { realm = l.realm; session = l.session; user = l.user; status = l.status }
+
 -- Nothing is wrong with it, and it is one more of the lane's entries, behind this gap if there is one.
 pub record IsCounted (e : Entry) (home client : Option (List ℕ)) (old : Tally) (was : Account) (gap : Option Gap) (new : Tally) (is : Account) : Type 0 where
   pub right : ArePacketsRight e home client
+  pub words : HasItsWords e.sent.now (words_of e)
   pub in_place : old.next ≤ e.serial
   pub leaves : LeavesGap old.next e.serial gap
   pub counts : (serials : List ℕ) → Counts old serials → Counts new (serials ++ e.serial ∷ [])
@@ -40,22 +55,27 @@ pub record IsCounted (e : Entry) (home client : Option (List ℕ)) (old : Tally)
   pub number : CountsNumber was is e.number
   pub left : is.left ≡ was.left
 
-abbrev pub Takes : Entry → Option (List ℕ) → Option (List ℕ) → Tally → Account → Taken → Tally → Account → Type 0
-Takes e home client old was (Wrong reason) new is =
-    IsWrong e home client (Some old.next) (IsKnown was.numbers e.number) reason × (new ≡ old) × IsUnchanged was is
-Takes e home client old was (Counted gap) new is = IsCounted e home client old was gap new is
+-- What is wrong with it: its words last.
+abbrev pub IsWrongEntry : Entry → Option (List ℕ) → Option (List ℕ) → Tally → Account → Reason → Type 0
+IsWrongEntry e home client old was NotEntry = ⊥
+IsWrongEntry e home client old was NoPacket = IsWrong e home client (Some old.next) (IsKnown was.numbers e.number) NoPacket
+IsWrongEntry e home client old was WrongSent = IsWrong e home client (Some old.next) (IsKnown was.numbers e.number) WrongSent
+IsWrongEntry e home client old was WrongReply = IsWrong e home client (Some old.next) (IsKnown was.numbers e.number) WrongReply
+IsWrongEntry e home client old was WrongResponse = IsWrong e home client (Some old.next) (IsKnown was.numbers e.number) WrongResponse
+IsWrongEntry e home client old was SerialNotAbove = IsWrong e home client (Some old.next) (IsKnown was.numbers e.number) SerialNotAbove
+IsWrongEntry e home client old was UnknownLane = ⊥
+IsWrongEntry e home client old was RecordTwice = IsWrong e home client (Some old.next) (IsKnown was.numbers e.number) RecordTwice
+IsWrongEntry e home client old was WrongWords =
+    ArePacketsRight e home client × IsInPlace e.serial (Some old.next) × (¬ IsKnown was.numbers e.number) × ¬ HasItsWords e.sent.now (words_of e)
 
--- The words of a line are those of its request.
-pub record HasItsWords (left : Left) : Type 0 where
-  pub realm : option_copied left.realm ≡ realm_of_packet left.request.now
-  pub session : option_copied left.session ≡ session_id left.request.now
-  pub user : option_copied left.user ≡ value_at 1 left.request.now
-  pub status : left.status ≡ number_at 40 left.request.now
+abbrev pub Takes : Entry → Option (List ℕ) → Option (List ℕ) → Tally → Account → Taken → Tally → Account → Type 0
+Takes e home client old was (Wrong reason) new is = IsWrongEntry e home client old was reason × (new ≡ old) × IsUnchanged was is
+Takes e home client old was (Counted gap) new is = IsCounted e home client old was gap new is
 
 -- Nothing is wrong with it, and it is one more of the lane's requests that were left.
 pub record IsCountedLeft (left : Left) (client : Option (List ℕ)) (was is : Account) : Type 0 where
   pub right : IsRightlyLeft left client ⊤ (IsKnown was.numbers left.number)
-  pub words : HasItsWords left
+  pub words : HasItsWords left.request.now (words_of_left left)
   pub number : CountsNumber was is left.number
   pub more : is.left ≡ min (was.left + 1) (2 ^ 64 - 1)
 
@@ -69,7 +89,7 @@ IsWrongLeft left client was WrongResponse = ⊥
 IsWrongLeft left client was SerialNotAbove = ⊥
 IsWrongLeft left client was UnknownLane = ⊥
 IsWrongLeft left client was RecordTwice = IsWronglyLeft left client ⊤ (IsKnown was.numbers left.number) RecordTwice
-IsWrongLeft left client was WrongWords = IsRightlyLeft left client ⊤ (IsKnown was.numbers left.number) × ¬ HasItsWords left
+IsWrongLeft left client was WrongWords = IsRightlyLeft left client ⊤ (IsKnown was.numbers left.number) × ¬ HasItsWords left.request.now (words_of_left left)
 
 abbrev pub Leaves : Left → Option (List ℕ) → Account → Option Reason → Account → Type 0
 Leaves left client was None is = IsCountedLeft left client was is

@@ -11,12 +11,12 @@ ghost use Rattle.rad_audit.specs.declared.printing.Findings.{Findings as TheFind
 use crate::faults::Fault;
 use crate::line_room::{LineRoom, Piece};
 use crate::printing::{
-    FatesLine, Findings, GapLine, LaneLine, LaneName, Outputs, Place, RangesLine, Report, TornLine,
+    BackLine, FatesLine, Findings, GapLine, LaneLine, LaneName, Outputs, Place, RangesLine, Report, TornLine,
     WrongLine,
 };
 use crate::runs::{Lane, Runs};
 use crate::taking::{Taken, judge_stray, judge_stray_left, take_entry, take_left};
-use ledger_lines::{Begin, End, LaneCount, Line, LineFault, MOST_LINE_OCTETS, Room, read_line};
+use ledger_lines::{Begin, End, LaneCount, Line, LineFault, MOST_LINE_OCTETS, Room, moment_of, read_line};
 use libc::{STDERR_FILENO, isatty};
 use rad_auth::Secret;
 use rad_ledger::{Entry, Fates, Left, Reason};
@@ -310,6 +310,7 @@ fn count_entry<W: Write>(
     ) {
         Ok(Taken::Wrong(reason)) => report.wrong(WrongLine { place, reason }),
         Ok(Taken::Counted(gap)) => {
+            lane.times.take(moment_of(entry.time));
             if home.is_none() {
                 lane.not_judged = lane.not_judged.saturating_add(1);
             }
@@ -357,6 +358,9 @@ fn tell_lane<W: Write>(report: &mut Report<'_, W>, run: u64, lane: &Lane) -> Res
     if !lane.account.is_exact() {
         let name = LaneName::of(run, lane);
         report.ranges(RangesLine { name })?;
+    }
+    if let Some(line) = BackLine::of(run, lane) {
+        report.back(line)?;
     }
     Ok(())
 }

@@ -78,7 +78,7 @@ impl<'a> Facts<'a> {
 }
 
 /// Returns the Value of a packet's first attribute of a Type, if it has one.
-fn value_at<'a>(packet: &PacketRef<'a>, kind: u8) -> Option<&'a [u8]>
+pub fn value_at<'a>(packet: &PacketRef<'a>, kind: u8) -> Option<&'a [u8]>
     ensures { option_copied result ≡ the_value_at kind packet.now }
 {
     for attribute in packet.attributes() {
@@ -90,7 +90,7 @@ fn value_at<'a>(packet: &PacketRef<'a>, kind: u8) -> Option<&'a [u8]>
 }
 
 /// Returns the number in a packet's first attribute of a Type, if it has one and its Value has four octets.
-fn number_at(packet: &PacketRef<'_>, kind: u8) -> Option<u32>
+pub fn number_at(packet: &PacketRef<'_>, kind: u8) -> Option<u32>
     ensures { result ≡ the_number_at kind packet.now }
 {
     number_of(value_at(packet, kind)?)

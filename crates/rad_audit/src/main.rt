@@ -13,6 +13,8 @@ mod runs;
 mod shown;
 mod streams;
 mod taking;
+mod times;
+mod wording;
 mod words;
 
 ghost use Rattle.std.specs.Prelude.{◌≡◌, ◌≤◌, ℕ, List, length, IfErr, IfOk, Ok};

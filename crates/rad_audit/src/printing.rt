@@ -83,6 +83,14 @@ pub struct RangesLine<'a> {
     pub name: LaneName<'a>,
 }
 
+/// The line of a lane whose entries have steps back in time.
+#[derive(Clone, Copy)]
+pub struct BackLine<'a> {
+    pub name: LaneName<'a>,
+    /// How many there are.
+    pub steps: u64,
+}
+
 /// What a lane of a run has.
 #[derive(Clone, Copy)]
 pub struct LaneCounts {
@@ -182,6 +190,24 @@ impl<'a> FatesLine<'a> {
     }
 }
 
+impl<'a> BackLine<'a> {
+    ghost use Rattle.std.specs.Prelude.{◌≡◌, ◌≢◌, MatchOption};
+
+    /// Returns the line of this lane of a run, if there are steps back in time.
+    pub fn of(run: u64, lane: &'a Lane) -> Option<BackLine<'a>>
+        ensures { MatchOption result (lane.now.times.back ≡ 0) (λ line. (line.steps ≡ lane.now.times.back) × (line.steps ≢ 0)) }
+    {
+        let steps = lane.times.back();
+        if steps == 0 {
+            return None;
+        }
+        Some(BackLine {
+            name: LaneName::of(run, lane),
+            steps,
+        })
+    }
+}
+
 /// Where lines are printed, and rows, if they are.
 #[derive(Drop)]
 pub struct Outputs<'a, W> {
@@ -268,6 +294,14 @@ impl<W: Write> Report<'_, W> {
 
     /// Tells that the numbers of a lane of a run are of too many ranges.
     pub fn ranges(&mut self, line: RangesLine<'_>) -> Result<(), Fault>
+        ensures findings { self.new.findings ≡ self.old.findings }
+        ensures fault { IfErr result (λ fault. fault ≡ Output) }
+    {
+        written(writeln!(self.outputs.lines, "{line}"))
+    }
+
+    /// Tells that the entries of a lane of a run have steps back in time. That is no fault.
+    pub fn back(&mut self, line: BackLine<'_>) -> Result<(), Fault>
         ensures findings { self.new.findings ≡ self.old.findings }
         ensures fault { IfErr result (λ fault. fault ≡ Output) }
     {
@@ -419,6 +453,19 @@ impl fmt::Display for RangesLine<'_> {
     fn fmt<W: fmt::Write>(&self, f: &mut fmt::Formatter<W>) -> fmt::Result {
         let name = self.name;
         write!(f, "{name} more than 4096 ranges")
+    }
+}
+
+impl fmt::Display for BackLine<'_> {
+    ghost use Rattle.std.specs.Prelude.{Some};
+    ghost use Rattle.rad_audit.specs.Printed.{back_line};
+
+    ghost output = { λ line. Some (back_line line) };
+
+    fn fmt<W: fmt::Write>(&self, f: &mut fmt::Formatter<W>) -> fmt::Result {
+        let name = self.name;
+        let steps = self.steps;
+        write!(f, "{name} steps back in time {steps}")
     }
 }
 

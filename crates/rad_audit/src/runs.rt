@@ -1,6 +1,7 @@
 //! What is known of each run and its lanes.
 
 use crate::shown::Word;
+use crate::times::Times;
 use ledger_lines::{Begin, LaneStart};
 use rad_ledger::{Account, Tally};
 use std::alloc::{AllocError, Global};
@@ -16,6 +17,8 @@ pub struct Lane {
     pub tally: Tally,
     /// The numbers of these entries and of the requests that were left.
     pub account: Account,
+    /// The moments of these entries.
+    pub times: Times,
     /// How many of these were not judged, because the configuration does not have the home server.
     pub not_judged: u64,
 }
@@ -109,6 +112,7 @@ fn lane_of(alloc: Global, start: &LaneStart<'_>) -> Result<Lane, AllocError> {
         home: Word::new(alloc, start.home)?,
         tally: Tally::new(start.serial),
         account: Account::new(alloc),
+        times: Times::new(),
         not_judged: 0,
     })
 }

@@ -1,15 +1,14 @@
 //! What becomes of an entry, and of a request that was left.
 
-ghost use Rattle.std.specs.Prelude.{◌≡◌, ◌↔◌, ◌<◌, ◌^◌, false, IfErr, IfOk, IsTrue, None, option_copied};
-ghost use Rattle.rad_packet.specs.Packet.{IsPacketText};
+ghost use Rattle.std.specs.Prelude.{◌≡◌, ◌<◌, ◌^◌, false, IfErr, IfOk, IsTrue, None, option_copied};
 ghost use Rattle.rad_ledger.specs.Judging.{IsWrong};
 ghost use Rattle.rad_ledger.specs.Leaving.{IsWronglyLeft};
 ghost use Rattle.rad_ledger.specs.Numbers.{IsAsBefore, IsKnown};
-ghost use Rattle.rad_audit.specs.Taking.{HasItsWords, Leaves, Takes};
+ghost use Rattle.rad_audit.specs.Taking.{Leaves, Takes};
 
-use crate::facts::Facts;
+use crate::wording::{LineWords, are_words_of};
 use rad_auth::Secret;
-use rad_ledger::{Account, Entry, Gap, Left, Reason, Tally, judge, judge_left, whole_packet};
+use rad_ledger::{Account, Entry, Gap, Left, Reason, Tally, judge, judge_left};
 use std::alloc::{AllocError, Global};
 
 /// What became of an entry.
@@ -21,7 +20,8 @@ pub enum Taken {
     Counted(Option<Gap>),
 }
 
-/// Takes an entry of a lane that its run names. It counts exactly if nothing is wrong with it.
+/// Takes an entry of a lane that its run names. It counts exactly if nothing is wrong with it, and otherwise this is the
+/// first thing that is wrong: its words are looked at last.
 ///
 /// # Errors
 ///
@@ -42,6 +42,9 @@ pub fn take_entry(
     let twice = account.has(entry.number);
     if let Some(reason) = judge(alloc, entry, home, client, next, twice)? {
         return Ok(Taken::Wrong(reason));
+    }
+    if !are_words_of(entry.sent, LineWords::of_entry(entry)) {
+        return Ok(Taken::Wrong(Reason::WrongWords));
     }
     if !account.answer(entry.number)? {
         return Ok(Taken::Wrong(Reason::RecordTwice));
@@ -89,7 +92,7 @@ pub fn take_left(
     if let Some(reason) = judge_left(left, client, true, twice) {
         return Ok(Some(reason));
     }
-    if !has_its_words(left) {
+    if !are_words_of(left.request, LineWords::of_left(left)) {
         return Ok(Some(Reason::WrongWords));
     }
     if account.leave(left.number)? {
@@ -106,30 +109,5 @@ pub fn judge_stray_left(left: &Left<'_>, client: Option<&Secret>) -> Reason
     match judge_left(left, client, false, false) {
         Some(reason) => reason,
         None => Reason::UnknownLane,
-    }
-}
-
-/// Whether the words of a line are those of its request.
-fn has_its_words(left: &Left<'_>) -> bool
-    ensures { IsPacketText left.now.request.now → IsTrue result ↔ HasItsWords left.now }
-{
-    let Some(request) = whole_packet(left.request) else {
-        return false;
-    };
-    let facts = Facts::of(left.identifier, left.home, &request);
-    is_same(left.realm, facts.realm)
-        && is_same(left.session, facts.session)
-        && is_same(left.user, facts.user)
-        && left.status == facts.status
-}
-
-/// Whether two words are the same, or both are none.
-fn is_same(word: Option<&[u8]>, other: Option<&[u8]>) -> bool
-    ensures { IsTrue result ↔ (option_copied word.entry ≡ option_copied other.entry) }
-{
-    match (word, other) {
-        (Some(word), Some(other)) => word == other,
-        (None, None) => true,
-        _ => false,
     }
 }

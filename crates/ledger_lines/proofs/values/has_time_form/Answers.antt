@@ -2,7 +2,7 @@ use Rattle.std.proofs.Common.{ℕ, codes, get_or, refl, sym, arith}
 use Rattle.std.specs.Bool.{IsTrue}
 use borrow.Author.Count.{below_more}
 use Rattle.ledger_lines.specs.Lines.{has_form}
-use Rattle.ledger_lines.proofs.values.is_time.Goals as goal
+use Rattle.ledger_lines.proofs.values.has_time_form.Goals as goal
 
 pub returns : goal.returns
 returns c = (λ t. record { long = omega arith; formed = λ place lt. c.loop-place.invariant place (omega arith) }, λ is. refl)

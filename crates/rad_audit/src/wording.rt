@@ -1,0 +1,78 @@
+//! The words of a line, which its packet says too.
+
+ghost use Rattle.std.specs.Prelude.{◌≡◌, ◌↔◌, IsTrue, option_copied};
+ghost use Rattle.rad_packet.specs.Packet.{IsPacketText};
+ghost use Rattle.rad_audit.specs.Taking.{HasItsWords, words_of as the_words, words_of_left as the_words_left};
+
+use crate::facts::{number_at, value_at};
+use rad_lane::session_of;
+use rad_ledger::{Entry, Left, whole_packet};
+use rad_realms::realm_of_packet;
+
+/// The Types of two of these attributes (RFC 2865 section 5.1, RFC 2866 section 5.1).
+const USER_NAME: u8 = 1;
+
+const ACCT_STATUS_TYPE: u8 = 40;
+
+/// What a line says of a record besides its packets.
+#[derive(Clone, Copy)]
+pub struct LineWords<'a> {
+    /// The realm of the User-Name.
+    pub realm: Option<&'a [u8]>,
+    /// The Acct-Session-Id.
+    pub session: Option<&'a [u8]>,
+    /// The User-Name.
+    pub user: Option<&'a [u8]>,
+    /// The Acct-Status-Type.
+    pub status: Option<u32>,
+}
+
+impl<'a> LineWords<'a> {
+    /// Returns the words of an entry.
+    pub fn of_entry(entry: &Entry<'a>) -> LineWords<'a>
+        ensures { result ≡ the_words entry.now }
+    {
+        LineWords {
+            realm: entry.realm,
+            session: entry.session,
+            user: entry.user,
+            status: entry.status,
+        }
+    }
+
+    /// Returns the words of a request that was left.
+    pub fn of_left(left: &Left<'a>) -> LineWords<'a>
+        ensures { result ≡ the_words_left left.now }
+    {
+        LineWords {
+            realm: left.realm,
+            session: left.session,
+            user: left.user,
+            status: left.status,
+        }
+    }
+}
+
+/// Whether words are those of a packet.
+pub fn are_words_of(packet: &[u8], words: LineWords<'_>) -> bool
+    ensures { IsPacketText packet.now → IsTrue result ↔ HasItsWords packet.now words }
+{
+    let Some(packet) = whole_packet(packet) else {
+        return false;
+    };
+    is_same(words.realm, realm_of_packet(&packet))
+        && is_same(words.session, session_of(&packet))
+        && is_same(words.user, value_at(&packet, USER_NAME))
+        && words.status == number_at(&packet, ACCT_STATUS_TYPE)
+}
+
+/// Whether two words are the same, or both are none.
+fn is_same(word: Option<&[u8]>, other: Option<&[u8]>) -> bool
+    ensures { IsTrue result ↔ (option_copied word.entry ≡ option_copied other.entry) }
+{
+    match (word, other) {
+        (Some(word), Some(other)) => word == other,
+        (None, None) => true,
+        _ => false,
+    }
+}
