@@ -11,12 +11,14 @@ ghost use Rattle.rad_audit.specs.declared.printing.Findings.{Findings as TheFind
 use crate::faults::Fault;
 use crate::line_room::{LineRoom, Piece};
 use crate::printing::{
-    BackLine, FatesLine, Findings, GapLine, LaneLine, LaneName, Outputs, Place, RangesLine, Report, TornLine,
-    WrongLine,
+    BackLine, FatesLine, Findings, GapLine, LaneLine, LaneName, Outputs, Place, RangesLine, Report,
+    TornLine, WrongLine,
 };
 use crate::runs::{Lane, Runs};
 use crate::taking::{Taken, judge_stray, judge_stray_left, take_entry, take_left};
-use ledger_lines::{Begin, End, LaneCount, Line, LineFault, MOST_LINE_OCTETS, Room, moment_of, read_line};
+use ledger_lines::{
+    Begin, End, LaneCount, Line, LineFault, MOST_LINE_OCTETS, Room, moment_of, read_line,
+};
 use libc::{STDERR_FILENO, isatty};
 use rad_auth::Secret;
 use rad_ledger::{Entry, Fates, Left, Reason};

@@ -13,9 +13,9 @@ use std::fmt;
 
 /// The Types of the attributes that a row tells (RFC 2865 section 5.1, RFC 2866 sections 5.1, 5.3, 5.4 and 5.7, RFC 2869
 /// sections 5.1 and 5.2).
-const USER_NAME: u8 = 1;
+pub const USER_NAME: u8 = 1;
 
-const ACCT_STATUS_TYPE: u8 = 40;
+pub const ACCT_STATUS_TYPE: u8 = 40;
 
 const ACCT_INPUT_OCTETS: u8 = 42;
 

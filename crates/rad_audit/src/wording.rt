@@ -4,15 +4,10 @@ ghost use Rattle.std.specs.Prelude.{◌≡◌, ◌↔◌, IsTrue, option_copied}
 ghost use Rattle.rad_packet.specs.Packet.{IsPacketText};
 ghost use Rattle.rad_audit.specs.Taking.{HasItsWords, words_of as the_words, words_of_left as the_words_left};
 
-use crate::facts::{number_at, value_at};
+use crate::facts::{ACCT_STATUS_TYPE, USER_NAME, number_at, value_at};
 use rad_lane::session_of;
 use rad_ledger::{Entry, Left, whole_packet};
 use rad_realms::realm_of_packet;
-
-/// The Types of two of these attributes (RFC 2865 section 5.1, RFC 2866 section 5.1).
-const USER_NAME: u8 = 1;
-
-const ACCT_STATUS_TYPE: u8 = 40;
 
 /// What a line says of a record besides its packets.
 #[derive(Clone, Copy)]
