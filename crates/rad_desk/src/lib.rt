@@ -32,7 +32,7 @@ pub use ledger::{Handed, Ledger, NoLedger};
 pub use marks::count_marks;
 pub use rad_rings::{
     CloseFault, DeskFault, Inlet, LaneEnd, OpenFault, Origin, Proxy, Report, Rest, Session, Spent,
-    Standing, Told, open,
+    Standing, Stepped, Told, open,
 };
 pub use tally::Tally;
 pub use told_values::{status_of, user_of};

@@ -11,3 +11,4 @@ pub mod Rooms
 pub mod Untouched
 pub mod OutletAfterTurn
 pub mod Standings
+pub mod Found

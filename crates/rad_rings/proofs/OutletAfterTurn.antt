@@ -1,5 +1,5 @@
 -- A cut takes answers away, and leaves the responses that were given.
-use Rattle.std.proofs.Common.{ℕ, ◌≤◌, sym, subst}
+use Rattle.std.proofs.Common.{◌≡◌, ℕ, ◌≤◌, sym, subst}
 use Rattle.std.specs.Prelude.{List, not, Result, Ok, Err}
 use Rattle.std.proofs.lemmas.List.Elements.{All-filter}
 use Rattle.rad_lane.specs.declared.outgoing.Outgoing.{Outgoing}
@@ -26,3 +26,9 @@ pub bounded_turned : (old new : Book) (moment : ℕ) (result : Result Volume Tur
 bounded_turned old new moment (Ok volume) t h = subst (λ (book : Book). book.setup.limits.queue ≤ 65536) (sym t.5) h
 bounded_turned old new moment (Err NothingToTurn) t h = subst (λ (book : Book). book.setup.limits.queue ≤ 65536) (sym t.1) h
 bounded_turned old new moment (Err OutOfMemory) t h = subst (λ (book : Book). book.setup.limits.queue ≤ 65536) (sym t.4) h
+
+-- The lane's number stays.
+pub numbered_turned : (old new : Book) (number moment : ℕ) (result : Result Volume TurnFault) → Turns old moment result new → old.setup.lane ≡ number → new.setup.lane ≡ number
+numbered_turned old new number moment (Ok volume) t h = subst (λ (book : Book). book.setup.lane ≡ number) (sym t.5) h
+numbered_turned old new number moment (Err NothingToTurn) t h = subst (λ (book : Book). book.setup.lane ≡ number) (sym t.1) h
+numbered_turned old new number moment (Err OutOfMemory) t h = subst (λ (book : Book). book.setup.lane ≡ number) (sym t.4) h

@@ -92,6 +92,13 @@ outlet_same old new given same outlet = record {
 bounded_by : (old new : Book) → new.setup ≡ old.setup → old.setup.limits.queue ≤ 65536 → new.setup.limits.queue ≤ 65536
 bounded_by old new kept h = subst (λ (s : LaneSetup). s.limits.queue ≤ 65536) (sym kept) h
 
+-- The lane has the same number.
+pub numbered_answered : (old new : Book) (number now port : ℕ) (datagram : List ℕ) (answer : AnswerKept) → HearsReply old now port datagram answer new → old.setup.lane ≡ number → new.setup.lane ≡ number
+numbered_answered old new number now port datagram answer h is = ap (λ (a : List AnswerKept × ℕ × LaneSetup). a.2.lane) (one_more_by_reply old new now port datagram answer h) ∙ is
+
+pub numbered_same : (old new : Book) (number : ℕ) → answers_of new ≡ answers_of old → old.setup.lane ≡ number → new.setup.lane ≡ number
+numbered_same old new number same is = ap (λ (a : List AnswerKept × ℕ × LaneSetup). a.2.lane) same ∙ is
+
 pub bounded_answered : (old new : Book) (now port : ℕ) (datagram : List ℕ) (answer : AnswerKept) → HearsReply old now port datagram answer new → old.setup.limits.queue ≤ 65536 → new.setup.limits.queue ≤ 65536
 bounded_answered old new now port datagram answer h = bounded_by old new (ap (λ (a : List AnswerKept × ℕ × LaneSetup). a.2) (one_more_by_reply old new now port datagram answer h))
 

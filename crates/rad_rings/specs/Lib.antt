@@ -12,3 +12,4 @@ pub mod Printed
 pub mod Spent
 pub mod Origin
 pub mod Standing
+pub mod Found

@@ -18,7 +18,7 @@ use std::sync::Mutex;
 /// Why a proxy is not closed.
 #[derive(Drop)]
 pub enum CloseFault {
-    /// Memory was refused. It returns the proxy and the inlets.
+    /// Memory was refused. It returns a proxy of as many lanes and the inlets.
     OutOfMemory(Proxy, Series<Inlet>),
 }
 
@@ -42,7 +42,8 @@ impl Proxy {
     ///
     /// # Errors
     ///
-    /// `OutOfMemory` if memory is refused. The lanes, and what the inlets took, are unchanged.
+    /// `OutOfMemory` if memory is refused. It hands back a proxy of as many lanes, and the inlets, which took nothing
+    /// meanwhile.
     pub fn close(self, alloc: Global, inlets: Vec<Inlet>) -> Result<Report, CloseFault>
         ensures closed { IfOk result (IsReportOf self inlets.items) }
         ensures refused { IfErr result (HandsBack self inlets.items) }

@@ -1,6 +1,6 @@
 //! A lane with the sending end of its ring.
 
-ghost use Rattle.std.specs.Prelude.{◌≤◌};
+ghost use Rattle.std.specs.Prelude.{◌≡◌, ◌≤◌};
 ghost use Rattle.std.proofs.Props.{props};
 ghost use Rattle.rtrb.specs.Ring.{sent};
 ghost use Rattle.rad_rings.specs.Outlet.{IsOutlet};
@@ -32,11 +32,14 @@ pub enum OpenFault {
 #[derive(Drop)]
 pub struct Desk {
     pub(crate) lane: Lane<RecordQueue>,
+    /// The number of the lane.
+    pub(crate) number: u16,
     /// The end of the ring to which responses are added.
     pub(crate) giver: Producer<Outgoing, Global, Numbered>,
     ghost outlet: { IsOutlet lane (sent giver) } by { Prim.hlevel props },
     ghost accounted: { AccountsForAll lane (sent giver) } by { Prim.hlevel props },
     ghost bounded: { lane.setup.limits.queue ≤ 65536 },
+    ghost numbered: { lane.setup.lane ≡ number },
 }
 
 impl Desk {
@@ -69,7 +72,12 @@ impl Desk {
         let Ok(lane) = Lane::new(alloc, setup) else {
             return Err(OpenFault::OutOfMemory);
         };
-        Ok((Desk { lane, giver }, Inlet::new(number, taker)))
+        let desk = Desk {
+            lane,
+            number,
+            giver,
+        };
+        Ok((desk, Inlet::new(number, taker)))
     }
 
     /// Returns how many responses wait in the ring, for a caller that has both of its ends. What the inlet took,
@@ -93,7 +101,11 @@ impl Desk {
         ensures lawful { IsLawful (book self) }
         ensures bounded { (book self).setup.limits.queue ≤ 65536 }
     {
-        let Desk { lane, giver: _ } = self;
+        let Desk {
+            lane,
+            number: _,
+            giver: _,
+        } = self;
         lane.close()
     }
 }

@@ -11,12 +11,14 @@ ghost use Rattle.rad_rings.specs.Outlet.{IsOutlet};
 ghost use Rattle.rad_rings.specs.Lawful.{AddUp};
 ghost use Rattle.rad_rings.specs.Desk.{book, given, SameOutlet};
 ghost use Rattle.rad_rings.specs.Departures.{Departs, Returns, StepsHolding, AcceptsLawfully, UnlessWrongLane};
+ghost use Rattle.rad_rings.specs.Found.{LeadsElsewhere, IfWrongLane, StepsLawfully, HearsFor, HearsLawfully, DrainsFor, DrainsLawfully};
 ghost use Rattle.rad_lane.specs.Setup.{IsOf};
 
 use crate::desk::{Desk, RecordQueue};
+use crate::hearing::{DeskFault, Told};
 use crate::proxy::Stepped;
 use rad_auth::Secret;
-use rad_lane::{Action, Counts, Lane, Refusal, Stamp, Taken};
+use rad_lane::{Action, Counts, HearFault, Lane, Refusal, Stamp, Taken};
 use rad_packet::Datagram;
 use rad_realms::Checked;
 use rad_tables::Moment;
@@ -74,9 +76,11 @@ impl Desk {
         moment: Moment,
         datagram: &mut Datagram,
     ) -> Result<Taken, Refusal>
+        ensures wrong { IfWrongLane result (LeadsElsewhere request.now) }
         ensures returns { Returns result (record { before = datagram.old; after = datagram.new }) }
         ensures accepts { UnlessWrongLane result (AcceptsLawfully request.now moment result (record { before = datagram.old; after = datagram.new })) }
     {
+        self.keep_law();
         if !self.takes(request) {
             return Err(Refusal::WrongLane);
         }
@@ -90,6 +94,7 @@ impl Desk {
         ensures departs { Departs result (record { before = datagram.old; after = datagram.new }) }
         ensures another { AllotsAnother (book self.old) result }
         ensures lawful { IsLawful (book self.old) × IsLawful (book self.new) }
+        ensures some { StepsLawfully moment random result (record { before = datagram.old; after = datagram.new }) }
     {
         step_lawfully(&mut self.lane, moment, random, datagram)
     }
@@ -117,6 +122,31 @@ impl Desk {
         })
     }
 
+    /// Passes a datagram to the lane like [`Desk::hear`], if the lane has this number.
+    ///
+    /// # Errors
+    ///
+    /// `Lane` with `Unknown`, before all else, if it has another number. Otherwise as [`Desk::hear`].
+    pub(crate) fn hear_for(
+        &mut self,
+        alloc: Global,
+        number: u16,
+        moment: Moment,
+        port: u16,
+        datagram: &[u8],
+    ) -> Result<Told, DeskFault>
+        ensures hears { HearsFor number self.old moment port datagram.now result self.new }
+        ensures lawful { HearsLawfully number moment port datagram.now result }
+    {
+        self.keep_law();
+        if !self.has_number(number) {
+            return Err(DeskFault::Lane(HearFault::Unknown));
+        }
+        let told = self.hear(alloc, moment, port, datagram);
+        self.keep_law();
+        told
+    }
+
     /// Drains the lane: it accepts no new request from now on. Returns how many requests the lane had accepted in all
     /// when it was drained. A second call changes nothing.
     pub fn drain(&mut self) -> u64
@@ -124,6 +154,28 @@ impl Desk {
         ensures outlet { SameOutlet self.old self.new }
     {
         self.lane.drain()
+    }
+
+    /// Drains the lane like [`Desk::drain`], if it has this number, and otherwise does nothing and returns 0.
+    pub(crate) fn drain_for(&mut self, number: u16) -> u64
+        ensures drains { DrainsFor number (book self.old) result (book self.new) }
+        ensures outlet { SameOutlet self.old self.new }
+        ensures lawful { DrainsLawfully number result }
+    {
+        self.keep_law();
+        if !self.has_number(number) {
+            return 0;
+        }
+        let count = self.drain();
+        self.keep_law();
+        count
+    }
+
+    /// Returns whether the lane has this number.
+    pub(crate) fn has_number(&self, number: u16) -> bool
+        ensures { IsTrue result ↔ (book self.now).setup.lane ≡ number }
+    {
+        self.number == number
     }
 
     /// Returns the counts of the lane.

@@ -8,7 +8,7 @@
 //!
 //! The definitions that the contracts cite are in specs. `Desk` and `Inlet` are what a contract sees of the two ends of
 //! a ring, and `Outlet` is what was added to the ring, beside the lane's book. `Tells` is hearing the home server.
-//! `Departures` and `Lawful` are what a call through a lock states, `Spent` is what is reported of the request that
+//! `Departures`, `Found` and `Lawful` are what a call through a lock states, `Spent` is what is reported of the request that
 //! marks a home server down, `Origin` where an outstanding request comes from, and `Standing` is the standing of a lane.
 #![tactic(auto)]
 

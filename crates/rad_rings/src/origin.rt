@@ -3,6 +3,7 @@
 ghost use Rattle.std.specs.Prelude.{◌≡◌, ◌<◌, take, option_map, option_copied};
 ghost use Rattle.rad_rings.specs.Desk.{book};
 ghost use Rattle.rad_rings.specs.Origin.{origin_of, outstanding_under};
+ghost use Rattle.rad_rings.specs.Found.{TellsOriginFor, TellsOriginLawfully};
 
 use crate::desk::Desk;
 use crate::proxy::Proxy;
@@ -60,13 +61,26 @@ impl Desk {
         let sending = self.lane.sending_under(slot)?;
         Some(Origin::of(sending.request()))
     }
+
+    /// Returns the same, if the lane has this number.
+    fn origin_for(&self, number: u16, slot: Slot) -> Option<Origin>
+        ensures tells { TellsOriginFor number (book self.now) slot result }
+        ensures lawful { TellsOriginLawfully number slot result }
+    {
+        self.keep_law();
+        if !self.has_number(number) {
+            return None;
+        }
+        self.origin(slot)
+    }
 }
 
 impl Proxy {
     /// Returns the origin of the request of a lane that is outstanding under a pair, if there is one.
     pub fn origin(&self, rt: &impl Wait, lane: u16, slot: Slot) -> Option<Origin>
         requires { lane < self.now }
+        ensures { TellsOriginLawfully lane slot result }
     {
-        self.lock(rt, lane).origin(slot)
+        self.lock(rt, lane).origin_for(lane, slot)
     }
 }

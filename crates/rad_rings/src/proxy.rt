@@ -1,11 +1,12 @@
 //! The lanes behind their locks.
 
-ghost use Rattle.std.specs.Prelude.{◌≡◌, ◌<◌, ◌≤◌, length, map as each, All, IfOk, IfSome, [], Err};
+ghost use Rattle.std.specs.Prelude.{◌≡◌, ◌<◌, ◌≤◌, ◌⊎◌, length, map as each, All, IfOk, IfSome, [], Err};
 ghost use Rattle.std.specs.List.{range_with_len};
 ghost use Rattle.rad_lane.specs.declared.accepting.Refusal.TheVariants.{WrongLane};
 ghost use Rattle.rad_lane.specs.Datagrams.{Datagrams};
 ghost use Rattle.rad_rings.specs.Inlet.{lane_of, taken};
 ghost use Rattle.rad_rings.specs.Departures.{Departs, Returns, StepsHolding, AcceptsLawfully, UnlessWrongLane};
+ghost use Rattle.rad_rings.specs.Found.{LeadsElsewhere, IfWrongLane, StepsLawfully, HearsLawfully, DrainsLawfully};
 ghost use Rattle.rad_rings.specs.Lawful.{AreLawful, AddUp};
 
 use crate::desk::Desk;
@@ -105,6 +106,7 @@ impl Proxy {
         datagram: &mut Datagram,
     ) -> Result<Taken, Refusal>
         ensures lane { self.now ≤ request.now.lane → result ≡ Err WrongLane }
+        ensures wrong { IfWrongLane result ((self.now ≤ request.now.lane) ⊎ LeadsElsewhere request.now) }
         ensures returns { Returns result (record { before = datagram.old; after = datagram.new }) }
         ensures accepts { UnlessWrongLane result (AcceptsLawfully request.now moment result (record { before = datagram.old; after = datagram.new })) }
     {
@@ -125,7 +127,8 @@ impl Proxy {
         datagram: &mut Datagram,
     ) -> Action
         requires { lane < self.now }
-        ensures { Departs result (record { before = datagram.old; after = datagram.new }) }
+        ensures steps { StepsLawfully moment random result (record { before = datagram.old; after = datagram.new }) }
+        ensures departs { Departs result (record { before = datagram.old; after = datagram.new }) }
     {
         self.lock(rt, lane).step(moment, random, datagram)
     }
@@ -164,16 +167,19 @@ impl Proxy {
         datagram: &[u8],
     ) -> Result<Told, DeskFault>
         requires { lane < self.now }
+        ensures { HearsLawfully lane moment port datagram.now result }
     {
-        self.lock(rt, lane).hear(alloc, moment, port, datagram)
+        self.lock(rt, lane)
+            .hear_for(alloc, lane, moment, port, datagram)
     }
 
     /// Drains a lane: it accepts no new request from now on. Returns how many requests it had accepted in all when it
     /// was drained.
     pub fn drain(&self, rt: &impl Wait, lane: u16) -> u64
         requires { lane < self.now }
+        ensures { DrainsLawfully lane result }
     {
-        self.lock(rt, lane).drain()
+        self.lock(rt, lane).drain_for(lane)
     }
 
     /// Returns the counts of a lane.

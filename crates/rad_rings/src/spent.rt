@@ -4,6 +4,7 @@ ghost use Rattle.std.specs.Prelude.{◌≡◌, ◌<◌, ◌≤◌, ◌++◌, len
 ghost use Rattle.rad_lane.specs.Dues.{NoneSpent};
 ghost use Rattle.rad_rings.specs.Desk.{book};
 ghost use Rattle.rad_rings.specs.Spent.{TellsSpent, spent_of};
+ghost use Rattle.rad_rings.specs.Found.{TellsSpentFor, TellsSpentLawfully};
 
 use crate::desk::Desk;
 use crate::proxy::Proxy;
@@ -108,6 +109,18 @@ impl Desk {
         let sending = self.lane.spent()?;
         Some(Spent::of(sending, moment))
     }
+
+    /// Returns the same, if the lane has this number.
+    fn spent_for(&self, number: u16, moment: Moment) -> Option<Spent>
+        ensures tells { TellsSpentFor number (book self.now) moment result }
+        ensures lawful { TellsSpentLawfully number moment result }
+    {
+        self.keep_law();
+        if !self.has_number(number) {
+            return None;
+        }
+        self.spent(moment)
+    }
 }
 
 impl Proxy {
@@ -115,7 +128,8 @@ impl Proxy {
     /// with the earliest due time; ties go to the lowest number.
     pub fn spent(&self, rt: &impl Wait, lane: u16, moment: Moment) -> Option<Spent>
         requires { lane < self.now }
+        ensures { TellsSpentLawfully lane moment result }
     {
-        self.lock(rt, lane).spent(moment)
+        self.lock(rt, lane).spent_for(lane, moment)
     }
 }

@@ -3,6 +3,7 @@ use Rattle.rad_lane.specs.declared.accepting.Taken.{Taken}
 use Rattle.rad_lane.specs.declared.accepting.Refusal.{Refusal}
 use Rattle.rad_lane.specs.declared.accepting.Refusal.TheVariants.{Draining, BookFull, QueueFull, TooLong, OutOfMemory, WrongLane}
 use Rattle.rad_rings.specs.Departures.{UnlessWrongLane}
+use Rattle.rad_rings.proofs.Found.{another}
 use Rattle.rad_rings.proofs.desk.Desk.accept_if_taken.Goals as goal
 
 -- What holds of every result holds of each but `WrongLane`.
@@ -20,3 +21,10 @@ returns-clause-accepts c = unless c.accept.result _ c.accept.ensures.lawful
 
 pub accept-requires : goal.accept-requires
 accept-requires c = c.takes.ensures.0 cc
+
+pub returns-then-not-takes-clause-wrong : goal.returns-then-not-takes-clause-wrong
+returns-then-not-takes-clause-wrong c = record {
+  book = c.args.self.now.lane;
+  lawful = c.keep_law.ensures;
+  elsewhere = another _ c.takes.result c.takes.ensures c.if-not-takes.true;
+}

@@ -8,7 +8,7 @@ use Rattle.rad_rings.specs.Fates.{AccountsForAll, answered_with, marked_number}
 use Rattle.rad_lane.specs.Book.{moment_in}
 use Rattle.rad_rings.proofs.Answers.{same_by_probe}
 use Rattle.rad_rings.proofs.Fates.{accounts_by_reply, accounts_by_probe, unanswered}
-use Rattle.rad_rings.proofs.Outlets.{outlet_answered, bounded_answered, outlet_same, bounded_same}
+use Rattle.rad_rings.proofs.Outlets.{outlet_answered, bounded_answered, numbered_answered, outlet_same, bounded_same, numbered_same}
 use Rattle.rad_rings.proofs.desk.Desk.hear.Goals as goal
 use Rattle.rad_rings.proofs.desk.Desk.hear.Goals.{In-Ok-ProbeAnswered}
 
@@ -41,6 +41,7 @@ invariant_of-self-in-Ok-Answer c =
       accounted = subst (AccountsForAll c.hear-heard.new.self) (sym given) (accounts_by_reply _ _ _ _ _ _ _ _ c.keep_law.ensures c.accepted.ensures.lawful heard.1 heard.2 c.args.self.now.accounted);
       outlet = subst (IsOutlet c.hear-heard.new.self) (sym given) (outlet_answered _ _ _ _ _ _ _ _ heard.1 heard.2 c.args.self.now.outlet);
       bounded = bounded_answered _ _ _ _ _ _ heard.1 c.args.self.now.bounded;
+      numbered = numbered_answered _ _ _ _ _ _ _ heard.1 c.args.self.now.numbered;
     }
 
 pub returns-in-Ok-Answer : goal.returns-in-Ok-Answer
@@ -68,6 +69,7 @@ invariant_of-self c = record {
   accounted = subst (AccountsForAll c.args.self.now.lane) (sym c.is_full.ensures.looked.1) c.args.self.now.accounted;
   outlet = subst (IsOutlet c.args.self.now.lane) (sym c.is_full.ensures.looked.1) c.args.self.now.outlet;
   bounded = c.args.self.now.bounded;
+  numbered = c.args.self.now.numbered;
 }
 
 pub returns-then-is_full : goal.returns-then-is_full
@@ -89,6 +91,7 @@ invariant_of-self-in-Ok-ProbeAnswered c =
       accounted = subst (AccountsForAll new) (sym c.is_full.ensures.looked.1) (accounts_by_probe old new _ _ _ _ c.keep_law.ensures c.accepted.ensures.lawful (heard_probe c) c.args.self.now.accounted);
       outlet = subst (IsOutlet new) (sym c.is_full.ensures.looked.1) (outlet_same old new _ same c.args.self.now.outlet);
       bounded = bounded_same old new same c.args.self.now.bounded;
+      numbered = numbered_same old new _ same c.args.self.now.numbered;
     }
 
 pub returns-in-Ok-ProbeAnswered : goal.returns-in-Ok-ProbeAnswered

@@ -29,11 +29,12 @@ returns-clause-ring c = subst (λ t. IsPair c.in-Ok.giver t) (sym c.new-2.ensure
 pub new-requires-2 : goal.new-requires-2
 new-requires-2 c = c.in-Ok.ensures.consumer.0
 
-pub invariant_of-result : goal.invariant_of-result
-invariant_of-result c =
+pub invariant_of-desk : goal.invariant_of-desk
+invariant_of-desk c =
     let made = sym c.in-Ok-new.ensures in
     record {
       outlet = subst (IsOutlet c.in-Ok-new.lane) (sym c.in-Ok.ensures.producer.0) (subst (λ b. IsOutlet b []) made (outlet_at_first c.args.setup));
       accounted = subst (AccountsForAll c.in-Ok-new.lane) (sym c.in-Ok.ensures.producer.0) (subst (λ b. AccountsForAll b []) made (accounts_at_first c.args.setup));
       bounded = subst (λ (b : Book). b.setup.limits.queue ≤ 65536) made (subst (λ (n : LimitNumbers). n.queue ≤ 65536) c.limits.ensures.value c.numbers-places.ensures.in_range.queue.1);
+      numbered = ap (λ (b : Book). b.setup.lane) c.in-Ok-new.ensures ∙ sym c.lane-number.ensures;
     }
