@@ -14,10 +14,10 @@ use Rattle.rad_rings.specs.declared.inlet.Inlet.{Inlet}
 use Rattle.rad_desk.specs.declared.wire.Delivery.{Delivery}
 use Rattle.rad_rings.specs.Inlet.{taken, SameInlet}
 use Rattle.rad_desk.specs.Traffic.{Event, arrived, departed, told, endpoint, noted}
-use Rattle.rad_desk.specs.Calls.{Passes, IsQuiet, IsSent}
-use Rattle.rad_desk.specs.Once.{IsAnswerTo, SendsBack, SendsAnAnswer, HandsOne, Hands, Part, quiet, back, given, events_of, IsRight, given_in, given_by, EachGave, WorksInFront}
+use Rattle.rad_desk.specs.Calls.{Passes, IsQuiet, IsALook, IsSent, AreAtMost}
+use Rattle.rad_desk.specs.Once.{IsAnswerTo, IsUnanswered, SendsBack, SendsAnAnswer, HandsOne, Hands, Part, quiet, back, given, events_of, IsRight, given_in, given_by, EachGave, WorksInFront}
 use Rattle.rad_desk.specs.HandOver.{response_of, responses_of}
-use Rattle.rad_desk.proofs.CallsJoined.{passes_none, passes_widen, passes_after}
+use Rattle.rad_desk.proofs.CallsJoined.{passes_none, passes_widen, passes_after, most_none, most_look}
 
 -- Inlets of the same rings.
 same_refl : (i : Inlet) → SameInlet i i
@@ -95,6 +95,15 @@ gave_still first zero (i ∷ rest) other now within same took =
 gave_still first (suc place) (i ∷ rest) other now within same took =
     (same_refl i, sym (append-nil (taken i)), i.once, gave_still (first + 1) place rest other now (omega (arith, within)) same took)
 
+-- What is not answered sends nothing.
+look_quiet : (events : List Event) → IsALook events → IsQuiet events
+look_quiet events (inl none) = subst IsQuiet (sym none) tt
+look_quiet events (inr (moment, is)) = subst IsQuiet (sym is) tt
+
+unanswered_quiet : (events : List Event) → IsUnanswered events → IsQuiet events
+unanswered_quiet events (inl none) = subst IsQuiet (sym none) tt
+unanswered_quiet events (inr (socket, from, question, later, is, look)) = subst IsQuiet (sym is) (look_quiet later look)
+
 module _ (config : Configuration) where
   pub works_none : (inlets : List Inlet) → WorksInFront config inlets inlets []
   works_none inlets = record {
@@ -134,7 +143,7 @@ module _ (config : Configuration) where
 
   -- What a turn takes in, whatever the inlets are.
   pub works_taken : (inlets : List Inlet) (events : List Event) → SendsBack config events → WorksInFront config inlets inlets events
-  works_taken inlets events (inl none) = works_part (quiet events) inlets events refl none (λ at. refl)
+  works_taken inlets events (inl none) = works_part (quiet events) inlets events refl (unanswered_quiet events none) (λ at. refl)
   works_taken inlets events (inr goes) =
       works_part (back goes.socket goes.from goes.question goes.moment goes.octets goes.delivery) inlets events goes.is goes.answers (λ at. refl)
 
@@ -170,7 +179,7 @@ module _ (config : Configuration) where
 
   -- A datagram came and was taken, and it was answered or not.
   goes_back : (socket : ℕ) (from : Endpoint) (question : List ℕ) (incoming : Incoming) → Takes config from.address from.port question incoming → (then : List Event) → SendsAnAnswer socket from incoming then → SendsBack config (arrived socket from question ∷ then)
-  goes_back socket from question incoming takes then (inl none) = inl none
+  goes_back socket from question incoming takes then (inl look) = inl (inr (socket, from, question, then, refl, look))
   goes_back socket from question incoming takes then (inr goes) = inr (record {
     socket = socket;
     from = from;
@@ -213,8 +222,26 @@ hands_one was is outgoing octets same took response =
     ))
 
 -- Nothing was sent to what came.
-pub unanswered : (socket : ℕ) (from : Endpoint) (asked : Incoming) (old new : Option (List Event)) → Passes IsQuiet old new → Passes (SendsAnAnswer socket from asked) old new
-unanswered socket from asked = passes_widen IsQuiet (SendsAnAnswer socket from asked) (λ events none. inl none)
+pub unanswered : (socket : ℕ) (from : Endpoint) (asked : Incoming) (old new : Option (List Event)) → Passes IsALook old new → Passes (SendsAnAnswer socket from asked) old new
+unanswered socket from asked = passes_widen IsALook (SendsAnAnswer socket from asked) (λ events none. inl none)
 
-pub taken_quietly : (config : Configuration) (old new : Option (List Event)) → Passes IsQuiet old new → Passes (SendsBack config) old new
-taken_quietly config = passes_widen IsQuiet (SendsBack config) (λ events none. inl none)
+pub taken_quietly : (config : Configuration) (old new : Option (List Event)) → Passes IsUnanswered old new → Passes (SendsBack config) old new
+taken_quietly config = passes_widen IsUnanswered (SendsBack config) (λ events none. inl none)
+
+-- A turn receives once and sends back once, and a look at an inlet sends once.
+most_back : (config : Configuration) (events : List Event) → SendsBack config events → AreAtMost 1 1 events
+most_back config events (inl (inl none)) = subst (AreAtMost 1 1) (sym none) (most_none 1 1)
+most_back config events (inl (inr (socket, from, question, later, is, look))) =
+    let most = most_look 0 1 later look in
+    subst (AreAtMost 1 1) (sym is) (record { receives = omega (arith, most.receives); sends = most.sends })
+most_back config events (inr goes) = subst (AreAtMost 1 1) (sym goes.is) (record { receives = omega arith; sends = omega arith })
+
+pub most_taken : (config : Configuration) (old new : Option (List Event)) → Passes (SendsBack config) old new → Passes (AreAtMost 1 1) old new
+most_taken config = passes_widen (SendsBack config) (AreAtMost 1 1) (most_back config)
+
+most_by_hand : (was is : Inlet) (events : List Event) → ((taken is ≡ taken was) × (events ≡ [])) ⊎ HandsOne was is events → AreAtMost 0 1 events
+most_by_hand was is events (inl none) = subst (AreAtMost 0 1) (sym none.1) (most_none 0 1)
+most_by_hand was is events (inr one) = subst (AreAtMost 0 1) (sym one.is) (record { receives = omega arith; sends = omega arith })
+
+pub most_handed : (was is : Inlet) (old new : Option (List Event)) → Passes (Hands was is) old new → Passes (AreAtMost 0 1) old new
+most_handed was is = passes_widen (Hands was is) (AreAtMost 0 1) (λ events hands. most_by_hand was is events hands.1)

@@ -1,14 +1,19 @@
 -- The work for a home server, put together from its parts.
-use Rattle.std.proofs.Common.{◌≡◌, ℕ, List, [], ◌∷◌, ◌++◌, Option, refl, sym, ap, ◌∙◌, inl, inr}
+use Rattle.std.proofs.Common.{◌≡◌, ℕ, List, [], ◌∷◌, ◌++◌, Option, refl, sym, ap, ◌∙◌, subst, inl, inr, arith}
+use Rattle.std.specs.Prelude.{Result}
 use Rattle.std.specs.List.{flat_map}
 use Rattle.std.proofs.lemmas.List.{append-nil}
 use Rattle.std.proofs.lemmas.List.Concat.{flat_map-append}
 use Rattle.std.proofs.lemmas.List.Elements.{All-nil, All-cons, All-append}
+use Rattle.rad_config.specs.declared.reading.address.Endpoint.{Endpoint}
 use Rattle.rad_realms.specs.Configuration.{HomeEntry}
-use Rattle.rad_desk.specs.Traffic.{Event, told, drew, noted}
-use Rattle.rad_desk.specs.Calls.{Passes, IsQuiet}
-use Rattle.rad_desk.specs.Working.{IsGiven, IsSentHome, Part, quiet, stepped, events_of, IsRight, WorksForHome}
-use Rattle.rad_desk.proofs.CallsJoined.{passes_join, passes_widen, passes_after}
+use Rattle.rad_rings.specs.declared.hearing.Told.{Told}
+use Rattle.rad_rings.specs.declared.hearing.DeskFault.{DeskFault}
+use Rattle.rad_rings.specs.Found.{HearsLawfully}
+use Rattle.rad_desk.specs.Traffic.{Event, arrived, told, drew, noted}
+use Rattle.rad_desk.specs.Calls.{Passes, IsALook, AreAtMost}
+use Rattle.rad_desk.specs.Working.{IsGiven, IsSentHome, Part, unheard, heard, rested, stepped, events_of, IsRight, IsReceipt, IsStep, OncePassed, WorksForHome}
+use Rattle.rad_desk.proofs.CallsJoined.{passes_join, passes_widen, passes_after, passes_one, most_none, most_look}
 
 module _ (lane : ℕ) (home : HomeEntry) where
   pub works_none : WorksForHome lane home []
@@ -21,8 +26,9 @@ module _ (lane : ℕ) (home : HomeEntry) where
     right = All-cons (IsRight lane home) part [] right (All-nil (IsRight lane home));
   }
 
-  pub works_quiet : (events : List Event) → IsQuiet events → WorksForHome lane home events
-  works_quiet events none = works_part (quiet events) events refl none
+  works_once : (Kind : Part → Type 0) (events : List Event) → OncePassed Kind lane home events → WorksForHome lane home events
+  works_once Kind events (inl none) = subst (WorksForHome lane home) (sym none) works_none
+  works_once Kind events (inr (part, kind, is, right)) = works_part part events is right
 
   works_append : (first then : List Event) → WorksForHome lane home first → WorksForHome lane home then → WorksForHome lane home (first ++ then)
   works_append first then a b = record {
@@ -35,27 +41,67 @@ module _ (lane : ℕ) (home : HomeEntry) where
   pub works_join : (old mid new : Option (List Event)) → Passes (WorksForHome lane home) old mid → Passes (WorksForHome lane home) mid new → Passes (WorksForHome lane home) old new
   works_join = passes_join (WorksForHome lane home) (WorksForHome lane home) (WorksForHome lane home) works_append
 
-  -- Work that sends nothing.
-  pub works_by_quiet : (old new : Option (List Event)) → Passes IsQuiet old new → Passes (WorksForHome lane home) old new
-  works_by_quiet = passes_widen IsQuiet (WorksForHome lane home) works_quiet
+  -- One part of the work, or none.
+  pub works_by_part : (Kind : Part → Type 0) (old new : Option (List Event)) → Passes (OncePassed Kind lane home) old new → Passes (WorksForHome lane home) old new
+  works_by_part Kind = passes_widen (OncePassed Kind lane home) (WorksForHome lane home) (works_once Kind)
+
+  -- One datagram is received where the worker receives, and one is sent in a step.
+  received_part : (part : Part) → IsReceipt part → AreAtMost 1 0 (events_of home part)
+  received_part (unheard socket from octets) kind = record { receives = omega arith; sends = omega arith }
+  received_part (heard socket octets moment result) kind = record { receives = omega arith; sends = omega arith }
+  received_part (rested moment random later) kind = absurd kind
+  received_part (stepped moment random port octets delivery) kind = absurd kind
+
+  received_once : (events : List Event) → OncePassed IsReceipt lane home events → AreAtMost 1 0 events
+  received_once events (inl none) = subst (AreAtMost 1 0) (sym none) (most_none 1 0)
+  received_once events (inr (part, kind, is, right)) = subst (AreAtMost 1 0) (sym is) (received_part part kind)
+
+  pub receives_once : (old new : Option (List Event)) → Passes (OncePassed IsReceipt lane home) old new → Passes (AreAtMost 1 0) old new
+  receives_once = passes_widen (OncePassed IsReceipt lane home) (AreAtMost 1 0) received_once
+
+  sent_part : (part : Part) → IsStep part → IsRight lane home part → AreAtMost 0 1 (events_of home part)
+  sent_part (unheard socket from octets) kind right = absurd kind
+  sent_part (heard socket octets moment result) kind right = absurd kind
+  sent_part (rested moment random later) kind right =
+      let most = most_look 0 1 later right in
+      record { receives = most.receives; sends = most.sends }
+  sent_part (stepped moment random port octets delivery) kind right = record { receives = omega arith; sends = omega arith }
+
+  sent_once : (events : List Event) → OncePassed IsStep lane home events → AreAtMost 0 1 events
+  sent_once events (inl none) = subst (AreAtMost 0 1) (sym none) (most_none 0 1)
+  sent_once events (inr (part, kind, is, right)) = subst (AreAtMost 0 1) (sym is) (sent_part part kind right)
+
+  pub sends_once : (old new : Option (List Event)) → Passes (OncePassed IsStep lane home) old new → Passes (AreAtMost 0 1) old new
+  sends_once = passes_widen (OncePassed IsStep lane home) (AreAtMost 0 1) sent_once
+
+  -- A datagram came, and was not heard.
+  pub part_unheard : (socket : ℕ) (from : Endpoint) (octets : List ℕ) (old new : Option (List Event)) → new ≡ noted old (arrived socket from octets) → Passes (OncePassed IsReceipt lane home) old new
+  part_unheard socket from octets old new came =
+      passes_one (OncePassed IsReceipt lane home) (arrived socket from octets) old new (inr (unheard socket from octets, tt, refl, tt)) came
+
+  -- A datagram came from the home server, the moment was told, and the lane heard the datagram.
+  pub part_heard : (socket : ℕ) (from : Endpoint) (octets : List ℕ) (moment : ℕ) (result : Result Told DeskFault) → from ≡ home.endpoint → HearsLawfully lane moment socket octets result → (old mid new : Option (List Event)) → mid ≡ noted old (arrived socket from octets) → new ≡ noted mid (told moment) → Passes (OncePassed IsReceipt lane home) old new
+  part_heard socket from octets moment result is_home hears old mid new came is_told = record {
+    events = arrived socket from octets ∷ told moment ∷ [];
+    passed = is_told ∙ ap (λ log. noted log (told moment)) came;
+    right = inr (heard socket octets moment result, tt, ap (λ e. arrived socket e octets ∷ told moment ∷ []) is_home, hears);
+  }
 
   -- The moment was told and octets were drawn, and what a step gave was sent, or nothing.
-  works_sent : (moment : ℕ) (random : List ℕ) (port : ℕ) (octets : List ℕ) → IsGiven lane home.secret moment random port octets → (then : List Event) → IsSentHome home port octets then → WorksForHome lane home (told moment ∷ drew random ∷ then)
-  works_sent moment random port octets gives then (inl none) =
-      works_part (quiet (told moment ∷ drew random ∷ [])) (told moment ∷ drew random ∷ then) (ap (λ l. told moment ∷ drew random ∷ l) none) tt
-  works_sent moment random port octets gives then (inr sent) =
-      works_part (stepped moment random port octets sent.1.delivery) (told moment ∷ drew random ∷ then)
-      (ap (λ l. told moment ∷ drew random ∷ l) sent.1.is) (sent.0, gives)
+  part_sent : (moment : ℕ) (random : List ℕ) (port : ℕ) (octets : List ℕ) → IsGiven lane home.secret moment random port octets → (then : List Event) → IsSentHome home port octets then → OncePassed IsStep lane home (told moment ∷ drew random ∷ then)
+  part_sent moment random port octets gives then (inl sent) =
+      inr (stepped moment random port octets sent.1.delivery, tt, ap (λ l. told moment ∷ drew random ∷ l) sent.1.is, (sent.0, gives))
+  part_sent moment random port octets gives then (inr none) = inr (rested moment random then, tt, refl, inl none.1)
 
-  pub works_step : (moment : ℕ) (random : List ℕ) (port : ℕ) (octets : List ℕ) → IsGiven lane home.secret moment random port octets → (old after drawn new : Option (List Event)) → after ≡ noted old (told moment) → drawn ≡ noted after (drew random) → Passes (IsSentHome home port octets) drawn new → Passes (WorksForHome lane home) old new
-  works_step moment random port octets gives old after drawn new is_told is_drawn sent =
-      passes_after (λ then. WorksForHome lane home (told moment ∷ then)) (WorksForHome lane home) (told moment) (λ then works. works) old after new is_told
-      (passes_after (IsSentHome home port octets) (λ then. WorksForHome lane home (told moment ∷ then)) (drew random)
-      (works_sent moment random port octets gives) after drawn new is_drawn sent)
+  pub part_stepped : (moment : ℕ) (random : List ℕ) (port : ℕ) (octets : List ℕ) → IsGiven lane home.secret moment random port octets → (old after drawn new : Option (List Event)) → after ≡ noted old (told moment) → drawn ≡ noted after (drew random) → Passes (IsSentHome home port octets) drawn new → Passes (OncePassed IsStep lane home) old new
+  part_stepped moment random port octets gives old after drawn new is_told is_drawn sent =
+      passes_after (λ then. OncePassed IsStep lane home (told moment ∷ then)) (OncePassed IsStep lane home) (told moment) (λ then works. works) old after new is_told
+      (passes_after (IsSentHome home port octets) (λ then. OncePassed IsStep lane home (told moment ∷ then)) (drew random)
+      (part_sent moment random port octets gives) after drawn new is_drawn sent)
 
-  -- The moment was told and octets were drawn, and more passed that sends nothing.
-  pub works_idle : (moment : ℕ) (random : List ℕ) (old after drawn new : Option (List Event)) → after ≡ noted old (told moment) → drawn ≡ noted after (drew random) → Passes IsQuiet drawn new → Passes (WorksForHome lane home) old new
-  works_idle moment random old after drawn new is_told is_drawn more =
-      works_by_quiet old new
-      (passes_after IsQuiet IsQuiet (told moment) (λ then none. none) old after new is_told
-      (passes_after IsQuiet IsQuiet (drew random) (λ then none. none) after drawn new is_drawn more))
+  -- The moment was told and octets were drawn, and then at most the moment was read.
+  pub part_rested : (moment : ℕ) (random : List ℕ) (old after drawn new : Option (List Event)) → after ≡ noted old (told moment) → drawn ≡ noted after (drew random) → Passes IsALook drawn new → Passes (OncePassed IsStep lane home) old new
+  part_rested moment random old after drawn new is_told is_drawn more =
+      passes_after (λ then. OncePassed IsStep lane home (told moment ∷ then)) (OncePassed IsStep lane home) (told moment) (λ then works. works) old after new is_told
+      (passes_after IsALook (λ then. OncePassed IsStep lane home (told moment ∷ then)) (drew random)
+      (λ then look. inr (rested moment random then, tt, refl, look)) after drawn new is_drawn more)

@@ -19,7 +19,7 @@ use Rattle.rad_rings.specs.Departures.{AcceptsLawfully, IsVerifiedResponse}
 use Rattle.rad_rings.specs.Fates.{EachOnce}
 use Rattle.rad_rings.specs.Inlet.{taken, SameInlet}
 use Rattle.rad_desk.specs.Traffic.{Event, arrived, departed, told, endpoint}
-use Rattle.rad_desk.specs.Calls.{IsQuiet}
+use Rattle.rad_desk.specs.Calls.{IsQuiet, IsALook}
 
 -- The octets answer a request again (RFC 2866 section 4.2). A lawful book gave them as the answer to this request, a
 -- repeat, at this moment. They are a response after a verified reply, have the request's Identifier, and are valid for
@@ -79,8 +79,15 @@ pub record GoesBack (config : Configuration) (events : List Event) : Type 0 wher
   pub is : events ≡ events_of (back socket from question moment octets delivery)
   pub answers : AnswersWhatCame config from question moment octets
 
+-- At most one datagram was received, and then at most the moment was read.
+abbrev pub IsUnanswered : List Event → Type 0
+IsUnanswered events =
+    (events ≡ [])
+    ⊎ ((socket : ℕ) × (from : Endpoint) × (question : List ℕ) × (later : List Event)
+    × (events ≡ arrived socket from question ∷ later) × IsALook later)
+
 abbrev pub SendsBack : Configuration → List Event → Type 0
-SendsBack config events = IsQuiet events ⊎ GoesBack config events
+SendsBack config events = IsUnanswered events ⊎ GoesBack config events
 
 -- The moment was read, and what then answers the datagram was sent back, from the socket that received it, to the
 -- address and port that it came from.
@@ -92,7 +99,7 @@ pub record AnswerGoes (socket : ℕ) (from : Endpoint) (asked : Incoming) (event
   pub answers : IsAnswerTo asked moment octets
 
 abbrev pub SendsAnAnswer : ℕ → Endpoint → Incoming → List Event → Type 0
-SendsAnAnswer socket from asked events = IsQuiet events ⊎ AnswerGoes socket from asked events
+SendsAnAnswer socket from asked events = IsALook events ⊎ AnswerGoes socket from asked events
 
 -- The inlet gave one response, and that was sent, and nothing else passed.
 pub record HandsOne (old new : Inlet) (events : List Event) : Type 0 where

@@ -1,15 +1,19 @@
--- What the worker of a lane does, as its wire sees it (RFC 2866 section 2.1, own). It is a sequence of parts. Each part sends
--- nothing, or sends what one step of the lane gave.
-use Rattle.std.specs.Prelude.{◌≡◌, ◌<◌, ℕ, List, [], ◌∷◌, ◌⊎◌, All, slice_get, Option, Some, None, MatchOption}
+-- What the worker of a lane does, as its wire sees it (RFC 2866 section 2.1, own). It is a sequence of parts. In each part a
+-- datagram is received, which the lane hears or does not hear, or the lane does one step, and what that gives is sent.
+use Rattle.std.specs.Prelude.{◌≡◌, ◌<◌, ⊤, ℕ, List, [], ◌∷◌, ◌⊎◌, All, slice_get, Option, Some, None, MatchOption, Result}
 use Rattle.std.specs.List.{flat_map}
+use Rattle.rad_config.specs.declared.reading.address.Endpoint.{Endpoint}
 use Rattle.rad_realms.specs.Configuration.{HomeEntry, Configuration}
 use Rattle.rad_tables.specs.declared.slots.Slot.{Slot}
 use Rattle.rad_lane.specs.declared.stepping.Action.{Action}
 use Rattle.rad_lane.specs.declared.stepping.Action.TheVariants.{Sent, Resent, Probed, WentDown, WentUp, Idle}
 use Rattle.rad_desk.specs.declared.wire.Delivery.{Delivery}
+use Rattle.rad_rings.specs.declared.hearing.Told.{Told}
+use Rattle.rad_rings.specs.declared.hearing.DeskFault.{DeskFault}
 use Rattle.rad_rings.specs.Departures.{StepsFor}
-use Rattle.rad_desk.specs.Traffic.{Event, departed, told, drew}
-use Rattle.rad_desk.specs.Calls.{IsQuiet, IsSent}
+use Rattle.rad_rings.specs.Found.{HearsLawfully}
+use Rattle.rad_desk.specs.Traffic.{Event, arrived, departed, told, drew}
+use Rattle.rad_desk.specs.Calls.{IsALook, IsSent}
 
 -- The pair under which an action sends, if it sends.
 abbrev pub slot_of : Action → Option Slot
@@ -34,28 +38,58 @@ pub record IsGiven (lane : ℕ) (secret : List ℕ) (moment : ℕ) (random : Lis
   pub before : List ℕ
   pub steps : StepsFor lane secret moment random action (record { before = before; after = octets })
 
--- The octets were given to the socket of this source port, one of the home server's, to be sent to the home server's
--- address and port; or nothing passed.
+-- The octets were given to the socket of this source port, to be sent to the home server's address and port. Only if the
+-- home server does not have that port, nothing passed.
 abbrev pub IsSentHome : HomeEntry → ℕ → List ℕ → List Event → Type 0
-IsSentHome home port octets events = (events ≡ []) ⊎ ((port < home.limits.ports) × IsSent port home.endpoint octets events)
+IsSentHome home port octets events =
+    ((port < home.limits.ports) × IsSent port home.endpoint octets events) ⊎ ((¬ (port < home.limits.ports)) × (events ≡ []))
 
--- A part of the work: `quiet`, in which these events passed and nothing was sent; or `stepped`, in which this moment
--- was read and these octets were drawn, and then these octets were given to the socket of a source port, with this
--- outcome.
+-- A part of the work:
+-- `unheard`, in which a datagram was received on a socket, from this address and port, and no moment was read for it;
+-- `heard`, in which these octets were received on a socket, from the home server's address and port, and this moment was
+-- read, at which the lane heard them, with this result;
+-- `rested`, in which this moment was read and these octets were drawn, and then at most a later moment was read;
+-- `stepped`, in which this moment was read and these octets were drawn, and then these octets were given to the socket of
+-- a source port, with this outcome.
 pub data Part : Type 0 where
-  quiet : List Event → Part
+  unheard : ℕ → Endpoint → List ℕ → Part
+  heard : ℕ → List ℕ → ℕ → Result Told DeskFault → Part
+  rested : ℕ → List ℕ → List Event → Part
   stepped : ℕ → List ℕ → ℕ → List ℕ → Delivery → Part
 
 -- What a part sends is sent to the home server's address and port.
 abbrev pub events_of : HomeEntry → Part → List Event
-events_of home (quiet events) = events
+events_of home (unheard socket from octets) = arrived socket from octets ∷ []
+events_of home (heard socket octets moment result) = arrived socket home.endpoint octets ∷ told moment ∷ []
+events_of home (rested moment random later) = told moment ∷ drew random ∷ later
 events_of home (stepped moment random port octets delivery) =
     told moment ∷ drew random ∷ departed port home.endpoint octets delivery ∷ []
 
+-- What a valid part is. The lane hears the octets that were received, whole, as coming to the source port of their socket.
 abbrev pub IsRight : ℕ → HomeEntry → Part → Type 0
-IsRight lane home (quiet events) = IsQuiet events
+IsRight lane home (unheard socket from octets) = ⊤
+IsRight lane home (heard socket octets moment result) = HearsLawfully lane moment socket octets result
+IsRight lane home (rested moment random later) = IsALook later
 IsRight lane home (stepped moment random port octets delivery) =
     (port < home.limits.ports) × IsGiven lane home.secret moment random port octets
+
+-- A part in which the worker receives, and one in which the lane does a step.
+abbrev pub IsReceipt : Part → Type 0
+IsReceipt (unheard socket from octets) = ⊤
+IsReceipt (heard socket octets moment result) = ⊤
+IsReceipt (rested moment random later) = ⊥
+IsReceipt (stepped moment random port octets delivery) = ⊥
+
+abbrev pub IsStep : Part → Type 0
+IsStep (unheard socket from octets) = ⊥
+IsStep (heard socket octets moment result) = ⊥
+IsStep (rested moment random later) = ⊤
+IsStep (stepped moment random port octets delivery) = ⊤
+
+-- The events of one valid part of this kind, or none.
+abbrev pub OncePassed : (Part → Type 0) → ℕ → HomeEntry → List Event → Type 0
+OncePassed Kind lane home events =
+    (events ≡ []) ⊎ ((part : Part) × Kind part × (events ≡ events_of home part) × IsRight lane home part)
 
 pub record WorksForHome (lane : ℕ) (home : HomeEntry) (events : List Event) : Type 0 where
   pub parts : List Part

@@ -1,8 +1,8 @@
 //! The worker of the clients' side.
 
-ghost use Rattle.std.specs.Prelude.{◌≡◌, ◌≤◌, IsTrue};
+ghost use Rattle.std.specs.Prelude.{◌≡◌, ◌≤◌, ◌+◌, ◌*◌, ◌↔◌, length, IsTrue};
 ghost use Rattle.rad_realms.specs.Configuration.{Configuration};
-ghost use Rattle.rad_desk.specs.Calls.{Passes};
+ghost use Rattle.rad_desk.specs.Calls.{Passes, AreAtMost};
 ghost use Rattle.rad_desk.specs.Once.{WorksInFront, SendsBack, SendsAnAnswer, Hands, Fits};
 ghost use Rattle.rad_desk.specs.HandOver.{KeepsTaken, HandsOver};
 ghost use Rattle.rad_desk.specs.Keeping.{Keeps};
@@ -43,6 +43,7 @@ pub fn front_worker<W: Wire, G: Gate>(
 ) -> Tally
     ensures works { Passes (WorksInFront config.now inlets.old inlets.new) (W.log wire.old) (W.log wire.new) }
     ensures turns { result.turns ≤ turns }
+    ensures made { Passes (AreAtMost result.turns (result.turns * (1 + length inlets.old))) (W.log wire.old) (W.log wire.new) }
 {
     let mut ledger = NoLedger;
     front_worker_with(
@@ -78,6 +79,7 @@ pub fn front_worker_with<W: Wire, L: Ledger, G: Gate>(
     ensures works { Passes (WorksInFront config.now inlets.old inlets.new) (W.log wire.old) (W.log wire.new) }
     ensures hands_over { Passes (HandsOver config.now inlets.old inlets.new (L.kept ledger.old) (L.kept ledger.new)) (W.log wire.old) (W.log wire.new) }
     ensures turns { result.turns ≤ turns }
+    ensures made { Passes (AreAtMost result.turns (result.turns * (1 + length inlets.old))) (W.log wire.old) (W.log wire.new) }
 {
     let mut shift = Shift::new(rt, alloc, proxy, wire, gate, Worker::Front);
     let mut buffers = Buffers::new();
@@ -100,6 +102,7 @@ fn take_turn<R: Wait, W: Wire, L: Ledger, G: Gate>(
     ledger: &mut L,
 ) -> bool
     ensures hands_over { Passes (HandsOver config.now inlets.old inlets.new (L.kept ledger.old) (L.kept ledger.new)) (W.log shift.old.wire.now) (W.log shift.new.wire.now) }
+    ensures made { Passes (AreAtMost 1 (1 + length inlets.old)) (W.log shift.old.wire.now) (W.log shift.new.wire.now) }
     ensures keeps { Keeps shift.old shift.new }
 {
     take_in(shift, buffers, config) && hand_out(shift, inlets, ledger)
@@ -220,7 +223,7 @@ fn octets_of<'a>(incoming: &'a Incoming<'_>) -> &'a [u8] {
 /// Returns whether a packet has the Identifier of the request that it is to answer, and a Response Authenticator that
 /// is valid for that request under the client's secret (RFC 2866 section 4.2). It is not called for a Status-Server.
 fn fits(incoming: &Incoming<'_>, datagram: &Datagram) -> bool
-    ensures { IsTrue result → Fits incoming.now datagram.now }
+    ensures { IsTrue result ↔ Fits incoming.now datagram.now }
 {
     match incoming {
         Incoming::Request(request) => {
@@ -240,6 +243,7 @@ fn hand_out<R, W: Wire, L: Ledger, G: Gate>(
     ledger: &mut L,
 ) -> bool
     ensures hands_over { (config : Configuration) → Passes (HandsOver config inlets.old inlets.new (L.kept ledger.old) (L.kept ledger.new)) (W.log shift.old.wire.now) (W.log shift.new.wire.now) }
+    ensures sends { Passes (AreAtMost 0 (length inlets.old)) (W.log shift.old.wire.now) (W.log shift.new.wire.now) }
     ensures keeps { Keeps shift.old shift.new }
 {
     for place in 0..inlets.len() {

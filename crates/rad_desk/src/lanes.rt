@@ -1,9 +1,9 @@
 //! The worker of a home server.
 
 ghost use Rattle.std.specs.Prelude.{◌≡◌, ◌<◌, ◌≤◌, ◌*◌, ◌↔◌, IsTrue, None, MatchOption};
-ghost use Rattle.rad_desk.specs.Calls.{Passes, IsQuiet};
+ghost use Rattle.rad_desk.specs.Calls.{Passes, IsALook, AreAtMost};
 ghost use Rattle.rad_desk.specs.Keeping.{Keeps};
-ghost use Rattle.rad_desk.specs.Working.{WorksForHome, IsSentHome, slot_of, IsPortOf};
+ghost use Rattle.rad_desk.specs.Working.{WorksForHome, OncePassed, IsReceipt, IsStep, IsSentHome, slot_of, IsPortOf};
 
 use crate::gate::{Call, Gate, UpReason, Worker, WorkerReport};
 use crate::shift::{Arrival, Buffers, Shift};
@@ -38,6 +38,7 @@ pub fn lane_worker<W: Wire, G: Gate>(
     requires { lane < proxy.now }
     ensures works { Passes (WorksForHome lane home.now) (W.log wire.old) (W.log wire.new) }
     ensures turns { result.turns ≤ turns }
+    ensures made { Passes (AreAtMost result.turns result.turns) (W.log wire.old) (W.log wire.new) }
 {
     let mut shift = Shift::new(rt, alloc, proxy, wire, gate, Worker::Lane(lane));
     let mut buffers = Buffers::new();
@@ -63,6 +64,13 @@ fn endpoint_of(home: &Home) -> Endpoint
     }
 }
 
+/// Returns whether a datagram came from the home server's address and port.
+fn is_from(home: &Home, from: Endpoint) -> bool
+    ensures { IsTrue result ↔ from ≡ home.now.endpoint }
+{
+    from == endpoint_of(home)
+}
+
 /// Receives once, passes what came from the home server to the lane, and returns whether the worker goes on.
 fn hear<R: Wait, W: Wire, G: Gate>(
     shift: &mut Shift<'_, R, W, G>,
@@ -71,7 +79,7 @@ fn hear<R: Wait, W: Wire, G: Gate>(
     home: &Home,
 ) -> bool
     requires { lane < shift.old.proxy.now }
-    ensures quiet { Passes IsQuiet (W.log shift.old.wire.now) (W.log shift.new.wire.now) }
+    ensures hears { Passes (OncePassed IsReceipt lane home.now) (W.log shift.old.wire.now) (W.log shift.new.wire.now) }
     ensures keeps { Keeps shift.old shift.new }
 {
     let Some(arrival) = shift.receive(&mut buffers.octets) else {
@@ -82,7 +90,7 @@ fn hear<R: Wait, W: Wire, G: Gate>(
         socket,
         octets,
     } = arrival;
-    if from != endpoint_of(home) {
+    if !is_from(home, from) {
         shift.report(&WorkerReport::NotHome { from, octets });
         return true;
     }
@@ -163,7 +171,7 @@ fn step<R: Wait, W: Wire, G: Gate>(
     home: &Home,
 ) -> bool
     requires { lane < shift.old.proxy.now }
-    ensures works { Passes (WorksForHome lane home.now) (W.log shift.old.wire.now) (W.log shift.new.wire.now) }
+    ensures steps { Passes (OncePassed IsStep lane home.now) (W.log shift.old.wire.now) (W.log shift.new.wire.now) }
     ensures keeps { Keeps shift.old shift.new }
 {
     if !shift.may(Call::Step) {
@@ -240,7 +248,7 @@ fn follow<R: Wait, W: Wire, G: Gate>(
     stepped: &Stepped,
 ) -> bool
     requires { lane < shift.old.proxy.now }
-    ensures quiet { Passes IsQuiet (W.log shift.old.wire.now) (W.log shift.new.wire.now) }
+    ensures looks { Passes IsALook (W.log shift.old.wire.now) (W.log shift.new.wire.now) }
     ensures keeps { Keeps shift.old shift.new }
 {
     match stepped.action {
@@ -287,7 +295,7 @@ fn is_half_full(held: u64, book: u32) -> bool
 /// Removes what is over from the front of the lane's book, drops it, and returns whether the worker goes on.
 fn cut<R: Wait, W: Wire, G: Gate>(shift: &mut Shift<'_, R, W, G>, lane: u16) -> bool
     requires { lane < shift.old.proxy.now }
-    ensures quiet { Passes IsQuiet (W.log shift.old.wire.now) (W.log shift.new.wire.now) }
+    ensures looks { Passes IsALook (W.log shift.old.wire.now) (W.log shift.new.wire.now) }
     ensures keeps { Keeps shift.old shift.new }
 {
     if !shift.may(Call::Turn) {

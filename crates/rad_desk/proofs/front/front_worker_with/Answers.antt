@@ -1,11 +1,24 @@
-use Rattle.std.proofs.Common.{refl, ap, ◌∙◌, rules}
+use Rattle.std.proofs.Common.{◌≡◌, ◌+◌, ◌*◌, ℕ, List, Option, refl, sym, subst, ap, ◌∙◌, rules}
+use Rattle.rad_desk.specs.Traffic.{Event}
+use Rattle.rad_desk.specs.Calls.{Passes, AreAtMost}
+use Rattle.rad_desk.proofs.CallsJoined.{passes_none, most_none, most_turn}
 use Rattle.rad_desk.proofs.Kept.{passes_left}
 use Rattle.rad_desk.proofs.HandOver.{over_none, over_join, works_handing}
 use Rattle.rad_desk.proofs.front.front_worker_with.Goals as goal
 
+-- so many turns are the count that is reported
+counted : (most : ℕ) {turns count : ℕ} {old new : Option (List Event)} → turns ≡ count → Passes (AreAtMost turns (turns * most)) old new → Passes (AreAtMost count (count * most)) old new
+counted most {old = old} {new = new} is = subst (λ n. Passes (AreAtMost n (n * most)) old new) is
+
+-- a turn looks at as many inlets as there were
+most_made : {turn inlets now : ℕ} (old mid new : Option (List Event)) → now ≡ inlets → Passes (AreAtMost turn (turn * (1 + inlets))) old mid → Passes (AreAtMost 1 (1 + now)) mid new → Passes (AreAtMost (turn + 1) ((turn + 1) * (1 + inlets))) old new
+most_made {turn = turn} {inlets = inlets} old mid new same before made =
+    most_turn turn (1 + inlets) old mid new before (subst (λ n. Passes (AreAtMost 1 (1 + n)) mid new) same made)
+
 pub loop-turn-init : goal.loop-turn-init
 loop-turn-init g c = record {
   hands_over = over_none _ _ _ _ _ (ap g.W.Wire.log c.new-shift.ensures.log);
+  made = passes_none _ _ _ (most_none _ _) (ap g.W.Wire.log c.new-shift.ensures.log);
   turns = c.new-shift.ensures.turns;
   wire = refl;
 }
@@ -13,6 +26,7 @@ loop-turn-init g c = record {
 pub loop-turn-preserved : goal.loop-turn-preserved
 loop-turn-preserved g c = record {
   hands_over = over_join _ _ _ _ _ _ _ _ _ _ c.loop-turn.invariant.hands_over c.take_turn.ensures.hands_over;
+  made = most_made _ _ _ c.loop-turn.auto.inlets c.loop-turn.invariant.made c.take_turn.ensures.made;
   turns = c.take_turn.ensures.keeps.turns;
   wire = c.take_turn.ensures.keeps.wire ∙ c.loop-turn.invariant.wire;
 }
@@ -33,3 +47,13 @@ returns-clause-works g c =
 
 pub returns-clause-hands_over : goal.returns-clause-hands_over
 returns-clause-hands_over g c = passes_left g.W.Wire.log _ _ _ _ c.loop-turn.invariant.hands_over (search rules)
+
+pub returns-then-not-take_turn-clause-made : goal.returns-then-not-take_turn-clause-made
+returns-then-not-take_turn-clause-made g c =
+    passes_left g.W.Wire.log _ _ _ _
+    (counted _ (sym c.take_turn.ensures.keeps.turns)
+    (most_made _ _ _ c.loop-turn.auto.inlets c.loop-turn.invariant.made c.take_turn.ensures.made)) (search rules)
+
+pub returns-clause-made : goal.returns-clause-made
+returns-clause-made g c =
+    passes_left g.W.Wire.log _ _ _ _ (counted _ (sym c.loop-turn.invariant.turns) c.loop-turn.invariant.made) (search rules)

@@ -1,5 +1,6 @@
 use Rattle.rad_desk.specs.Traffic.{arrived}
-use Rattle.rad_desk.specs.Calls.{IsQuiet}
+use Rattle.std.proofs.Common.{[], refl, inl, inr}
+use Rattle.rad_desk.specs.Once.{IsUnanswered}
 use Rattle.rad_desk.proofs.CallsJoined.{passes_one, passes_none}
 use Rattle.rad_desk.proofs.FrontWork.{back_after, taken_quietly}
 use Rattle.rad_desk.proofs.front.take_in.Goals as goal
@@ -12,7 +13,9 @@ returns-in-Ok-clause-sends g c =
 pub returns-in-Err-clause-sends : goal.returns-in-Err-clause-sends
 returns-in-Err-clause-sends g c =
     let arrival = c.in-Some.arrival in
-    taken_quietly _ _ _ (passes_one IsQuiet (arrived arrival.socket arrival.from arrival.octets.now) _ _ tt c.in-Some.ensures.receives)
+    taken_quietly _ _ _
+    (passes_one IsUnanswered (arrived arrival.socket arrival.from arrival.octets.now) _ _
+    (inr (arrival.socket, arrival.from, arrival.octets.now, [], refl, inl refl)) c.in-Some.ensures.receives)
 
 pub returns-in_default-clause-sends : goal.returns-in_default-clause-sends
-returns-in_default-clause-sends g c = taken_quietly _ _ _ (passes_none IsQuiet _ _ tt c.in_default.ensures.receives)
+returns-in_default-clause-sends g c = taken_quietly _ _ _ (passes_none IsUnanswered _ _ (inl refl) c.in_default.ensures.receives)

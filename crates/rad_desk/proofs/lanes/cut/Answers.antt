@@ -1,14 +1,14 @@
-use Rattle.std.proofs.Common.{refl}
+use Rattle.std.proofs.Common.{refl, inl, inr}
 use Rattle.rad_desk.specs.Traffic.{told}
-use Rattle.rad_desk.specs.Calls.{IsQuiet}
+use Rattle.rad_desk.specs.Calls.{IsALook}
 use Rattle.rad_desk.proofs.CallsJoined.{passes_none, passes_one}
 use Rattle.rad_desk.proofs.lanes.cut.Goals as goal
 
-pub returns-then-not-may-clause-quiet : goal.returns-then-not-may-clause-quiet
-returns-then-not-may-clause-quiet g c = passes_none IsQuiet _ _ tt refl
+pub returns-then-not-may-clause-looks : goal.returns-then-not-may-clause-looks
+returns-then-not-may-clause-looks g c = passes_none IsALook _ _ (inl refl) refl
 
-pub returns-in-Ok-clause-quiet : goal.returns-in-Ok-clause-quiet
-returns-in-Ok-clause-quiet g c = passes_one IsQuiet (told c.now-now.result) _ _ tt c.now-now.ensures
+pub returns-in-Ok-clause-looks : goal.returns-in-Ok-clause-looks
+returns-in-Ok-clause-looks g c = passes_one IsALook (told c.now-now.result) _ _ (inr (c.now-now.result, refl)) c.now-now.ensures
 
-pub returns-in_default-clause-quiet : goal.returns-in_default-clause-quiet
-returns-in_default-clause-quiet g c = passes_one IsQuiet (told c.now-now.result) _ _ tt c.now-now.ensures
+pub returns-in_default-clause-looks : goal.returns-in_default-clause-looks
+returns-in_default-clause-looks g c = passes_one IsALook (told c.now-now.result) _ _ (inr (c.now-now.result, refl)) c.now-now.ensures

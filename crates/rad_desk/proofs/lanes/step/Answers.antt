@@ -1,21 +1,24 @@
-use Rattle.std.proofs.Common.{refl, subst}
-use Rattle.rad_desk.specs.Calls.{IsQuiet}
+use Rattle.std.proofs.Common.{refl, subst, inl}
+use Rattle.rad_desk.specs.Calls.{IsALook}
 use Rattle.rad_rings.specs.Departures.{StepsFor}
-use Rattle.rad_desk.specs.Working.{IsGiven}
+use Rattle.rad_desk.specs.Working.{IsGiven, IsStep, OncePassed}
 use Rattle.rad_desk.proofs.CallsJoined.{passes_none}
-use Rattle.rad_desk.proofs.HomeWork.{works_idle, works_step}
+use Rattle.rad_desk.proofs.HomeWork.{part_rested, part_stepped}
 use Rattle.rad_desk.proofs.lanes.step.Goals as goal
 
-pub returns-in_default-clause-works : goal.returns-in_default-clause-works
-returns-in_default-clause-works g c =
-    works_idle _ _ c.now-now.result c.random-random.result _ _ _ _ c.now-now.ensures c.random-random.ensures (passes_none IsQuiet _ _ tt refl)
+pub returns-then-not-may-clause-steps : goal.returns-then-not-may-clause-steps
+returns-then-not-may-clause-steps g c = passes_none (OncePassed IsStep c.args.lane c.args.home.now) _ _ (inl refl) refl
 
-pub returns-in_default-port_of-clause-works : goal.returns-in_default-port_of-clause-works
-returns-in_default-port_of-clause-works g c =
-    works_idle _ _ c.now-now.result c.random-random.result _ _ _ _ c.now-now.ensures c.random-random.ensures c.follow.ensures.quiet
+pub returns-in_default-clause-steps : goal.returns-in_default-clause-steps
+returns-in_default-clause-steps g c =
+    part_rested c.args.lane c.args.home.now c.now-now.result c.random-random.result _ _ _ _ c.now-now.ensures c.random-random.ensures (passes_none IsALook _ _ (inl refl) refl)
 
-pub returns-clause-works : goal.returns-clause-works
-returns-clause-works g c =
+pub returns-in_default-port_of-clause-steps : goal.returns-in_default-port_of-clause-steps
+returns-in_default-port_of-clause-steps g c =
+    part_rested c.args.lane c.args.home.now c.now-now.result c.random-random.result _ _ _ _ c.now-now.ensures c.random-random.ensures c.follow.ensures.looks
+
+pub returns-clause-steps : goal.returns-clause-steps
+returns-clause-steps g c =
     let octets = c.step_for-stepped.new.datagram in
     let gives : IsGiven c.args.lane c.args.home.now.secret c.now-now.result c.random-random.result c.in-Some-port_of.port octets = record {
       action = c.in-Some.stepped.action;
@@ -26,4 +29,4 @@ returns-clause-works g c =
           c.secret-secret.ensures
           c.in-Some.ensures.steps;
     } in
-    works_step c.args.lane c.args.home.now c.now-now.result c.random-random.result c.in-Some-port_of.port octets gives _ _ _ _ c.now-now.ensures c.random-random.ensures c.send_home.ensures.sends
+    part_stepped c.args.lane c.args.home.now c.now-now.result c.random-random.result c.in-Some-port_of.port octets gives _ _ _ _ c.now-now.ensures c.random-random.ensures c.send_home.ensures.sends
