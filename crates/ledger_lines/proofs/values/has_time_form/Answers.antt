@@ -1,4 +1,4 @@
-use Rattle.std.proofs.Common.{ℕ, codes, get_or, refl, sym, arith}
+use Rattle.std.proofs.Common.{codes, get_or, refl, sym, arith}
 use Rattle.std.specs.Bool.{IsTrue}
 use borrow.Author.Count.{below_more}
 use Rattle.ledger_lines.specs.Lines.{has_form}
