@@ -50,7 +50,7 @@ impl<'a> LineWords<'a> {
 
 /// Whether words are those of a packet.
 pub fn are_words_of(packet: &[u8], words: LineWords<'_>) -> bool
-    ensures { IsPacketText packet.now → IsTrue result ↔ HasItsWords packet.now words }
+    ensures { IsPacketText packet.now → IsTrue result ↔ HasItsWords packet.now words.entry }
 {
     let Some(packet) = whole_packet(packet) else {
         return false;
