@@ -180,7 +180,7 @@ def a_slow_disk_has_ten_seconds(trial):
 
 
 def a_clock_that_stays_away_leaves_all_in_the_ledger(trial):
-    """Where the clock fails for good, which ends the program, what is left is written all the same, to a slow disk too."""
+    """Where the clock fails for good at the end of the input, what is left is written all the same, to a slow disk too."""
     out = trial.room / "out"
     loaded = ":".join(built(trial.room, name) for name in ("slow_files", "wrong_clock"))
     trial.begin(LD_PRELOAD=loaded, CLOCK_OUT=str(out), SLOW_PATH=str(trial.folder), SLOW_WRITE="400")
@@ -191,7 +191,7 @@ def a_clock_that_stays_away_leaves_all_in_the_ledger(trial):
     for _ in range(20):
         trial.home.recv(4096)
     out.touch()
-    hope("status", trial.ran.wait(2 * TRIES), 4)
+    end_of(trial, 4)
     kinds = [line["type"] for line in trial.ledger_lines()]
     hope("lines", [kinds.count(kind) for kind in ("entry", "left", "end")], [30, 20, 0])
 
