@@ -56,7 +56,8 @@ def number(value, places=0):
 
 def table(head, rows):
     lines = [head, ["---", *["---:"] * (len(head) - 1)], *rows]
-    return "".join(f"| {' | '.join(line)} |\n" for line in lines)
+    before = "" if head[0] else "| "
+    return "".join(f"{before}{' | '.join(line)}{'' if line[-1] else '|'}\n" for line in lines)
 
 
 def lost_share(figures, measure, **wanted):
