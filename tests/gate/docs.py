@@ -172,7 +172,7 @@ def table(name):
     text = (TOP / "docs" / "performance.md").read_text("utf-8")
     body = re.search(rf"<!-- figures: {name} -->\n(.*?)<!-- end of figures -->", text, re.DOTALL).group(1)
     lines = [line for line in body.splitlines() if " | " in line]
-    return [[cell.strip() for cell in line.removeprefix("|").split("|")] for line in lines[:1] + lines[2:]]
+    return [[cell.strip() for cell in line.strip("|").split("|")] for line in lines[:1] + lines[2:]]
 
 
 def number(cell):
