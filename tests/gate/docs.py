@@ -13,6 +13,7 @@ import subprocess
 import sys
 
 from tests.lib import TOP, progress
+from tools.version import VERSION
 
 PAGES = [TOP / name for name in ("README.md", "SECURITY.md", "CHANGELOG.md")] + sorted(TOP.glob("docs/**/*.md"))
 TEXTS = ["man/**/*.[158]", "packaging/**/*", "examples/**/*", "bench/**/*", "tests/**/*.py", "tests/**/*.c", "tests/**/*.yml",
@@ -23,7 +24,7 @@ PATH = re.compile(r"(?<![\w./@~$-])(?:[\w.-]+/)*[\w-]+\.(?:rt|antt|py|md|c|h|tom
 # What a Rattle file names: a crate before two colons, or behind `Rattle.` in a definition.
 NAMED = re.compile(r"\b([a-z]\w*)::|\bRattle\.([a-z]\w*)\.")
 # A version, as a constant or as the heading of the newest one.
-VERSION = re.compile(r"^(?:(?:pub )?(?:const )?VERSION(?:: &str)? = \"|## )(\d+\.\d+\.\d+)\b", re.MULTILINE)
+OF_VERSION = re.compile(r"^(?:(?:pub )?(?:const )?VERSION(?:: &str)? = \"|## )(\d+\.\d+\.\d+)\b", re.MULTILINE)
 PLACE = re.compile(r"(?<![\w./@~$-])(?:" + "|".join(FOLDERS) + r")(?:/[\w.@-]+)+/?")
 
 
@@ -222,11 +223,10 @@ def listed():
 
 def versions():
     """For each file that has a version of its own: nothing, or that it is not that of the tools."""
-    ours = VERSION.search((TOP / "tools/version.py").read_text("utf-8"))[1]
     for path in [*sorted(TOP.glob("crates/*/src/**/*.rt")), TOP / "CHANGELOG.md"]:
-        its = VERSION.search(path.read_text("utf-8"))
+        its = OF_VERSION.search(path.read_text("utf-8"))
         if its:
-            yield path, None if its[1] == ours else f"its version is {its[1]}, and that of tools/version.py is {ours}"
+            yield path, None if its[1] == VERSION else f"its version is {its[1]}, and that of tools/version.py is {VERSION}"
 
 
 def check():

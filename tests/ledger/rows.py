@@ -11,6 +11,7 @@ from urllib.parse import unquote_to_bytes
 from tests.lib import TOP, Lane, Run, attribute, hope, need, packets, read, text, try_in_folders
 from tests.lib import ledger_cases as cases
 from tests.lib.packets import ACCT_SESSION_ID, ACCT_STATUS_TYPE, USER_NAME
+from tools.version import VERSION
 
 SECONDS = 60
 INPUT_OCTETS, OUTPUT_OCTETS, SESSION_TIME, INPUT_GIGAWORDS, OUTPUT_GIGAWORDS = 42, 43, 46, 52, 53
@@ -253,9 +254,8 @@ def help_and_version(program, folder):
         out, err, status = ran(program, folder, words)
         need(all(word in out.decode() for word in ("--rows", "<CONFIG>", "<FILE>...", "--version")), "help", out)
         hope("help", (err, status), (b"", 0))
-    version = re.search(r'VERSION: &str = "(.*)"', (TOP / "crates" / "rad_metrics" / "src" / "program_metrics.rt").read_text())[1]
     for words in (["--version"], ["-V"]):
-        hope("version", ran(program, folder, words), (f"rad_audit {version}\n".encode(), b"", 0))
+        hope("version", ran(program, folder, words), (f"rad_audit {VERSION}\n".encode(), b"", 0))
     with open("/dev/full", "wb") as full:
         hope("no help", ran(program, folder, ["--help"], out=full)[2], 4)
 

@@ -4,9 +4,8 @@
 AGE for a time that has passed, SECONDS for the sum of a histogram and SOME for what it counts up to a bound.
 """
 import pathlib
-import re
 
-from tests.lib.starting import TOP
+from tools.version import VERSION
 
 COUNTER, GAUGE, HISTOGRAM = "counter", "gauge", "histogram"
 DROPS = ["UnknownClient", "Unread", "WrongCode", "BadAuthenticator", "BadMessageAuthenticator", "MessageAuthenticatorHere", "NoRealm"]
@@ -78,11 +77,6 @@ METRICS = [
 ]
 
 
-def version():
-    """The version that the Makefile has."""
-    return re.search(r"^VERSION = (.*)$", (TOP / "Makefile").read_text("utf-8"), re.M)[1]
-
-
 def buffer():
     """The receive buffer that the system grants."""
     return str(min(int(pathlib.Path("/proc/sys/net/core/rmem_max").read_text("utf-8")), LARGEST_BUFFER))
@@ -95,7 +89,7 @@ def labels_of(whose, apart, client, homes, socket, realms):
     if apart is None:
         return owners
     name, values = apart
-    return [",".join(filter(None, [owner, f'{name}="{value}"'])) for owner in owners for value in values or [version()]]
+    return [",".join(filter(None, [owner, f'{name}="{value}"'])) for owner in owners for value in values or [VERSION]]
 
 
 def names_of(name, kind, labels):

@@ -6,11 +6,11 @@ A test is a function below; its first line says what holds. The last line is `N 
 """
 import contextlib
 import pathlib
-import re
 import signal
 import time
 
-from tests.lib import HERE, TOP, Stage, bound, is_so, need, try_in_folders
+from tests.lib import HERE, Stage, bound, is_so, need, try_in_folders
+from tools.version import VERSION
 
 HOME = '{lane="0",home="h0"}'
 OF_ONE_HOLD = ["accepted_total", "queued", "outstanding", "answered_total"]
@@ -108,8 +108,7 @@ def limits_are_told(program, folder):
         need(is_so(stage.proxy.counters.exists), "there are no numbers")
         names = ["book_limit", "queue_limit", "window_limit", "ring_limit", "span_seconds"]
         need(seen(stage, *names) == [5000, 70, 9, 11, 1.5], seen(stage, *names))
-        version = re.search(r"^VERSION = (.*)$", (TOP / "Makefile").read_text(), re.M)[1]
-        need(stage.counters()[f'rad_proxy_build_info{{version="{version}"}}'] == 1, "the version is not", version)
+        need(stage.counters()[f'rad_proxy_build_info{{version="{VERSION}"}}'] == 1, "the version is not", VERSION)
 
 
 def latencies_are_counted(program, folder):

@@ -20,12 +20,13 @@ import tempfile
 import tomllib
 from multiprocessing.pool import ThreadPool
 
-from tests.lib import TOP, LeftOut, environment, free_ports, hope, try_in_folders
+from tests.lib import LeftOut, environment, free_ports, hope, try_in_folders
 from tests.lib.tools import running, table, talking, texts
 from tests.lib.tools.running import want
 from tools.converting import freeradius, radsecproxy
 from tools.converting.reading import Fault, Library
 from tools.converting.site import Site
+from tools.version import VERSION
 
 SECONDS = 60
 MAIN = {"radsecproxy": "it", "freeradius": "radiusd.conf"}
@@ -144,8 +145,7 @@ def prepared(case, prepare):
 
 def words_are_told(program, room):
     """--help has the statuses, --version that of the package."""
-    version = re.search(r"^VERSION = (.*)$", (TOP / "Makefile").read_text(), re.MULTILINE)[1]
-    for word, part in (("--help", "statuses:"), ("--version", f"rad_convert {version}\n")):
+    for word, part in (("--help", "statuses:"), ("--version", f"rad_convert {VERSION}\n")):
         status, out, told = convert(word)
         hope(word, (status, told, part in out.decode()), (0, [], True))
 
