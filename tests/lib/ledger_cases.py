@@ -50,8 +50,7 @@ def changed(line, **keys):
 
 def with_words(run, realm, session):
     """The next entry of a run, of this realm and session."""
-    line = run.entry(user=b"bob@" + realm, session=b"", more=attribute(ACCT_SESSION_ID, session))
-    return {**line, **ledgers.worded("session", session)}
+    return run.entry(user=b"bob@" + realm, session=b"", more=attribute(ACCT_SESSION_ID, session))
 
 
 def turned(line, key, place):

@@ -2,7 +2,7 @@
 import json
 
 from tests.lib import packets
-from tests.lib.packets import ACCT_SESSION_ID, ACCT_STATUS_TYPE, CLASS, attribute, mark
+from tests.lib.packets import ACCT_SESSION_ID, ACCT_STATUS_TYPE, CLASS, USER_NAME, attribute, mark
 from tests.lib.starting import TOP
 
 
@@ -60,10 +60,7 @@ class Run:
             "identifier": identifier,
             "authenticator": asked[4:20].hex(),
         }
-        line.update(worded("realm", user.rpartition(b"@")[2] if b"@" in user else None))
-        line.update(worded("session", session or None))
-        line.update({"status": status} if status is not None else {})
-        line.update(worded("user", user or None))
+        line.update(words_of(attributes + more))
         lane.record, lane.left = lane.record + 1, lane.left + 1
         return {**line, "state": state, "request": asked.hex()}
 
@@ -89,12 +86,26 @@ class Run:
             "identifier": identifier,
             "authenticator": asked[4:20].hex(),
         }
-        line.update(worded("realm", user.rpartition(b"@")[2] if b"@" in user else None))
-        line.update(worded("session", session or None))
-        line.update({"status": status} if status is not None else {})
-        line.update(worded("user", user or None))
+        line.update(words_of(attributes + more))
         lane.serial, lane.record = lane.serial + 1, lane.record + 1
         return {**line, "sent": sent.hex(), "reply": reply.hex(), "response": response.hex()}
+
+
+def first(attributes, kind):
+    """The value of the first attribute of a type, if there is one."""
+    while attributes:
+        if attributes[0] == kind:
+            return attributes[2:attributes[1]]
+        attributes = attributes[attributes[1]:]
+    return None
+
+
+def words_of(attributes):
+    """What a line says of its packet: realm, session, status and user."""
+    name, status = first(attributes, USER_NAME), first(attributes, ACCT_STATUS_TYPE)
+    realm = name.rpartition(b"@")[2] if name is not None and b"@" in name else None
+    number = {"status": int.from_bytes(status, "big")} if status is not None and len(status) == 4 else {}
+    return {**worded("realm", realm), **worded("session", first(attributes, ACCT_SESSION_ID)), **number, **worded("user", name)}
 
 
 def worded(key, octets):
