@@ -294,12 +294,12 @@ def each_form_is_read(program, folder):
 
 
 def order_of(first, second, place):
-    """When the line of this place was made, by the records that were put there."""
+    """When the line of this place was made, by the records that were put there; at one time that of the file without a date comes first."""
     file, _, line = place.rpartition(":")
     if file == str(second.path):
-        return second.records[int(line) - 2].time, 1
+        return second.records[int(line) - 2].time, 0
     at = int(line) - 2 + (10 if file.endswith(".gz") else 0)
-    return first.records[at].time, 0
+    return first.records[at].time, 1
 
 
 def the_verdict_is_the_auditors(program, folder):
