@@ -14,6 +14,7 @@ use Rattle.rad_audit.specs.declared.printing.FateCounts.{FateCounts}
 use Rattle.rad_audit.specs.declared.printing.FatesLine.{FatesLine}
 use Rattle.rad_audit.specs.declared.printing.RangesLine.{RangesLine}
 use Rattle.rad_audit.specs.declared.printing.BackLine.{BackLine}
+use Rattle.rad_audit.specs.declared.printing.BackSteps.{BackSteps}
 
 abbrev pub place_text : Place → List ℕ
 place_text place = word_text place.file.now ++ codes ":" ++ decimal place.line
@@ -52,5 +53,8 @@ fates_line line = name_text line.name ++ codes " " ++ fates_text line.fates
 abbrev pub ranges_line : RangesLine → List ℕ
 ranges_line line = name_text line.name ++ codes " more than 4096 ranges"
 
+abbrev pub steps_text : BackSteps → List ℕ
+steps_text steps = codes "steps back in time " ++ decimal steps.0
+
 abbrev pub back_line : BackLine → List ℕ
-back_line line = name_text line.name ++ codes " steps back in time " ++ decimal line.steps
+back_line line = name_text line.name ++ codes " " ++ steps_text line.steps

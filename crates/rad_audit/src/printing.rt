@@ -88,8 +88,12 @@ pub struct RangesLine<'a> {
 pub struct BackLine<'a> {
     pub name: LaneName<'a>,
     /// How many there are.
-    pub steps: u64,
+    pub steps: BackSteps,
 }
+
+/// Steps back in time.
+#[derive(Clone, Copy)]
+pub struct BackSteps(pub u64);
 
 /// What a lane of a run has.
 #[derive(Clone, Copy)]
@@ -195,7 +199,7 @@ impl<'a> BackLine<'a> {
 
     /// Returns the line of this lane of a run, if there are steps back in time.
     pub fn of(run: u64, lane: &'a Lane) -> Option<BackLine<'a>>
-        ensures { MatchOption result (lane.now.times.back ≡ 0) (λ line. (line.steps ≡ lane.now.times.back) × (line.steps ≢ 0)) }
+        ensures { MatchOption result (lane.now.times.back ≡ 0) (λ line. (line.steps.0 ≡ lane.now.times.back) × (line.steps.0 ≢ 0)) }
     {
         let steps = lane.times.back();
         if steps == 0 {
@@ -203,7 +207,7 @@ impl<'a> BackLine<'a> {
         }
         Some(BackLine {
             name: LaneName::of(run, lane),
-            steps,
+            steps: BackSteps(steps),
         })
     }
 }
@@ -465,7 +469,19 @@ impl fmt::Display for BackLine<'_> {
     fn fmt<W: fmt::Write>(&self, f: &mut fmt::Formatter<W>) -> fmt::Result {
         let name = self.name;
         let steps = self.steps;
-        write!(f, "{name} steps back in time {steps}")
+        write!(f, "{name} {steps}")
+    }
+}
+
+impl fmt::Display for BackSteps {
+    ghost use Rattle.std.specs.Prelude.{Some};
+    ghost use Rattle.rad_audit.specs.Printed.{steps_text};
+
+    ghost output = { λ steps. Some (steps_text steps) };
+
+    fn fmt<W: fmt::Write>(&self, f: &mut fmt::Formatter<W>) -> fmt::Result {
+        let steps = self.0;
+        write!(f, "steps back in time {steps}")
     }
 }
 
