@@ -331,7 +331,9 @@ impl<R: Clock, D: LedgerDisk + Drop> Session<'_, R, D> {
     }
 
     /// Returns the time, in milliseconds since 1970. It is the last one if the clock can't be read.
-    fn read_time(&mut self) -> u64 {
+    fn read_time(&mut self) -> u64
+        ensures { self.new.files ≡ self.old.files }
+    {
         self.time = time_since_1970(self.rt).unwrap_or(self.time);
         self.time
     }
