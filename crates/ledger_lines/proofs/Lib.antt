@@ -6,3 +6,8 @@ pub mod Pairs
 pub mod Worth
 pub mod Types
 pub mod Known
+pub mod Adding
+pub mod Members
+pub mod Behind
+pub mod Fine
+pub mod Told

@@ -8,6 +8,7 @@
 mod begin;
 mod digits;
 mod faults;
+mod laws;
 mod moments;
 mod reading;
 mod values;
@@ -15,6 +16,7 @@ mod writing;
 
 pub use begin::{Begin, End, LaneCount, LaneStart};
 pub use faults::LineFault;
+pub use laws::written_lines_are_read;
 pub use moments::moment_of;
 pub use reading::{Line, MOST_LINE_OCTETS, Room, read_line};
 pub use writing::{write_begin, write_end, write_entry, write_left};

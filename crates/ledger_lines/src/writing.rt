@@ -1,8 +1,12 @@
 //! Lines of a ledger, as they are written.
 
-ghost use Rattle.std.specs.Prelude.{◌≡◌, IfOk, OnOk};
+ghost use Rattle.std.specs.Prelude.{◌≡◌, [], ◌∷◌, IfOk, OnOk, Some, option_copied, option_map};
+ghost use Rattle.json.specs.Json.{array, string};
+ghost use Rattle.json.specs.Tree.{json_tokens};
+ghost use Rattle.ledger_lines.specs.internal.Adding.{Adds, AddsSlots, EndsLine, Opens};
 ghost use Rattle.ledger_lines.specs.Lines.{state_text as the_state_text};
-ghost use Rattle.ledger_lines.specs.Written.{HasLineBehind};
+ghost use Rattle.ledger_lines.specs.Written.{HasLineBehind, HasValueBehind, count_value, end_value, first_slots, items_of, number_value, octets_value};
+ghost use Rattle.rad_realms.specs.Printed.{address_text};
 
 use crate::begin::{Begin, End, LaneCount, LaneStart};
 use json::Writer;
@@ -54,7 +58,8 @@ pub fn write_left(alloc: Global, left: &Left<'_>, out: Vec<u8>) -> Result<Vec<u8
 ///
 /// Where memory is refused.
 pub fn write_end(alloc: Global, end: &End<'_>, out: Vec<u8>) -> Result<Vec<u8>, AllocError>
-    ensures { IfOk result (λ all. HasLineBehind out.items all.items) }
+    ensures line { IfOk result (λ all. HasLineBehind out.items all.items) }
+    ensures value { IfOk result (λ all. HasValueBehind out.items all.items (end_value end.now)) }
 {
     let mut writer = Writer::new(out);
     end_members(alloc, &mut writer, end)?;
@@ -63,7 +68,7 @@ pub fn write_end(alloc: Global, end: &End<'_>, out: Vec<u8>) -> Result<Vec<u8>, 
 
 /// Returns what these octets are, and the line that was written behind them, with its line end.
 fn close_line(writer: Writer) -> Result<Vec<u8>, AllocError>
-    ensures { IfOk result (λ all. HasLineBehind writer.before all.items) }
+    ensures { IfOk result (λ all. EndsLine writer all.items) }
 {
     let mut out = writer.into_inner();
     out.push(b'\n')?;
@@ -203,21 +208,28 @@ fn widened(value: Option<u32>) -> Option<u64>
 
 /// Writes the object of a line that ends a run.
 fn end_members(alloc: Global, writer: &mut Writer, end: &End<'_>) -> Result<(), AllocError>
-    ensures { OnOk result (writer.new.before ≡ writer.old.before) }
+    ensures { OnOk result (Adds writer.old writer.new (json_tokens (end_value end.now))) }
 {
     first_members(alloc, writer, "end", end.run, end.time)?;
     writer.key("lanes")?;
+    lane_counts(writer, end.lanes.as_slice())?;
+    writer.end_object()
+}
+
+/// Writes the lanes of such a line.
+fn lane_counts(writer: &mut Writer, lanes: &[LaneCount]) -> Result<(), AllocError>
+    ensures { OnOk result (Adds writer.old writer.new (json_tokens (array (items_of count_value lanes.now)))) }
+{
     writer.begin_array()?;
-    for lane in end.lanes.iter() {
+    for lane in lanes {
         lane_count(writer, lane)?;
     }
-    writer.end_array()?;
-    writer.end_object()
+    writer.end_array()
 }
 
 /// Writes a lane of such a line.
 fn lane_count(writer: &mut Writer, lane: &LaneCount) -> Result<(), AllocError>
-    ensures { OnOk result (writer.new.before ≡ writer.old.before) }
+    ensures { OnOk result (Adds writer.old writer.new (json_tokens (count_value lane.now))) }
 {
     writer.begin_object()?;
     number(writer, "lane", u64::from(lane.lane))?;
@@ -235,7 +247,7 @@ fn first_members(
     run: u64,
     time: &str,
 ) -> Result<(), AllocError>
-    ensures { OnOk result (writer.new.before ≡ writer.old.before) }
+    ensures { OnOk result (Opens writer.old writer.new (first_slots kind.now run time.now)) }
 {
     writer.begin_object()?;
     text(writer, "type", kind)?;
@@ -244,14 +256,14 @@ fn first_members(
 }
 
 fn text(writer: &mut Writer, key: &str, value: &str) -> Result<(), AllocError>
-    ensures { OnOk result (writer.new.before ≡ writer.old.before) }
+    ensures { OnOk result (AddsSlots writer.old writer.new ((key.now, (Some (string value.now))) ∷ [])) }
 {
     writer.key(key)?;
     writer.string(value)
 }
 
 fn number(writer: &mut Writer, key: &str, value: u64) -> Result<(), AllocError>
-    ensures { OnOk result (writer.new.before ≡ writer.old.before) }
+    ensures { OnOk result (AddsSlots writer.old writer.new ((key.now, (Some (number_value value))) ∷ [])) }
 {
     writer.key(key)?;
     writer.u64(value)
@@ -259,7 +271,7 @@ fn number(writer: &mut Writer, key: &str, value: u64) -> Result<(), AllocError>
 
 /// A number, where there is one.
 fn number_if_any(writer: &mut Writer, key: &str, value: Option<u64>) -> Result<(), AllocError>
-    ensures { OnOk result (writer.new.before ≡ writer.old.before) }
+    ensures { OnOk result (AddsSlots writer.old writer.new ((key.now, (option_map number_value value)) ∷ [])) }
 {
     match value {
         Some(value) => number(writer, key, value),
@@ -269,7 +281,7 @@ fn number_if_any(writer: &mut Writer, key: &str, value: Option<u64>) -> Result<(
 
 /// A text, where there is one.
 fn text_if_any(writer: &mut Writer, key: &str, value: Option<&str>) -> Result<(), AllocError>
-    ensures { OnOk result (writer.new.before ≡ writer.old.before) }
+    ensures { OnOk result (AddsSlots writer.old writer.new ((key.now, (option_map string (option_copied value.entry))) ∷ [])) }
 {
     match value {
         Some(value) => text(writer, key, value),
@@ -284,7 +296,7 @@ fn address(
     key: &str,
     address: [u8; 4],
 ) -> Result<(), AllocError>
-    ensures { OnOk result (writer.new.before ≡ writer.old.before) }
+    ensures { OnOk result (AddsSlots writer.old writer.new ((key.now, (Some (string (address_text address)))) ∷ [])) }
 {
     let [a, b, c, d] = address;
     let words = format!(in alloc; "{a}.{b}.{c}.{d}")?;
@@ -292,7 +304,7 @@ fn address(
 }
 
 fn digits(alloc: Global, writer: &mut Writer, key: &str, octets: &[u8]) -> Result<(), AllocError>
-    ensures { OnOk result (writer.new.before ≡ writer.old.before) }
+    ensures { OnOk result (AddsSlots writer.old writer.new ((key.now, (Some (octets_value octets.now))) ∷ [])) }
 {
     let digits = hex::encode(alloc, octets)?;
     text(writer, key, digits.as_str())
