@@ -1,12 +1,14 @@
 -- What one call after the other adds to the tokens of a writer.
-use Rattle.std.proofs.Common.{◌≡◌, ℕ, zero, suc, ◌+◌, ◌<◌, ◌≤◌, List, [], ◌∷◌, ◌++◌, length, get_or, take, Option, Some, None, Result, Ok, Err, refl, sym, ap, ◌∙◌, subst, arith, append_assoc, append-nil}
+use Rattle.std.proofs.Common.{◌≡◌, ℕ, ◌+◌, ◌<◌, ◌≤◌, List, [], ◌∷◌, ◌++◌, length, take, Bool, true, false, cond, option_map, Option, Some, None, Result, Ok, Err, refl, sym, ap, ◌∙◌, subst, append_assoc, append-nil}
 use Rattle.std.specs.Prelude.{OnOk}
-use Rattle.std.proofs.lemmas.List.{take_more, take_all}
-use Rattle.json.specs.Json.{Json, array, object, Items, no_items, item, Members, no_members, member}
+use Rattle.std.specs.Str.{IsUtf8, is_utf8}
+use Rattle.std.proofs.lemmas.Str.{IsUtf8-from_is_utf8, is_utf8-from_IsUtf8}
+use Rattle.std.proofs.lemmas.List.{take_all}
+use Rattle.json.specs.Json.{Json, array, string}
 use Rattle.json.specs.Token.{Token, begin_array, end_array, begin_object, end_object, key}
 use Rattle.json.specs.Tree.{json_tokens, items_tokens, members_tokens}
 use Rattle.json.specs.Written.{Written, Writes}
-use Rattle.ledger_lines.specs.Written.{present, object_of, items_of, number_value, octets_value}
+use Rattle.ledger_lines.specs.Written.{present, object_of, items_of, number_value, octets_value, words_slots}
 use Rattle.ledger_lines.specs.internal.Adding.{Adds, AddsSlots, Opens, slot_tokens, slots_tokens}
 
 abbrev pub Slots : Type 0
@@ -42,8 +44,8 @@ pub opens_then : {a b c : Written} {ss us : Slots} → Opens a b ss → AddsSlot
 opens_then {a} {b} {c} {ss} {us} p q = record {
   before = q.before ∙ p.before;
   added =
-    q.added ∙ ap (λ ts. ts ++ slots_tokens us) p.added ∙ append_assoc a.tokens (begin_object ∷ slots_tokens ss) (slots_tokens us)
-    ∙ ap (λ ts. a.tokens ++ begin_object ∷ ts) (sym (slots_both ss us));
+      q.added ∙ ap (λ ts. ts ++ slots_tokens us) p.added ∙ append_assoc a.tokens (begin_object ∷ slots_tokens ss) (slots_tokens us)
+      ∙ ap (λ ts. a.tokens ++ begin_object ∷ ts) (sym (slots_both ss us));
 }
 
 pub opens_last : {E : Type 0} (r : Result (Unit {0}) E) (a b c : Written) (ss us : Slots) → Opens a b ss → OnOk r (AddsSlots b c us) → OnOk r (Opens a c (ss ++ us))
@@ -59,8 +61,8 @@ pub keyed : (a b c : Written) (name : List ℕ) (value : Json) → b.before ≡ 
 keyed a b c name value same e p = record {
   before = p.before ∙ same;
   added =
-    p.added ∙ ap (λ ts. ts ++ json_tokens value) e ∙ append_assoc a.tokens (key name ∷ []) (json_tokens value)
-    ∙ ap (λ ts. a.tokens ++ key name ∷ ts) (sym (append-nil (json_tokens value)));
+      p.added ∙ ap (λ ts. ts ++ json_tokens value) e ∙ append_assoc a.tokens (key name ∷ []) (json_tokens value)
+      ∙ ap (λ ts. a.tokens ++ key name ∷ ts) (sym (append-nil (json_tokens value)));
 }
 
 -- a list, item by item
@@ -74,13 +76,39 @@ number_is {a} {b} {name} m n e p = subst (λ (k : ℕ). AddsSlots a b ((name, So
 pub octets_are : {a b : Written} {name : List ℕ} (xs ys : List ℕ) → xs ≡ ys → AddsSlots a b ((name, Some (octets_value xs)) ∷ []) → AddsSlots a b ((name, Some (octets_value ys)) ∷ [])
 octets_are {a} {b} {name} xs ys e p = subst (λ (zs : List ℕ). AddsSlots a b ((name, Some (octets_value zs)) ∷ [])) e p
 
+pub string_is : {a b : Written} {name : List ℕ} (xs ys : List ℕ) → xs ≡ ys → AddsSlots a b ((name, Some (string xs)) ∷ []) → AddsSlots a b ((name, Some (string ys)) ∷ [])
+string_is {a} {b} {name} xs ys e p = subst (λ (zs : List ℕ). AddsSlots a b ((name, Some (string zs)) ∷ [])) e p
+
+pub number_if_is : {a b : Written} {name : List ℕ} (m n : Option ℕ) → m ≡ n → AddsSlots a b ((name, option_map number_value m) ∷ []) → AddsSlots a b ((name, option_map number_value n) ∷ [])
+number_if_is {a} {b} {name} m n e p = subst (λ (k : Option ℕ). AddsSlots a b ((name, option_map number_value k) ∷ [])) e p
+
+-- octets that may be there
+pub words_text : {E : Type 0} (r : Result (Unit {0}) E) (a b : Written) (name other octets text : List ℕ) → text ≡ octets → IsUtf8 octets → OnOk r (AddsSlots a b ((name, Some (string text)) ∷ [])) → OnOk r (AddsSlots a b (words_slots name other (Some octets)))
+words_text (Err e) a b name other octets text is utf8 p = tt
+words_text (Ok x) a b name other octets text is utf8 p =
+    subst (λ (t : Bool). AddsSlots a b ((name, cond t (Some (string octets)) None) ∷ (other, cond t None (Some (octets_value octets))) ∷ [])) (sym (is_utf8-from_IsUtf8 octets utf8))
+    (record { before = p.before; added = p.added ∙ ap (λ zs. a.tokens ++ key name ∷ json_tokens (string zs)) is })
+
+no_text : (octets : List ℕ) (t : Bool) → is_utf8 octets ≡ t → ¬ IsUtf8 octets → t ≡ false
+no_text octets true e n = absurd (n (IsUtf8-from_is_utf8 octets e))
+no_text octets false e n = refl
+
+pub words_digits : {E : Type 0} (r : Result (Unit {0}) E) (a b : Written) (name other octets : List ℕ) → ¬ IsUtf8 octets → OnOk r (AddsSlots a b ((other, Some (octets_value octets)) ∷ [])) → OnOk r (AddsSlots a b (words_slots name other (Some octets)))
+words_digits (Err e) a b name other octets n p = tt
+words_digits (Ok x) a b name other octets n p =
+    subst (λ (t : Bool). AddsSlots a b ((name, cond t (Some (string octets)) None) ∷ (other, cond t None (Some (octets_value octets))) ∷ [])) (sym (no_text octets (is_utf8 octets) refl n))
+    (record { before = p.before; added = p.added })
+
+pub adds_nothing : (w : Written) (slots : Slots) → slots_tokens slots ≡ [] → AddsSlots w w slots
+adds_nothing w slots e = record { before = refl; added = sym (ap (λ ts. w.tokens ++ ts) e ∙ append-nil w.tokens) }
+
 -- the object is ended
 closed : (a c d : Written) (slots : Slots) → Opens a c slots → d.before ≡ c.before → d.tokens ≡ c.tokens ++ end_object ∷ [] → Adds a d (json_tokens (object_of slots))
 closed a c d slots p b e = record {
   before = b ∙ p.before;
   added =
-    e ∙ ap (λ ts. ts ++ end_object ∷ []) p.added ∙ append_assoc a.tokens (begin_object ∷ slots_tokens slots) (end_object ∷ [])
-    ∙ ap (λ ts. a.tokens ++ begin_object ∷ ts) (sym (slots_end slots));
+      e ∙ ap (λ ts. ts ++ end_object ∷ []) p.added ∙ append_assoc a.tokens (begin_object ∷ slots_tokens slots) (end_object ∷ [])
+      ∙ ap (λ ts. a.tokens ++ begin_object ∷ ts) (sym (slots_end slots));
 }
 
 pub closes : {E : Type 0} (r : Result (Unit {0}) E) (a c d : Written) (slots : Slots) → Opens a c slots → Writes r c d end_object → OnOk r (Adds a d (json_tokens (object_of slots)))
@@ -108,8 +136,8 @@ module _ {X : Type 0} (value : X → Json) where
       record {
         before = q.before ∙ p.before;
         added =
-          q.added ∙ ap (λ ts. ts ++ json_tokens (value x)) p.added ∙ append_assoc a.tokens (begin_array ∷ each_tokens value (take i xs)) (json_tokens (value x))
-          ∙ ap (λ ts. a.tokens ++ begin_array ∷ ts) (sym (ap (each_tokens value) front ∙ each_push (take i xs) x));
+            q.added ∙ ap (λ ts. ts ++ json_tokens (value x)) p.added ∙ append_assoc a.tokens (begin_array ∷ each_tokens value (take i xs)) (json_tokens (value x))
+            ∙ ap (λ ts. a.tokens ++ begin_array ∷ ts) (sym (ap (each_tokens value) front ∙ each_push (take i xs) x));
       }
 
   -- all items, and the bracket
@@ -118,6 +146,6 @@ module _ {X : Type 0} (value : X → Json) where
   items_added (Ok x) a b c xs i le p w = record {
     before = w.room.0 ∙ p.before;
     added =
-      w.ok ∙ ap (λ ts. ts ++ end_array ∷ []) p.added ∙ append_assoc a.tokens (begin_array ∷ each_tokens value (take i xs)) (end_array ∷ [])
-      ∙ ap (λ ts. a.tokens ++ begin_array ∷ ts) (ap (λ ys. each_tokens value ys ++ end_array ∷ []) (take_all i xs le) ∙ sym (each_end xs));
+        w.ok ∙ ap (λ ts. ts ++ end_array ∷ []) p.added ∙ append_assoc a.tokens (begin_array ∷ each_tokens value (take i xs)) (end_array ∷ [])
+        ∙ ap (λ ts. a.tokens ++ begin_array ∷ ts) (ap (λ ys. each_tokens value ys ++ end_array ∷ []) (take_all i xs le) ∙ sym (each_end xs));
   }

@@ -1,5 +1,5 @@
 -- A line that was written is read back as its value.
-use Rattle.std.proofs.Common.{◌≡◌, ℕ, ◌≤◌, List, [], ◌∷◌, ◌++◌, Some, refl, sym, ap, ◌∙◌, subst, arith, Result, Ok, Err, Vec, option_and_then, append-nil}
+use Rattle.std.proofs.Common.{◌≡◌, ℕ, List, [], ◌∷◌, ◌++◌, Some, sym, ap, ◌∙◌, Result, Ok, Err, Vec, option_and_then, append-nil}
 use Rattle.std.specs.Prelude.{IfOk}
 use Rattle.json.specs.Json.{Json, document, if_last, max_depth, value}
 use Rattle.json.specs.Lex.{tokens}
@@ -7,7 +7,6 @@ use Rattle.json.specs.Print.{print}
 use Rattle.json.specs.Tree.{json_tokens}
 use Rattle.json.specs.Written.{Written}
 use Rattle.json.proofs.Printed.Trees.{value-json_tokens}
-use Rattle.ledger_lines.specs.Lines.{IsValue}
 use Rattle.ledger_lines.specs.Written.{HasLineBehind, HasValueBehind}
 use Rattle.ledger_lines.specs.internal.Adding.{Adds, EndsLine}
 use Rattle.ledger_lines.proofs.Members.{IsFine}

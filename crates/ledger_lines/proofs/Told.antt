@@ -1,22 +1,30 @@
 -- The value of each line is what a reader takes for that line.
-use Rattle.std.proofs.Common.{◌≡◌, ℕ, zero, suc, ◌/◌, ◌%◌, ◌+◌, ◌*◌, ◌<◌, ◌≤◌, ◌^◌, List, [], ◌∷◌, codes, length, get_or, option_map, Option, Some, None, is_some, Ok, decimal, refl, sym, ap, ◌∙◌, subst, arith}
-use Rattle.std.specs.Prelude.{⊤}
-use Rattle.std.specs.List.{All, AllByRecursion}
-use Rattle.std.specs.Int.{w64, from_be_bytes, to_be_bytes}
+use Rattle.std.proofs.Common.{◌≡◌, ℕ, zero, suc, ◌/◌, ◌%◌, ◌*◌, ◌<◌, ◌≤◌, ◌^◌, List, [], ◌∷◌, codes, length, Bool, true, false, cond, option_map, Option, Some, None, decimal, inl, inr, refl, sym, ap, ◌∙◌, subst, arith}
+use Rattle.std.specs.Prelude.{⊤, option_copied}
+use Rattle.std.specs.Str.{is_utf8}
+use Rattle.std.specs.List.{AllByRecursion}
+use Rattle.std.specs.Int.{w64, to_be_bytes}
 use Rattle.std.specs.Str.Parse.{IsNumeral, digits_value, without_leading_plus}
 use Rattle.std.proofs.lemmas.Nat.{from_be_bytes-to_be_bytes_8}
 use Rattle.std.proofs.lemmas.Fmt.{decimal_is_IsNumeral}
 use Rattle.std.proofs.lemmas.Str.Parse.{without_leading_plus_none, digit_at}
 use Rattle.std.proofs.lemmas.List.Elements.{recursion_from_All}
-use Rattle.json.specs.Json.{Json, array, number, string}
+use Rattle.json.specs.Json.{Json, string}
 use Rattle.json.specs.Find.{get}
-use Rattle.hex.specs.Hex.{IsBytes, decode_of, encode_lower, lower_digits}
+use Rattle.hex.specs.Hex.{IsBytes, encode_lower, lower_digits}
 use Rattle.hex.proofs.HexLemmas.{decode_of-encode_lower, length-encode_with}
-use Rattle.ledger_lines.specs.Lines.{AreEach, HasNumber, MayHaveNumber, HasOctets, HasArray, HasRun, HasTime, HasLanes, IsEnd, IsLaneCount, IsTime, Lacks}
-use Rattle.ledger_lines.specs.Written.{IsBelowIfAny, IsReadableCount, IsReadableEnd, count_slots, count_value, end_slots, end_value, items_of, number_value, octets_value, object_of}
+use Rattle.ledger_lines.specs.Lines.{AreEach, HasNumber, MayHaveNumber, HasOctets, HasArray, HasRun, HasClient, IsBegin, IsEnd, IsEntry, IsLaneCount, IsLaneStart, IsLeft, MayHaveTime, MayHaveWords}
+use Rattle.rad_config.proofs.Addresses.{address_from_text}
+use Rattle.rad_realms.specs.Address.{IsAddress}
+use Rattle.rad_realms.specs.Printed.{address_text}
+use Rattle.rad_ledger.specs.declared.entry.Entry.{Entry}
+use Rattle.rad_ledger.specs.declared.left.Left.{Left}
+use Rattle.ledger_lines.specs.declared.begin.Begin.{Begin}
+use Rattle.ledger_lines.specs.declared.begin.LaneStart.{LaneStart}
+use Rattle.ledger_lines.specs.Written.{AreBytesIfAny, IsBelowIfAny, IsReadableBegin, IsReadableCount, IsReadableEnd, IsReadableEntry, IsReadableLeft, IsReadableStart, IsTimeIfAny, begin_slots, begin_value, count_slots, count_value, digits_if_any, end_slots, end_value, entry_slots, entry_value, items_of, left_slots, left_value, number_value, octets_value, start_slots, start_value, text_if_any}
 use Rattle.ledger_lines.specs.declared.begin.End.{End}
 use Rattle.ledger_lines.specs.declared.begin.LaneCount.{LaneCount}
-use Rattle.ledger_lines.proofs.Members.{found, get_found, only_names}
+use Rattle.ledger_lines.proofs.Members.{get_found, only_names}
 
 -- ---- numbers
 
@@ -69,9 +77,19 @@ octet_of n = omega arith
 
 run_octets : (run : ℕ) → IsBytes (to_be_bytes w64 run)
 run_octets run =
-    bytes_from (to_be_bytes w64 run)
-    (octet_of (run / 72057594037927936), (octet_of (run / 281474976710656), (octet_of (run / 1099511627776), (octet_of (run / 4294967296),
-    (octet_of (run / 16777216), (octet_of (run / 65536), (octet_of (run / 256), (octet_of run, tt))))))))
+    bytes_from (to_be_bytes w64 run) (
+      octet_of (run / 72057594037927936),
+      (
+        octet_of (run / 281474976710656),
+        (
+          octet_of (run / 1099511627776),
+          (
+            octet_of (run / 4294967296),
+            (octet_of (run / 16777216), (octet_of (run / 65536), (octet_of (run / 256), (octet_of run, tt)))),
+          ),
+        ),
+      ),
+    )
 
 run_there : (value : Json) (run : ℕ) → get (codes "run") value ≡ Some (octets_value (to_be_bytes w64 run)) → run < 2 ^ 64 → HasRun value run
 run_there value run e small = record {
@@ -110,5 +128,105 @@ end_read end h =
         items = items_of count_value end.lanes.items;
         there = at (codes "lanes");
         are = are_each count_value IsLaneCount IsReadableCount is_count end.lanes.items (recursion_from_All IsReadableCount end.lanes.items h.lanes);
+      };
+    }
+
+-- ---- what may be there, and what names a request
+
+time_if_there : (key : List ℕ) (value : Json) (time : Option (List ℕ)) → get key value ≡ option_map string time → IsTimeIfAny time → MayHaveTime key value time
+time_if_there key value None e is = e
+time_if_there key value (Some time) e is = record { there = e; is = is }
+
+words_by : (key other : List ℕ) (value : Json) (octets : List ℕ) (t : Bool) → get key value ≡ cond t (Some (string octets)) None → get other value ≡ cond t None (Some (octets_value octets)) → IsBytes octets → MayHaveWords key other value (Some octets)
+words_by key other value octets true e f small = inl (e, f)
+words_by key other value octets false e f small = inr (e, octets_there other value octets f small)
+
+words_there : (key other : List ℕ) (value : Json) (octets : Option (List ℕ)) → get key value ≡ text_if_any octets → get other value ≡ digits_if_any octets → AreBytesIfAny octets → MayHaveWords key other value octets
+words_there key other value None e f small = (e, f)
+words_there key other value (Some octets) e f small = words_by key other value octets (is_utf8 octets) e f small
+
+client_there : (value : Json) (client : List ℕ) → get (codes "client") value ≡ Some (string (address_text client)) → IsAddress client → HasClient value client
+client_there value client e is = record { text = address_text client; there = e; is = address_from_text client is }
+
+-- ---- an entry, and a request that was left
+
+pub entry_read : (e : Entry) → IsReadableEntry e → IsEntry (entry_value e) e
+entry_read e h =
+    let at = λ (key : List ℕ). get_found key (entry_slots e) refl in
+    let value = entry_value e in
+    record {
+      no_other = only_names (entry_slots e);
+      type_is = at (codes "type");
+      run = run_there value e.run (at (codes "run")) h.run;
+      time = record { there = at (codes "time"); is = h.time };
+      home = at (codes "home");
+      lane = number_there (codes "lane") (2 ^ 16) value e.lane (at (codes "lane")) (omega (arith, h.lane)) h.lane;
+      serial = number_there (codes "serial") (2 ^ 63) value e.serial (at (codes "serial")) (omega (arith, h.serial)) h.serial;
+      record_is = number_there (codes "record") (2 ^ 64) value e.number (at (codes "record")) h.record_is h.record_is;
+      client = client_there value e.client (at (codes "client")) h.request.client_is;
+      port = number_there (codes "port") (2 ^ 16) value e.port (at (codes "port")) (omega (arith, h.request.port_is)) h.request.port_is;
+      identifier = number_there (codes "identifier") (2 ^ 8) value e.identifier (at (codes "identifier")) (omega (arith, h.request.identifier_is)) h.request.identifier_is;
+      authenticator = array_there (codes "authenticator") 16 value e.authenticator (at (codes "authenticator")) h.request.long h.request.octets;
+      sent = octets_there (codes "sent") value e.sent.now (at (codes "sent")) h.sent;
+      reply = octets_there (codes "reply") value e.reply.now (at (codes "reply")) h.reply;
+      response = octets_there (codes "response") value e.response.now (at (codes "response")) h.response;
+      realm = words_there (codes "realm") (codes "realm_octets") value (option_copied e.realm) (at (codes "realm")) (at (codes "realm_octets")) h.realm;
+      session = words_there (codes "session") (codes "session_octets") value (option_copied e.session) (at (codes "session")) (at (codes "session_octets")) h.session;
+      status = number_if_there (codes "status") (2 ^ 32) value e.status (at (codes "status")) (omega arith) h.status;
+      user = words_there (codes "user") (codes "user_octets") value (option_copied e.user) (at (codes "user")) (at (codes "user_octets")) h.user;
+    }
+
+pub left_read : (left : Left) → IsReadableLeft left → IsLeft (left_value left) left
+left_read left h =
+    let at = λ (key : List ℕ). get_found key (left_slots left) refl in
+    let value = left_value left in
+    record {
+      no_other = only_names (left_slots left);
+      type_is = at (codes "type");
+      run = run_there value left.run (at (codes "run")) h.run;
+      time = record { there = at (codes "time"); is = h.time };
+      home = at (codes "home");
+      lane = number_there (codes "lane") (2 ^ 16) value left.lane (at (codes "lane")) (omega (arith, h.lane)) h.lane;
+      record_is = number_there (codes "record") (2 ^ 64) value left.number (at (codes "record")) h.record_is h.record_is;
+      client = client_there value left.client (at (codes "client")) h.names.client_is;
+      port = number_there (codes "port") (2 ^ 16) value left.port (at (codes "port")) (omega (arith, h.names.port_is)) h.names.port_is;
+      identifier = number_there (codes "identifier") (2 ^ 8) value left.identifier (at (codes "identifier")) (omega (arith, h.names.identifier_is)) h.names.identifier_is;
+      authenticator = array_there (codes "authenticator") 16 value left.authenticator (at (codes "authenticator")) h.names.long h.names.octets;
+      realm = words_there (codes "realm") (codes "realm_octets") value (option_copied left.realm) (at (codes "realm")) (at (codes "realm_octets")) h.realm;
+      session = words_there (codes "session") (codes "session_octets") value (option_copied left.session) (at (codes "session")) (at (codes "session_octets")) h.session;
+      status = number_if_there (codes "status") (2 ^ 32) value left.status (at (codes "status")) (omega arith) h.status;
+      user = words_there (codes "user") (codes "user_octets") value (option_copied left.user) (at (codes "user")) (at (codes "user_octets")) h.user;
+      state = at (codes "state");
+      sendings = number_if_there (codes "sendings") (2 ^ 32) value left.sendings (at (codes "sendings")) (omega arith) h.sendings;
+      accepted = time_if_there (codes "accepted") value (option_copied left.accepted) (at (codes "accepted")) h.accepted;
+      request = octets_there (codes "request") value left.request.now (at (codes "request")) h.request;
+    }
+
+-- ---- a line that names a run
+
+is_start : (start : LaneStart) → IsReadableStart start → IsLaneStart (start_value start) start
+is_start start h =
+    let at = λ (key : List ℕ). get_found key (start_slots start) refl in
+    record {
+      no_other = only_names (start_slots start);
+      lane = number_there (codes "lane") (2 ^ 16) (start_value start) start.lane (at (codes "lane")) (omega (arith, h.lane)) h.lane;
+      home = at (codes "home");
+      serial = number_there (codes "serial") (2 ^ 63) (start_value start) start.serial (at (codes "serial")) (omega (arith, h.serial)) h.serial;
+    }
+
+pub begin_read : (begin : Begin) → IsReadableBegin begin → IsBegin (begin_value begin) begin
+begin_read begin h =
+    let at = λ (key : List ℕ). get_found key (begin_slots begin) refl in
+    record {
+      no_other = only_names (begin_slots begin);
+      type_is = at (codes "type");
+      run = run_there (begin_value begin) begin.run (at (codes "run")) h.run;
+      time = record { there = at (codes "time"); is = h.time };
+      version = at (codes "version");
+      file = number_there (codes "file") (2 ^ 64) (begin_value begin) begin.file (at (codes "file")) h.file h.file;
+      lanes = record {
+        items = items_of start_value begin.lanes.items;
+        there = at (codes "lanes");
+        are = are_each start_value IsLaneStart IsReadableStart is_start begin.lanes.items (recursion_from_All IsReadableStart begin.lanes.items h.lanes);
       };
     }

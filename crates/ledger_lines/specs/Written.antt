@@ -1,13 +1,19 @@
 -- What a call that writes a line leaves, and which value of JSON the line of each kind is.
-use Rattle.std.specs.Prelude.{◌≡◌, ℕ, ◌<◌, ◌^◌, List, [], ◌∷◌, ◌++◌, codes, decimal, Option, Some, None, option_map, is_some, ⊤}
+use Rattle.std.specs.Prelude.{◌≡◌, ℕ, ◌<◌, ◌^◌, List, [], ◌∷◌, ◌++◌, length, codes, decimal, cond, Option, Some, None, option_copied, option_map, is_some, ⊤}
 use Rattle.std.specs.List.{All}
 use Rattle.std.specs.Int.{w64, to_be_bytes}
-use Rattle.std.specs.Str.{IsUtf8}
+use Rattle.std.specs.Str.{IsUtf8, is_utf8}
 use Rattle.json.specs.Json.{Json, number, string, array, object, Items, no_items, item, Members, no_members, member}
-use Rattle.hex.specs.Hex.{encode_lower}
-use Rattle.ledger_lines.specs.Lines.{IsTime, IsValue}
+use Rattle.hex.specs.Hex.{IsBytes, encode_lower}
+use Rattle.rad_realms.specs.Address.{IsAddress}
+use Rattle.rad_realms.specs.Printed.{address_text}
+use Rattle.rad_ledger.specs.declared.entry.Entry.{Entry}
+use Rattle.rad_ledger.specs.declared.left.Left.{Left}
+use Rattle.ledger_lines.specs.Lines.{IsTime, IsValue, state_text}
+use Rattle.ledger_lines.specs.declared.begin.Begin.{Begin}
 use Rattle.ledger_lines.specs.declared.begin.End.{End}
 use Rattle.ledger_lines.specs.declared.begin.LaneCount.{LaneCount}
+use Rattle.ledger_lines.specs.declared.begin.LaneStart.{LaneStart}
 
 -- Octets that are those before, and a line behind them, which is text, with its line end.
 pub record HasLineBehind (before all : List ℕ) : Type 0 where
@@ -50,6 +56,69 @@ abbrev pub first_slots : List ℕ → ℕ → List ℕ → List (List ℕ × Opt
 first_slots kind run time =
     (codes "type", Some (string kind)) ∷ (codes "run", Some (octets_value (to_be_bytes w64 run))) ∷ (codes "time", Some (string time)) ∷ []
 
+-- Octets that may be there: under one key as the text that they are, else under another as digits.
+abbrev pub text_if_any : Option (List ℕ) → Option Json
+text_if_any None = None
+text_if_any (Some octets) = cond (is_utf8 octets) (Some (string octets)) None
+
+abbrev pub digits_if_any : Option (List ℕ) → Option Json
+digits_if_any None = None
+digits_if_any (Some octets) = cond (is_utf8 octets) None (Some (octets_value octets))
+
+abbrev pub words_slots : List ℕ → List ℕ → Option (List ℕ) → List (List ℕ × Option Json)
+words_slots key other octets = (key, text_if_any octets) ∷ (other, digits_if_any octets) ∷ []
+
+-- What names a request, besides its number.
+abbrev pub request_slots : List ℕ → ℕ → ℕ → List ℕ → List (List ℕ × Option Json)
+request_slots client port identifier authenticator =
+    (codes "client", Some (string (address_text client))) ∷ (codes "port", Some (number_value port)) ∷ (codes "identifier", Some (number_value identifier))
+    ∷ (codes "authenticator", Some (octets_value authenticator)) ∷ []
+
+-- An entry.
+abbrev pub entry_slots : Entry → List (List ℕ × Option Json)
+entry_slots e =
+    first_slots (codes "entry") e.run e.time.now
+    ++ (codes "home", Some (string e.home.now)) ∷ (codes "lane", Some (number_value e.lane)) ∷ (codes "serial", Some (number_value e.serial))
+    ∷ (codes "record", Some (number_value e.number)) ∷ (request_slots e.client e.port e.identifier e.authenticator
+    ++ (words_slots (codes "realm") (codes "realm_octets") (option_copied e.realm) ++ (words_slots (codes "session") (codes "session_octets") (option_copied e.session)
+    ++ (codes "status", option_map number_value e.status) ∷ (words_slots (codes "user") (codes "user_octets") (option_copied e.user)
+    ++ (codes "sent", Some (octets_value e.sent.now)) ∷ (codes "reply", Some (octets_value e.reply.now))
+    ∷ (codes "response", Some (octets_value e.response.now)) ∷ []))))
+
+abbrev pub entry_value : Entry → Json
+entry_value e = object_of (entry_slots e)
+
+-- A request that was left.
+abbrev pub left_slots : Left → List (List ℕ × Option Json)
+left_slots left =
+    first_slots (codes "left") left.run left.time.now
+    ++ (codes "home", Some (string left.home.now)) ∷ (codes "lane", Some (number_value left.lane)) ∷ (codes "record", Some (number_value left.number))
+    ∷ (request_slots left.client left.port left.identifier left.authenticator ++ (words_slots (codes "realm") (codes "realm_octets") (option_copied left.realm)
+    ++ (words_slots (codes "session") (codes "session_octets") (option_copied left.session) ++ (codes "status", option_map number_value left.status)
+    ∷ (words_slots (codes "user") (codes "user_octets") (option_copied left.user) ++ (codes "state", Some (string (state_text left.state)))
+    ∷ (codes "sendings", option_map number_value left.sendings) ∷ (codes "accepted", option_map string (option_copied left.accepted))
+    ∷ (codes "request", Some (octets_value left.request.now)) ∷ []))))
+
+abbrev pub left_value : Left → Json
+left_value left = object_of (left_slots left)
+
+-- A line that names a run.
+abbrev pub start_slots : LaneStart → List (List ℕ × Option Json)
+start_slots start =
+    (codes "lane", Some (number_value start.lane)) ∷ (codes "home", Some (string start.home.now)) ∷ (codes "serial", Some (number_value start.serial)) ∷ []
+
+abbrev pub start_value : LaneStart → Json
+start_value start = object_of (start_slots start)
+
+abbrev pub begin_slots : Begin → List (List ℕ × Option Json)
+begin_slots begin =
+    first_slots (codes "begin") begin.run begin.time.now
+    ++ (codes "version", Some (string begin.version.now)) ∷ (codes "file", Some (number_value begin.file))
+    ∷ (codes "lanes", Some (array (items_of start_value begin.lanes.items))) ∷ []
+
+abbrev pub begin_value : Begin → Json
+begin_value begin = object_of (begin_slots begin)
+
 -- A line that ends a run.
 abbrev pub count_slots : LaneCount → List (List ℕ × Option Json)
 count_slots count =
@@ -82,3 +151,58 @@ pub record IsReadableEnd (end : End) : Type 0 where
   pub run : end.run < 2 ^ 64
   pub time : IsTime end.time.now
   pub lanes : All IsReadableCount end.lanes.items
+
+pub record IsReadableStart (start : LaneStart) : Type 0 where
+  pub lane : start.lane < 2 ^ 16
+  pub serial : start.serial < 2 ^ 63
+
+pub record IsReadableBegin (begin : Begin) : Type 0 where
+  pub run : begin.run < 2 ^ 64
+  pub time : IsTime begin.time.now
+  pub file : begin.file < 2 ^ 64
+  pub lanes : All IsReadableStart begin.lanes.items
+
+-- The same of octets that may be there, of what names a request, of an entry, and of a request that was left.
+abbrev pub AreBytesIfAny : Option (List ℕ) → Type 0
+AreBytesIfAny None = ⊤
+AreBytesIfAny (Some octets) = IsBytes octets
+
+pub record IsReadableRequest (client : List ℕ) (port identifier : ℕ) (authenticator : List ℕ) : Type 0 where
+  pub client_is : IsAddress client
+  pub port_is : port < 2 ^ 16
+  pub identifier_is : identifier < 2 ^ 8
+  pub long : length authenticator ≡ 16
+  pub octets : IsBytes authenticator
+
+pub record IsReadableEntry (e : Entry) : Type 0 where
+  pub run : e.run < 2 ^ 64
+  pub time : IsTime e.time.now
+  pub lane : e.lane < 2 ^ 16
+  pub serial : e.serial < 2 ^ 63
+  pub record_is : e.number < 2 ^ 64
+  pub request : IsReadableRequest e.client e.port e.identifier e.authenticator
+  pub sent : IsBytes e.sent.now
+  pub reply : IsBytes e.reply.now
+  pub response : IsBytes e.response.now
+  pub realm : AreBytesIfAny (option_copied e.realm)
+  pub session : AreBytesIfAny (option_copied e.session)
+  pub status : IsBelowIfAny (2 ^ 32) e.status
+  pub user : AreBytesIfAny (option_copied e.user)
+
+abbrev pub IsTimeIfAny : Option (List ℕ) → Type 0
+IsTimeIfAny None = ⊤
+IsTimeIfAny (Some time) = IsTime time
+
+pub record IsReadableLeft (left : Left) : Type 0 where
+  pub run : left.run < 2 ^ 64
+  pub time : IsTime left.time.now
+  pub lane : left.lane < 2 ^ 16
+  pub record_is : left.number < 2 ^ 64
+  pub names : IsReadableRequest left.client left.port left.identifier left.authenticator
+  pub realm : AreBytesIfAny (option_copied left.realm)
+  pub session : AreBytesIfAny (option_copied left.session)
+  pub status : IsBelowIfAny (2 ^ 32) left.status
+  pub user : AreBytesIfAny (option_copied left.user)
+  pub sendings : IsBelowIfAny (2 ^ 32) left.sendings
+  pub accepted : IsTimeIfAny (option_copied left.accepted)
+  pub request : IsBytes left.request.now

@@ -2,7 +2,7 @@
 //! run and end one.
 //!
 //! [`read_line`] reads a line, and [`write_begin`], [`write_entry`], [`write_left`] and [`write_end`] write one. `specs/Lines.antt` says
-//! which octets are a line.
+//! which octets are a line, and `specs/Written.antt` what is written.
 #![tactic(auto)]
 
 mod begin;

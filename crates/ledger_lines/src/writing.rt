@@ -5,7 +5,7 @@ ghost use Rattle.json.specs.Json.{array, string};
 ghost use Rattle.json.specs.Tree.{json_tokens};
 ghost use Rattle.ledger_lines.specs.internal.Adding.{Adds, AddsSlots, EndsLine, Opens};
 ghost use Rattle.ledger_lines.specs.Lines.{state_text as the_state_text};
-ghost use Rattle.ledger_lines.specs.Written.{HasLineBehind, HasValueBehind, count_value, end_value, first_slots, items_of, number_value, octets_value};
+ghost use Rattle.ledger_lines.specs.Written.{HasLineBehind, HasValueBehind, begin_value, count_value, end_value, entry_value, first_slots, items_of, left_value, number_value, octets_value, request_slots, start_value, words_slots};
 ghost use Rattle.rad_realms.specs.Printed.{address_text};
 
 use crate::begin::{Begin, End, LaneCount, LaneStart};
@@ -19,7 +19,8 @@ use std::alloc::{AllocError, Global};
 ///
 /// Where memory is refused.
 pub fn write_begin(alloc: Global, begin: &Begin<'_>, out: Vec<u8>) -> Result<Vec<u8>, AllocError>
-    ensures { IfOk result (λ all. HasLineBehind out.items all.items) }
+    ensures line { IfOk result (λ all. HasLineBehind out.items all.items) }
+    ensures value { IfOk result (λ all. HasValueBehind out.items all.items (begin_value begin.now)) }
 {
     let mut writer = Writer::new(out);
     begin_members(alloc, &mut writer, begin)?;
@@ -32,7 +33,8 @@ pub fn write_begin(alloc: Global, begin: &Begin<'_>, out: Vec<u8>) -> Result<Vec
 ///
 /// Where memory is refused.
 pub fn write_entry(alloc: Global, entry: &Entry<'_>, out: Vec<u8>) -> Result<Vec<u8>, AllocError>
-    ensures { IfOk result (λ all. HasLineBehind out.items all.items) }
+    ensures line { IfOk result (λ all. HasLineBehind out.items all.items) }
+    ensures value { IfOk result (λ all. HasValueBehind out.items all.items (entry_value entry.now)) }
 {
     let mut writer = Writer::new(out);
     entry_members(alloc, &mut writer, entry)?;
@@ -45,7 +47,8 @@ pub fn write_entry(alloc: Global, entry: &Entry<'_>, out: Vec<u8>) -> Result<Vec
 ///
 /// Where memory is refused.
 pub fn write_left(alloc: Global, left: &Left<'_>, out: Vec<u8>) -> Result<Vec<u8>, AllocError>
-    ensures { IfOk result (λ all. HasLineBehind out.items all.items) }
+    ensures line { IfOk result (λ all. HasLineBehind out.items all.items) }
+    ensures value { IfOk result (λ all. HasValueBehind out.items all.items (left_value left.now)) }
 {
     let mut writer = Writer::new(out);
     left_members(alloc, &mut writer, left)?;
@@ -77,23 +80,30 @@ fn close_line(writer: Writer) -> Result<Vec<u8>, AllocError>
 
 /// Writes the object of a line that names a run.
 fn begin_members(alloc: Global, writer: &mut Writer, begin: &Begin<'_>) -> Result<(), AllocError>
-    ensures { OnOk result (writer.new.before ≡ writer.old.before) }
+    ensures { OnOk result (Adds writer.old writer.new (json_tokens (begin_value begin.now))) }
 {
     first_members(alloc, writer, "begin", begin.run, begin.time)?;
     text(writer, "version", begin.version)?;
     number(writer, "file", begin.file)?;
     writer.key("lanes")?;
+    lane_starts(writer, begin.lanes.as_slice())?;
+    writer.end_object()
+}
+
+/// Writes the lanes of such a line.
+fn lane_starts(writer: &mut Writer, lanes: &[LaneStart<'_>]) -> Result<(), AllocError>
+    ensures { OnOk result (Adds writer.old writer.new (json_tokens (array (items_of start_value lanes.now)))) }
+{
     writer.begin_array()?;
-    for lane in begin.lanes.iter() {
+    for lane in lanes {
         lane_start(writer, lane)?;
     }
-    writer.end_array()?;
-    writer.end_object()
+    writer.end_array()
 }
 
 /// Writes a lane of such a line.
 fn lane_start(writer: &mut Writer, lane: &LaneStart<'_>) -> Result<(), AllocError>
-    ensures { OnOk result (writer.new.before ≡ writer.old.before) }
+    ensures { OnOk result (Adds writer.old writer.new (json_tokens (start_value lane.now))) }
 {
     writer.begin_object()?;
     number(writer, "lane", u64::from(lane.lane))?;
@@ -104,14 +114,21 @@ fn lane_start(writer: &mut Writer, lane: &LaneStart<'_>) -> Result<(), AllocErro
 
 /// Writes the object of an entry.
 fn entry_members(alloc: Global, writer: &mut Writer, entry: &Entry<'_>) -> Result<(), AllocError>
-    ensures { OnOk result (writer.new.before ≡ writer.old.before) }
+    ensures { OnOk result (Adds writer.old writer.new (json_tokens (entry_value entry.now))) }
 {
     first_members(alloc, writer, "entry", entry.run, entry.time)?;
     text(writer, "home", entry.home)?;
     number(writer, "lane", u64::from(entry.lane))?;
     number(writer, "serial", entry.serial)?;
     number(writer, "record", entry.number)?;
-    request_members(alloc, writer, &name_in_entry(entry))?;
+    request_members(
+        alloc,
+        writer,
+        entry.client,
+        entry.port,
+        entry.identifier,
+        &entry.authenticator,
+    )?;
     words(alloc, writer, "realm", "realm_octets", entry.realm)?;
     words(alloc, writer, "session", "session_octets", entry.session)?;
     number_if_any(writer, "status", widened(entry.status))?;
@@ -122,58 +139,39 @@ fn entry_members(alloc: Global, writer: &mut Writer, entry: &Entry<'_>) -> Resul
     writer.end_object()
 }
 
-/// What names a request besides its number.
-#[derive(Clone, Copy)]
-struct RequestName {
-    client: [u8; 4],
-    port: u16,
-    identifier: u8,
-    authenticator: [u8; 16],
-}
-
-/// Returns what names the request of an entry.
-fn name_in_entry(entry: &Entry<'_>) -> RequestName {
-    RequestName {
-        client: entry.client,
-        port: entry.port,
-        identifier: entry.identifier,
-        authenticator: entry.authenticator,
-    }
-}
-
-/// Returns what names a request that was left.
-fn name_in_left(left: &Left<'_>) -> RequestName {
-    RequestName {
-        client: left.client,
-        port: left.port,
-        identifier: left.identifier,
-        authenticator: left.authenticator,
-    }
-}
-
-/// Writes what names a request.
+/// Writes what names a request besides its number.
 fn request_members(
     alloc: Global,
     writer: &mut Writer,
-    request: &RequestName,
+    client: [u8; 4],
+    port: u16,
+    identifier: u8,
+    authenticator: &[u8],
 ) -> Result<(), AllocError>
-    ensures { OnOk result (writer.new.before ≡ writer.old.before) }
+    ensures { OnOk result (AddsSlots writer.old writer.new (request_slots client port identifier authenticator.now)) }
 {
-    address(alloc, writer, "client", request.client)?;
-    number(writer, "port", u64::from(request.port))?;
-    number(writer, "identifier", u64::from(request.identifier))?;
-    digits(alloc, writer, "authenticator", &request.authenticator)
+    address(alloc, writer, "client", client)?;
+    number(writer, "port", u64::from(port))?;
+    number(writer, "identifier", u64::from(identifier))?;
+    digits(alloc, writer, "authenticator", authenticator)
 }
 
 /// Writes the object of a request that was left.
 fn left_members(alloc: Global, writer: &mut Writer, left: &Left<'_>) -> Result<(), AllocError>
-    ensures { OnOk result (writer.new.before ≡ writer.old.before) }
+    ensures { OnOk result (Adds writer.old writer.new (json_tokens (left_value left.now))) }
 {
     first_members(alloc, writer, "left", left.run, left.time)?;
     text(writer, "home", left.home)?;
     number(writer, "lane", u64::from(left.lane))?;
     number(writer, "record", left.number)?;
-    request_members(alloc, writer, &name_in_left(left))?;
+    request_members(
+        alloc,
+        writer,
+        left.client,
+        left.port,
+        left.identifier,
+        &left.authenticator,
+    )?;
     words(alloc, writer, "realm", "realm_octets", left.realm)?;
     words(alloc, writer, "session", "session_octets", left.session)?;
     number_if_any(writer, "status", widened(left.status))?;
@@ -318,7 +316,7 @@ fn words(
     key_of_octets: &str,
     octets: Option<&[u8]>,
 ) -> Result<(), AllocError>
-    ensures { OnOk result (writer.new.before ≡ writer.old.before) }
+    ensures { OnOk result (AddsSlots writer.old writer.new (words_slots key.now key_of_octets.now (option_copied octets.entry))) }
 {
     let Some(octets) = octets else {
         return Ok(());

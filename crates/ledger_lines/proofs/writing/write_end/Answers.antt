@@ -11,6 +11,6 @@ returns c =
     record {
       line = line_written c.close_line.result out first last c.close_line.ensures c.new-writer.ensures.before c.in_ok-end_members.ensures.before;
       value =
-        value_written c.close_line.result out first last c.close_line.ensures c.new-writer.ensures.before (end_value c.args.end.now) c.new-writer.ensures.tokens
-        c.in_ok-end_members.ensures (fine_end c.args.end.now);
+          value_written c.close_line.result out first last c.close_line.ensures c.new-writer.ensures.before (end_value c.args.end.now) c.new-writer.ensures.tokens
+          c.in_ok-end_members.ensures (fine_end c.args.end.now);
     }
