@@ -24,6 +24,8 @@ from tests.lib import (ACCT_SESSION_ID, ACCT_STATUS_TYPE, PROXY_STATE, STATUS_SE
 LISTEN, HOME = ("127.0.0.1", 1813), ("127.0.0.1", 2813)
 SESSIONS, KINDS, PACE = 60, (1, 3, 3, 2), 0.01
 LOST, TRIES, WAIT = 0.25, 6, 0.7
+# How often one thing is lost at most: the proxy sends a record again later each time, and the capture has an end.
+MOST_LOST = 2
 PROXIES = {"rad_proxy": proxies.RadProxy, "radsecproxy": lambda _: proxies.Radsecproxy(), "FreeRADIUS": lambda _: proxies.FreeRadius()}
 CLIENT_SECRET, HOME_SECRET = proxies.CLIENT_SECRET.encode(), proxies.HOME_SECRET.encode()
 
@@ -49,7 +51,7 @@ class Sides:
         self.home = self.bound(HOME)
         self.nases = [self.bound((address, 0)) for address in addresses]
         self.asked, self.open, self.wrong, self.later, self.is_lossy = {}, [], 0, [], True
-        self.under, self.arrived, self.replied = defaultdict(set), [], {}
+        self.under, self.arrived, self.replied, self.lost = defaultdict(set), [], {}, Counter()
 
     def bound(self, place):
         made = socket.socket(socket.AF_INET, socket.SOCK_DGRAM)
@@ -58,8 +60,10 @@ class Sides:
         self.selector.register(made, selectors.EVENT_READ)
         return made
 
-    def is_lost(self):
-        return self.is_lossy and self.chance.random() < LOST
+    def is_lost(self, thing):
+        is_lost = self.is_lossy and self.lost[thing] < MOST_LOST and self.chance.random() < LOST
+        self.lost[thing] += is_lost
+        return is_lost
 
     def ask(self, nas, number, session, kind, count):
         octets = user_name(b"user%d@r00.bench" % session) + attribute(ACCT_STATUS_TYPE, bytes([0, 0, 0, kind]))
@@ -103,7 +107,7 @@ class Sides:
         record = record_of(octets)
         self.under[record].add((octets[:20], sender[1]))
         self.arrived.append(record)
-        if not self.is_lost():
+        if not self.is_lost(record):
             self.later.append((time.monotonic() + 0.01, octets, sender))
 
     def reply(self, octets, sender):
@@ -117,7 +121,7 @@ class Sides:
             return
         made.responses += 1
         made.first_response = made.first_response or time.monotonic()
-        made.is_heard = made.is_heard or not self.is_lost()
+        made.is_heard = made.is_heard or not self.is_lost(made)
 
     def truth(self):
         """What a judge has to find: of each kind how many, and how many requests and answers there were."""
