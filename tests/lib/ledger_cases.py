@@ -1,7 +1,7 @@
 """Ledgers that Python makes, one for each reason and verdict, with what the auditor has to print of each and its status."""
 import json
 
-from tests.lib import ledgers, packets
+from tests.lib import packets
 from tests.lib.ledgers import Lane, Run, text
 from tests.lib.packets import ACCT_SESSION_ID, CLASS, MESSAGE_AUTHENTICATOR, attribute, mark
 
